@@ -1,0 +1,4 @@
+mod SignedDistance
+pub mod InOrder
+mod Rows
+mod LeastMissing

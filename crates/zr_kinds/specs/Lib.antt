@@ -1,0 +1,3 @@
+pub mod CopyingReceiver
+pub mod Fault
+pub mod ReceiverLaws

@@ -1,0 +1,54 @@
+ghost use Rattle.std.specs.Prelude.{◌≡◌};
+ghost use Rattle.zr_kinds.specs.Fault.{number_of};
+
+/// What went wrong in a command. Each fault has a number, which is the status that the program ends with; 0 stands
+/// for no fault.
+#[derive(Clone, Copy, Debug, PartialEq, Eq)]
+pub enum Fault {
+    /// Want of memory.
+    Memory,
+    /// The command's words have no reading.
+    Usage,
+    /// The first four bytes are no magic of a classic capture.
+    NotPcap,
+    /// The capture's major version isn't 2.
+    Version,
+    /// The capture's frames aren't Ethernet.
+    LinkType,
+    /// The bytes end within a header or a frame.
+    Cut,
+    /// A record states more than 262,144 captured bytes.
+    LongRecord,
+    /// The source failed.
+    Read,
+    /// A stream or the report couldn't be written.
+    Write,
+    /// A flow more than a replay can number.
+    TooManyFlows,
+    /// A record more than a replay can number.
+    TooManyFrames,
+    /// What the capture has at this place isn't read yet.
+    NotYet,
+}
+
+impl Fault {
+    /// The fault's number, from 1 on.
+    pub fn number(&self) -> u8
+        ensures { result ≡ number_of self.now }
+    {
+        match self {
+            Fault::Memory => 1,
+            Fault::Usage => 2,
+            Fault::NotPcap => 3,
+            Fault::Version => 4,
+            Fault::LinkType => 5,
+            Fault::Cut => 6,
+            Fault::LongRecord => 7,
+            Fault::Read => 8,
+            Fault::Write => 9,
+            Fault::TooManyFlows => 10,
+            Fault::TooManyFrames => 11,
+            Fault::NotYet => 12,
+        }
+    }
+}

@@ -1,0 +1,23 @@
+use super::Fault;
+
+/// The statuses that users see: 1 to 12, each once.
+#[test]
+fn faults_have_their_numbers(rt: HostRuntime) {
+    let rows = [
+        (Fault::Memory, 1),
+        (Fault::Usage, 2),
+        (Fault::NotPcap, 3),
+        (Fault::Version, 4),
+        (Fault::LinkType, 5),
+        (Fault::Cut, 6),
+        (Fault::LongRecord, 7),
+        (Fault::Read, 8),
+        (Fault::Write, 9),
+        (Fault::TooManyFlows, 10),
+        (Fault::TooManyFrames, 11),
+        (Fault::NotYet, 12),
+    ];
+    for (fault, number) in rows {
+        assert_eq!(rt; fault.number(), number, "{fault:?}");
+    }
+}
