@@ -1,0 +1,4 @@
+pub mod Moved
+mod Memory
+mod Kept
+mod Sending

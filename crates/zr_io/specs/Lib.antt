@@ -1,0 +1,3 @@
+pub mod Moved
+pub mod Memory
+pub mod Reserved

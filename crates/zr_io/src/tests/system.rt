@@ -1,0 +1,133 @@
+ghost use Rattle.std.specs.Prelude.{◌≤◌, IfOk};
+
+use super::next;
+use crate::{Failed, FileShelf, Shelf, Sink, StdSink, StdSource};
+use std::io::{ErrorKind, Read, Write};
+use std::test::*;
+use std::{fs, io};
+
+/// Gives or takes one byte a call, until it is used up.
+#[derive(Drop)]
+struct Worn {
+    calls: u8,
+    end: End,
+}
+
+/// How a worn stream ends.
+#[derive(Clone, Copy)]
+enum End {
+    Error,
+    Nothing,
+}
+
+impl Worn {
+    fn step(&mut self) -> io::Result<usize>
+        ensures { IfOk result (λ n. n ≤ 1) }
+    {
+        if self.calls > 0 {
+            self.calls -= 1;
+            return Ok(1);
+        }
+        match self.end {
+            End::Error => Err(io::Error::from(ErrorKind::BrokenPipe)),
+            End::Nothing => Ok(0),
+        }
+    }
+}
+
+impl Read for Worn {
+    fn read(&mut self, into: &mut [u8]) -> io::Result<usize> {
+        let count = self.step()?.min(into.len());
+        into[..count].fill(b'w');
+        Ok(count)
+    }
+}
+
+impl Write for Worn {
+    fn write(&mut self, from: &[u8]) -> io::Result<usize> {
+        Ok(self.step()?.min(from.len()))
+    }
+
+    fn flush(&mut self) -> io::Result<()> {
+        Ok(())
+    }
+}
+
+#[test]
+fn a_source_reads_a_slice(rt: HostRuntime) {
+    let mut source = StdSource::new(&b"hello"[..]);
+    let mut room = [0; 8];
+    assert_eq!(rt; next(&mut source, &mut room), Ok(&b"hello"[..]));
+    assert_eq!(rt; next(&mut source, &mut room), Ok(&b""[..]));
+}
+
+#[test]
+fn a_source_fails_with_its_reader(rt: HostRuntime) {
+    let mut source = StdSource::new(Worn {
+        calls: 1,
+        end: End::Error,
+    });
+    let mut room = [0; 8];
+    assert_eq!(rt; next(&mut source, &mut room), Ok(&b"w"[..]));
+    assert_eq!(rt; next(&mut source, &mut room), Err(Failed));
+}
+
+#[test]
+fn a_sink_sends_the_whole_piece(rt: HostRuntime) -> Result<(), Fail> {
+    let mut bytes = Vec::new(rt.alloc());
+    let mut sink = StdSink::new(&mut bytes);
+    assert_eq!(rt; sink.write_all(b"hello"), Ok(()));
+    drop(sink);
+    assert_eq!(rt; bytes.as_slice(), &b"hello"[..]);
+    Ok(())
+}
+
+#[test]
+fn a_sink_fails_with_its_writer(rt: HostRuntime) {
+    let mut sink = StdSink::new(Worn {
+        calls: 3,
+        end: End::Error,
+    });
+    assert_eq!(rt; sink.write_all(b"he"), Ok(()));
+    assert_eq!(rt; sink.write_all(b"llo"), Err(Failed));
+}
+
+#[test]
+fn a_sink_fails_where_nothing_is_taken(rt: HostRuntime) {
+    let mut sink = StdSink::new(Worn {
+        calls: 0,
+        end: End::Nothing,
+    });
+    assert_eq!(rt; sink.write_all(b""), Ok(()));
+    assert_eq!(rt; sink.write_all(b"hello"), Err(Failed));
+}
+
+/// Writes to flow 7, then to so many others that its file is closed, and to flow 7 again.
+fn write_hello<S: Shelf>(shelf: &mut S) -> Result<(), Failed> {
+    shelf.append(7, b"he")?;
+    shelf.append(7, b"ll")?;
+    for flow in 100..164 {
+        shelf.append(flow, b"x")?;
+    }
+    shelf.append(7, b"o")
+}
+
+fn remove_flow(rt: &HostRuntime, flow: u32) -> io::Result<()> {
+    let name = format!(in rt.alloc(); "flow-{flow}.bin")?;
+    fs::remove_file(rt, name.as_str())
+}
+
+#[test]
+fn a_shelf_keeps_flows_in_files(rt: HostRuntime) -> Result<(), Fail> {
+    fs::write(&rt, "flow-7.bin", "an earlier run")?;
+    let mut shelf = FileShelf::new(&rt)?;
+    assert_eq!(rt; write_hello(&mut shelf), Ok(()));
+    assert_eq!(rt; shelf.append(65_536, b"x"), Err(Failed));
+    let bytes = fs::read(&rt, "flow-7.bin")?;
+    assert_eq!(rt; bytes.as_slice(), &b"hello"[..]);
+    for flow in 100..164 {
+        remove_flow(&rt, flow)?;
+    }
+    remove_flow(&rt, 7)?;
+    Ok(())
+}
