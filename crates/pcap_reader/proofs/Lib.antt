@@ -1,0 +1,4 @@
+pub mod HeaderLaws
+pub mod RecordLaws
+pub mod Joined
+mod Rows

@@ -1,0 +1,90 @@
+ghost use Rattle.std.specs.Prelude.{◌≡◌, None, Some, IfSome, IsErrOf, MatchResult};
+ghost use Rattle.zr_io.specs.Moved.{Took};
+ghost use Rattle.zr_kinds.specs.declared.fault.Fault.TheVariants.{Memory};
+ghost use Rattle.pcap_reader.specs.Capture.{Opens, Gives, HasReadCause, WantsMemory};
+
+use crate::header::{read_fields, read_magic};
+use crate::order::ByteOrder;
+use crate::record::{read_body, read_record};
+use std::marker::Model;
+use zr_io::Source;
+use zr_kinds::Fault;
+
+/// How long a record's frame is, in bytes.
+#[derive(Clone, Copy, Debug, PartialEq, Eq)]
+pub struct Record {
+    /// How many of its bytes were captured.
+    pub captured: u32,
+    /// How many it had on the wire, as the record states it.
+    pub original: u32,
+}
+
+/// A capture that is being read.
+#[derive(Debug, Drop)]
+pub struct Capture {
+    order: ByteOrder,
+    fault: Option<Fault>,
+}
+
+impl Model for Capture {
+    ghost use Rattle.pcap_reader.specs.Capture.{Reading};
+
+    ghost Value = { Reading };
+
+    ghost view = { λ c. record { order = c.order; fault = c.fault } };
+}
+
+impl Capture {
+    /// Reads the file header of 24 bytes, for which no memory is needed.
+    pub fn open<S: Source>(source: &mut S) -> Result<Capture, Fault>
+        ensures opens { Opens (S.left source.old) (S.left source.new) result }
+        ensures cause { HasReadCause (S.faults source.old) (S.faults source.new) result }
+    {
+        let order = read_magic(source)?;
+        read_fields(source, order)?;
+        Ok(Capture { order, fault: None })
+    }
+
+    /// Reads the next record. `into` becomes the captured bytes; after an `Err` it holds any bytes.
+    pub fn next<S: Source>(
+        &mut self,
+        source: &mut S,
+        into: &mut Vec<u8>,
+    ) -> Result<Option<Record>, Fault>
+        ensures gives { self.old.fault ≡ None → Gives self.old.order (S.left source.old) (S.left source.new) into.new.items result }
+        ensures cause { self.old.fault ≡ None → HasReadCause (S.faults source.old) (S.faults source.new) result }
+
+        // Memory is asked for once a header was read and its captured length is none too long.
+        ensures memory { self.old.fault ≡ None → IsErrOf result Memory → Took (S.left source.old) (S.left source.new) (WantsMemory self.old.order) }
+
+        // After a fault each call answers it, and reads nothing.
+        ensures stopped { IfSome self.old.fault (λ fault. (result ≡ Err fault) × (source.new ≡ source.old)) }
+        ensures kept { MatchResult result (λ _. self.new ≡ self.old) (λ fault. self.new ≡ record self.old { fault = Some fault }) }
+    {
+        if let Some(fault) = self.fault {
+            return Err(fault);
+        }
+        let read = read_next(source, self.order, into);
+        if let Err(fault) = read {
+            self.fault = Some(fault);
+        }
+        read
+    }
+}
+
+// Reads a record's header and its captured bytes.
+fn read_next<S: Source>(
+    source: &mut S,
+    order: ByteOrder,
+    into: &mut Vec<u8>,
+) -> Result<Option<Record>, Fault>
+    ensures gives { Gives order (S.left source.old) (S.left source.new) into.new.items result }
+    ensures cause { HasReadCause (S.faults source.old) (S.faults source.new) result }
+    ensures memory { IsErrOf result Memory → Took (S.left source.old) (S.left source.new) (WantsMemory order) }
+{
+    let Some(record) = read_record(source, order)? else {
+        return Ok(None);
+    };
+    read_body(source, record.captured, into)?;
+    Ok(Some(record))
+}

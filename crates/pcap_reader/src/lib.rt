@@ -1,0 +1,15 @@
+//! Reads a classic pcap capture, as `pcap-savefile(5)` describes it, record by record. Both byte
+//! orders are read, with times in microseconds or in nanoseconds.
+#![tactic(auto)]
+
+mod capture;
+mod fill;
+mod header;
+mod order;
+mod record;
+
+pub use capture::{Capture, Record};
+pub use order::ByteOrder;
+
+#[cfg(test)]
+mod tests;
