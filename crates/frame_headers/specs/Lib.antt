@@ -1,0 +1,2 @@
+pub mod FrameClass
+pub mod Seen
