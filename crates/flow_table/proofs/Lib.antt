@@ -1,0 +1,5 @@
+pub mod Flags
+pub mod Laws
+mod Newest
+mod SeenAt
+mod Placing

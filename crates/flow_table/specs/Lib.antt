@@ -1,0 +1,4 @@
+pub mod Steered
+pub mod Flows
+pub mod Stream
+pub mod Plain

@@ -1,0 +1,157 @@
+use super::{plain_flows, plain_stream};
+use frame_headers::{Seen, read_frame};
+use std::alloc::Global;
+use std::process::Abort;
+use std::test::Fail;
+
+/// Ethernet, IPv4 and TCP without options, from 10.0.0.1 port 4000 to 10.0.0.2. The total length, the destination
+/// port, the sequence number and the flags are 0.
+const HEADERS: [u8; 54] = [
+    2, 0, 0, 0, 0, 2, 2, 0, 0, 0, 0, 1, 8, 0, 0x45, 0, 0, 0, 0, 0, 0x40, 0, 0x40, 6, 0, 0, 10, 0,
+    0, 1, 10, 0, 0, 2, 0x0f, 0xa0, 0, 0, 0, 0, 0, 0, 0, 0, 0, 0, 0x50, 0, 0xff, 0xff, 0, 0, 0, 0,
+];
+
+const FIN: u8 = 1;
+
+const SYN: u8 = 2;
+
+const ACK: u8 = 16;
+
+#[derive(Clone, Copy)]
+struct Sent<'a> {
+    dport: u16,
+    seq: u32,
+    flags: u8,
+    text: &'a [u8],
+}
+
+const fn to_80(seq: u32, flags: u8, text: &[u8]) -> Sent<'_> {
+    Sent {
+        dport: 80,
+        seq,
+        flags,
+        text,
+    }
+}
+
+fn frame(alloc: Global, sent: &Sent<'_>) -> Result<Vec<u8>, Fail> {
+    let total = u16::try_from(40 + sent.text.len())?;
+    let mut frame = HEADERS;
+    frame[16..18].copy_from_slice(&total.to_be_bytes());
+    frame[36..38].copy_from_slice(&sent.dport.to_be_bytes());
+    frame[38..42].copy_from_slice(&sent.seq.to_be_bytes());
+    frame[47] = sent.flags;
+    let mut frame = frame.to_vec(alloc)?;
+    frame.extend_from_slice(sent.text)?;
+    Ok(frame)
+}
+
+fn frames(alloc: Global, all: &[Sent<'_>]) -> Result<Vec<Vec<u8>>, Fail> {
+    let mut frames = Vec::new(alloc);
+    for one in all {
+        frames.push(frame(alloc, one)?)?;
+    }
+    Ok(frames)
+}
+
+fn expect_stream(
+    rt: &impl Abort,
+    alloc: Global,
+    all: &[Sent<'_>],
+    left_out: &[u32],
+    flow: u32,
+    want: &[u8],
+) -> Result<(), Fail> {
+    let frames = frames(alloc, all)?;
+    let seen: Vec<Seen<'_>> = frames.iter().map(|frame| read_frame(frame)).collect(alloc)?;
+    assert!(rt; seen.len() < 100);
+    let stream = plain_stream(alloc, &[443, 80], &seen, left_out, flow)?;
+    assert_eq!(rt; stream.as_slice(), want);
+    Ok(())
+}
+
+/// "XYcd" doesn't take the place of what came first.
+#[test]
+fn first_received_counts(rt: HostRuntime) -> Result<(), Fail> {
+    let all = [
+        to_80(999, SYN, b""),
+        to_80(1000, ACK, b"abc"),
+        to_80(1001, ACK, b"XYcd"),
+    ];
+    expect_stream(&rt, rt.alloc(), &all, &[], 0, b"abccd")
+}
+
+/// The sequence numbers wrap between "ab" and "cd".
+#[test]
+fn sequence_numbers_wrap(rt: HostRuntime) -> Result<(), Fail> {
+    let all = [
+        to_80(4294967293, SYN, b""),
+        to_80(0, ACK, b"cd"),
+        to_80(4294967294, ACK, b"ab"),
+    ];
+    expect_stream(&rt, rt.alloc(), &all, &[], 0, b"abcd")
+}
+
+/// "ef" waits behind a gap, and what was before the base doesn't count.
+#[test]
+fn stream_ends_at_a_gap(rt: HostRuntime) -> Result<(), Fail> {
+    let all = [
+        to_80(999, SYN, b""),
+        to_80(998, ACK, b"xya"),
+        to_80(1001, ACK, b"b"),
+        to_80(1004, ACK, b"ef"),
+    ];
+    expect_stream(&rt, rt.alloc(), &all, &[], 0, b"ab")
+}
+
+/// A SYN of its own base begins a flow.
+#[test]
+fn another_syn_begins_another_flow(rt: HostRuntime) -> Result<(), Fail> {
+    let all = [
+        to_80(999, SYN, b""),
+        to_80(1000, ACK, b"ab"),
+        to_80(4999, SYN, b""),
+        to_80(5000, ACK, b"cd"),
+    ];
+    expect_stream(&rt, rt.alloc(), &all, &[], 0, b"ab")?;
+    expect_stream(&rt, rt.alloc(), &all, &[], 1, b"cd")?;
+    expect_stream(&rt, rt.alloc(), &all, &[], 2, b"")
+}
+
+/// Record 3 goes to a port that isn't steered, and record 4 is left out.
+#[test]
+fn other_ports_and_records_left_out_add_nothing(rt: HostRuntime) -> Result<(), Fail> {
+    let elsewhere = Sent {
+        dport: 81,
+        seq: 1000,
+        flags: ACK,
+        text: b"zz",
+    };
+    let all = [
+        to_80(999, SYN, b""),
+        to_80(1000, ACK, b"ab"),
+        elsewhere,
+        to_80(1002, ACK, b"xx"),
+        to_80(1002, ACK, b"cd"),
+    ];
+    expect_stream(&rt, rt.alloc(), &all, &[4], 0, b"abcd")
+}
+
+/// Port 80 is the second of the ports: application 1.
+#[test]
+fn flows_are_told(rt: HostRuntime) -> Result<(), Fail> {
+    let all = [to_80(999, SYN, b""), to_80(1000, ACK | FIN, b"ab")];
+    let frames = frames(rt.alloc(), &all)?;
+    let seen: Vec<Seen<'_>> = frames
+        .iter()
+        .map(|frame| read_frame(frame))
+        .collect(rt.alloc())?;
+    assert!(rt; seen.len() < 100);
+    let flows = plain_flows(rt.alloc(), &[443, 80], &seen)?;
+    assert_eq!(rt; flows.len(), 1);
+    assert_eq!(rt;
+        (flows[0].app, flows[0].base, flows[0].fin),
+        (1, 1000, true)
+    );
+    Ok(())
+}
