@@ -1,0 +1,78 @@
+//! `zcrx replay PORT` replays the capture on standard input: it writes the stream of the first TCP flow to the port
+//! into `flow-0.bin` in the current folder, and a line with the status to standard output. The status is the exit
+//! status too.
+#![tactic(auto)]
+
+ghost use Rattle.std.specs.Prelude.{◌≡◌, IfOk, vec_len};
+
+mod copier;
+mod first;
+mod follower;
+mod report;
+mod shelving;
+#[cfg(test)]
+mod tests;
+mod top;
+mod words;
+
+use std::alloc::{AllocError, Global};
+use std::io::BufReader;
+use std::process::ExitCode;
+use std::rt::{Env, Files};
+use std::{env, io};
+pub use top::zcrx;
+use zr_io::{FileShelf, StdSink, StdSource};
+use zr_kinds::Fault;
+
+/// How many shelves there are, one for each application.
+const SHELVES: usize = 8;
+
+/// How many bytes of standard input are read at a time.
+const INPUT_BUFFER: usize = 65_536;
+
+/// All arguments. One that isn't UTF-8 is a faulty command line.
+fn read_arguments(rt: &(impl Env + AllocGlobal)) -> Result<Vec<String>, Fault> {
+    let arguments = env::args(rt).map_err(|error| fault_of(&error))?;
+    arguments.collect(rt.alloc()).map_err(|_| Fault::Memory)
+}
+
+fn fault_of(error: &io::Error) -> Fault {
+    match error.kind() {
+        io::ErrorKind::OutOfMemory => Fault::Memory,
+        _ => Fault::Usage,
+    }
+}
+
+fn make_shelves<R: Files + AllocGlobal>(rt: &R) -> Result<Vec<FileShelf<&R>>, AllocError>
+    ensures { IfOk result (λ shelves. vec_len shelves ≡ 8) }
+{
+    let mut shelves = Vec::with_capacity(rt.alloc(), SHELVES)?;
+    for _ in 0..SHELVES {
+        shelves.push(FileShelf::new(rt)?)?;
+    }
+    Ok(shelves)
+}
+
+/// Runs the command over standard input, standard output and the files of the current folder.
+fn start(rt: &HostRuntime) -> Result<u8, Fault> {
+    let arguments = read_arguments(rt)?;
+    let words: Vec<&str> = arguments
+        .iter()
+        .skip(1)
+        .map(|word| word.as_str())
+        .collect(rt.alloc())
+        .map_err(|_| Fault::Memory)?;
+    let input = BufReader::with_capacity(rt.alloc(), INPUT_BUFFER, rt.reader());
+    let mut source = StdSource::new(input.map_err(|_| Fault::Memory)?);
+    let mut shelves = make_shelves(rt).map_err(|_| Fault::Memory)?;
+    let mut out = StdSink::new(io::writer(rt));
+    Ok(zcrx(rt.alloc(), &words, &mut source, &mut shelves, &mut out))
+}
+
+fn main(rt: HostRuntime) -> ExitCode {
+    let status = match start(&rt) {
+        Ok(status) => status,
+        Err(fault) => fault.number(),
+    };
+    ExitCode::from(status)
+}
