@@ -5,14 +5,14 @@
 # usage: bench/compare.sh [RUNS]
 #
 # RUNS is 5 if left out. ZCRX=FILE names another program than crates/zcrx_cli/out/zcrx_cli, which `make build` leaves there.
-# The captures are made in bench/work/ and kept; all else there is removed. Needs python3, GNU time, tcpflow and about
+# The captures are made in bench/captures/ and kept; all else there is removed. Needs python3, GNU time, tcpflow and about
 # 600 MB of disk. The status is 0 where both programs ended well and wrote the same bytes.
 set -u
 export LC_ALL=C
 
 runs=${1:-5}
 top=$(cd "$(dirname "$0")/.." && pwd)
-work=$top/bench/work
+work=$top/bench/captures
 zcrx=$(realpath -m "${ZCRX:-$top/crates/zcrx_cli/out/zcrx_cli}")
 frames=100000
 
