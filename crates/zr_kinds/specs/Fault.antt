@@ -1,7 +1,7 @@
 -- The numbers of the faults, which are the statuses of the program.
 use Rattle.std.specs.Prelude.{ℕ}
 use Rattle.zr_kinds.specs.declared.fault.Fault.{Fault}
-use Rattle.zr_kinds.specs.declared.fault.Fault.TheVariants.{Memory, Usage, NotPcap, Version, LinkType, Cut, LongRecord, Read, Write, TooManyFlows, TooManyFrames, NotYet}
+use Rattle.zr_kinds.specs.declared.fault.Fault.TheVariants.{Memory, Usage, NotPcap, Version, LinkType, Cut, LongRecord, Read, Write, TooManyFlows, TooManyFrames}
 
 abbrev pub number_of : Fault → ℕ
 number_of Memory = 1
@@ -15,4 +15,3 @@ number_of Read = 8
 number_of Write = 9
 number_of TooManyFlows = 10
 number_of TooManyFrames = 11
-number_of NotYet = 12

@@ -27,8 +27,6 @@ pub enum Fault {
     TooManyFlows,
     /// A record more than a replay can number.
     TooManyFrames,
-    /// What the capture has at this place isn't read yet.
-    NotYet,
 }
 
 impl Fault {
@@ -48,7 +46,6 @@ impl Fault {
             Fault::Write => 9,
             Fault::TooManyFlows => 10,
             Fault::TooManyFrames => 11,
-            Fault::NotYet => 12,
         }
     }
 }

@@ -1,12 +1,20 @@
-//! The words that every layer shares: what can go wrong in a command, and the copying receiver, the
-//! measure of all streams.
+//! The words that every layer shares: what can go wrong in a command, the entries of the rings, notes and places, what
+//! a replay counts, and the copying receiver, the measure of all streams.
 #![tactic(auto)]
 
+mod behaviour;
 mod fault;
+mod outcome;
+mod place;
 mod receiver;
+mod ring;
 
+pub use behaviour::{Behaviour, Stopped};
 pub use fault::Fault;
+pub use outcome::{AppLine, Ended, FlowLine, PoolStats, Tally};
+pub use place::{Note, Place};
 pub use receiver::{lead_is_signed_distance, next_missing_is_least};
+pub use ring::{Completion, Rqe};
 
 #[cfg(test)]
 mod tests;
