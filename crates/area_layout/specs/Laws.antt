@@ -1,0 +1,23 @@
+-- What holds of every layout.
+use Rattle.std.specs.Prelude.{◌≡◌, ℕ, ◌+◌, ◌*◌, ◌/◌, ◌<◌, ◌≤◌, Some}
+use Rattle.zr_kinds.specs.declared.place.Place.{Place}
+use Rattle.area_layout.specs.Layout.{Shape, IsLayout, IsBufferSize, LiesIn, total, size_of, first_word, area_words, off_of, judged}
+
+-- A buffer has as many words as `size_of` by 8, from `first_word` on. They lie before those of the buffers behind it,
+-- one buffer after another, and end where the words of the area do.
+pub record HasWordsApart (shape : Shape) : Type 0 where
+  pub apart : (a b : ℕ) → a < b → b < total shape → first_word shape a + size_of shape a / 8 ≤ first_word shape b
+  pub inside : (b : ℕ) → b < total shape → first_word shape b + size_of shape b / 8 ≤ area_words shape
+  pub next : (b : ℕ) → b < total shape → first_word shape (b + 1) ≡ first_word shape b + size_of shape b / 8
+  pub size : (b : ℕ) → b < total shape → IsBufferSize (size_of shape b)
+  pub whole : (b : ℕ) → b < total shape → 8 * (size_of shape b / 8) ≡ size_of shape b
+  pub few : area_words shape ≤ 8454144
+
+abbrev pub WordsAreApart : Type 0
+WordsAreApart = (shape : Shape) → IsLayout shape → HasWordsApart shape
+
+-- an entry with the offset of a place names the buffer in which the place begins
+abbrev pub PlacesAreJudged : Type 0
+PlacesAreJudged =
+    (shape : Shape) (place : Place) (len : ℕ) → IsLayout shape → LiesIn shape place → place.offset < size_of shape place.buffer
+    → judged shape (record { off = off_of shape place; len = len; pad = 0 }) ≡ Some place.buffer

@@ -1,0 +1,12 @@
+ghost use Rattle.area_layout.specs.Laws.{WordsAreApart, PlacesAreJudged};
+
+/// The words of two buffers never overlap, and all lie among the words of the area, one buffer after another. It does
+/// nothing: its contract is the law.
+pub fn words_are_apart()
+    ensures { WordsAreApart }
+{}
+
+/// The entry of a place is judged the buffer of that place. It does nothing: its contract is the law.
+pub fn places_are_judged()
+    ensures { PlacesAreJudged }
+{}

@@ -1,0 +1,14 @@
+//! How the area is cut into buffers, what an offset in it names, and the entries of the rings as bytes (modelled on
+//! `io_uring_zcrx_rqe` and `io_uring_zcrx_cqe` of the Linux uapi, io_uring.h).
+#![tactic(auto)]
+
+mod entries;
+mod laws;
+mod layout;
+
+pub use entries::{cqe_bytes, cqe_read, rqe_bytes, rqe_read};
+pub use laws::{places_are_judged, words_are_apart};
+pub use layout::Layout;
+
+#[cfg(test)]
+mod tests;
