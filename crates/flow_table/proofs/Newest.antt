@@ -10,7 +10,7 @@ later_or-if : (b : Bool) (found : Numbered) (earlier before : Option Numbered) �
 later_or-if true found earlier before = refl
 later_or-if false found earlier before = refl
 
-newest_from-push : (key : FlowKey) (number : ℕ) (flows : List Flow) (flow : Flow) → newest_from number key (flows ++ flow ∷ []) ≡ (if same_key flow.key key then Some (record { number = number + length flows; flow = flow }) else newest_from number key flows)
+pub newest_from-push : (key : FlowKey) (number : ℕ) (flows : List Flow) (flow : Flow) → newest_from number key (flows ++ flow ∷ []) ≡ (if same_key flow.key key then Some (record { number = number + length flows; flow = flow }) else newest_from number key flows)
 newest_from-push key number [] flow = ap (λ n. if same_key flow.key key then Some (record { number = n; flow = flow }) else None) (omega arith)
 newest_from-push key number (f ∷ flows) flow =
     let before : Option Numbered = if same_key f.key key then Some (record { number = number; flow = f }) else None in

@@ -1,9 +1,16 @@
 //! Which application and which flow a TCP segment belongs to, and what a flow's stream is.
 #![tactic(auto)]
 
+mod entry;
+mod list;
+mod placed;
 mod plain;
+mod segment;
+mod table;
 
+pub use placed::{FlowFault, FlowInfo, Steered};
 pub use plain::{PlainFlow, plain_flows, plain_stream};
+pub use table::FlowTable;
 
 #[cfg(test)]
 mod tests;

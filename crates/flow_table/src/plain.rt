@@ -13,11 +13,12 @@ mod flows;
 mod placed;
 mod steered;
 
+use crate::segment::first_byte;
 pub use flows::PlainFlow;
 use frame_headers::Seen;
 use placed::PlainPlaced;
 use std::alloc::{AllocError, Global};
-use steered::{SteeredSegment, first_byte};
+use steered::SteeredSegment;
 
 // What stands after the segments were received, but those that are left out.
 fn receive_all(

@@ -1,6 +1,7 @@
-use super::{plain_flows, plain_stream};
-use frame_headers::{Seen, read_frame};
+use super::{FlowFault, FlowInfo, FlowTable, Steered, plain_flows, plain_stream};
+use frame_headers::{Addr, Seen, Segment, read_frame};
 use std::alloc::Global;
+use std::collections::hash_map::RandomState;
 use std::process::Abort;
 use std::test::Fail;
 
@@ -153,5 +154,99 @@ fn flows_are_told(rt: HostRuntime) -> Result<(), Fail> {
         (flows[0].app, flows[0].base, flows[0].fin),
         (1, 1000, true)
     );
+    Ok(())
+}
+
+const HOST: Addr = Addr::V4([10, 0, 0, 1]);
+
+/// From a host's port to port 80 of 10.0.0.2.
+const fn from(src: Addr, sport: u16, seq: u32, flags: u8) -> Segment<'static> {
+    Segment {
+        src,
+        dst: Addr::V4([10, 0, 0, 2]),
+        sport,
+        dport: 80,
+        seq,
+        flags,
+        payload: &[],
+    }
+}
+
+/// What is said of a segment without FIN to port 80, the second of the ports.
+const fn in_flow(flow: u32, base: u32, seq: u32) -> Steered {
+    Steered::Flow {
+        flow,
+        app: 1,
+        base,
+        seq,
+        fin: false,
+    }
+}
+
+fn table(rt: &HostRuntime) -> Result<FlowTable, Fail> {
+    let random = RandomState::new(rt)?;
+    Ok(FlowTable::new(rt.alloc(), random, &[443, 80])?)
+}
+
+/// A SYN again is of the same flow, and one with another number begins a flow, also where the base is 0.
+#[test]
+fn each_base_is_a_flow(rt: HostRuntime) -> Result<(), Fail> {
+    let mut table = table(&rt)?;
+    let rows = [
+        (from(HOST, 4000, 999, SYN), in_flow(0, 1000, 1000)),
+        (from(HOST, 4000, 1000, ACK), in_flow(0, 1000, 1000)),
+        (from(HOST, 4000, 999, SYN), in_flow(0, 1000, 1000)),
+        (from(HOST, 4000, 4294967295, SYN), in_flow(1, 0, 0)),
+        (from(HOST, 4000, 1002, ACK), in_flow(1, 0, 1002)),
+        (from(HOST, 4000, 999, SYN), in_flow(2, 1000, 1000)),
+        (from(HOST, 4001, 7, ACK), in_flow(3, 7, 7)),
+        (from(HOST, 4000, 1003, ACK), in_flow(2, 1000, 1003)),
+    ];
+    for (segment, want) in &rows {
+        assert_eq!(rt; table.place(segment)?, *want);
+    }
+    Ok(())
+}
+
+/// FIN is told of its own flow, and a segment to no port of the list goes elsewhere.
+#[test]
+fn flows_have_lines(rt: HostRuntime) -> Result<(), Fail> {
+    let mut table = table(&rt)?;
+    let elsewhere = Segment {
+        dport: 81,
+        ..from(HOST, 4000, 5, SYN | FIN)
+    };
+    assert_eq!(rt; table.place(&elsewhere)?, Steered::Elsewhere);
+    assert_eq!(rt; table.count(), 0);
+    table.place(&from(Addr::V4([0; 4]), 4000, 7, ACK))?;
+    table.place(&from(Addr::V6([0; 16]), 4000, 8, ACK | FIN))?;
+    assert_eq!(rt; table.count(), 2);
+    let first = FlowInfo {
+        app: 1,
+        base: 7,
+        fin: false,
+    };
+    assert_eq!(rt; table.line(0), first);
+    let second = FlowInfo {
+        app: 1,
+        base: 8,
+        fin: true,
+    };
+    assert_eq!(rt; table.line(1), second);
+    Ok(())
+}
+
+/// There are 65,535 flows at most. A segment that would begin one more changes nothing.
+#[test]
+fn flows_come_to_an_end(rt: HostRuntime) -> Result<(), Fail> {
+    let mut table = table(&rt)?;
+    for sport in 0..u16::MAX {
+        let placed = table.place(&from(HOST, sport, 7, ACK))?;
+        assert_eq!(rt; placed, in_flow(u32::from(sport), 7, 7));
+    }
+    let last = from(HOST, u16::MAX, 7, ACK);
+    assert_eq!(rt; table.place(&last), Err(FlowFault::TooManyFlows));
+    assert_eq!(rt; table.count(), 65535);
+    assert_eq!(rt; table.place(&from(HOST, 9, 8, ACK))?, in_flow(9, 7, 8));
     Ok(())
 }

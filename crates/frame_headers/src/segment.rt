@@ -1,5 +1,5 @@
 /// An IP address, with its version.
-#[derive(Clone, Copy, Debug, PartialEq, Eq)]
+#[derive(Clone, Copy, Debug, PartialEq, Eq, Hash)]
 pub enum Addr {
     /// An address of IPv4.
     V4([u8; 4]),

@@ -1,15 +1,11 @@
 ghost use Rattle.std.specs.Prelude.{◌≡◌, ◌<◌, ◌^◌, length, map, option_map, IfOk};
 ghost use Rattle.frame_headers.specs.Seen.{segment_seen, shown};
-ghost use Rattle.flow_table.specs.Steered.{app_of, steer, steered_of, has_fin, has_syn, first_byte};
+ghost use Rattle.flow_table.specs.Steered.{steer, steered_of};
 ghost use Rattle.flow_table.specs.Plain.{steered_shown};
 
+use crate::segment::app_of;
 use frame_headers::{Seen, Segment};
 use std::alloc::{AllocError, Global};
-
-// The flags (RFC 9293, 3.1).
-const FIN: u8 = 1;
-
-const SYN: u8 = 2;
 
 /// A segment that goes to an application.
 #[derive(Clone, Copy)]
@@ -19,32 +15,6 @@ pub struct SteeredSegment<'a> {
     /// The place of its port.
     pub app: usize,
     pub segment: Segment<'a>,
-}
-
-pub fn has_fin(segment: &Segment<'_>) -> bool
-    ensures { result ≡ has_fin (shown segment.now) }
-{
-    segment.flags & FIN != 0
-}
-
-#[tactic(auto, using(crate::proofs::Flags::syn_by_mask))]
-pub fn has_syn(segment: &Segment<'_>) -> bool
-    ensures { result ≡ has_syn (shown segment.now) }
-{
-    segment.flags & SYN != 0
-}
-
-/// The sequence number of the first payload byte: SYN takes one (RFC 9293, 3.4).
-pub fn first_byte(segment: &Segment<'_>) -> u32
-    ensures { result ≡ first_byte (shown segment.now) }
-{
-    segment.seq.wrapping_add(u32::from(has_syn(segment)))
-}
-
-fn app_of(ports: &[u16], port: u16) -> Option<usize>
-    ensures { result ≡ app_of ports.now port }
-{
-    ports.iter().position(|one| *one == port)
 }
 
 fn steer<'a>(ports: &[u16], record_number: u32, seen: &Seen<'a>) -> Option<SteeredSegment<'a>>

@@ -1,0 +1,129 @@
+//! The flows so far, found by their keys.
+
+ghost use Rattle.std.specs.Prelude.{◌≡◌, ℕ, ◌+◌, ◌<◌, ◌≤◌, ◌↔◌, [], ◌∷◌, ◌++◌, ◌==◌, if◌then◌else◌, length, Some, slice_get, option_map, Ok, Err, IfOk, OnOk, OnErr};
+ghost use Rattle.frame_headers.specs.Seen.{shown};
+ghost use Rattle.flow_table.specs.Flows.{Numbered, key_of, newest, number_among, with_segment};
+ghost use Rattle.flow_table.specs.Placing.{steered_to};
+ghost use Rattle.flow_table.specs.Kept.{entry_shown};
+
+use crate::entry::{FlowEntry, Key};
+use crate::placed::FlowFault;
+use frame_headers::Segment;
+use indexmap::IndexMap;
+use std::alloc::Global;
+use std::collections::hash_map::RandomState;
+use std::marker::Model;
+
+/// How many flows there may be.
+const MOST_FLOWS: u32 = 65_535;
+
+/// The flows so far, in the order of their numbers.
+#[derive(Drop)]
+pub(crate) struct FlowList {
+    entries: Vec<FlowEntry>,
+    /// The number of the newest flow of each key.
+    newest: IndexMap<Key, u32, RandomState>,
+}
+
+impl Model for FlowList {
+    ghost use Rattle.std.specs.Prelude.{List, map, length, ◌≤◌};
+    ghost use Rattle.flow_table.specs.Flows.{Flow};
+    ghost use Rattle.flow_table.specs.Kept.{entry_shown};
+    ghost use Rattle.flow_table.specs.Newest.{HasNewest};
+
+    ghost Value = { List Flow };
+
+    ghost view = { λ l. map entry_shown l.entries.items };
+
+    ghost invariant = { λ l. (length l.entries.items ≤ 65535) × HasNewest l.entries.items l.newest };
+}
+
+impl FlowList {
+    pub(crate) fn new(alloc: Global, random: RandomState) -> FlowList
+        ensures { result ≡ [] }
+    {
+        FlowList {
+            entries: Vec::new(alloc),
+            newest: IndexMap::with_hasher(alloc, random),
+        }
+    }
+
+    pub(crate) fn count(&self) -> u32
+        ensures count { result ≡ length self.now }
+        ensures most { result ≤ 65535 }
+    {
+        self.entries.len() as u32
+    }
+
+    pub(crate) fn at(&self, number: u32) -> FlowEntry
+        requires { number < length self.now }
+        ensures { slice_get self.now number ≡ Some (entry_shown result) }
+    {
+        self.entries[number as usize]
+    }
+
+    // The number of the newest flow of the segment's key.
+    fn newest_of(&self, segment: &Segment<'_>) -> Option<u32>
+        ensures { result ≡ option_map (λ (found : Numbered). found.number) (newest (key_of (shown segment.now)) self.now) }
+    {
+        self.newest.get(&Key::of(segment)).copied()
+    }
+
+    // The number of the flow that the segment belongs to, or else of the one that it begins.
+    fn number_of_flow(&self, segment: &Segment<'_>) -> u32
+        ensures number { result ≡ number_among (length self.now) (shown segment.now) (newest (key_of (shown segment.now)) self.now) }
+        ensures within { result ≤ length self.now }
+    {
+        let Some(number) = self.newest_of(segment) else {
+            return self.count();
+        };
+        if self.at(number).ends_before(segment) {
+            self.count()
+        } else {
+            number
+        }
+    }
+
+    // The flow of this number sees the segment.
+    fn go_on(&mut self, number: u32, segment: &Segment<'_>)
+        requires { number < length self.old }
+        ensures { (app record_number : ℕ) → self.new ≡ with_segment self.old number (steered_to app (shown segment.now) record_number) }
+    {
+        self.entries[number as usize].see(segment);
+    }
+
+    // A flow begins. Either all is as before, or it is the last, and the newest of its key.
+    fn begin(&mut self, flow: FlowEntry) -> Result<u32, FlowFault>
+        ensures number { IfOk result (λ number. number ≡ length self.old) }
+        ensures begun { OnOk result (self.new ≡ self.old ++ entry_shown flow ∷ []) }
+        ensures too_many { (result ≡ Err FlowFault.TooManyFlows) ↔ (length self.old ≡ 65535) }
+        ensures refused { OnErr result (self.new ≡ self.old) }
+    {
+        let number = self.count();
+        if number == MOST_FLOWS {
+            return Err(FlowFault::TooManyFlows);
+        }
+        self.entries.reserve(1).map_err(|_| FlowFault::Memory)?;
+        self.newest
+            .insert(flow.key, number)
+            .map_err(|_| FlowFault::Memory)?;
+        self.entries.push(flow).unwrap();
+        Ok(number)
+    }
+
+    /// The flow of the segment sees it, or begins with it.
+    pub(crate) fn see(&mut self, app: u32, segment: &Segment<'_>) -> Result<u32, FlowFault>
+        ensures number { IfOk result (λ number. number ≡ number_among (length self.old) (shown segment.now) (newest (key_of (shown segment.now)) self.old)) }
+        ensures flows { IfOk result (λ number. (record_number : ℕ) → self.new ≡ with_segment self.old number (steered_to app (shown segment.now) record_number)) }
+        ensures count { IfOk result (λ number. (number < length self.new) × (length self.new ≡ length self.old + (if number == length self.old then 1 else 0))) }
+        ensures too_many { (result ≡ Err FlowFault.TooManyFlows) ↔ (number_among (length self.old) (shown segment.now) (newest (key_of (shown segment.now)) self.old) ≡ 65535) }
+        ensures refused { OnErr result (self.new ≡ self.old) }
+    {
+        let number = self.number_of_flow(segment);
+        if number == self.count() {
+            return self.begin(FlowEntry::begin(app, segment));
+        }
+        self.go_on(number, segment);
+        Ok(number)
+    }
+}
