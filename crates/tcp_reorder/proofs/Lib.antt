@@ -1,0 +1,9 @@
+pub mod Positions
+pub mod Least
+pub mod Holding
+pub mod Parts
+pub mod Judging
+mod Lookups
+pub mod Sound
+pub mod Gapping
+pub mod Taking

@@ -1,0 +1,5 @@
+pub mod Queue
+pub mod Gaps
+pub mod Pieces
+pub mod Laws
+pub mod Values

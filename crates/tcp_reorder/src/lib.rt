@@ -1,0 +1,15 @@
+//! The reassembly queue of one TCP flow: pieces of payload that came out of order, kept until the stream reaches them.
+#![tactic(auto)]
+
+mod distance;
+mod laws;
+mod piece;
+mod places;
+mod queue;
+
+pub use laws::{first_missing_goes_on, frames_are_judged_alike, parts_are_accepted};
+pub use places::{Gap, Span};
+pub use queue::RecvQueue;
+
+#[cfg(test)]
+mod tests;
