@@ -1,0 +1,10 @@
+pub mod Digits
+pub mod Lookups
+pub mod Looks
+pub mod Matching
+pub mod Walking
+pub mod Asked
+pub mod Adding
+pub mod Porting
+pub mod Answering
+mod Rows

@@ -1,0 +1,146 @@
+-- The ports of words, one after another; and what a list of ports that is read is.
+use Rattle.std.proofs.Common.{◌≡◌, ◌∙◌, ◌<◌, ◌≤◌, ◌+◌, ◌++◌, ◌&&◌, ℕ, Bool, true, false, not, refl, sym, ap, subst, arith, add-one, zero, suc, List, [], ◌∷◌, drop, length, get_or, Option, Some, None, option_map, append_assoc, append-nil, nat_eq, All}
+use Rattle.std.proofs.Math.Seq.{drop-cons}
+use Rattle.std.proofs.lemmas.List.{drop_all}
+use Rattle.std.specs.Prelude.{IfSome, option_and_then, nat_le}
+use Rattle.std.specs.Borrow.{Bor}
+use Rattle.std.specs.List.{AllByRecursion, IsDistinct, list_any}
+use Rattle.std.proofs.lemmas.Bool.Decides.{nat_tests}
+use Rattle.command_words.specs.Numbers.{all_ports, is_distinct, is_port_list, port_of, ports_of, value_of, within}
+use Rattle.command_words.specs.Assigned.{Said}
+use Rattle.command_words.specs.Words.{HasPorts, IsPortList, Shown, command_shown, replay, replay_of}
+use Rattle.command_words.specs.declared.reading.Command.{Command}
+use Rattle.command_words.specs.declared.reading.Command.TheVariants.{Replay}
+use Rattle.command_words.proofs.Adding.{texts}
+
+abbrev pub onto : List ℕ → Option (List ℕ) → Option (List ℕ)
+onto ports = option_map (λ rest. ports ++ rest)
+
+-- the ports from the place i on
+abbrev pub ports_from : List (Bor (List ℕ)) → ℕ → Option (List ℕ)
+ports_from words i = all_ports (texts (drop i words))
+
+abbrev first_then : Option ℕ → Option (List ℕ) → Option (List ℕ)
+first_then port rest = option_and_then (λ p. option_map (λ ports. p ∷ ports) rest) port
+
+next_port : (words : List (Bor (List ℕ))) (i : ℕ) (d : Bor (List ℕ)) → i < length words → ports_from words i ≡ first_then (port_of (get_or words i d).now) (ports_from words (i + 1))
+next_port words i d lt = rw (add-one, drop-cons words i d lt) refl
+
+onto_next : (ports : List ℕ) (p : ℕ) (rest : Option (List ℕ)) → onto ports (first_then (Some p) rest) ≡ onto (ports ++ p ∷ []) rest
+onto_next ports p None = refl
+onto_next ports p (Some rest) = ap Some (sym (append_assoc ports (p ∷ []) rest))
+
+-- one more port
+pub port_read : (words : List (Bor (List ℕ))) (i : ℕ) (d : Bor (List ℕ)) (ports : List ℕ) (p : ℕ) → i < length words → Some p ≡ port_of (get_or words i d).now
+    → all_ports (texts words) ≡ onto ports (ports_from words i) → all_ports (texts words) ≡ onto (ports ++ p ∷ []) (ports_from words (i + 1))
+port_read words i d ports p lt is before =
+    before ∙ ap (onto ports) (next_port words i d lt ∙ ap (λ o. first_then o (ports_from words (i + 1))) (sym is)) ∙ onto_next ports p (ports_from words (i + 1))
+
+-- no port
+pub port_missing : (words : List (Bor (List ℕ))) (i : ℕ) (d : Bor (List ℕ)) (ports : List ℕ) → i < length words → None ≡ port_of (get_or words i d).now
+    → all_ports (texts words) ≡ onto ports (ports_from words i) → None ≡ all_ports (texts words)
+port_missing words i d ports lt is before = sym (before ∙ ap (onto ports) (next_port words i d lt ∙ ap (λ o. first_then o (ports_from words (i + 1))) (sym is)))
+
+pub all_read : (words : List (Bor (List ℕ))) (i : ℕ) (ports : List ℕ) → length words ≤ i → all_ports (texts words) ≡ onto ports (ports_from words i) → Some ports ≡ all_ports (texts words)
+all_read words i ports past before = sym (before ∙ rw (drop_all i words past) (ap Some (append-nil ports)))
+
+-- ---- what a list of ports that is read is
+
+and_parts : (a b : Bool) → (a && b) ≡ true → (a ≡ true) × (b ≡ true)
+and_parts true b h = (refl, h)
+and_parts false b h = let bad : false ≡ true = h in cc
+
+none_same : (x : ℕ) (xs : List ℕ) → not (list_any (nat_eq x) xs) ≡ true → AllByRecursion (λ y. nat_eq x y ≡ false) xs
+none_same x [] h = tt
+none_same x (y ∷ ys) h = go (nat_eq x y) refl (none_same x ys)
+  where
+    go : (b : Bool) → nat_eq x y ≡ b → (not (list_any (nat_eq x) ys) ≡ true → AllByRecursion (λ y. nat_eq x y ≡ false) ys) → AllByRecursion (λ y. nat_eq x y ≡ false) (y ∷ ys)
+    go true e below = let bad : false ≡ true = rw e at h in cc
+    go false e below = (e, below (rw e at h))
+
+distinct : (xs : List ℕ) → is_distinct nat_eq xs ≡ true → IsDistinct nat_eq xs
+unfolding IsDistinct
+distinct [] h = tt
+distinct (x ∷ xs) h = let parts = and_parts _ _ h in (none_same x xs parts.0, distinct xs parts.1)
+
+-- ---- the ports of a reading
+
+abbrev is_port : ℕ → Type 0
+is_port port = (1 ≤ port) × (port ≤ 65535)
+
+within_range : (number port : ℕ) → within 1 65535 number ≡ Some port → is_port port
+within_range number port is = go (nat_le 1 number) (nat_le number 65535) refl refl
+  where
+    go : (low high : Bool) → nat_le 1 number ≡ low → nat_le number 65535 ≡ high → is_port port
+    go true true e f =
+        let same : Some number ≡ Some port = rw (e, f) at is in
+        let equal : number ≡ port = cc in
+        (grind (arith, nat_tests, e, equal), grind (arith, nat_tests, f, equal))
+    go true false e f = let bad : None ≡ Some port = rw (e, f) at is in cc
+    go false high e f = let bad : None ≡ Some port = rw e at is in cc
+
+port_in_range : (value : Option ℕ) (port : ℕ) → option_and_then (within 1 65535) value ≡ Some port → is_port port
+port_in_range None port is = cc
+port_in_range (Some number) port is = within_range number port is
+
+one_more : (x : ℕ) (xs : List ℕ) → is_port x → All is_port xs → All is_port (x ∷ xs)
+one_more x xs p all zero d lt = p
+one_more x xs p all (suc k) d lt = all k d (omega arith)
+
+first_and_rest : (port rest : _) (ports : List ℕ) → first_then port rest ≡ Some ports
+    → (p : ℕ) × (others : List ℕ) × (port ≡ Some p) × (rest ≡ Some others) × (ports ≡ p ∷ others)
+first_and_rest None rest ports is = cc
+first_and_rest (Some p) None ports is = cc
+first_and_rest (Some p) (Some others) ports is = (p, others, refl, refl, cc)
+
+all_in_range : (words : List (List ℕ)) (ports : List ℕ) → all_ports words ≡ Some ports → All is_port ports
+all_in_range [] [] is = λ k d lt. absurd (omega arith)
+all_in_range [] (p ∷ ports) is = cc
+all_in_range (word ∷ words) ports is =
+    let parts = first_and_rest (port_of word) (all_ports words) ports is in
+    let below = all_in_range words parts.1 parts.3 in
+    subst (All is_port) (sym parts.4) (one_more parts.0 parts.1 (port_in_range (value_of word) parts.0 parts.2) below)
+
+-- what is read as ports is a list of them
+pub ports_read : (words : List (List ℕ)) (ports : List ℕ) → ports_of words ≡ Some ports → IsPortList ports
+ports_read words ports is = go (all_ports words) refl
+  where
+    go : (o : Option (List ℕ)) → all_ports words ≡ o → IsPortList ports
+    go None e = let bad : None ≡ Some ports = rw e at is in cc
+    go (Some all) e = listed (is_port_list all) refl
+      where
+        listed : (b : Bool) → is_port_list all ≡ b → IsPortList ports
+        listed false f = let bad : None ≡ Some ports = rw (e, f) at is in cc
+        listed true f =
+            let same : Some all ≡ Some ports = rw (e, f) at is in
+            let equal : all ≡ ports = cc in
+            let outer = and_parts (nat_le 1 (length all) && nat_le (length all) 8) (is_distinct nat_eq all) f in
+            let sizes = and_parts (nat_le 1 (length all)) (nat_le (length all) 8) outer.0 in
+            let least = sizes.0 in
+            let most = sizes.1 in
+            subst IsPortList equal (record {
+              some = grind (arith, nat_tests, least);
+              most = grind (arith, nat_tests, most);
+              distinct = distinct all outer.1;
+              numbers = all_in_range words all e;
+            })
+
+abbrev shown : List ℕ → Shown
+shown ports = replay (record { ports = ports })
+
+abbrev ports_shown : Option Shown → List ℕ
+ports_shown None = []
+ports_shown (Some (replay told)) = told.ports
+
+-- a replay that is read has a list of ports
+pub replay_read : (said : Option Said) (command : Option Command) → option_map command_shown command ≡ option_and_then replay_of said → IfSome command HasPorts
+replay_read said None is = tt
+replay_read None (Some (Replay told)) is = cc
+replay_read (Some said) (Some (Replay told)) is = go (ports_of said.words) refl
+  where
+    go : (o : Option (List ℕ)) → ports_of said.words ≡ o → IsPortList told.ports.items
+    go None e = let bad : Some (command_shown (Replay told)) ≡ None = is ∙ ap (option_map shown) e in cc
+    go (Some ports) e =
+        let same : Some (command_shown (Replay told)) ≡ Some (shown ports) = is ∙ ap (option_map shown) e in
+        let equal : told.ports.items ≡ ports = ap ports_shown same in
+        subst IsPortList (sym equal) (ports_read said.words ports e)

@@ -1,0 +1,116 @@
+-- The reading at words whose reading was worked out by hand, without options and with some.
+use Rattle.std.specs.Prelude.{◌≡◌, ℕ, List, [], ◌∷◌, Option, Some, None, codes}
+use Rattle.std.proofs.Common.{refl}
+use Rattle.command_words.specs.Assigned.{Text, assigned, sorted}
+use Rattle.command_words.specs.Words.{Shown, reading_of, replay}
+
+abbrev shown : List ℕ → Option Shown
+shown ports = Some (replay (record { ports = ports }))
+
+one_port : reading_of (codes "replay" ∷ codes "9000" ∷ []) ≡ shown (9000 ∷ [])
+unfolding assigned
+one_port = refl
+
+in_order : reading_of (codes "replay" ∷ codes "9001" ∷ codes "9000" ∷ []) ≡ shown (9001 ∷ 9000 ∷ [])
+unfolding assigned
+in_order = refl
+
+leading_zero : reading_of (codes "replay" ∷ codes "09000" ∷ []) ≡ shown (9000 ∷ [])
+unfolding assigned
+leading_zero = refl
+
+after_closing : reading_of (codes "replay" ∷ codes "9000" ∷ codes "--" ∷ codes "9001" ∷ []) ≡ shown (9000 ∷ 9001 ∷ [])
+unfolding assigned
+after_closing = refl
+
+largest : reading_of (codes "replay" ∷ codes "65535" ∷ []) ≡ shown (65535 ∷ [])
+unfolding assigned
+largest = refl
+
+too_large : reading_of (codes "replay" ∷ codes "65536" ∷ []) ≡ None
+unfolding assigned
+too_large = refl
+
+port_0 : reading_of (codes "replay" ∷ codes "0" ∷ []) ≡ None
+unfolding assigned
+port_0 = refl
+
+digits_19 : reading_of (codes "replay" ∷ codes "0000000000000009000" ∷ []) ≡ None
+unfolding assigned
+digits_19 = refl
+
+signed : reading_of (codes "replay" ∷ codes "+9000" ∷ []) ≡ None
+unfolding assigned
+signed = refl
+
+no_words : reading_of [] ≡ None
+no_words = refl
+
+no_ports : reading_of (codes "replay" ∷ []) ≡ None
+unfolding assigned
+no_ports = refl
+
+same_port : reading_of (codes "replay" ∷ codes "9000" ∷ codes "9000" ∷ []) ≡ None
+unfolding assigned
+same_port = refl
+
+abbrev digits : List Text
+digits = codes "1" ∷ codes "2" ∷ codes "3" ∷ codes "4" ∷ codes "5" ∷ codes "6" ∷ codes "7" ∷ codes "8" ∷ []
+
+eight_ports : reading_of (codes "replay" ∷ digits) ≡ shown (1 ∷ 2 ∷ 3 ∷ 4 ∷ 5 ∷ 6 ∷ 7 ∷ 8 ∷ [])
+unfolding assigned
+eight_ports = refl
+
+nine_ports : reading_of (codes "replay" ∷ codes "9" ∷ digits) ≡ None
+unfolding assigned
+nine_ports = refl
+
+help : reading_of (codes "replay" ∷ codes "--help" ∷ []) ≡ None
+unfolding assigned
+help = refl
+
+unknown_option : reading_of (codes "replay" ∷ codes "--size=1024" ∷ codes "9000" ∷ []) ≡ None
+unfolding assigned
+unknown_option = refl
+
+make : reading_of (codes "make" ∷ codes "7" ∷ codes "0" ∷ []) ≡ None
+make = refl
+
+-- ---- with two options
+
+abbrev names : List Text
+names = codes "size" ∷ codes "ring" ∷ []
+
+both_forms : sorted names (codes "--size=1=2" ∷ codes "9000" ∷ codes "--ring" ∷ codes "7" ∷ codes "--" ∷ codes "--size" ∷ [])
+    ≡ Some (record { options = (codes "size", codes "1=2") ∷ (codes "ring", codes "7") ∷ []; words = codes "9000" ∷ codes "--size" ∷ [] })
+unfolding assigned
+both_forms = refl
+
+-- a lone dash is a plain word
+lone_dash : sorted names (codes "--size" ∷ codes "-" ∷ codes "-" ∷ []) ≡ Some (record { options = (codes "size", codes "-") ∷ []; words = codes "-" ∷ [] })
+unfolding assigned
+lone_dash = refl
+
+empty_value : sorted names (codes "--size=" ∷ []) ≡ Some (record { options = (codes "size", []) ∷ []; words = [] })
+unfolding assigned
+empty_value = refl
+
+no_value : sorted names (codes "--size" ∷ []) ≡ None
+unfolding assigned
+no_value = refl
+
+dashed_value : sorted names (codes "--size" ∷ codes "-5" ∷ []) ≡ None
+unfolding assigned
+dashed_value = refl
+
+closing_value : sorted names (codes "--size" ∷ codes "--" ∷ codes "5" ∷ []) ≡ None
+unfolding assigned
+closing_value = refl
+
+second_use : sorted names (codes "--size=1" ∷ codes "--ring=2" ∷ codes "--size" ∷ codes "1" ∷ []) ≡ None
+unfolding assigned
+second_use = refl
+
+short_option : sorted names (codes "-s" ∷ codes "1" ∷ []) ≡ None
+unfolding assigned
+short_option = refl

@@ -1,0 +1,4 @@
+pub mod Numbers
+pub mod Assigned
+pub mod Asking
+pub mod Words

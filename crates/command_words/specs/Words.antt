@@ -1,0 +1,45 @@
+-- What the command's words mean.
+use Rattle.std.specs.Prelude.{ℕ, ◌≤◌, List, [], ◌∷◌, length, nat_eq, if◌then◌else◌, Option, None, option_and_then, option_map, codes, All}
+use Rattle.std.specs.List.{IsDistinct}
+use Rattle.std.specs.Str.{bytes_eq}
+use Rattle.command_words.specs.declared.reading.Command.{Command}
+use Rattle.command_words.specs.declared.reading.Replay.{Replay}
+use Rattle.command_words.specs.Numbers.{ports_of}
+use Rattle.command_words.specs.Assigned.{Text, Said, sorted}
+
+-- what `replay` is told: its ports, in the order given
+pub record ReplayShown : Type 0 where
+  pub ports : List ℕ
+
+pub data Shown : Type 0 where
+  replay : ReplayShown → Shown
+
+-- a command as its definition shows it
+abbrev pub replay_shown : Replay → ReplayShown
+replay_shown told = record { ports = told.ports.items }
+
+abbrev pub command_shown : Command → Shown
+command_shown (Command.Replay told) = replay (replay_shown told)
+
+-- the options of `replay`
+abbrev pub option_names : List Text
+option_names = []
+
+abbrev pub replay_of : Said → Option Shown
+replay_of said = option_map (λ ports. replay (record { ports = ports })) (ports_of said.words)
+
+-- the words after the program's name, as a command
+abbrev pub reading_of : List Text → Option Shown
+reading_of [] = None
+reading_of (command ∷ words) =
+    if bytes_eq command (codes "replay") then option_and_then replay_of (sorted option_names words) else None
+
+-- ports that a replay may have: 1 to 8, distinct, each from 1 to 65,535
+pub record IsPortList (ports : List ℕ) : Type 0 where
+  pub some : 1 ≤ length ports
+  pub most : length ports ≤ 8
+  pub distinct : IsDistinct nat_eq ports
+  pub numbers : All (λ port. (1 ≤ port) × (port ≤ 65535)) ports
+
+abbrev pub HasPorts : Command → Type 0
+HasPorts (Command.Replay told) = IsPortList told.ports.items

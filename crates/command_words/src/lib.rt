@@ -1,0 +1,12 @@
+//! The reading of the command's words: `clap` says which word is an option, a value or a word of its own, and the
+//! numbers are read here.
+#![tactic(auto)]
+
+mod assign;
+mod numbers;
+mod reading;
+
+pub use reading::{Command, Replay, read_words};
+
+#[cfg(test)]
+mod tests;

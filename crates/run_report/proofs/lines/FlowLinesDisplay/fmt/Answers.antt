@@ -1,0 +1,11 @@
+use Rattle.std.proofs.Common.{refl}
+use Rattle.std.proofs.Output.{has_written_append, has_written_of_eq}
+use Rattle.run_report.specs.Report.{flow_line}
+use Rattle.run_report.proofs.Numbered.{numbered_more}
+use Rattle.run_report.proofs.lines.FlowLinesDisplay.fmt.Goals as goal
+
+pub loop-number-preserved : goal.loop-number-preserved
+loop-number-preserved g c plain =
+    let before = c.loop-number.invariant plain in
+    let line = c.in_ok-write.ensures.writes before.plain refl in
+    has_written_of_eq _ _ _ _ _ (numbered_more flow_line c.args.self.now.0.now c.loop-number.number _ c.loop-number-test.true) (has_written_append _ _ _ _ _ _ before line)
