@@ -1,23 +1,32 @@
 #!/usr/bin/env bash
-# Compares zcrx with tcpflow on one capture: time, peak memory, and whether both wrote the same bytes. Then runs zcrx on a
-# capture twice as long, which shows whether its memory grows with the capture.
+# Compares zcrx with tcpflow, capture by capture: time, time per frame, peak memory, and whether both wrote the same bytes.
 #
-# usage: bench/compare.sh [RUNS]
+# usage: bench/compare.sh [RUNS [CASE..]]
 #
-# RUNS is 5 if left out. ZCRX=FILE names another program than crates/zcrx_cli/out/zcrx_cli, which `make build` leaves there.
-# The captures are made in bench/captures/ and kept; all else there is removed. Needs python3, GNU time, tcpflow and about
-# 600 MB of disk. The status is 0 where both programs ended well and wrote the same bytes.
+#   one        one flow in order; and zcrx on a capture twice as long, which shows whether its memory grows with it
+#   four       four flows to four ports, interleaved, each in order
+#   reordered  the same with every second pair of a flow's frames swapped, and 6 in 100 frames beginning 100 bytes early
+#   waiting    one flow whose first payload comes last, behind 1,000, 10,000 and 40,000 kept pieces
+#
+# RUNS is 5 if left out, and the cases are all four. ZCRX=FILE names another program than crates/zcrx_cli/out/zcrx_cli,
+# which `make build` leaves there. The captures are made in bench/captures/ and kept; all else there is removed. Needs
+# python3, GNU time, tcpflow and about 900 MB of disk. The status is 0 where both programs ended well and wrote the same
+# bytes.
 set -u
 export LC_ALL=C
 
 runs=${1:-5}
+cases=("${@:2}")
+[ ${#cases[@]} -gt 0 ] || cases=(one four reordered waiting)
 top=$(cd "$(dirname "$0")/.." && pwd)
 work=$top/bench/captures
 zcrx=$(realpath -m "${ZCRX:-$top/crates/zcrx_cli/out/zcrx_cli}")
 frames=100000
+kept_counts=(1000 10000 40000)
 
-# Plain flow files and nothing else: only the scanner that writes the flows, no report.xml, no messages.
-tcpflow_options=(-E tcpdemux -S enable_report=NO -d 0)
+# Plain flow files and nothing else: only the scanner that writes the flows, no report.xml, no messages. Bytes up to 2^30
+# ahead belong to the flow.
+tcpflow_options=(-E tcpdemux -S enable_report=NO -d 0 -m $((1 << 30)))
 
 fail() {
     echo "compare: $*" >&2
@@ -25,7 +34,7 @@ fail() {
 }
 
 require_programs() {
-    [[ $runs =~ ^[1-9][0-9]*$ ]] || fail "usage: bench/compare.sh [RUNS]"
+    [[ $runs =~ ^[1-9][0-9]*$ ]] || fail "usage: bench/compare.sh [RUNS [one | four | reordered | waiting]..]"
     [ -x "$zcrx" ] || fail "no program $zcrx: run 'make build' first"
     [ -x /usr/bin/time ] || fail "no /usr/bin/time: install Debian's package time"
     if ! command -v tcpflow >/dev/null; then
@@ -33,10 +42,12 @@ require_programs() {
     fi
 }
 
-# make_capture FRAMES FILE
+# make_capture FILE FRAMES OPTION..
 make_capture() {
-    [ -f "$2" ] && return
-    python3 "$top/tools/make_capture.py" 7 "$1" --in-order >"$2.part" && mv "$2.part" "$2" || fail "no capture $2"
+    local file=$1
+    shift
+    [ -f "$file" ] && return
+    python3 "$top/tools/make_capture.py" 7 "$@" >"$file.part" && mv "$file.part" "$file" || fail "no capture $file"
 }
 
 # measure NAME CAPTURE COMMAND..: runs the command in a new folder NAME, and adds 'microseconds KiB' to NAME.runs
@@ -52,9 +63,10 @@ measure() {
     echo "$((ended - began)) $(cat "$work/$name.peak")" >>"$work/$name.runs"
 }
 
-run_zcrx() { # NAME CAPTURE
-    measure "$1" "$2" "$zcrx" replay 9000
-    [ "$(cat "$work/$1.said")" = "status 0" ] || fail "zcrx reported: $(cat "$work/$1.said")"
+# run_zcrx NAME CAPTURE FLOWS
+run_zcrx() {
+    measure "$1" "$2" "$zcrx" replay $(seq 9000 $((8999 + $3)))
+    [ "$(tail -n 1 "$work/$1.said")" = "status 0" ] || fail "zcrx reported: $(tail -n 1 "$work/$1.said")"
 }
 
 run_tcpflow() { # CAPTURE
@@ -65,27 +77,51 @@ best() { cut -d' ' -f1 "$work/$1.runs" | sort -n | head -1; }
 median() { cut -d' ' -f1 "$work/$1.runs" | sort -n | sed -n "$((runs / 2 + 1))p"; }
 peak() { cut -d' ' -f2 "$work/$1.runs" | sort -n | tail -1; }
 
-row() { # NAME
-    awk -v name="$1" -v best="$(best "$1")" -v median="$(median "$1")" -v peak="$(peak "$1")" \
-        'BEGIN { printf "%-8s %8.3f %8.3f %12d\n", name, best / 1e6, median / 1e6, peak }'
+row() { # NAME FRAMES
+    awk -v name="$1" -v frames="$2" -v best="$(best "$1")" -v median="$(median "$1")" -v peak="$(peak "$1")" \
+        'BEGIN { printf "%-8s %8.3f %8.3f %12.3f %12d\n", name, best / 1e6, median / 1e6, best / frames, peak }'
 }
 
 ratio() { awk -v a="$1" -v b="$2" 'BEGIN { printf "%.2f", a / b }'; }
 
-print_table() {
-    printf '%-8s %8s %8s %12s\n' '' 'best s' 'median s' 'peak KiB'
-    row zcrx
-    row tcpflow
+print_table() { # FRAMES
+    printf '%-8s %8s %8s %12s %12s\n' '' 'best s' 'median s' 'us a frame' 'peak KiB'
+    row zcrx "$1"
+    row tcpflow "$1"
     echo "zcrx / tcpflow: best $(ratio "$(best zcrx)" "$(best tcpflow)"), median $(ratio "$(median zcrx)" "$(median tcpflow)")"
 }
 
-compare_bytes() {
-    local stream=$work/zcrx/flow-0.bin
-    cmp "$stream" "$work/tcpflow/010.000.000.001.40000-010.000.000.002.09000" || fail "the streams differ"
-    echo "same bytes: $(stat -c %s "$stream")"
+# The file in which tcpflow writes flow F of a capture.
+tcpflow_file() { printf '010.000.000.001.%05d-010.000.000.002.%05d' $((40000 + $1)) $((9000 + $1)); }
+
+compare_bytes() { # FLOWS
+    local flow
+    for ((flow = 0; flow < $1; flow++)); do
+        cmp "$work/zcrx/flow-$flow.bin" "$work/tcpflow/$(tcpflow_file $flow)" || fail "the streams of flow $flow differ"
+    done
+    [ "$(ls "$work/zcrx" | wc -l)" -eq "$1" ] || fail "zcrx wrote other files: $(ls "$work/zcrx")"
+    echo "same bytes: $(cat "$work"/zcrx/flow-*.bin | wc -c) in $1 flow(s)"
+}
+
+# compare TITLE FLOWS CAPTURE FRAMES OPTION..
+compare() {
+    local title=$1 flows=$2 capture=$work/$3 count=$4
+    make_capture "$capture" "$count" "${@:5}"
+    remove_outputs
+    cat "$capture" >/dev/null # so that each run finds it in memory
+    local run
+    for ((run = 0; run < runs; run++)); do
+        run_zcrx zcrx "$capture" "$flows"
+        run_tcpflow "$capture"
+    done
+    echo "$title: $count frames, $(stat -c %s "$capture") bytes; $runs runs of each, in turn"
+    print_table "$count"
+    compare_bytes "$flows"
 }
 
 compare_memory() {
+    make_capture "$work/one-longer.pcap" $((2 * frames)) --in-order
+    run_zcrx longer "$work/one-longer.pcap" 1
     [ "$(stat -c %s "$work/longer/flow-0.bin")" -eq $((2000 * frames)) ] || fail "the longer stream has another length"
     echo "zcrx on a capture twice as long: peak $(peak longer) KiB, against $(peak zcrx) KiB"
 }
@@ -94,23 +130,28 @@ remove_outputs() {
     rm -rf "${work:?}"/{zcrx,tcpflow,longer}{,.peak,.said,.runs}
 }
 
+run_case() {
+    local kept
+    case $1 in
+    one)
+        compare "one flow in order" 1 one.pcap $frames --in-order
+        compare_memory
+        ;;
+    four) compare "four flows in order" 4 four.pcap $frames --flows 4 --in-order ;;
+    reordered) compare "four flows, swapped and overlapping" 4 reordered.pcap $frames --flows 4 --overlap ;;
+    waiting)
+        for kept in "${kept_counts[@]}"; do
+            compare "one flow behind $kept kept pieces" 1 "waiting-$kept.pcap" $((kept + 1)) --first-last
+        done
+        ;;
+    *) fail "no case $1" ;;
+    esac
+    echo
+}
+
 require_programs
 mkdir -p "$work"
-capture=$work/$frames.pcap
-longer=$work/$((2 * frames)).pcap
-make_capture $frames "$capture"
-make_capture $((2 * frames)) "$longer"
-remove_outputs
 trap remove_outputs EXIT
-
-cat "$capture" >/dev/null # so that each run finds it in memory
-for ((run = 0; run < runs; run++)); do
-    run_zcrx zcrx "$capture"
-    run_tcpflow "$capture"
+for name in "${cases[@]}"; do
+    run_case "$name"
 done
-run_zcrx longer "$longer"
-
-echo "$frames frames, $(stat -c %s "$capture") bytes; $runs runs of each, in turn"
-print_table
-compare_bytes
-compare_memory

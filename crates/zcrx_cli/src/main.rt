@@ -1,21 +1,17 @@
-//! `zcrx replay PORT` replays the capture on standard input: it writes the stream of the first TCP flow to the port
-//! into `flow-0.bin` in the current folder, and a line with the status to standard output. The status is the exit
-//! status too.
+//! `zcrx replay PORT..` replays the capture on standard input: it writes the stream of each TCP flow to one of the ports
+//! into `flow-<number>.bin` in the current folder, and a report to standard output. The status that ends the report is
+//! the exit status too.
 #![tactic(auto)]
 
 ghost use Rattle.std.specs.Prelude.{◌≡◌, IfOk, vec_len};
 
-mod copier;
-mod first;
-mod follower;
-mod report;
-mod shelving;
+mod status;
 #[cfg(test)]
 mod tests;
 mod top;
-mod words;
 
 use std::alloc::{AllocError, Global};
+use std::collections::hash_map::RandomState;
 use std::io::BufReader;
 use std::process::ExitCode;
 use std::rt::{Env, Files};
@@ -66,7 +62,15 @@ fn start(rt: &HostRuntime) -> Result<u8, Fault> {
     let mut source = StdSource::new(input.map_err(|_| Fault::Memory)?);
     let mut shelves = make_shelves(rt).map_err(|_| Fault::Memory)?;
     let mut out = StdSink::new(io::writer(rt));
-    Ok(zcrx(rt.alloc(), &words, &mut source, &mut shelves, &mut out))
+    let random = RandomState::new(rt).map_err(|_| Fault::Memory)?;
+    Ok(zcrx(
+        rt.alloc(),
+        random,
+        &words,
+        &mut source,
+        &mut shelves,
+        &mut out,
+    ))
 }
 
 fn main(rt: HostRuntime) -> ExitCode {

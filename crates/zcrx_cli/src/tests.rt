@@ -3,7 +3,10 @@
 mod drawn;
 mod faults;
 mod frames;
+mod limits;
 mod plain;
+mod ports;
+mod reordered;
 mod rows;
 mod runs;
 mod words;

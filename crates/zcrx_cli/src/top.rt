@@ -1,34 +1,63 @@
 //! The top call: a command's words, a source, eight shelves and a sink.
 
-ghost use Rattle.std.specs.Prelude.{◌≡◌, ◌↔◌, None, IfSome, map, drop, vec_len};
-ghost use Rattle.zcrx_cli.specs.Words.{reading_of};
-ghost use Rattle.zcrx_cli.specs.StreamTheorem.{Replays, AtFirst};
+ghost use Rattle.std.specs.Prelude.{◌≡◌, ◌≢◌, ◌≤◌, ◌<◌, ◌⊎◌, None, Some, IfSome, Ok, map, length, nat_eq, vec_len};
+ghost use Rattle.std.specs.List.{IsDistinct};
+ghost use Rattle.run_report.specs.Report.{report_of, Reports, answer_of};
+ghost use Rattle.command_words.specs.Words.{reading_of};
+ghost use Rattle.zcrx_cli.specs.Status.{status_of};
+ghost use Rattle.zcrx_cli.specs.StreamTheorem.{Replays, IsUntouched, Commands, Tells};
 
-use crate::copier::replay;
-use crate::report::{answer, write_report};
-use crate::words::read_words;
+use crate::status::status_of;
+use command_words::{Command, read_words};
+use copying_replay::{Outcome, replay};
+use run_report::{Report, answer, write_report};
 use std::alloc::Global;
+use std::collections::hash_map::RandomState;
 use zr_io::{Shelf, Sink, Source};
 use zr_kinds::Fault;
 
-fn run<S: Source, T: Shelf, O: Sink>(
-    alloc: Global,
-    port: u16,
-    source: &mut S,
-    shelf: &mut T,
-    out: &mut O,
-) -> u8
-    ensures { Replays S.left S.faults T.kept T.faults O.sent O.faults source.old source.new shelf.old shelf.new out.old out.new port result }
+/// Writes the report of a replay: the answer.
+fn tell<O: Sink>(alloc: Global, outcome: &Outcome, out: &mut O) -> u8
+    ensures { Tells (O.sent out.old) (O.sent out.new) (O.faults out.old) (O.faults out.new) outcome.now result }
 {
-    let status = replay(alloc, port, source, shelf).status();
-    let reported = write_report(alloc, status, out);
-    answer(status, reported)
+    let status = status_of(outcome);
+    let report = Report {
+        tally: &outcome.tally,
+        apps: &outcome.apps,
+        flows: &outcome.flows,
+        status,
+    };
+    answer(status, write_report(alloc, &report, out))
 }
 
-/// Replays a capture: `words` are the words after the program's name, and the first shelf takes the flows to the
-/// first port. Answers the status: 0, or the number of the fault that comes first.
+fn run<S: Source, T: Shelf, O: Sink>(
+    alloc: Global,
+    random: RandomState,
+    ports: &[u16],
+    source: &mut S,
+    shelves: &mut [T],
+    out: &mut O,
+) -> u8
+    requires some { 0 < length ports.now }
+    requires most { length ports.now ≤ 8 }
+    requires distinct { IsDistinct nat_eq ports.now }
+    requires shelves { length shelves.old ≡ 8 }
+    ensures replays { Replays S.left S.faults T.kept T.faults O.sent O.faults source.old source.new shelves.old shelves.new out.old out.new ports.now result
+        ⊎ ((result ≡ 1) × IsUntouched source.old source.new shelves.old shelves.new out.old out.new) }
+    ensures many { length shelves.new ≡ length shelves.old }
+{
+    match replay(alloc, random, ports, source, shelves) {
+        Ok(outcome) => tell(alloc, &outcome, out),
+        Err(_) => Fault::Memory.number(),
+    }
+}
+
+/// Replays a capture: `words` are the words after the program's name, shelf `a` takes the flows to the port of place
+/// `a` among the ports, and `random` keys the table of flows. Answers the status: 0, or the number of the fault that
+/// comes first.
 pub fn zcrx<S: Source + Send, T: Shelf + Send, O: Sink>(
     alloc: Global,
+    random: RandomState,
     words: &[&str],
     source: &mut S,
     shelves: &mut Vec<T>,
@@ -36,18 +65,21 @@ pub fn zcrx<S: Source + Send, T: Shelf + Send, O: Sink>(
 ) -> u8
     requires { vec_len shelves.old ≡ 8 }
 
-    // Words without a reading are answered by 2, and then nothing is read or written.
-    ensures usage { (result ≡ 2) ↔ (reading_of (map (λ w. w.now) words.now) ≡ None) }
-    ensures untouched { result ≡ 2 → (source.new ≡ source.old) × (shelves.new.items ≡ shelves.old.items) × (out.new ≡ out.old) }
+    // Words without a reading are answered by 2, or by 1 where there was no memory to read them; and no other words by 2.
+    ensures usage { result ≡ 2 → reading_of (map (λ w. w.now) words.now) ≡ None }
+    ensures unread { reading_of (map (λ w. w.now) words.now) ≡ None → (result ≡ 2) ⊎ (result ≡ 1) }
+    // Then nothing is read or written.
+    ensures untouched { reading_of (map (λ w. w.now) words.now) ≡ None → IsUntouched source.old source.new shelves.old.items shelves.new.items out.old out.new }
 
     // The stream theorem, and what the status and the report say.
-    ensures replays { IfSome (reading_of (map (λ w. w.now) words.now)) (λ port. AtFirst shelves.old.items shelves.new.items
-        (λ shelf shelf_now. Replays S.left S.faults T.kept T.faults O.sent O.faults source.old source.new shelf shelf_now out.old out.new port result)) }
-    // No other shelf is touched.
-    ensures shelves { drop 1 shelves.new.items ≡ drop 1 shelves.old.items }
+    ensures replays { IfSome (reading_of (map (λ w. w.now) words.now))
+        (Commands S.left S.faults T.kept T.faults O.sent O.faults source.old source.new shelves.old.items shelves.new.items out.old out.new result) }
 {
-    match read_words(words) {
-        None => Fault::Usage.number(),
-        Some(port) => run(alloc, port, source, &mut shelves[0], out),
+    match read_words(alloc, words) {
+        Ok(Some(Command::Replay(command))) => {
+            run(alloc, random, &command.ports, source, shelves, out)
+        }
+        Ok(None) => Fault::Usage.number(),
+        Err(_) => Fault::Memory.number(),
     }
 }

@@ -13,7 +13,7 @@ pub const PSH_ACK: u8 = 24;
 /// The first port of the flows.
 pub const SPORT: u16 = 40000;
 
-/// The port that is replayed.
+/// The port that most are sent to.
 pub const PORT: u16 = 9000;
 
 /// Ethernet, IPv4 and TCP without options, from 10.0.0.1 to 10.0.0.2. The total length, the ports, the sequence

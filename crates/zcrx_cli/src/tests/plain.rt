@@ -1,61 +1,141 @@
-//! What the plain slow programs say of a list of frames.
-use super::frames::PORT;
-use flow_table::{plain_flows, plain_stream};
-use frame_headers::{Seen, Segment, read_frame};
+//! Replays that are compared with the plain slow programs.
+use super::frames::capture;
+use super::runs::{Given, Row, Stream, check, faultless};
+use flow_table::{PlainFlow, plain_flows, plain_stream};
+use frame_headers::{Seen, read_frame};
 use std::alloc::Global;
 use std::process::Abort;
+use std::random::RandomSource;
 use std::test::Fail;
 
-/// Where the reading of frames ends, and the stream of the frames before.
-#[derive(Drop)]
-pub struct PlainReplay {
-    pub is_whole: bool,
-    pub stream: Vec<u8>,
+/// The ports that are replayed.
+const PORTS: [u16; 2] = [9000, 9001];
+
+/// The command that replays them.
+const WORDS: [&str; 3] = ["replay", "9000", "9001"];
+
+/// How many frames there are of each class, in all, and to one of the ports.
+#[derive(Clone, Copy, Default)]
+struct Counts {
+    tcp: u32,
+    steered: u32,
+    other: u32,
+    fragment: u32,
+    cut: u32,
+    bad: u32,
 }
 
-/// The stream of flow 0 with the last of these frames, whose segment this is. `None` where it isn't done yet: where
-/// there is then a flow 1, or where the segment's payload to the port doesn't lengthen the stream by exactly itself.
-fn lengthened(
-    rt: &impl Abort,
+fn count(seen: &[Seen<'_>]) -> Counts {
+    let mut counts = Counts::default();
+    for one in seen {
+        let class = match one {
+            Seen::Tcp(segment) => {
+                let is_steered = PORTS.contains(&segment.dport);
+                counts.steered = counts.steered.saturating_add(u32::from(is_steered));
+                &mut counts.tcp
+            }
+            Seen::Other => &mut counts.other,
+            Seen::Fragment => &mut counts.fragment,
+            Seen::CutShort => &mut counts.cut,
+            Seen::Bad => &mut counts.bad,
+        };
+        *class = class.saturating_add(1);
+    }
+    counts
+}
+
+/// How many bytes the flows of an application have.
+fn written(app: usize, streams: &[Stream<'_>]) -> usize {
+    let mut written = 0usize;
+    for stream in streams {
+        if stream.app == app {
+            written = written.saturating_add(stream.bytes.len());
+        }
+    }
+    written
+}
+
+/// The report of a replay that takes all of these frames.
+fn report(
     alloc: Global,
+    seen: &[Seen<'_>],
+    flows: &[PlainFlow],
+    streams: &[Stream<'_>],
+) -> Result<String, Fail> {
+    let Counts {
+        tcp,
+        steered,
+        other,
+        fragment,
+        cut,
+        bad,
+    } = count(seen);
+    let records = seen.len();
+    let mut text = format!(in alloc;
+        "capture records {records} tcp {tcp} steered {steered} other {other} fragment {fragment} cut {cut} bad {bad}\n"
+    )?;
+    for (app, port) in PORTS.iter().enumerate() {
+        let written = written(app, streams);
+        let line = format!(in alloc;
+            "app {app} port {port} written {written} loans 0 copied 0 stopped no\n"
+        )?;
+        text.push_str(&line)?;
+    }
+    for (flow, stream) in flows.iter().zip(streams) {
+        let PlainFlow { dport, base, .. } = *flow;
+        let number = stream.flow;
+        let bytes = stream.bytes.len();
+        let fin = if flow.fin { "yes" } else { "no" };
+        let line = format!(in alloc;
+            "flow {number} port {dport} base {base} bytes {bytes} fin {fin}\n"
+        )?;
+        text.push_str(&line)?;
+    }
+    text.push_str("status 0\n")?;
+    Ok(text)
+}
+
+/// The streams of so many flows.
+fn plain_streams(alloc: Global, seen: &[Seen<'_>], count: usize) -> Result<Vec<Vec<u8>>, Fail> {
+    let mut streams = Vec::new(alloc);
+    for number in 0..u32::try_from(count)? {
+        streams.push(plain_stream(alloc, &PORTS, seen, &[], number)?)?;
+    }
+    Ok(streams)
+}
+
+/// Replays these frames: streams and report have to be what the plain programs say.
+pub fn check_plain(
+    rt: &(impl Abort + AllocGlobal + RandomSource),
+    name: &str,
     frames: &[Vec<u8>],
-    last: &Segment<'_>,
-    stream: &[u8],
-) -> Result<Option<Vec<u8>>, Fail> {
+) -> Result<(), Fail> {
+    let alloc = rt.alloc();
     let seen: Vec<Seen<'_>> = frames.iter().map(|frame| read_frame(frame)).collect(alloc)?;
     assert!(rt; seen.len() < 100);
-    if plain_flows(alloc, &[PORT], &seen)?.len() > 1 {
-        return Ok(None);
+    let flows = plain_flows(alloc, &PORTS, &seen)?;
+    let bytes = plain_streams(alloc, &seen, flows.len())?;
+    let mut streams = Vec::new(alloc);
+    for (flow, bytes) in flows.iter().zip(&bytes) {
+        let number = u32::try_from(streams.len())?;
+        streams.push(Stream {
+            app: flow.app,
+            flow: number,
+            bytes,
+        })?;
     }
-    let mut want = stream.to_vec(alloc)?;
-    if last.dport == PORT {
-        want.extend_from_slice(last.payload)?;
-    }
-    let longer = plain_stream(alloc, &[PORT], &seen, &[], 0)?;
-    Ok((longer == want).then_some(longer))
-}
-
-/// The replay of these frames.
-pub fn plain_replay(
-    rt: &impl Abort,
-    alloc: Global,
-    frames: &[Vec<u8>],
-) -> Result<PlainReplay, Fail> {
-    let mut stream = Vec::new(alloc);
-    for (i, frame) in frames.iter().enumerate() {
-        let Seen::Tcp(last) = read_frame(frame) else {
-            continue;
-        };
-        let Some(longer) = lengthened(rt, alloc, &frames[..=i], &last, &stream)? else {
-            return Ok(PlainReplay {
-                is_whole: false,
-                stream,
-            });
-        };
-        stream = longer;
-    }
-    Ok(PlainReplay {
-        is_whole: true,
-        stream,
-    })
+    let report = report(alloc, &seen, &flows, &streams)?;
+    let capture = capture(alloc, frames)?;
+    let row = Row {
+        name,
+        given: Given {
+            words: &WORDS,
+            ..faultless(&capture)
+        },
+        status: 0,
+        streams: &streams,
+        report: &report,
+    };
+    check(rt, &row)?;
+    Ok(())
 }

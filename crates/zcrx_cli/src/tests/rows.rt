@@ -3,7 +3,10 @@ use super::frames::{
     ACK, FILE_HEADER, FIN, PSH_ACK, SYN, Sent, capture, capture_of, frame, over_ipv6, record_of,
     tagged, to_9000,
 };
-use super::runs::{Given, Row, check, faultless};
+use super::runs::{Given, Row, check, faultless, first};
+use std::alloc::Global;
+use std::process::Abort;
+use std::random::RandomSource;
 use std::test::Fail;
 
 /// One segment from port 40000 to port 9000 with the bytes `hello`, at sequence number 1001.
@@ -20,188 +23,290 @@ const BIG_NANOSECONDS: [u8; 40] = [
     0, 0, 0, 0, 0, 0, 0, 60, 0, 0, 0, 60,
 ];
 
-/// The status and the stream of a whole capture.
-const fn streamed<'a>(name: &'a str, bytes: &'a [u8], stream: &'a [u8]) -> Row<'a> {
-    Row {
-        name,
-        given: faultless(bytes),
-        status: 0,
-        stream,
-        report: b"status 0\n",
-    }
+/// Who has 10.0.0.2 (RFC 826).
+const ARP: [u8; 42] = [
+    0xff, 0xff, 0xff, 0xff, 0xff, 0xff, 2, 0, 0, 0, 0, 1, 8, 6, 0, 1, 8, 0, 6, 4, 0, 1, 2, 0, 0, 0,
+    0, 1, 10, 0, 0, 1, 0, 0, 0, 0, 0, 0, 10, 0, 0, 2,
+];
+
+/// UDP without data over IPv6, from port 5353 to port 9000.
+const UDP_OVER_IPV6: [u8; 62] = [
+    2, 0, 0, 0, 0, 2, 2, 0, 0, 0, 0, 1, 0x86, 0xdd, 0x60, 0, 0, 0, 0, 8, 17, 0x40, 0x20, 1, 0x0d,
+    0xb8, 0, 0, 0, 0, 0, 0, 0, 0, 0, 0, 0, 1, 0x20, 1, 0x0d, 0xb8, 0, 0, 0, 0, 0, 0, 0, 0, 0, 0, 0,
+    2, 0x14, 0xe9, 0x23, 0x28, 0, 8, 0, 0,
+];
+
+const REQUEST: &[u8] = b"GET / HTTP/1.1\r\n\r\n";
+
+/// A flow from SYN to FIN.
+fn greeting(alloc: Global) -> Result<Vec<u8>, Fail> {
+    let sent = [
+        to_9000(1000, SYN, b""),
+        to_9000(1001, PSH_ACK, b"hello"),
+        to_9000(1006, ACK | FIN, b""),
+    ];
+    capture_of(alloc, &sent)
 }
 
-/// The status and the stream of a capture whose reading ends by a fault.
-const fn refused<'a>(
-    name: &'a str,
-    bytes: &'a [u8],
-    stream: &'a [u8],
-    status: u8,
-    report: &'a [u8],
-) -> Row<'a> {
-    Row {
-        name,
-        given: faultless(bytes),
-        status,
-        stream,
-        report,
-    }
-}
+/// The report of that flow up to its status.
+const GREETED: &str = "\
+capture records 3 tcp 3 steered 3 other 0 fragment 0 cut 0 bad 0
+app 0 port 9000 written 5 loans 0 copied 0 stopped no
+flow 0 port 9000 base 1001 bytes 5 fin yes
+";
 
+/// The report up to its status where nothing was read.
+const NOTHING: &str = "\
+capture records 0 tcp 0 steered 0 other 0 fragment 0 cut 0 bad 0
+app 0 port 9000 written 0 loans 0 copied 0 stopped no
+";
+
+/// The report of one segment `hello` alone.
+const HELLO_ALONE: &str = "\
+capture records 1 tcp 1 steered 1 other 0 fragment 0 cut 0 bad 0
+app 0 port 9000 written 5 loans 0 copied 0 stopped no
+flow 0 port 9000 base 1001 bytes 5 fin no
+status 0
+";
+
+/// A segment is the same over IPv4 and IPv6, with a tag and without.
 #[test]
 fn hello_is_the_stream(rt: HostRuntime) -> Result<(), Fail> {
-    let alloc = rt.alloc();
-    let made = capture_of(alloc, &[to_9000(1001, PSH_ACK, b"hello")])?;
-    assert_eq!(rt; made.as_slice(), HELLO.as_slice());
-    check(&rt, alloc, &streamed("hello", &HELLO, b"hello"))?;
-    Ok(())
-}
-
-#[test]
-fn stream_has_the_bytes_in_order(rt: HostRuntime) -> Result<(), Fail> {
-    let alloc = rt.alloc();
-    let greeting = capture_of(
-        alloc,
-        &[
-            to_9000(1000, SYN, b""),
-            to_9000(1001, PSH_ACK, b"hello"),
-            to_9000(1006, ACK | FIN, b""),
-        ],
-    )?;
-    let other_port = Sent {
-        dport: 80,
-        ..to_9000(1001, PSH_ACK, b"other")
-    };
-    let other_first = capture_of(alloc, &[other_port, to_9000(1001, PSH_ACK, b"hello")])?;
-    let wrapped = capture_of(
-        alloc,
-        &[
-            to_9000(4294967294, PSH_ACK, b"ab"),
-            to_9000(0, PSH_ACK, b"cd"),
-        ],
-    )?;
-    let slowly = Given {
-        most: 1,
-        ..faultless(&greeting)
-    };
-    let rows = [
-        streamed("from SYN to FIN", &greeting, b"hello"),
-        streamed("another port first", &other_first, b"hello"),
-        streamed("the sequence numbers wrap", &wrapped, b"abcd"),
-        Row {
-            given: slowly,
-            ..streamed("a byte a call", &greeting, b"hello")
-        },
-    ];
-    for row in &rows {
-        check(&rt, alloc, row)?;
-    }
-    Ok(())
-}
-
-#[test]
-fn bytes_ahead_are_not_done_yet(rt: HostRuntime) -> Result<(), Fail> {
-    let alloc = rt.alloc();
-    let ahead = capture_of(
-        alloc,
-        &[
-            to_9000(4294967293, SYN, b""),
-            to_9000(0, PSH_ACK, b"cd"),
-            to_9000(4294967294, PSH_ACK, b"ab"),
-        ],
-    )?;
-    check(
-        &rt,
-        alloc,
-        &refused("ahead", &ahead, b"", 12, b"status 12\n"),
-    )?;
-    Ok(())
-}
-
-#[test]
-fn file_headers_are_told_apart(rt: HostRuntime) -> Result<(), Fail> {
-    let mut version = FILE_HEADER;
-    version[4] = 3;
-    let mut link = FILE_HEADER;
-    link[20] = 113;
-    let rows = [
-        streamed("a header alone", &FILE_HEADER, b""),
-        refused("no bytes", &[], b"", 6, b"status 6\n"),
-        refused("three bytes", &FILE_HEADER[..3], b"", 6, b"status 6\n"),
-        refused(
-            "another format",
-            &[0x0a, 0x0d, 0x0d, 0x0a],
-            b"",
-            3,
-            b"status 3\n",
-        ),
-        refused("major version 3", &version, b"", 4, b"status 4\n"),
-        refused("link type 113", &link, b"", 5, b"status 5\n"),
-    ];
-    for row in &rows {
-        check(&rt, rt.alloc(), row)?;
-    }
-    Ok(())
-}
-
-/// What was read before the fault is kept.
-#[test]
-fn records_end_by_their_faults(rt: HostRuntime) -> Result<(), Fail> {
-    let alloc = rt.alloc();
-    let mut long = HELLO.to_vec(alloc)?;
-    long.extend_from_slice(&[0, 0, 0, 0, 0, 0, 0, 0, 1, 0, 4, 0, 1, 0, 4, 0])?;
-    let mut cut = HELLO.to_vec(alloc)?;
-    cut.extend_from_slice(&[0; 15])?;
-    let greeting = capture_of(
-        alloc,
-        &[
-            to_9000(1000, SYN, b""),
-            to_9000(1001, PSH_ACK, b"hello"),
-            to_9000(1006, ACK | FIN, b""),
-        ],
-    )?;
-    let (all_but_one, _) = greeting
-        .split_at_checked(greeting.len().saturating_sub(1))
-        .ok_or("no bytes")?;
-    let rows = [
-        refused(
-            "from SYN to FIN, a byte less",
-            all_but_one,
-            b"hello",
-            6,
-            b"status 6\n",
-        ),
-        refused("a long record", &long, b"hello", 7, b"status 7\n"),
-        refused("15 bytes more", &cut, b"hello", 6, b"status 6\n"),
-        refused("a byte less", &HELLO[..98], b"", 6, b"status 6\n"),
-    ];
-    for row in &rows {
-        check(&rt, alloc, row)?;
-    }
-    Ok(())
-}
-
-/// A tag is passed over, and so is a frame of another class; IPv6 and the other forms of capture are read.
-#[test]
-fn every_form_is_read(rt: HostRuntime) -> Result<(), Fail> {
     let alloc = rt.alloc();
     let hello = frame(alloc, &to_9000(1001, PSH_ACK, b"hello"))?;
     let tagged_hello = capture(alloc, &[tagged(alloc, &hello)?])?;
     let ipv6_hello = capture(alloc, &[over_ipv6(alloc, &hello)?])?;
-    let mut others = FILE_HEADER.to_vec(alloc)?;
-    others.extend_from_slice(&record_of(alloc, &[2; 60])?)?;
-    others.extend_from_slice(&record_of(alloc, &hello)?)?;
-    let mut big = BIG_NANOSECONDS.to_vec(alloc)?;
-    big.extend_from_slice(&frame(alloc, &to_9000(7, PSH_ACK, b"ab"))?)?;
-    big.extend_from_slice(&[0; 4])?;
-    let rows = [
-        streamed("a tag", &tagged_hello, b"hello"),
-        streamed("over IPv6", &ipv6_hello, b"hello"),
-        streamed("another class first", &others, b"hello"),
-        streamed("big-endian, padded", &big, b"ab"),
+    let made = capture(alloc, &[hello])?;
+    assert_eq!(&rt; made.as_slice(), HELLO.as_slice());
+    let rows: [(&str, &[u8]); 3] = [
+        ("hello", &HELLO),
+        ("tagged", &tagged_hello),
+        ("over IPv6", &ipv6_hello),
     ];
-    for row in &rows {
-        check(&rt, alloc, row)?;
+    for (name, bytes) in rows {
+        let row = Row {
+            name,
+            given: faultless(bytes),
+            status: 0,
+            streams: &[first(b"hello")],
+            report: HELLO_ALONE,
+        };
+        check(&rt, &row)?;
     }
+    Ok(())
+}
+
+#[test]
+fn a_flow_is_told_from_syn_to_fin(rt: HostRuntime) -> Result<(), Fail> {
+    let alloc = rt.alloc();
+    let bytes = greeting(alloc)?;
+    let report = format!(in alloc; "{GREETED}status 0\n")?;
+    let whole = Row {
+        name: "whole",
+        given: faultless(&bytes),
+        status: 0,
+        streams: &[first(b"hello")],
+        report: &report,
+    };
+    check(&rt, &whole)?;
+    let slowly = Row {
+        name: "a byte a call",
+        given: Given {
+            most: 1,
+            ..whole.given
+        },
+        ..whole
+    };
+    check(&rt, &slowly)?;
+    Ok(())
+}
+
+/// A capture without a record: its bytes, its status, and the report's last line.
+#[test]
+fn file_headers_are_told_apart(rt: HostRuntime) -> Result<(), Fail> {
+    let alloc = rt.alloc();
+    let mut version = FILE_HEADER;
+    version[4] = 3;
+    let mut link = FILE_HEADER;
+    link[20] = 113;
+    let rows: [(&str, &[u8], u8); 6] = [
+        ("a header alone", &FILE_HEADER, 0),
+        ("no bytes", &[], 6),
+        ("three bytes", &FILE_HEADER[..3], 6),
+        ("another format", &[0x0a, 0x0d, 0x0d, 0x0a], 3),
+        ("major version 3", &version, 4),
+        ("link type 113", &link, 5),
+    ];
+    for (name, bytes, status) in rows {
+        let report = format!(in alloc; "{NOTHING}status {status}\n")?;
+        let row = Row {
+            name,
+            given: faultless(bytes),
+            status,
+            streams: &[],
+            report: &report,
+        };
+        check(&rt, &row)?;
+    }
+    Ok(())
+}
+
+#[test]
+fn big_endian_nanoseconds_are_read(rt: HostRuntime) -> Result<(), Fail> {
+    let alloc = rt.alloc();
+    let mut bytes = BIG_NANOSECONDS.to_vec(alloc)?;
+    bytes.extend_from_slice(&frame(alloc, &to_9000(7, PSH_ACK, b"ab"))?)?;
+    bytes.extend_from_slice(&[0; 4])?;
+    let row = Row {
+        name: "padded",
+        given: faultless(&bytes),
+        status: 0,
+        streams: &[first(b"ab")],
+        report: "\
+capture records 1 tcp 1 steered 1 other 0 fragment 0 cut 0 bad 0
+app 0 port 9000 written 2 loans 0 copied 0 stopped no
+flow 0 port 9000 base 7 bytes 2 fin no
+status 0
+",
+    };
+    check(&rt, &row)?;
+    Ok(())
+}
+
+/// Three records of one flow, whose stream has to be this.
+fn check_order(
+    rt: &(impl Abort + AllocGlobal + RandomSource),
+    name: &str,
+    sent: &[Sent<'_>],
+    base: u32,
+    stream: &[u8],
+) -> Result<(), Fail> {
+    let alloc = rt.alloc();
+    let capture = capture_of(alloc, sent)?;
+    let bytes = stream.len();
+    let report = format!(in alloc;
+        "\
+capture records 3 tcp 3 steered 3 other 0 fragment 0 cut 0 bad 0
+app 0 port 9000 written {bytes} loans 0 copied 0 stopped no
+flow 0 port 9000 base {base} bytes {bytes} fin no
+status 0
+"
+    )?;
+    let row = Row {
+        name,
+        given: faultless(&capture),
+        status: 0,
+        streams: &[first(stream)],
+        report: &report,
+    };
+    check(rt, &row)?;
+    Ok(())
+}
+
+#[test]
+fn what_is_out_of_order_waits(rt: HostRuntime) -> Result<(), Fail> {
+    let sent = [
+        to_9000(4294967293, SYN, b""),
+        to_9000(0, PSH_ACK, b"cd"),
+        to_9000(4294967294, PSH_ACK, b"ab"),
+    ];
+    check_order(&rt, "the sequence numbers wrap", &sent, 4294967294, b"abcd")
+}
+
+#[test]
+fn what_came_first_counts(rt: HostRuntime) -> Result<(), Fail> {
+    let sent = [
+        to_9000(999, SYN, b""),
+        to_9000(1000, PSH_ACK, b"abc"),
+        to_9000(1001, PSH_ACK, b"XYcd"),
+    ];
+    check_order(&rt, "other bytes come later", &sent, 1000, b"abccd")
+}
+
+#[test]
+fn a_stream_ends_at_a_gap(rt: HostRuntime) -> Result<(), Fail> {
+    let sent = [
+        to_9000(999, SYN, b""),
+        to_9000(1000, PSH_ACK, b"ab"),
+        to_9000(1004, PSH_ACK, b"ef"),
+    ];
+    check_order(&rt, "a gap", &sent, 1000, b"ab")
+}
+
+/// Streams and report hold what was read before the fault.
+#[test]
+fn records_end_by_their_faults(rt: HostRuntime) -> Result<(), Fail> {
+    let alloc = rt.alloc();
+    let whole = greeting(alloc)?;
+    let mut long = greeting(alloc)?;
+    long.extend_from_slice(&[0, 0, 0, 0, 0, 0, 0, 0, 1, 0, 4, 0, 1, 0, 4, 0])?;
+    let mut cut_header = greeting(alloc)?;
+    cut_header.extend_from_slice(&[0; 15])?;
+    let (all_but_one, _) = whole
+        .split_at_checked(whole.len().saturating_sub(1))
+        .ok_or("no bytes")?;
+    let cut = "\
+capture records 2 tcp 2 steered 2 other 0 fragment 0 cut 0 bad 0
+app 0 port 9000 written 5 loans 0 copied 0 stopped no
+flow 0 port 9000 base 1001 bytes 5 fin no
+";
+    let rows: [(&str, &[u8], u8, &str); 3] = [
+        ("a byte less", all_but_one, 6, cut),
+        ("a record of 262,145 bytes", &long, 7, GREETED),
+        ("15 bytes more", &cut_header, 6, GREETED),
+    ];
+    for (name, bytes, status, lines) in rows {
+        let report = format!(in alloc; "{lines}status {status}\n")?;
+        let row = Row {
+            name,
+            given: faultless(bytes),
+            status,
+            streams: &[first(b"hello")],
+            report: &report,
+        };
+        check(&rt, &row)?;
+    }
+    Ok(())
+}
+
+/// A request as it is captured at one of its ends, sent twice, with what else goes over the wire.
+#[test]
+fn each_record_counts_once(rt: HostRuntime) -> Result<(), Fail> {
+    let alloc = rt.alloc();
+    let back = |seq: u32, flags: u8| Sent {
+        sport: 9000,
+        dport: 40000,
+        seq,
+        flags,
+        text: b"",
+    };
+    let mut bytes = FILE_HEADER.to_vec(alloc)?;
+    bytes.extend_from_slice(&record_of(alloc, &ARP)?)?;
+    for sent in [
+        to_9000(1000, SYN, b""),
+        back(5000, SYN | ACK),
+        to_9000(1001, ACK, b""),
+        to_9000(1001, PSH_ACK, REQUEST),
+        back(5001, ACK),
+        to_9000(1001, PSH_ACK, REQUEST),
+    ] {
+        bytes.extend_from_slice(&record_of(alloc, &frame(alloc, &sent)?)?)?;
+    }
+    bytes.extend_from_slice(&record_of(alloc, &UDP_OVER_IPV6)?)?;
+    let end = frame(alloc, &to_9000(1019, ACK | FIN, b""))?;
+    bytes.extend_from_slice(&record_of(alloc, &end)?)?;
+    let row = Row {
+        name: "a request",
+        given: faultless(&bytes),
+        status: 0,
+        streams: &[first(REQUEST)],
+        report: "\
+capture records 9 tcp 7 steered 5 other 2 fragment 0 cut 0 bad 0
+app 0 port 9000 written 18 loans 0 copied 0 stopped no
+flow 0 port 9000 base 1001 bytes 18 fin yes
+status 0
+",
+    };
+    check(&rt, &row)?;
     Ok(())
 }

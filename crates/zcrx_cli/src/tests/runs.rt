@@ -1,15 +1,23 @@
 //! One replay over memory, and what it left.
 use crate::{SHELVES, zcrx};
 use std::alloc::Global;
+use std::collections::hash_map::RandomState;
 use std::process::Abort;
+use std::random::RandomSource;
 use std::test::Fail;
 use zr_io::{MemShelf, MemSink, MemSource, Source};
 
-/// How many bytes a shelf and a sink have room for: more than any test writes.
-const ROOM: usize = 100;
+/// How many flows a shelf has room for.
+const FLOWS: u32 = 12;
+
+/// How many bytes of a flow a shelf has room for: more than any test's stream.
+const STREAM_ROOM: usize = 200;
+
+/// How many bytes a sink has room for: more than any report here.
+const REPORT_ROOM: usize = 2000;
 
 /// The most bytes of a test's capture.
-const MOST: usize = 1000;
+const MOST: usize = 3000;
 
 /// What a replay is given.
 #[derive(Clone, Copy)]
@@ -39,61 +47,21 @@ pub const fn faultless(bytes: &[u8]) -> Given<'_> {
     }
 }
 
-/// What a replay left.
-#[derive(Drop)]
-pub struct Left {
-    pub status: u8,
-    /// What shelf 0 has of flow 0.
-    pub stream: Vec<u8>,
-    /// What the sink has.
-    pub report: Vec<u8>,
-    /// What the source's next call gives.
-    pub next: Vec<u8>,
+/// The stream of a flow, on the shelf of its application.
+#[derive(Clone, Copy)]
+pub struct Stream<'a> {
+    pub app: usize,
+    pub flow: u32,
+    pub bytes: &'a [u8],
 }
 
-/// Eight shelves, each for flows 0 and 1.
-fn shelves(alloc: Global, fails: &[(u64, usize)]) -> Result<Vec<MemShelf>, Fail> {
-    let mut shelves = Vec::with_capacity(alloc, SHELVES)?;
-    shelves.push(MemShelf::new(alloc, 2, ROOM, fails.to_vec(alloc)?)?)?;
-    for _ in 1..SHELVES {
-        shelves.push(MemShelf::new(alloc, 2, ROOM, Vec::new(alloc))?)?;
+/// The stream of flow 0, on the first shelf.
+pub const fn first(bytes: &[u8]) -> Stream<'_> {
+    Stream {
+        app: 0,
+        flow: 0,
+        bytes,
     }
-    Ok(shelves)
-}
-
-/// Flow 0 of shelf 0, where the others are empty.
-fn only_stream<'a>(rt: &impl Abort, shelves: &'a [MemShelf]) -> Result<&'a [u8], Fail> {
-    let (first, others) = shelves.split_first().ok_or("no shelf")?;
-    assert!(rt; first.flow(1).is_empty());
-    for shelf in others {
-        assert!(rt; shelf.flow(0).is_empty() && shelf.flow(1).is_empty());
-    }
-    Ok(first.flow(0))
-}
-
-fn next_of(alloc: Global, source: &mut MemSource) -> Result<Vec<u8>, Fail> {
-    let mut next = [0; MOST];
-    let count = source.read(&mut next)?;
-    Ok(next[..count].to_vec(alloc)?)
-}
-
-pub fn replay(rt: &impl Abort, alloc: Global, given: &Given<'_>) -> Result<Left, Fail> {
-    assert!(rt; given.most >= 1);
-    let mut source = MemSource::new(
-        given.bytes.to_vec(alloc)?,
-        given.most,
-        given.source_fails.to_vec(alloc)?,
-    );
-    let mut shelves = shelves(alloc, given.shelf_fails)?;
-    assert_eq!(rt; shelves.len(), SHELVES);
-    let mut out = MemSink::new(alloc, ROOM, given.sink_fails.to_vec(alloc)?)?;
-    let status = zcrx(alloc, given.words, &mut source, &mut shelves, &mut out);
-    Ok(Left {
-        status,
-        stream: only_stream(rt, &shelves)?.to_vec(alloc)?,
-        report: out.bytes().to_vec(alloc)?,
-        next: next_of(alloc, &mut source)?,
-    })
 }
 
 /// A replay, and what it has to leave.
@@ -102,14 +70,77 @@ pub struct Row<'a> {
     pub name: &'a str,
     pub given: Given<'a>,
     pub status: u8,
-    pub stream: &'a [u8],
-    pub report: &'a [u8],
+    /// The streams that aren't empty.
+    pub streams: &'a [Stream<'a>],
+    pub report: &'a str,
 }
 
-pub fn check(rt: &impl Abort, alloc: Global, row: &Row<'_>) -> Result<Left, Fail> {
-    let left = replay(rt, alloc, &row.given)?;
-    assert_eq!(rt; left.status, row.status, "{}", row.name);
-    assert_eq!(rt; left.stream.as_slice(), row.stream, "{}", row.name);
-    assert_eq!(rt; left.report.as_slice(), row.report, "{}", row.name);
-    Ok(left)
+/// Eight shelves. Calls of the first may fail.
+fn shelves(alloc: Global, fails: &[(u64, usize)]) -> Result<Vec<MemShelf>, Fail> {
+    let mut shelves = Vec::with_capacity(alloc, SHELVES)?;
+    shelves.push(MemShelf::new(alloc, FLOWS, STREAM_ROOM, fails.to_vec(alloc)?)?)?;
+    for _ in 1..SHELVES {
+        shelves.push(MemShelf::new(alloc, FLOWS, STREAM_ROOM, Vec::new(alloc))?)?;
+    }
+    Ok(shelves)
+}
+
+/// What a flow has to be on a shelf.
+fn wanted<'a>(streams: &[Stream<'a>], app: usize, flow: u32) -> &'a [u8] {
+    for stream in streams {
+        if stream.app == app && stream.flow == flow {
+            return stream.bytes;
+        }
+    }
+    &[]
+}
+
+/// Every shelf has the streams of its application, and nothing else.
+fn check_shelves(rt: &impl Abort, row: &Row<'_>, shelves: &[MemShelf]) {
+    for (app, shelf) in shelves.iter().enumerate() {
+        for flow in 0..FLOWS {
+            let stream = wanted(row.streams, app, flow);
+            assert_eq!(rt;
+                shelf.flow(flow),
+                stream,
+                "{}: flow {flow} of shelf {app}",
+                row.name
+            );
+        }
+    }
+}
+
+/// What the source's next call gives.
+fn next_of(alloc: Global, source: &mut MemSource) -> Result<Vec<u8>, Fail> {
+    let mut next = [0; MOST];
+    let count = source.read(&mut next)?;
+    Ok(next[..count].to_vec(alloc)?)
+}
+
+/// Replays, compares what is left, and gives what the source's next call gives.
+pub fn check(
+    rt: &(impl Abort + AllocGlobal + RandomSource),
+    row: &Row<'_>,
+) -> Result<Vec<u8>, Fail> {
+    let alloc = rt.alloc();
+    let given = &row.given;
+    assert!(rt; given.most >= 1);
+    let bytes = given.bytes.to_vec(alloc)?;
+    let mut source = MemSource::new(bytes, given.most, given.source_fails.to_vec(alloc)?);
+    let mut shelves = shelves(alloc, given.shelf_fails)?;
+    assert_eq!(rt; shelves.len(), SHELVES);
+    let mut out = MemSink::new(alloc, REPORT_ROOM, given.sink_fails.to_vec(alloc)?)?;
+    let random = RandomState::new(rt)?;
+    let status = zcrx(
+        alloc,
+        random,
+        given.words,
+        &mut source,
+        &mut shelves,
+        &mut out,
+    );
+    assert_eq!(rt; str::from_utf8(out.bytes())?, row.report, "{}", row.name);
+    assert_eq!(rt; status, row.status, "{}", row.name);
+    check_shelves(rt, row, &shelves);
+    next_of(alloc, &mut source)
 }

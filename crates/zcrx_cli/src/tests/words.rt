@@ -1,68 +1,80 @@
 //! Command lines.
 use super::frames::{PSH_ACK, capture_of, to_9000};
-use super::runs::{Given, Row, check, faultless};
-use std::alloc::Global;
-use std::process::Abort;
+use super::runs::{Given, Row, check, faultless, first};
 use std::test::Fail;
 
 /// Nothing is read or written.
-fn check_refused(
-    rt: &impl Abort,
-    alloc: Global,
-    bytes: &[u8],
-    name: &str,
-    words: &[&str],
-) -> Result<(), Fail> {
-    let left = check(
-        rt,
-        alloc,
-        &Row {
-            name,
-            given: Given {
-                words,
-                ..faultless(bytes)
-            },
-            status: 2,
-            stream: b"",
-            report: b"",
-        },
-    )?;
-    assert_eq!(rt; left.next.as_slice(), bytes, "{name}");
-    Ok(())
-}
-
 #[test]
 fn faulty_words_are_answered_by_2(rt: HostRuntime) -> Result<(), Fail> {
     let alloc = rt.alloc();
     let bytes = capture_of(alloc, &[to_9000(1001, PSH_ACK, b"hello")])?;
-    check_refused(&rt, alloc, &bytes, "no words", &[])?;
-    check_refused(&rt, alloc, &bytes, "no port", &["replay"])?;
-    check_refused(&rt, alloc, &bytes, "two ports", &["replay", "9000", "9000"])?;
-    check_refused(&rt, alloc, &bytes, "another command", &["play", "9000"])?;
-    for port in ["0", "65536", "x", "0000000000000009000"] {
-        check_refused(&rt, alloc, &bytes, port, &["replay", port])?;
+    let rows: [&[&str]; 20] = [
+        &[],
+        &["replay"],
+        &["replay", "--"],
+        &["replay", "9000", "9000"],
+        &["replay", "9000", "09000"],
+        &["replay", "1", "2", "3", "4", "5", "6", "7", "8", "9"],
+        &["replay", "0"],
+        &["replay", "65536"],
+        &["replay", "0000000000000009000"],
+        &["replay", ""],
+        &["replay", "+9000"],
+        &["replay", "-9000"],
+        &["replay", "x"],
+        &["replay", "--help"],
+        &["replay", "help"],
+        &["--help"],
+        &["help"],
+        &["--version"],
+        &["replay", "--port=9000"],
+        &["play", "9000"],
+    ];
+    for words in rows {
+        let name = format!(in alloc; "{words:?}")?;
+        let row = Row {
+            name: &name,
+            given: Given {
+                words,
+                ..faultless(&bytes)
+            },
+            status: 2,
+            streams: &[],
+            report: "",
+        };
+        let left = check(&rt, &row)?;
+        assert_eq!(&rt; left.as_slice(), bytes.as_slice(), "{name}");
     }
     Ok(())
 }
 
 #[test]
-fn zeros_may_lead_a_port(rt: HostRuntime) -> Result<(), Fail> {
+fn zeros_may_lead_a_port_and_dashes_stand_before_it(rt: HostRuntime) -> Result<(), Fail> {
     let alloc = rt.alloc();
     let bytes = capture_of(alloc, &[to_9000(1001, PSH_ACK, b"hello")])?;
-    let given = Given {
-        words: &["replay", "009000"],
-        ..faultless(&bytes)
-    };
-    check(
-        &rt,
-        alloc,
-        &Row {
-            name: "009000",
-            given,
+    let rows: [&[&str]; 3] = [
+        &["replay", "000000000000009000"],
+        &["replay", "--", "9000"],
+        &["replay", "9000", "--"],
+    ];
+    for words in rows {
+        let name = format!(in alloc; "{words:?}")?;
+        let row = Row {
+            name: &name,
+            given: Given {
+                words,
+                ..faultless(&bytes)
+            },
             status: 0,
-            stream: b"hello",
-            report: b"status 0\n",
-        },
-    )?;
+            streams: &[first(b"hello")],
+            report: "\
+capture records 1 tcp 1 steered 1 other 0 fragment 0 cut 0 bad 0
+app 0 port 9000 written 5 loans 0 copied 0 stopped no
+flow 0 port 9000 base 1001 bytes 5 fin no
+status 0
+",
+        };
+        check(&rt, &row)?;
+    }
     Ok(())
 }

@@ -1,0 +1,8 @@
+pub mod Ending
+pub mod Reading
+pub mod Tally
+pub mod Streams
+pub mod Receiving
+pub mod Taking
+pub mod Copying
+pub mod Replayed

@@ -1,0 +1,79 @@
+//! Captures with more flows and more records than a replay numbers.
+use super::frames::{FILE_HEADER, SYN, Sent, frame, record_of, to_9000};
+use crate::{SHELVES, zcrx};
+use std::alloc::Global;
+use std::collections::hash_map::RandomState;
+use std::io::{self, Read};
+use std::process::Abort;
+use std::random::RandomSource;
+use std::test::Fail;
+use zr_io::{MemShelf, MemSink, MemSource, Source, StdSource};
+
+/// How many bytes the report of 65,535 flows has at most.
+const ROOM: usize = 4_000_000;
+
+/// A replay of port 9000 whose report has to be this.
+fn check_report<S: Source + Send>(
+    rt: &(impl Abort + AllocGlobal + RandomSource),
+    source: &mut S,
+    status: u8,
+    report: &str,
+) -> Result<(), Fail> {
+    let alloc = rt.alloc();
+    let mut shelves = Vec::with_capacity(alloc, SHELVES)?;
+    for _ in 0..SHELVES {
+        shelves.push(MemShelf::new(alloc, 0, 0, Vec::new(alloc))?)?;
+    }
+    assert_eq!(rt; shelves.len(), SHELVES);
+    let mut out = MemSink::new(alloc, ROOM, Vec::new(alloc))?;
+    let random = RandomState::new(rt)?;
+    let words = ["replay", "9000"];
+    let answer = zcrx(alloc, random, &words, source, &mut shelves, &mut out);
+    assert!(rt; out.bytes() == report.as_bytes(), "another report");
+    assert_eq!(rt; answer, status);
+    Ok(())
+}
+
+/// A SYN from each port there is.
+fn syns(alloc: Global) -> Result<Vec<u8>, Fail> {
+    let mut bytes = FILE_HEADER.to_vec(alloc)?;
+    for sport in 0..=u16::MAX {
+        let sent = Sent {
+            sport,
+            ..to_9000(999, SYN, b"")
+        };
+        bytes.extend_from_slice(&record_of(alloc, &frame(alloc, &sent)?)?)?;
+    }
+    Ok(bytes)
+}
+
+#[test]
+fn flows_come_to_an_end(rt: HostRuntime) -> Result<(), Fail> {
+    let alloc = rt.alloc();
+    let mut report = format!(in alloc;
+        "\
+capture records 65535 tcp 65535 steered 65535 other 0 fragment 0 cut 0 bad 0
+app 0 port 9000 written 0 loans 0 copied 0 stopped no
+"
+    )?;
+    for flow in 0..65_535 {
+        let line = format!(in alloc; "flow {flow} port 9000 base 1000 bytes 0 fin no\n")?;
+        report.push_str(&line)?;
+    }
+    report.push_str("status 10\n")?;
+    let mut source = MemSource::new(syns(alloc)?, 65_536, Vec::new(alloc));
+    check_report(&rt, &mut source, 10, &report)
+}
+
+/// 16,777,217 records without a byte: a record's header is then 16 bytes of 0.
+#[test]
+fn records_come_to_an_end(rt: HostRuntime) -> Result<(), Fail> {
+    let records = io::repeat(0).take(16_777_217 * 16);
+    let mut source = StdSource::new(FILE_HEADER.as_slice().chain(records));
+    let report = "\
+capture records 16777216 tcp 0 steered 0 other 0 fragment 0 cut 16777216 bad 0
+app 0 port 9000 written 0 loans 0 copied 0 stopped no
+status 11
+";
+    check_report(&rt, &mut source, 11, report)
+}
