@@ -5,8 +5,11 @@
 #
 # The numbers are those of the allocations, from 1. The replay is that of the demo capture: two ports, two flows,
 # segments out of order. Each run is built anew, in about a minute. Right are: status 1 with no report, or with one that
-# ends in `status 1`; and the whole run's report, where there is no such allocation or the replay does without it.
-# Anything else, a fault and a run without an end too, is `WRONG`. The status is 0 where nothing is wrong.
+# ends in `status 1`; status 9 with a report that ends in it and tells of an application that was stopped by a write,
+# since a file that finds no memory fails; and the whole run's report, where there is no such allocation or the replay
+# does without it. Anything else, a fault and a run without an end too, is `WRONG`. The status is 0 where nothing is.
+#
+# Found: 30, 45, 52, 60, 70 and 80 give status 1 with no report, 100 gives status 9 with the first application stopped.
 #
 # The tests do the same by `rt try --test --fail-alloc N` in crates/zcrx_cli: a test whose replay answers 1 then fails.
 set -u
@@ -32,6 +35,8 @@ for number in "$@"; do
         said="status 1, no report"
     elif [ $status -eq 1 ] && [ "${report##*$'\n'}" = "status 1" ]; then
         said="status 1, $(grep -o 'stopped memory' <<<"$report" | wc -l) application(s) stopped"
+    elif [ $status -eq 9 ] && [ "${report##*$'\n'}" = "status 9" ] && [[ $report = *"stopped write"* ]]; then
+        said="status 9, $(grep -o 'stopped write' <<<"$report" | wc -l) application(s) stopped"
     elif [ $status -eq 0 ] && [ "$report" = "$whole" ]; then
         said="as with all its memory"
     else

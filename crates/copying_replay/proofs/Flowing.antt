@@ -17,7 +17,7 @@ use Rattle.zr_io.proofs.Moved.{Gained-nothing, Gained-weaker}
 use Rattle.tcp_reorder.specs.Queue.{Queue}
 use Rattle.flow_table.specs.Flows.{Flow}
 use Rattle.copying_replay.specs.Streams.{kept_in, losses_in, IsStreamed, IsLineOf, IsFollowed, Follows, IsAppOf, There, FlowStands, Stands}
-use Rattle.copying_replay.proofs.Places.{get-set_same, get-set_other, get-last, get-before, get-behind, get-within, get-there}
+use Rattle.copying_replay.proofs.Places.{get-set_same, get-set_other, get-last, get-before, get-behind, get-within}
 
 -- ---- something that is there
 
@@ -170,6 +170,7 @@ module _ {T : Type 0} {kept : T → ℕ → Option (List ℕ)} {losses : T → �
                 (followed-received s values parts.holds.1 (λ no. stops (ap (λ a. a.stopped) (sym same_app) ∙ no))))
                 (λ (other : f ≢ n). subst (λ p. IsFollowed parts.app.stopped old new flow.base p parts.line.bytes parts.queue) (sym (same f other)) parts.holds.1)
                 (cases_eq f n),
+            parts.holds.2,
           );
         });
     others = stands.others;
@@ -186,6 +187,7 @@ module _ {T : Type 0} {kept : T → ℕ → Option (List ℕ)} {losses : T → �
       (stopped : Stopped) (quits_not : stopped ≢ stop.Quit)
       (later_queues : List (Queue (Vec ℕ Global))) (many_queues : length later_queues ≡ length queues) (here : stopped ≡ stop.No → slice_get later_queues n ≡ Some later_queue)
       (elsewhere : (f : ℕ) (flow : Flow) → slice_get flows f ≡ Some flow → f ≢ n → (stopped ≡ stop.No) ⊎ (flow.app ≢ own.app) → slice_get later_queues f ≡ slice_get queues f)
+      (emptied : stopped ≢ stop.No → (f : ℕ) (flow : Flow) → slice_get flows f ≡ Some flow → flow.app ≡ own.app → There (slice_get later_queues f) (λ q. q.kept ≡ []))
       (later_apps : List AppLine) (many_apps : length later_apps ≡ length apps) (own_app : slice_get later_apps own.app ≡ Some (record app { stopped = stopped }))
       (other_apps : (a : ℕ) → a ≢ own.app → slice_get later_apps a ≡ slice_get apps a)
       (received_is : (old : Option (List ℕ)) → IsFollowed stop.No old (kept shelf n) own.base (placed n) line.bytes queue → IsFollowed stopped old (kept later_shelf n) own.base (after n) later_line.bytes later_queue)
@@ -220,8 +222,6 @@ module _ {T : Type 0} {kept : T → ℕ → Option (List ℕ)} {losses : T → �
     unfolding LaterParts
     this =
         let parts = parts_of lines queues apps n own _ (stands.flow n own own_is) in
-        let within : n < length later_queues = (let old : n < length queues = get-within queues n queue queue_is in omega arith) in
-        let (some, some_is) = get-there later_queues n within in
         let same_line_is : parts.line ≡ line = same_some parts.line line (slice_get lines n) parts.line_is line_is in
         let same_queue : parts.queue ≡ queue = same_some parts.queue queue (slice_get queues n) parts.queue_is queue_is in
         let same_app : parts.app ≡ app = same_some parts.app app (slice_get apps own.app) parts.app_is app_is in
@@ -236,8 +236,10 @@ module _ {T : Type 0} {kept : T → ℕ → Option (List ℕ)} {losses : T → �
         let its_line : IsLineOf own later_line = same_line (subst (IsLineOf own) same_line_is parts.holds.0) in
         let line_now : slice_get (set lines n later_line) n ≡ Some later_line = get-set_same lines n later_line (get-within lines n line line_is) in
         ⊎_elim
-        (λ no. record { line = later_line; queue = later_queue; app = record app { stopped = stopped }; line_is = line_now; queue_is = here no; app_is = own_app; holds = (its_line, is) })
-        (λ stops. record { line = later_line; queue = some; app = record app { stopped = stopped }; line_is = line_now; queue_is = some_is; app_is = own_app; holds = (its_line, followed-any some is stops) })
+        (λ no. record { line = later_line; queue = later_queue; app = record app { stopped = stopped }; line_is = line_now; queue_is = here no; app_is = own_app; holds = (its_line, is, λ stops. absurd (stops no)) })
+        (λ stops.
+        let (some, some_is, none) = there (slice_get later_queues n) _ (emptied stops n own own_is refl) in
+        record { line = later_line; queue = some; app = record app { stopped = stopped }; line_is = line_now; queue_is = some_is; app_is = own_app; holds = (its_line, followed-any some is stops, λ _. none) })
         (cases_stopped stopped)
 
     -- a flow of the same application
@@ -245,8 +247,6 @@ module _ {T : Type 0} {kept : T → ℕ → Option (List ℕ)} {losses : T → �
     unfolding LaterParts
     beside f flow is other same_number =
         let parts = parts_of lines queues apps f flow _ (stands.flow f flow is) in
-        let within : f < length later_queues = (let old : f < length queues = get-within queues f parts.queue parts.queue_is in omega arith) in
-        let (some, some_is) = get-there later_queues f within in
         let at : slice_get apps flow.app ≡ Some app = ap (slice_get apps) same_number ∙ app_is in
         let same_app : parts.app ≡ app = same_some parts.app app (slice_get apps flow.app) parts.app_is at in
         let old : Option (List ℕ) = kept_in kept first flow.app f in
@@ -264,9 +264,11 @@ module _ {T : Type 0} {kept : T → ℕ → Option (List ℕ)} {losses : T → �
           line_is = line_now;
           queue_is = elsewhere f flow is other (inl no) ∙ parts.queue_is;
           app_is = app_now;
-          holds = (parts.holds.0, subst (λ s. IsFollowed s old new flow.base (after f) parts.line.bytes parts.queue) (sym no) kept_now);
+          holds = (parts.holds.0, subst (λ s. IsFollowed s old new flow.base (after f) parts.line.bytes parts.queue) (sym no) kept_now, λ stops. absurd (stops no));
         })
-        (λ stops. record { line = parts.line; queue = some; app = record app { stopped = stopped }; line_is = line_now; queue_is = some_is; app_is = app_now; holds = (parts.holds.0, followed-stopped kept_now stops) })
+        (λ stops.
+        let (some, some_is, none) = there (slice_get later_queues f) _ (emptied stops f flow is same_number) in
+        record { line = parts.line; queue = some; app = record app { stopped = stopped }; line_is = line_now; queue_is = some_is; app_is = app_now; holds = (parts.holds.0, followed-stopped kept_now stops, λ _. none) })
         (cases_stopped stopped)
 
     -- a flow of another application
@@ -283,7 +285,7 @@ module _ {T : Type 0} {kept : T → ℕ → Option (List ℕ)} {losses : T → �
           line_is = get-set_other lines n f later_line other ∙ parts.line_is;
           queue_is = elsewhere f flow is other (inr other_app) ∙ parts.queue_is;
           app_is = other_apps flow.app other_app ∙ parts.app_is;
-          holds = (parts.holds.0, subst (λ p. IsFollowed parts.app.stopped old new flow.base p parts.line.bytes parts.queue) (sym (same f other)) (followed-kept parts.holds.1 (keeps flow.app f other)));
+          holds = (parts.holds.0, subst (λ p. IsFollowed parts.app.stopped old new flow.base p parts.line.bytes parts.queue) (sym (same f other)) (followed-kept parts.holds.1 (keeps flow.app f other)), parts.holds.2);
         }
 
     later_flow : (f : ℕ) (flow : Flow) → slice_get flows f ≡ Some flow → LaterParts f flow
@@ -385,6 +387,7 @@ module _ {T : Type 0} {kept : T → ℕ → Option (List ℕ)} {losses : T → �
             its_line,
             subst (λ a. IsFollowed parts.app.stopped (kept_in kept first a n) (kept_in kept now a n) later_own.base (placed n) later_line.bytes parts.queue) (sym app_same)
                 (subst (λ b. IsFollowed parts.app.stopped old new b (placed n) later_line.bytes parts.queue) (sym base_same) followed),
+            parts.holds.2,
           );
         } in
         subst (λ g. There (slice_get (set lines n later_line) g) (λ l. There (slice_get queues g) (λ q. There (slice_get apps flow.app) (λ a. FlowStands (kept_in kept first flow.app g) (kept_in kept now flow.app g) flow (placed g) l q a)))) (sym e)
@@ -452,6 +455,7 @@ module _ {T : Type 0} {kept : T → ℕ → Option (List ℕ)} {losses : T → �
                 (subst (λ b. IsFollowed app.stopped (kept_in kept first flow.app f) (kept_in kept now flow.app f) flow.base nothing_placed b (empty_queue own.base)) (sym no_bytes)
                 (subst (λ fl. IsFollowed app.stopped (kept_in kept first flow.app f) (kept_in kept now flow.app f) fl.base nothing_placed 0 (empty_queue own.base)) (sym same_flow)
                 (followed-nothing app.stopped (kept_in kept first flow.app f) (kept_in kept now flow.app f) own.base keeps))),
+            λ _. refl,
           );
         }))
         (cases_lt f (length flows));

@@ -87,9 +87,11 @@ abbrev pub There : {A : Type 0} → Option A → (A → Type 0) → Type 0
 There None P = ⊥
 There (Some value) P = P value
 
--- one flow: its line, its queue and its application, as they stand by what the copying receiver has of it
+-- One flow: its line, its queue and its application, as they stand by what the copying receiver has of it. Where the
+-- application was stopped nothing is kept of the flow.
 abbrev pub FlowStands : Option (List ℕ) → Option (List ℕ) → Flow → Placed ℕ → FlowLine → Queue (Vec ℕ Global) → AppLine → Type 0
-FlowStands kept_at_first kept flow placed line queue app = IsLineOf flow line × IsFollowed app.stopped kept_at_first kept flow.base placed line.bytes queue
+FlowStands kept_at_first kept flow placed line queue app =
+    IsLineOf flow line × IsFollowed app.stopped kept_at_first kept flow.base placed line.bytes queue × (app.stopped ≢ stop.No → queue.kept ≡ [])
 
 -- All flows, by what the copying receiver has of each: their lines, their queues, their applications and the shelves.
 pub record Stands {T : Type 0} (kept : T → ℕ → Option (List ℕ)) (losses : T → ℕ) (first now : List T) (ports : List ℕ) (flows : List Flow) (placed : ℕ → Placed ℕ)

@@ -5,6 +5,7 @@ ghost use Rattle.std.specs.List.{IsDistinct};
 ghost use Rattle.frame_headers.specs.Seen.{shown};
 ghost use Rattle.flow_table.specs.Steered.{Steered as SteeredSegment, steer};
 ghost use Rattle.flow_table.specs.Flows.{Flow};
+ghost use Rattle.copying_replay.specs.Streams.{There};
 ghost use Rattle.copying_replay.specs.Taking.{new_app, Joins, PlacesIn, AppStops, Delivers, Takes};
 
 use crate::receiving::receive;
@@ -113,6 +114,7 @@ impl Streams {
         ensures lines { self.new.lines ≡ self.old.lines }
         ensures apps { AppStops self.old.apps.items self.new.apps.items app why }
         ensures queues { (number : ℕ) (flow : Flow) → slice_get self.old.table.flows number ≡ Some flow → flow.app ≢ app → slice_get self.new.queues.items number ≡ slice_get self.old.queues.items number }
+        ensures emptied { (number : ℕ) (flow : Flow) → slice_get self.old.table.flows number ≡ Some flow → flow.app ≡ app → There (slice_get self.new.queues.items number) (λ queue. queue.kept ≡ []) }
     {
         self.apps[app as usize].stopped = why;
         for number in 0..self.table.count() {

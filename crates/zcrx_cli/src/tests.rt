@@ -6,6 +6,7 @@ mod frames;
 mod limits;
 mod plain;
 mod ports;
+mod records;
 mod reordered;
 mod rows;
 mod runs;

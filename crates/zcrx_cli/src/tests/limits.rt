@@ -1,19 +1,18 @@
-//! Captures with more flows and more records than a replay numbers.
+//! A capture with more flows than a replay numbers.
 use super::frames::{FILE_HEADER, SYN, Sent, frame, record_of, to_9000};
 use crate::{SHELVES, zcrx};
 use std::alloc::Global;
 use std::collections::hash_map::RandomState;
-use std::io::{self, Read};
 use std::process::Abort;
 use std::random::RandomSource;
 use std::test::Fail;
-use zr_io::{MemShelf, MemSink, MemSource, Source, StdSource};
+use zr_io::{MemShelf, MemSink, MemSource, Source};
 
 /// How many bytes the report of 65,535 flows has at most.
 const ROOM: usize = 4_000_000;
 
 /// A replay of port 9000 whose report has to be this.
-fn check_report<S: Source + Send>(
+pub fn check_report<S: Source + Send>(
     rt: &(impl Abort + AllocGlobal + RandomSource),
     source: &mut S,
     status: u8,
@@ -63,17 +62,4 @@ app 0 port 9000 written 0 loans 0 copied 0 stopped no
     report.push_str("status 10\n")?;
     let mut source = MemSource::new(syns(alloc)?, 65_536, Vec::new(alloc));
     check_report(&rt, &mut source, 10, &report)
-}
-
-/// 16,777,217 records without a byte: a record's header is then 16 bytes of 0.
-#[test]
-fn records_come_to_an_end(rt: HostRuntime) -> Result<(), Fail> {
-    let records = io::repeat(0).take(16_777_217 * 16);
-    let mut source = StdSource::new(FILE_HEADER.as_slice().chain(records));
-    let report = "\
-capture records 16777216 tcp 0 steered 0 other 0 fragment 0 cut 16777216 bad 0
-app 0 port 9000 written 0 loans 0 copied 0 stopped no
-status 11
-";
-    check_report(&rt, &mut source, 11, report)
 }

@@ -1,4 +1,6 @@
 //! Replays that are compared with the plain slow programs.
+ghost use Rattle.std.specs.Prelude.{◌<◌, ◌^◌, length};
+
 use super::frames::capture;
 use super::runs::{Given, Row, Stream, check, faultless};
 use flow_table::{PlainFlow, plain_flows, plain_stream};
@@ -28,18 +30,17 @@ struct Counts {
 fn count(seen: &[Seen<'_>]) -> Counts {
     let mut counts = Counts::default();
     for one in seen {
-        let class = match one {
+        match one {
             Seen::Tcp(segment) => {
                 let is_steered = PORTS.contains(&segment.dport);
+                counts.tcp = counts.tcp.saturating_add(1);
                 counts.steered = counts.steered.saturating_add(u32::from(is_steered));
-                &mut counts.tcp
             }
-            Seen::Other => &mut counts.other,
-            Seen::Fragment => &mut counts.fragment,
-            Seen::CutShort => &mut counts.cut,
-            Seen::Bad => &mut counts.bad,
-        };
-        *class = class.saturating_add(1);
+            Seen::Other => counts.other = counts.other.saturating_add(1),
+            Seen::Fragment => counts.fragment = counts.fragment.saturating_add(1),
+            Seen::CutShort => counts.cut = counts.cut.saturating_add(1),
+            Seen::Bad => counts.bad = counts.bad.saturating_add(1),
+        }
     }
     counts
 }
@@ -96,7 +97,9 @@ fn report(
 }
 
 /// The streams of so many flows.
-fn plain_streams(alloc: Global, seen: &[Seen<'_>], count: usize) -> Result<Vec<Vec<u8>>, Fail> {
+fn plain_streams(alloc: Global, seen: &[Seen<'_>], count: usize) -> Result<Vec<Vec<u8>>, Fail>
+    requires { length seen.now < 2 ^ 32 }
+{
     let mut streams = Vec::new(alloc);
     for number in 0..u32::try_from(count)? {
         streams.push(plain_stream(alloc, &PORTS, seen, &[], number)?)?;

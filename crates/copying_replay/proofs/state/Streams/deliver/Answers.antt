@@ -68,6 +68,7 @@ returns-then-ne-2-clause-delivers g c = λ first flows placed after own own_is a
     later_queues (c.stop.new.self.many_queues ∙ ap (λ table. length table.flows) c.stop.ensures.table ∙ sym c.args.self.now.many_queues) (λ no. absurd (stops no))
     (λ f flow is other away. ⊎_elim (λ no. absurd (stops no))
     (λ other_app. c.stop.ensures.queues f flow (ap (λ fs. slice_get fs f) carries.known ∙ is) (λ e. other_app (e ∙ sym app_is)) ∙ get-set_other queues n f c.receive-stopped.new.queue other) away)
+    (λ _ f flow is same_app. c.stop.ensures.emptied f flow (ap (λ fs. slice_get fs f) carries.known ∙ is) (same_app ∙ app_is))
     later_apps app_stops.many (ap (slice_get later_apps) app_is ∙ app_stops.own app_line (ap (slice_get apps) (sym app_is) ∙ app_at)) (λ a other. app_stops.others a (λ e. other (e ∙ sym app_is)))
     (λ old was. subst (λ p. IsFollowed stopped old (g.T.Shelf.kept c.receive-stopped.new.shelf n) own.base p c.receive-stopped.new.line.bytes c.receive-stopped.new.queue) (sym received_is)
     (c.receive-stopped.ensures.receives old own.base (placed n) was))
@@ -109,6 +110,7 @@ returns-else-ne-2-clause-delivers g c = λ first flows placed after own own_is a
     stopped c.receive-stopped.ensures.quits_not
     later_queues (length-set queues n c.receive-stopped.new.queue) (λ no. get-set_same queues n c.receive-stopped.new.queue (get-within queues n c.index_mut.result.now queue_at))
     (λ f flow is other away. get-set_other queues n f c.receive-stopped.new.queue other)
+    (λ stops f flow is same_app. absurd (stops goes_on))
     apps refl (app_at ∙ ap Some (app-kept app_line stopped (goes_on ∙ sym goes))) (λ a other. refl)
     (λ old was. subst (λ p. IsFollowed stopped old (g.T.Shelf.kept c.receive-stopped.new.shelf n) own.base p c.receive-stopped.new.line.bytes c.receive-stopped.new.queue) (sym received_is)
     (c.receive-stopped.ensures.receives old own.base (placed n) was))
