@@ -1,0 +1,70 @@
+-- What each event does to the free places of every buffer, and that a buffer without holder has no user.
+use Rattle.std.proofs.Common.{◌≡◌, ℕ, ◌+◌, ◌≤◌, Bool, true, false, cond, List, [], ◌∷◌, ◌++◌, length, set, refl, ap, arith}
+use Rattle.std.specs.Prelude.{if◌then◌else◌, ◌==◌, nat_lt, nat_eq, count_by, ◌&&◌}
+use Rattle.std.specs.List.{flat_map}
+use Rattle.area_layout.specs.Layout.{pool_buffers}
+use Rattle.board_face.specs.NicEvents.{cached, cache_room, took, swept, gave_up}
+use Rattle.board_face.specs.Sides.{nic_at, app_at, IsApp}
+use Rattle.board_face.specs.Holders.{holders_of}
+use Rattle.board_face.specs.Counts.{pool_count, user_count, is_user}
+use Rattle.board_face.specs.FreeOnce.{free_places}
+use Rattle.board_face.specs.declared.views.nic.NicView.{NicView}
+use Rattle.board_face.specs.declared.views.nic.NicSide.{NicSide}
+use Rattle.board_face.specs.declared.views.app.AppView.{AppView}
+use Rattle.board_face.specs.declared.views.app.AppSide.{AppSide}
+use Rattle.board_face.proofs.Tallies.{weight, tally, tally-append, tally-push, tally-le, tally-flat, total-set}
+use Rattle.board_face.proofs.Parts.{count-tally}
+
+-- a user of a buffer is one of its holders
+pub user_count-le : (a b : ℕ) (nic : NicSide) (apps : List AppSide) → user_count a b nic apps ≤ pool_count b nic apps
+user_count-le a b nic apps = omega (arith, count-tally (is_user a) (holders_of b nic apps), tally-le (is_user a) (holders_of b nic apps))
+
+times-push : (b buffer : ℕ) (cache : List ℕ) → count_by (nat_eq b) (cache ++ buffer ∷ []) ≡ count_by (nat_eq b) cache + weight (b == buffer)
+times-push b buffer cache = omega (arith, count-tally (nat_eq b) (cache ++ buffer ∷ []), count-tally (nat_eq b) cache, tally-push (nat_eq b) cache buffer)
+
+times-append : (b : ℕ) (xs ys : List ℕ) → count_by (nat_eq b) (xs ++ ys) ≡ count_by (nat_eq b) xs + count_by (nat_eq b) ys
+times-append b xs ys = omega (arith, count-tally (nat_eq b) (xs ++ ys), count-tally (nat_eq b) xs, count-tally (nat_eq b) ys, tally-append (nat_eq b) xs ys)
+
+-- a buffer that was taken stood in the cache
+pub free_places-took : (listed : ℕ → Bool) (b : ℕ) (nic : NicSide) (apps : List AppSide) (buffer : ℕ) → nic.view.cache ≡ (took nic.view buffer).cache ++ buffer ∷ []
+    → free_places listed b (nic_at nic (took nic.view buffer)) apps + weight (b == buffer) ≡ free_places listed b nic apps
+free_places-took listed b nic apps buffer last = omega (arith, ap (count_by (nat_eq b)) last, times-push b buffer (took nic.view buffer).cache)
+
+-- the buffers that a sweep found stand in the cache
+pub free_places-swept : (listed : ℕ → Bool) (b : ℕ) (nic : NicSide) (apps : List AppSide) (word : ℕ) (found : List ℕ)
+    → free_places listed b (nic_at nic (swept nic.view word found)) apps ≡ free_places listed b nic apps + count_by (nat_eq b) found
+free_places-swept listed b nic apps word found = omega (arith, times-append b nic.view.cache found)
+
+cached-case : (c : Bool) (b buffer : ℕ) (cache : List ℕ) → count_by (nat_eq b) (cond c (cache ++ buffer ∷ []) cache) ≡ count_by (nat_eq b) cache + (if c then weight (b == buffer) else 0)
+cached-case true b buffer cache = times-push b buffer cache
+cached-case false b buffer cache = omega arith
+
+-- a pool buffer that came to be free stands in the cache, where that had room
+abbrev pub comes_in : NicSide → ℕ → Bool → Bool
+comes_in nic buffer last = (last && nat_lt buffer (pool_buffers nic.view.setting.layout)) && nat_lt (length nic.view.cache) cache_room
+
+gave_up-case : (c : Bool) (b buffer : ℕ) (cache : List ℕ) → count_by (nat_eq b) (cond c (cached cache buffer) cache) ≡ count_by (nat_eq b) cache + (if c && nat_lt (length cache) cache_room then weight (b == buffer) else 0)
+gave_up-case true b buffer cache = cached-case (nat_lt (length cache) cache_room) b buffer cache
+gave_up-case false b buffer cache = omega arith
+
+pub free_places-gave_up : (listed : ℕ → Bool) (b : ℕ) (nic : NicSide) (apps : List AppSide) (buffer : ℕ) (last : Bool)
+    → free_places listed b (nic_at nic (gave_up nic.view buffer last)) apps ≡ free_places listed b nic apps + (if comes_in nic buffer last then weight (b == buffer) else 0)
+free_places-gave_up listed b nic apps buffer last = omega (arith, gave_up-case (last && nat_lt buffer (pool_buffers nic.view.setting.layout)) b buffer nic.view.cache)
+
+-- an event that leaves the cache leaves the free places
+pub free_places-nic : (listed : ℕ → Bool) (b : ℕ) (nic : NicSide) (v : NicView) (apps : List AppSide) → v.cache ≡ nic.view.cache → free_places listed b (nic_at nic v) apps ≡ free_places listed b nic apps
+free_places-nic listed b nic v apps same = rw same refl
+
+-- and so does every event of an application
+pub free_places-app : (listed : ℕ → Bool) (b : ℕ) (nic : NicSide) (apps : List AppSide) (a : ℕ) (app : AppSide) (v : AppView) → IsApp apps a app → free_places listed b nic (set apps a (app_at app v)) ≡ free_places listed b nic apps
+free_places-app listed b nic apps a app v here =
+    let now = set apps a (app_at app v) in
+    let hands : AppSide → List ℕ = λ x. x.inside.hands in
+    omega (
+      arith,
+      count-tally (nat_eq b) (flat_map hands now),
+      count-tally (nat_eq b) (flat_map hands apps),
+      tally-flat (nat_eq b) hands now,
+      tally-flat (nat_eq b) hands apps,
+      total-set (λ x. tally (nat_eq b) (hands x)) apps a app (app_at app v) here.there here.is,
+    )

@@ -1,0 +1,82 @@
+-- Once every free word was swept, each pool buffer is cached, was taken by the card, or is lost to a spare.
+use Rattle.std.proofs.Common.{◌≡◌, ℕ, zero, suc, ◌+◌, ◌<◌, ◌≤◌, Bool, true, false, List, [], ◌∷◌, length, refl, ap, arith, ⊎_elim}
+use Rattle.std.specs.Prelude.{not, ◌&&◌, ◌||◌, ◌/◌, nat_eq}
+use Rattle.std.specs.List.{list_any}
+use Rattle.area_layout.specs.Layout.{pool_buffers}
+use Rattle.board_face.specs.Lists.{count_below}
+use Rattle.board_face.specs.NicEvents.{word_bits}
+use Rattle.board_face.specs.NicCalls.{free_words_of, is_lost, lost_of}
+use Rattle.board_face.specs.declared.views.nic.NicView.{NicView}
+use Rattle.board_face.proofs.Tallies.{weight, weight-le}
+use Rattle.board_face.proofs.ListLemmas.{not-eqb}
+use Rattle.std.proofs.lemmas.Bool.Decides.{eqb_tells}
+
+-- ---- how many numbers below n stand in a list
+
+below-first : (x n : ℕ) → n ≤ x → count_below (λ b. nat_eq b x) n ≡ 0
+below-first x zero small = refl
+below-first x (suc n) small =
+    let none : weight (nat_eq n x) ≡ 0 = ap weight (not-eqb n x (λ e. absurd (omega arith))) in
+    omega (arith, none, below-first x n (omega arith))
+
+below-one : (x n : ℕ) → count_below (λ b. nat_eq b x) n ≤ 1
+below-one x zero = omega arith
+below-one x (suc n) =
+    ⊎_elim
+    (λ t. let e : n ≡ x = t.1 in omega (arith, weight-le (nat_eq n x), below-first x n (omega arith)))
+    (λ t. let none : weight (nat_eq n x) ≡ 0 = ap weight t.0 in omega (arith, below-one x n))
+    (eqb_tells n x)
+
+weight-or : (c d : Bool) → weight (c || d) ≤ weight c + weight d
+weight-or true d = omega arith
+weight-or false d = omega arith
+
+below-or : (p q : ℕ → Bool) (n : ℕ) → count_below (λ b. p b || q b) n ≤ count_below p n + count_below q n
+below-or p q zero = omega arith
+below-or p q (suc n) = omega (arith, weight-or (p n) (q n), below-or p q n)
+
+below-none : (n : ℕ) → count_below (λ _. false) n ≡ 0
+below-none zero = refl
+below-none (suc n) = omega (arith, below-none n)
+
+below-list : (xs : List ℕ) (n : ℕ) → count_below (λ b. list_any (nat_eq b) xs) n ≤ length xs
+below-list [] n = omega (arith, below-none n)
+below-list (x ∷ xs) n = omega (arith, below-or (λ b. nat_eq b x) (λ b. list_any (nat_eq b) xs) n, below-one x n, below-list xs n)
+
+-- ---- buffers
+
+some-of-three : (c d : Bool) → 1 ≤ weight (not c && not d) + (weight c + weight d)
+some-of-three true d = omega arith
+some-of-three false true = omega arith
+some-of-three false false = omega arith
+
+each-somewhere : (v : NicView) → ((w : ℕ) → w < free_words_of v.setting → list_any (nat_eq w) v.swept ≡ true) → (n : ℕ) → n ≤ pool_buffers v.setting.layout
+    → n ≤ count_below (is_lost v) n + (count_below (λ b. list_any (nat_eq b) v.cache) n + count_below (λ b. list_any (nat_eq b) v.used) n)
+each-somewhere v swept zero within = omega arith
+each-somewhere v swept (suc n) within =
+    let c = list_any (nat_eq n) v.cache in
+    let u = list_any (nat_eq n) v.used in
+    let word : list_any (nat_eq (n / word_bits)) v.swept ≡ true = swept (n / word_bits) (omega arith) in
+    let lost : weight (is_lost v n) ≡ weight (not c && not u) = ap (λ s. weight (s && not c && not u)) word in
+    omega (arith, lost, some-of-three c u, each-somewhere v swept n (omega arith))
+
+-- Where every word of the free list was swept, the pool's buffers are at most as many as those that are cached, the
+-- takes so far, and those that are lost to spares.
+pub buffers-accounted : (v : NicView) → ((w : ℕ) → w < free_words_of v.setting → list_any (nat_eq w) v.swept ≡ true) → pool_buffers v.setting.layout ≤ lost_of v + (length v.cache + length v.used)
+buffers-accounted v swept =
+    let n = pool_buffers v.setting.layout in
+    omega (arith, each-somewhere v swept n (omega arith), below-list v.cache n, below-list v.used n)
+
+-- ---- what is lost was picked
+
+below-fewer : (p q : ℕ → Bool) → ((b : ℕ) → p b ≡ true → q b ≡ true) → (n : ℕ) → count_below p n ≤ count_below q n
+below-fewer p q each zero = omega arith
+below-fewer p q each (suc n) = omega (arith, weight-fewer (p n) (q n) (each n), below-fewer p q each n)
+  where
+    weight-fewer : (c d : Bool) → (c ≡ true → d ≡ true) → weight c ≤ weight d
+    weight-fewer true d e = let one : weight d ≡ 1 = ap weight (e refl) in omega arith
+    weight-fewer false d e = omega arith
+
+-- Where each lost buffer is among these picks, no more are lost than these.
+pub lost-few : (v : NicView) (picks : List ℕ) → ((b : ℕ) → is_lost v b ≡ true → list_any (nat_eq b) picks ≡ true) → lost_of v ≤ length picks
+lost-few v picks each = omega (arith, below-fewer (is_lost v) (λ b. list_any (nat_eq b) picks) each (pool_buffers v.setting.layout), below-list picks (pool_buffers v.setting.layout))

@@ -1,0 +1,29 @@
+-- The sides of a board after an event of a view, and the applications in the order of their numbers.
+use Rattle.std.specs.Prelude.{◌≡◌, ℕ, suc, ◌<◌, List, [], ◌∷◌, length, slice_index_or, slice_set, ⊤}
+use Rattle.board_face.specs.declared.views.nic.NicView.{NicView}
+use Rattle.board_face.specs.declared.views.nic.NicSide.{NicSide}
+use Rattle.board_face.specs.declared.views.app.AppView.{AppView}
+use Rattle.board_face.specs.declared.views.app.AppSide.{AppSide}
+
+-- the card's side with another view
+abbrev pub nic_at : NicSide → NicView → NicSide
+nic_at nic view = record nic { view = view }
+
+-- an application's side with another view
+abbrev pub app_at : AppSide → AppView → AppSide
+app_at app view = record app { view = view }
+
+-- the applications, one of which has another view
+abbrev pub apps_at : List AppSide → ℕ → AppSide → AppView → List AppSide
+apps_at apps a app view = slice_set apps a (app_at app view)
+
+-- this is the application with this number
+pub record IsApp (apps : List AppSide) (a : ℕ) (app : AppSide) : Type 0 where
+  pub there : a < length apps
+  pub is : slice_index_or apps a app ≡ app
+  pub number : app.view.app ≡ a
+
+-- the applications have these numbers in order, from the first on
+abbrev pub AreNumbered : ℕ → List AppSide → Type 0
+AreNumbered first [] = ⊤
+AreNumbered first (app ∷ apps) = (app.view.app ≡ first) × AreNumbered (suc first) apps

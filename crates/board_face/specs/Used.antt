@@ -1,0 +1,21 @@
+-- Used buffers: a pool buffer is used once the card has taken it or an application has picked it as a spare.
+use Rattle.std.specs.Prelude.{ℕ, ◌≤◌, List, ◌++◌, length, map, Contains}
+use Rattle.std.specs.List.{flat_map}
+use Rattle.board_face.specs.Texts.{unsplit_bytes}
+use Rattle.board_face.specs.declared.views.nic.NicSide.{NicSide}
+use Rattle.board_face.specs.declared.views.app.AppSide.{AppSide}
+
+-- the buffers that applications have picked
+abbrev pub picked_buffers : List AppSide → List ℕ
+picked_buffers apps = flat_map (λ app. app.view.picked) apps
+
+abbrev pub used_buffers : NicSide → List AppSide → List ℕ
+used_buffers nic apps = nic.view.used ++ picked_buffers apps
+
+abbrev pub IsUsed : NicSide → List AppSide → ℕ → Type 0
+IsUsed nic apps b = Contains (used_buffers nic apps) b
+
+-- An application has picked and was given at most as many buffers as the unsplit notes that it has taken have bytes.
+pub record HasFewPicks (app : AppSide) : Type 0 where
+  pub picks : length app.view.picked ≤ app.view.spares
+  pub spares : app.view.spares ≤ unsplit_bytes (map (λ t. t.note) app.view.taken)

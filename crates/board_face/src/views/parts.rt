@@ -1,0 +1,36 @@
+use area_layout::Layout;
+use std::collections::LinkedList;
+use zr_kinds::Place;
+
+/// What is the same for all that share a board, from its opening on.
+#[derive(Drop)]
+pub struct Setting {
+    /// How the area is cut into buffers: those of the pool, and one reserve for each application.
+    pub layout: Layout,
+    /// How many slots each ring has.
+    pub places: u32,
+}
+
+/// A buffer for filling: its number, where the next bytes go, and its size.
+#[derive(Clone, Copy)]
+pub struct Filling {
+    pub buffer: u32,
+    pub start: u32,
+    pub size: u32,
+}
+
+/// A text in the making, on a board of words: its place, and the words of 8 bytes that were stored there so far.
+#[derive(Drop)]
+pub struct Making {
+    pub place: Place,
+    pub words: LinkedList<u64>,
+}
+
+/// The next slot of a ring, as one of its ends has seen it on a board of words.
+#[derive(Drop)]
+pub struct Slot {
+    /// Whether it was seen as this end needs it: free by the writer, full by the reader.
+    pub seen: bool,
+    /// The words that were stored or loaded there since.
+    pub words: LinkedList<u64>,
+}
