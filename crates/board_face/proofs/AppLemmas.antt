@@ -251,3 +251,10 @@ user_part-scrubbed x b nic app took sound takes =
     let none : owed_count b nic now ≡ 0 = omega (arith, takes) in
     let left : loans_in b now + owed_count b nic now ≡ loans_in b app = omega (arith, none) in
     ap (λ n. if app.view.app == x then n else 0) left
+
+-- A scrub of all that is owed in a buffer ends all loans of it that came back.
+pub EndedWereReturned-scrubbed : (b : ℕ) (nic : NicSide) (app : AppSide) (took : List ℕ) → slice_index took b ≡ slice_index app.inside.scrub_took b + owed_count b nic app → EndedWereReturned b nic app → EndedWereReturned b nic (scrubbed_side app took)
+EndedWereReturned-scrubbed b nic app took takes sound =
+    let many = returned_in-count b app in
+    let ended = sound.ended in
+    record { ended = omega (arith, takes); returning = omega (arith, takes, sound.returning) }

@@ -1,13 +1,15 @@
 -- What each event does to the free places of every buffer, and that a buffer without holder has no user.
-use Rattle.std.proofs.Common.{◌≡◌, ℕ, ◌+◌, ◌≤◌, Bool, true, false, cond, List, [], ◌∷◌, ◌++◌, length, set, refl, ap, arith}
+use Rattle.std.proofs.Common.{◌≡◌, ℕ, ◌+◌, ◌<◌, ◌≤◌, Bool, true, false, cond, List, [], ◌∷◌, ◌++◌, length, set, refl, ap, ⊎_elim, arith}
 use Rattle.std.specs.Prelude.{if◌then◌else◌, ◌==◌, nat_lt, nat_eq, count_by, ◌&&◌}
 use Rattle.std.specs.List.{flat_map}
+use Rattle.std.proofs.lemmas.Bool.{eq-eqb}
+use Rattle.std.proofs.lemmas.Bool.Decides.{eqb_tells}
 use Rattle.area_layout.specs.Layout.{pool_buffers}
 use Rattle.board_face.specs.NicEvents.{cached, cache_room, took, swept, gave_up}
 use Rattle.board_face.specs.Sides.{nic_at, app_at, IsApp}
 use Rattle.board_face.specs.Holders.{holders_of}
 use Rattle.board_face.specs.Counts.{pool_count, user_count, is_user}
-use Rattle.board_face.specs.FreeOnce.{free_places}
+use Rattle.board_face.specs.FreeOnce.{free_places, IsFreeOnce}
 use Rattle.board_face.specs.declared.views.nic.NicView.{NicView}
 use Rattle.board_face.specs.declared.views.nic.NicSide.{NicSide}
 use Rattle.board_face.specs.declared.views.app.AppView.{AppView}
@@ -68,3 +70,16 @@ free_places-app listed b nic apps a app v here =
       tally-flat (nat_eq b) hands apps,
       total-set (λ x. tally (nat_eq b) (hands x)) apps a app (app_at app v) here.there here.is,
     )
+
+-- a buffer that stands in a free place, as in the cache, has no holder
+pub IsFreeOnce-unheld : (listed : ℕ → Bool) (b : ℕ) (nic : NicSide) (apps : List AppSide) → IsFreeOnce listed b nic apps → 0 < free_places listed b nic apps → pool_count b nic apps ≡ 0
+IsFreeOnce-unheld listed b nic apps once free =
+    ⊎_elim
+    (λ t. t.1)
+    (λ t. absurd (let none : free_places listed b nic apps ≡ 0 = rw t.0 at once in omega arith))
+    (eqb_tells (pool_count b nic apps) 0)
+
+pub IsFreeOnce-cached : (listed : ℕ → Bool) (b : ℕ) (nic : NicSide) (apps : List AppSide) (rest : List ℕ) → nic.view.cache ≡ rest ++ b ∷ [] → IsFreeOnce listed b nic apps → pool_count b nic apps ≡ 0
+IsFreeOnce-cached listed b nic apps rest last once =
+    let one : weight (b == b) ≡ 1 = ap weight (eq-eqb b b refl) in
+    IsFreeOnce-unheld listed b nic apps once (omega (arith, ap (count_by (nat_eq b)) last, times-push b b rest, one))

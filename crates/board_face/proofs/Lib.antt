@@ -16,3 +16,9 @@ pub mod ShownLemmas
 pub mod FewLemmas
 pub mod SideLemmas
 pub mod FillingLemmas
+pub mod FilledLemmas
+pub mod FitLemmas
+pub mod PlacedLemmas
+pub mod StoredLemmas
+pub mod AreShownLemmas
+pub mod OpenedLemmas

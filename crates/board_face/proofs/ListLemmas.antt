@@ -1,8 +1,9 @@
 -- Lists from which the first element that meets a test is taken out.
-use Rattle.std.proofs.Common.{◌≡◌, ℕ, Bool, true, false, eqb, List, [], ◌∷◌, map, refl, ap, sym, arith, ⊎_elim}
-use Rattle.std.specs.Prelude.{◌&&◌, ◌≢◌}
+use Rattle.std.proofs.Common.{◌≡◌, ℕ, Bool, true, false, cond, eqb, List, [], ◌∷◌, map, refl, ap, sym, arith, ⊎_elim}
+use Rattle.std.specs.Prelude.{◌&&◌, ◌≢◌, All}
 use Rattle.std.proofs.lemmas.Bool.{false≢true, eqb-true}
 use Rattle.std.proofs.lemmas.Bool.Decides.{eqb_tells}
+use Rattle.std.proofs.lemmas.List.Elements.{All-cons, All-head, All-tail}
 use Rattle.zr_kinds.specs.declared.place.Place.{Place}
 use Rattle.board_face.specs.Lists.{without, at_first, same_place}
 use Rattle.board_face.specs.Tokens.{same_filling, filling}
@@ -69,3 +70,14 @@ same_filling-is x y e =
     let s = eqb-true x.start y.start all.1 in
     let z = eqb-true x.size y.size all.2 in
     same_fillings y.buffer x.buffer y.start x.start y.size x.size (sym b) (sym s) (sym z)
+
+-- ---- facts of all elements
+
+All-case : {A : Type 0} (P : A → Type 0) (c : Bool) (x : A) (xs ys : List A) → P x → All P xs → All P ys → All P (cond c xs (x ∷ ys))
+All-case P true x xs ys here all rest = all
+All-case P false x xs ys here all rest = All-cons P x ys here rest
+
+-- what holds of each holds of those that are left when one is taken out
+pub All-without : {A : Type 0} (P : A → Type 0) (m : A → Bool) (xs : List A) → All P xs → All P (without m xs)
+All-without P m [] all = all
+All-without P m (x ∷ xs) all = All-case P (m x) x xs (without m xs) (All-head P x xs all) (All-tail P x xs all) (All-without P m xs (All-tail P x xs all))

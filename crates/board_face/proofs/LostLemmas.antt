@@ -69,14 +69,15 @@ buffers-accounted v swept =
 
 -- ---- what is lost was picked
 
-below-fewer : (p q : ℕ → Bool) → ((b : ℕ) → p b ≡ true → q b ≡ true) → (n : ℕ) → count_below p n ≤ count_below q n
-below-fewer p q each zero = omega arith
-below-fewer p q each (suc n) = omega (arith, weight-fewer (p n) (q n) (each n), below-fewer p q each n)
+below-fewer : (p q : ℕ → Bool) (n : ℕ) → ((b : ℕ) → b < n → p b ≡ true → q b ≡ true) → count_below p n ≤ count_below q n
+below-fewer p q zero each = omega arith
+below-fewer p q (suc n) each =
+    omega (arith, weight-fewer (p n) (q n) (each n (omega arith)), below-fewer p q n (λ b less. each b (omega (arith, less))))
   where
     weight-fewer : (c d : Bool) → (c ≡ true → d ≡ true) → weight c ≤ weight d
     weight-fewer true d e = let one : weight d ≡ 1 = ap weight (e refl) in omega arith
     weight-fewer false d e = omega arith
 
 -- Where each lost buffer is among these picks, no more are lost than these.
-pub lost-few : (v : NicView) (picks : List ℕ) → ((b : ℕ) → is_lost v b ≡ true → list_any (nat_eq b) picks ≡ true) → lost_of v ≤ length picks
-lost-few v picks each = omega (arith, below-fewer (is_lost v) (λ b. list_any (nat_eq b) picks) each (pool_buffers v.setting.layout), below-list picks (pool_buffers v.setting.layout))
+pub lost-few : (v : NicView) (picks : List ℕ) → ((b : ℕ) → b < pool_buffers v.setting.layout → is_lost v b ≡ true → list_any (nat_eq b) picks ≡ true) → lost_of v ≤ length picks
+lost-few v picks each = omega (arith, below-fewer (is_lost v) (λ b. list_any (nat_eq b) picks) (pool_buffers v.setting.layout) each, below-list picks (pool_buffers v.setting.layout))

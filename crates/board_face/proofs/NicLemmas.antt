@@ -22,10 +22,11 @@ use Rattle.board_face.specs.declared.views.nic.Dealt.{Dealt}
 use Rattle.board_face.specs.declared.views.nic.Fate.TheVariants.{Honoured, Stray}
 use Rattle.board_face.specs.declared.views.nic.NicView.{NicView}
 use Rattle.board_face.specs.declared.views.nic.NicSide.{NicSide}
+use Rattle.board_face.specs.declared.views.app.AppInside.{AppInside}
 use Rattle.board_face.specs.declared.views.app.AppSide.{AppSide}
 use Rattle.board_face.proofs.ListLemmas.{same_place-refl, same_filling-refl, same_place-is, same_filling-is, map-itself, not-eqb}
 use Rattle.board_face.proofs.Tallies.{weight, tally, total, tally-append, tally-push, tally-without, total-agree}
-use Rattle.board_face.proofs.Parts.{returned_in-count, making_in, nic_count, app_count, user_part, loans_in, notes_in, came_back_in, owed_count, pool_count-parts, user_count-parts, total-shift, count-tally}
+use Rattle.board_face.proofs.Parts.{returned_in-count, making_in, sent_in, returning_in_count, nic_count, app_count, user_part, loans_in, notes_in, came_back_in, owed_count, pool_count-parts, user_count-parts, total-shift, count-tally}
 
 -- ---- events that send nothing and deal with nothing
 
@@ -324,3 +325,40 @@ pub EndedWereReturned-passed_over : (b : ℕ) (nic : NicSide) (a : ℕ) (entry :
 EndedWereReturned-passed_over b nic a entry app sound =
     let same = ended_in-passed_over b nic a entry app in
     record { ended = omega (arith, same, sound.ended); returning = omega (arith, same, sound.returning) }
+
+-- ---- what a board is in the middle of
+
+-- where v more of a buffer's returned loans were ended, by an entry in hand or a scrub, it owes v less
+pub owed_count-ended : (b v : ℕ) (nic nic' : NicSide) (app : AppSide) (inside : AppInside) → ended_in b nic' (record app { inside = inside }) ≡ ended_in b nic app + v → ended_in b nic' (record app { inside = inside }) ≤ came_back_in b app
+    → owed_count b nic' (record app { inside = inside }) + v ≡ owed_count b nic app
+owed_count-ended b v nic nic' app inside ends within = omega (arith, ends, within)
+
+stretch : (k h h' r r' w : ℕ) → r ≤ h → r' ≤ h' → h ≤ k → h' ≤ k → h' + r ≡ h + r' + w → k - h' + min r' (k - (h' - r')) + w ≡ k - h + min r (k - (h - r))
+stretch k h h' r r' w small small' within within' moves = omega arith
+
+-- where the stretch of what is owed and returning begins w later, the application has w holdings less there
+pub app_count-stretch : (b w : ℕ) (nic nic' : NicSide) (app : AppSide) (inside : AppInside) → nic'.view.sent ≡ nic.view.sent → EndedWereReturned b nic app → EndedWereReturned b nic' (record app { inside = inside })
+    → ended_in b nic' (record app { inside = inside }) + returning_count b nic app ≡ ended_in b nic app + returning_count b nic' (record app { inside = inside }) + w
+    → app_count b nic' (record app { inside = inside }) + w ≡ app_count b nic app
+app_count-stretch b w nic nic' app inside sents sound sound' moves =
+    let now : AppSide = record app { inside = inside } in
+    let many = returned_in-count b app in
+    let ended = sound.ended in
+    let ended' = sound'.ended in
+    let way : sent_in b nic' now ≡ sent_in b nic app = rw sents refl in
+    let less = stretch (came_back_in b app) (ended_in b nic app) (ended_in b nic' now) (returning_count b nic app) (returning_count b nic' now) w sound.returning sound'.returning (omega arith) (omega arith) moves in
+    omega (arith, way, less)
+
+-- so it is for all holders, where the card's side changes for one application alone
+pub pool_count-stretch : (b w : ℕ) (nic nic' : NicSide) (apps : List AppSide) (a : ℕ) (app : AppSide) → nic'.view.owns ≡ nic.view.owns → nic'.view.sent ≡ nic.view.sent → nic'.view.pieces ≡ nic.view.pieces → nic'.inside.making ≡ nic.inside.making
+    → AreNumbered 0 apps → IsApp apps a app → ((x : AppSide) → x.view.app ≢ a → ended_in b nic' x ≡ ended_in b nic x) → ((x : AppSide) → x.view.app ≢ a → returning_count b nic' x ≡ returning_count b nic x) → EndedWereReturned b nic app → EndedWereReturned b nic' app
+    → ended_in b nic' app + returning_count b nic app ≡ ended_in b nic app + returning_count b nic' app + w → pool_count b nic' apps + w ≡ pool_count b nic apps
+pool_count-stretch b w nic nic' apps a app owns sents pieces making numbered here ends returns sound sound' moves =
+    let card : nic_count b nic' ≡ nic_count b nic = rw (owns, pieces, making) refl in
+    let others : (x : AppSide) → x.view.app ≢ a → app_count b nic x ≡ app_count b nic' x = λ x ne.
+    let way : sent_in b nic' x ≡ sent_in b nic x = rw sents refl in
+    let same : owed_count b nic' x + returning_in_count b nic' x ≡ owed_count b nic x + returning_in_count b nic x = rw (ends x ne, returns x ne) refl in
+    omega (arith, way, same) in
+    let mine = app_count-stretch b w nic nic' app app.inside sents sound sound' moves in
+    let less = total-shift 0 (app_count b nic) (app_count b nic') w a others apps numbered a app here.there (omega arith) (rw here.is (omega (arith, mine))) in
+    omega (arith, pool_count-parts b nic' apps, pool_count-parts b nic apps, card, less)

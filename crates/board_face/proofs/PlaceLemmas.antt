@@ -1,7 +1,7 @@
 -- What each event does to the places of a buffer: how many of them meet a test, as that a byte lies there. Two places of
 -- which none shares a byte with the other stay so, since no count rises but where a piece is placed or a spare filled.
 use Rattle.std.proofs.Common.{◌≡◌, ℕ, zero, suc, ◌+◌, ◌-◌, ◌≤◌, Bool, true, false, cond, List, [], ◌∷◌, ◌++◌, length, map, take, drop, set, refl, ap, sym, ◌∙◌, arith, add-zero, zero-add}
-use Rattle.std.specs.Prelude.{◌≢◌, filter, ◌==◌, ◌&&◌, nat_lt, slice_index, Contains}
+use Rattle.std.specs.Prelude.{◌≢◌, filter, ◌==◌, ◌&&◌, nat_lt, slice_index, Contains, Some, None}
 use Rattle.std.proofs.lemmas.List.{map-append, drop-append-le, take-append-drop}
 use Rattle.std.proofs.lemmas.List.Elements.{filter-append}
 use Rattle.zr_kinds.specs.declared.place.Place.{Place}
@@ -10,15 +10,16 @@ use Rattle.zr_kinds.specs.declared.ring.Rqe.{Rqe}
 use Rattle.board_face.specs.Lists.{without, at_first, same_place}
 use Rattle.board_face.specs.Tokens.{next_place, filled_by, same_filling}
 use Rattle.board_face.specs.Texts.{further, front_place, rest_place}
-use Rattle.board_face.specs.NicEvents.{fresh, placed, sent, sent_linear, honoured, passed_over, text_at}
+use Rattle.board_face.specs.NicEvents.{begun, text_done, fresh, placed, sent, sent_linear, honoured, passed_over, text_at}
 use Rattle.board_face.specs.AppEvents.{took_note, took_linear, held_origin, helds_without, cut, released, lent, loans_without, abandoned, got_spare, owns_without, filled, own_bytes, begin_place, lent_own}
 use Rattle.board_face.specs.NicCalls.{HasPiece}
 use Rattle.board_face.specs.AppCalls.{HasHeld, HasLoan}
 use Rattle.board_face.specs.Sides.{nic_at, app_at, IsApp, AreNumbered}
-use Rattle.board_face.specs.Holders.{sent_to, on_way, returned_in, ended_in, returning_count}
+use Rattle.board_face.specs.Holders.{sent_to, on_way, returned_in, ended_in, returning_count, making_places}
 use Rattle.board_face.specs.Counts.{EndedWereReturned}
 use Rattle.board_face.specs.Places.{places_of}
 use Rattle.board_face.specs.declared.views.parts.Filling.{Filling}
+use Rattle.board_face.specs.declared.views.parts.Making.{Making}
 use Rattle.board_face.specs.declared.views.nic.PlacedText.{PlacedText}
 use Rattle.board_face.specs.declared.views.nic.SentNote.{SentNote}
 use Rattle.board_face.specs.declared.views.nic.NicView.{NicView}
@@ -28,13 +29,14 @@ use Rattle.board_face.specs.declared.views.app.HeldPiece.{HeldPiece}
 use Rattle.board_face.specs.declared.views.app.LentPiece.{LentPiece}
 use Rattle.board_face.specs.declared.views.app.SpareOwn.{SpareOwn}
 use Rattle.board_face.specs.declared.views.app.TakenNote.{TakenNote}
+use Rattle.board_face.specs.declared.views.app.AppInside.{AppInside}
 use Rattle.board_face.specs.declared.views.app.AppView.{AppView}
 use Rattle.board_face.specs.declared.views.app.AppSide.{AppSide}
 use Rattle.board_face.proofs.ListLemmas.{same_place-is, same_place-refl, same_filling-is}
 use Rattle.board_face.proofs.Tallies.{weight, tally, total, tally-append, tally-push, tally-without, total-set}
 use Rattle.board_face.proofs.Parts.{total-shift}
-use Rattle.board_face.proofs.NicLemmas.{sent_to-other, sent_to-same, drop-push, ended_in-honoured, ended_in-passed_over}
-use Rattle.board_face.proofs.AppLemmas.{IsNext, after-taken, scrubbed_side}
+use Rattle.board_face.proofs.NicLemmas.{making_at, sent_to-other, sent_to-same, drop-push, ended_in-honoured, ended_in-passed_over}
+use Rattle.board_face.proofs.AppLemmas.{IsNext, SameHoldings, after-taken, scrubbed_side}
 use Rattle.board_face.proofs.PlaceParts.{tally-filter, in_buffer, piece_places, way_places, app_places, places-parts}
 
 -- ---- the card's events that send nothing and deal with nothing
@@ -336,3 +338,72 @@ app_places-scrubbed b w test nic app took takes small =
     let ends : h' ≡ h + w = omega (arith, takes) in
     let further_on : h' - r ≡ w + (h - r) = omega (arith, ends) in
     omega (arith, ended-stretch test h r ps small, ended-stretch test h' r ps (omega (arith, ends)), ap (λ k. tally test (drop k ps)) further_on, drop-fewer test w (h - r) ps)
+
+-- ---- a placing in its two parts
+
+-- a piece in the making has its place
+pub places-begun : (b : ℕ) (test : Place → Bool) (nic : NicSide) (apps : List AppSide) (own : Filling) (n : ℕ) (words : List ℕ) → nic.inside.making ≡ None
+    → tally test (places_of b (making_at nic (begun nic.view own n) (Some (record { place = next_place own n; words = words }))) apps) ≡ tally test (places_of b nic apps) + weight (in_buffer b test (next_place own n))
+places-begun b test nic apps own n words idle =
+    let now = making_at nic (begun nic.view own n) (Some (record { place = next_place own n; words = words })) in
+    let same : total (app_places b test now) apps ≡ total (app_places b test nic) apps = refl in
+    let none : tally (in_buffer b test) (making_places nic.inside.making) ≡ 0 = rw idle refl in
+    omega (arith, places-parts b test now apps, places-parts b test nic apps, none)
+
+-- and keeps it when its text is complete
+pub places-text_done : (b : ℕ) (test : Place → Bool) (nic : NicSide) (apps : List AppSide) (own : Filling) (bytes : List ℕ) (making : Making) → nic.inside.making ≡ Some making → making.place ≡ next_place own (length bytes)
+    → tally test (places_of b (making_at nic (text_done nic.view own bytes) None) apps) ≡ tally test (places_of b nic apps)
+places-text_done b test nic apps own bytes making busy place =
+    let now = making_at nic (text_done nic.view own bytes) None in
+    let same : total (app_places b test now) apps ≡ total (app_places b test nic) apps = refl in
+    let one : tally (in_buffer b test) (making_places nic.inside.making) ≡ weight (in_buffer b test (next_place own (length bytes))) + 0 = rw (busy, place) refl in
+    omega (
+      arith,
+      places-parts b test now apps,
+      places-parts b test nic apps,
+      one,
+      tally-push (λ (p : PlacedText). in_buffer b test p.place) nic.view.pieces (record { place = next_place own (length bytes); bytes = bytes }),
+    )
+
+-- while its words are stored, the places stay as they are
+pub places-making : (b : ℕ) (test : Place → Bool) (nic : NicSide) (apps : List AppSide) (making : Making) (words : List ℕ) → nic.inside.making ≡ Some making
+    → tally test (places_of b (making_at nic nic.view (Some (record { place = making.place; words = words }))) apps) ≡ tally test (places_of b nic apps)
+places-making b test nic apps making words busy =
+    let now = making_at nic nic.view (Some (record { place = making.place; words = words })) in
+    let same : total (app_places b test now) apps ≡ total (app_places b test nic) apps = refl in
+    let one : tally (in_buffer b test) (making_places nic.inside.making) ≡ weight (in_buffer b test making.place) + 0 = rw busy refl in
+    omega (arith, places-parts b test now apps, places-parts b test nic apps, one)
+
+-- ---- events that touch no holding
+
+pub app_places-same : (b : ℕ) (test : Place → Bool) (nic : NicSide) (app : AppSide) (w : AppView) → SameHoldings app.view w → app_places b test nic (app_at app w) ≡ app_places b test nic app
+app_places-same b test nic app w same = rw (same.app, same.taken, same.helds, same.owns, same.loans, same.returned) refl
+
+-- ---- what a board is in the middle of
+
+-- Where the stretch of what is owed and returning begins no earlier, no place comes: a user count or a pool count is lowered
+-- for an entry in hand or for a scrub, or an entry in hand is done.
+pub app_places-stretch : (b : ℕ) (test : Place → Bool) (nic nic' : NicSide) (app : AppSide) (inside : AppInside) → nic'.view.sent ≡ nic.view.sent → returning_count b nic app ≤ ended_in b nic app
+    → returning_count b nic' (record app { inside = inside }) ≤ ended_in b nic' (record app { inside = inside })
+    → ended_in b nic app + returning_count b nic' (record app { inside = inside }) ≤ ended_in b nic' (record app { inside = inside }) + returning_count b nic app
+    → app_places b test nic' (record app { inside = inside }) ≤ app_places b test nic app
+app_places-stretch b test nic nic' app inside sents small small' later =
+    let now : AppSide = record app { inside = inside } in
+    let h = ended_in b nic app in
+    let r = returning_count b nic app in
+    let h' = ended_in b nic' now in
+    let r' = returning_count b nic' now in
+    let ps = returned_in b app in
+    let way : way_places b test nic' now ≡ way_places b test nic app = rw sents refl in
+    let further_on : h' - r' ≡ (h' - r' - (h - r)) + (h - r) = omega arith in
+    omega (arith, way, ended-stretch test h r ps small, ended-stretch test h' r' ps small', ap (λ k. tally test (drop k ps)) further_on, drop-fewer test (h' - r' - (h - r)) (h - r) ps)
+
+-- so it is for all applications, where the card's side changes
+pub places-stretch : (b : ℕ) (test : Place → Bool) (nic nic' : NicSide) (apps : List AppSide) → nic'.view.sent ≡ nic.view.sent → nic'.view.pieces ≡ nic.view.pieces → nic'.inside.making ≡ nic.inside.making
+    → ((app : AppSide) → Contains apps app → returning_count b nic app ≤ ended_in b nic app) → ((app : AppSide) → Contains apps app → returning_count b nic' app ≤ ended_in b nic' app)
+    → ((app : AppSide) → Contains apps app → ended_in b nic app + returning_count b nic' app ≤ ended_in b nic' app + returning_count b nic app)
+    → tally test (places_of b nic' apps) ≤ tally test (places_of b nic apps)
+places-stretch b test nic nic' apps sents pieces making small small' later =
+    let same : piece_places b test nic' ≡ piece_places b test nic = rw (pieces, making) refl in
+    let fewer = total-le (app_places b test nic') (app_places b test nic) apps (λ app has. app_places-stretch b test nic nic' app app.inside sents (small app has) (small' app has) (later app has)) in
+    omega (arith, places-parts b test nic' apps, places-parts b test nic apps, same, fewer)

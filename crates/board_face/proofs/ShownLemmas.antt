@@ -1,6 +1,6 @@
 -- What each event leaves of the texts that are shown, while the area's bytes stay as they are.
 use Rattle.std.proofs.Common.{◌<◌, ◌≡◌, ℕ, zero, suc, ◌+◌, ◌-◌, ◌≤◌, Bool, true, false, cond, List, [], ◌∷◌, ◌++◌, length, map, take, drop, refl, ap, sym, ◌∙◌, subst, ⊎_elim, arith, length-take, length-drop, get_or-take, get_or-drop, zero-add, add_assoc}
-use Rattle.std.specs.Prelude.{◌≢◌, filter, ◌==◌, All, Contains}
+use Rattle.std.specs.Prelude.{◌≢◌, filter, ◌==◌, All, Contains, Option}
 use Rattle.std.proofs.lemmas.List.{drop-append-le, length-take-le}
 use Rattle.std.proofs.Math.Seq.{take-length}
 use Rattle.std.proofs.lemmas.List.Elements.{filter-append, All-nil, All-cons, All-head, All-tail, All-push, All-append, All-drop, All-filter, All-weaker}
@@ -10,7 +10,7 @@ use Rattle.zr_kinds.specs.declared.place.Note.{Note}
 use Rattle.board_face.specs.Lists.{without, at_first, same_place}
 use Rattle.board_face.specs.Tokens.{next_place, filled_by, same_filling}
 use Rattle.board_face.specs.Texts.{further, front_place, rest_place}
-use Rattle.board_face.specs.NicEvents.{fresh, placed, sent, text_at}
+use Rattle.board_face.specs.NicEvents.{begun, text_done, fresh, placed, sent, text_at}
 use Rattle.board_face.specs.AppEvents.{took_note, took_linear, held_origin, helds_without, cut, released, lent, loan_origin, abandoned, got_spare, owns_without, filled, own_bytes, begin_place, lent_own}
 use Rattle.board_face.specs.NicCalls.{HasPiece}
 use Rattle.board_face.specs.AppCalls.{HasHeld, HasLoan, HasSpare}
@@ -19,6 +19,7 @@ use Rattle.board_face.specs.Holders.{sent_to, on_way, ended_in}
 use Rattle.board_face.specs.Counts.{EndedWereReturned}
 use Rattle.board_face.specs.Shown.{IsShown, first_bytes, bytes_sent, origin_bytes, text_of, owed_loans, CardIsShown, AppIsShown}
 use Rattle.board_face.specs.declared.views.parts.Filling.{Filling}
+use Rattle.board_face.specs.declared.views.parts.Making.{Making}
 use Rattle.board_face.specs.declared.views.nic.PlacedText.{PlacedText}
 use Rattle.board_face.specs.declared.views.nic.SentNote.{SentNote}
 use Rattle.board_face.specs.declared.views.nic.NicView.{NicView}
@@ -28,12 +29,13 @@ use Rattle.board_face.specs.declared.views.app.Origin.TheVariants.{Note as of_no
 use Rattle.board_face.specs.declared.views.app.HeldPiece.{HeldPiece}
 use Rattle.board_face.specs.declared.views.app.LentPiece.{LentPiece}
 use Rattle.board_face.specs.declared.views.app.SpareOwn.{SpareOwn}
+use Rattle.board_face.specs.declared.views.app.AppInside.{AppInside}
 use Rattle.board_face.specs.declared.views.app.AppView.{AppView}
 use Rattle.board_face.specs.declared.views.app.AppSide.{AppSide}
 use Rattle.board_face.proofs.ListLemmas.{same_place-is, same_place-refl, same_filling-is, same_filling-refl}
 use Rattle.board_face.proofs.Tallies.{length-tally}
 use Rattle.board_face.proofs.Parts.{returned_in-count}
-use Rattle.board_face.proofs.NicLemmas.{sent_to-other, sent_to-same, drop-push}
+use Rattle.board_face.proofs.NicLemmas.{making_at, sent_to-other, sent_to-same, drop-push}
 use Rattle.board_face.proofs.AppLemmas.{IsNext, after-taken, scrubbed_side, SameHoldings}
 use Rattle.board_face.proofs.RelayLemmas.{bytes_sent-push, bytes_sent-past, take-drop-none}
 
@@ -351,3 +353,63 @@ module _ (byte : ℕ → ℕ → ℕ) where
 
   pub CardIsShown-stored : (byte' : ℕ → ℕ → ℕ) (nic : NicSide) → All (λ (p : PlacedText). (i : ℕ) → i < p.place.len → byte' p.place.buffer (p.place.offset + i) ≡ byte p.place.buffer (p.place.offset + i)) nic.view.pieces → CardIsShown byte nic → CardIsShown byte' nic
   CardIsShown-stored byte' nic same shown = record { pieces = λ k d small. shown-stored byte' _ _ (same k d small) (shown.pieces k d small) }
+
+  -- ---- a placing in its two parts
+
+  -- a piece in the making shows no text yet, and what the card is in the middle of holds no text
+  pub CardIsShown-making : (nic : NicSide) (v : NicView) (making : Option Making) → v.pieces ≡ nic.view.pieces → CardIsShown byte nic → CardIsShown byte (making_at nic v making)
+  CardIsShown-making nic v making same shown = record { pieces = rw same shown.pieces }
+
+  pub CardIsShown-begun : (nic : NicSide) (own : Filling) (n : ℕ) (making : Option Making) → CardIsShown byte nic → CardIsShown byte (making_at nic (begun nic.view own n) making)
+  CardIsShown-begun nic own n making shown = CardIsShown-making nic (begun nic.view own n) making refl shown
+
+  -- a text that is complete is shown from then on
+  pub CardIsShown-text_done : (nic : NicSide) (own : Filling) (bytes : List ℕ) (making : Option Making) → IsShown byte (next_place own (length bytes)) bytes → CardIsShown byte nic → CardIsShown byte (making_at nic (text_done nic.view own bytes) making)
+  CardIsShown-text_done nic own bytes making new shown = record { pieces = All-push (λ (p : PlacedText). IsShown byte p.place p.bytes) nic.view.pieces _ shown.pieces new }
+
+  -- neither part touches an application's texts
+  pub AppIsShown-making : (nic : NicSide) (v : NicView) (making : Option Making) (app : AppSide) → v.sent ≡ nic.view.sent → v.dealt ≡ nic.view.dealt → AppIsShown byte nic app → AppIsShown byte (making_at nic v making) app
+  AppIsShown-making nic v making app sents deals shown = record {
+    sent = rw sents shown.sent;
+    helds = rw sents shown.helds;
+    spares = shown.spares;
+    loans = rw sents shown.loans;
+    owed = λ b. rw (sents, deals) (shown.owed b);
+  }
+
+  pub AppIsShown-begun : (nic : NicSide) (own : Filling) (n : ℕ) (making : Option Making) (app : AppSide) → AppIsShown byte nic app → AppIsShown byte (making_at nic (begun nic.view own n) making) app
+  AppIsShown-begun nic own n making app shown = AppIsShown-making nic (begun nic.view own n) making app refl refl shown
+
+  pub AppIsShown-text_done : (nic : NicSide) (own : Filling) (bytes : List ℕ) (making : Option Making) (app : AppSide) → AppIsShown byte nic app → AppIsShown byte (making_at nic (text_done nic.view own bytes) making) app
+  AppIsShown-text_done nic own bytes making app shown = AppIsShown-making nic (text_done nic.view own bytes) making app refl refl shown
+
+  -- the bytes at the place stay as they are
+  abbrev pub IsKept : (ℕ → ℕ → ℕ) → Place → Type 0
+  IsKept byte' place = (i : ℕ) → i < place.len → byte' place.buffer (place.offset + i) ≡ byte place.buffer (place.offset + i)
+
+  pub AppIsShown-stored : (byte' : ℕ → ℕ → ℕ) (nic : NicSide) (app : AppSide) → All (λ (s : SentNote). s.note.split ≡ true → IsKept byte' s.note.place) (on_way nic app) → All (λ (h : HeldPiece). IsKept byte' h.place) app.view.helds
+      → All (λ (s : SpareOwn). IsKept byte' (begin_place s.own.buffer (length s.bytes))) app.view.owns → All (λ (l : LentPiece). IsKept byte' l.place) app.view.loans → ((b : ℕ) → All (λ (l : LentPiece). IsKept byte' l.place) (owed_loans b nic app))
+      → AppIsShown byte nic app → AppIsShown byte' nic app
+  AppIsShown-stored byte' nic app sents helds spares loans oweds shown = record {
+    sent = λ k d small split. shown-stored byte' _ _ (sents k d small split) (shown.sent k d small split);
+    helds = λ k d small. shown-stored byte' _ _ (helds k d small) (shown.helds k d small);
+    spares = λ k d small. shown-stored byte' _ _ (spares k d small) (shown.spares k d small);
+    loans = λ k d small. shown-stored byte' _ _ (loans k d small) (shown.loans k d small);
+    owed = λ b k d small. shown-stored byte' _ _ (oweds b k d small) (shown.owed b k d small);
+  }
+
+  -- ---- what a board is in the middle of
+
+  -- where more of what was owed was ended, by an entry in hand or a scrub, all texts that are left stay shown
+  pub AppIsShown-ended : (nic nic' : NicSide) (app : AppSide) (inside : AppInside) → nic'.view.sent ≡ nic.view.sent → ((b : ℕ) → ended_in b nic app ≤ ended_in b nic' (record app { inside = inside })) → AppIsShown byte nic app → AppIsShown byte nic' (record app { inside = inside })
+  AppIsShown-ended nic nic' app inside sents ends shown = record {
+    sent = rw sents shown.sent;
+    helds = rw sents shown.helds;
+    spares = shown.spares;
+    loans = rw sents shown.loans;
+    owed = λ b.
+        let now : AppSide = record app { inside = inside } in
+        let h = ended_in b nic app in
+        let h' = ended_in b nic' now in
+        rw sents (All-ended (λ (l : LentPiece). IsShown byte l.place (text_of nic app l.origin l.place)) h h' (h' - h) (filter (λ (l : LentPiece). l.place.buffer == b) app.view.returned) (let more = ends b in omega arith) (shown.owed b));
+  }

@@ -1,6 +1,5 @@
 -- Judged: whether a refill entry gives a reference back. An entry of an application is a return where it names a buffer
--- of which the application owes something at the step that looks. Otherwise it is a stray, and changes no count and no
--- free place.
+-- whose user count is above 0 at the step that looks. Otherwise it is a stray, and changes no count and no free place.
 use Rattle.std.specs.Prelude.{ℕ, nat_lt, if◌then◌else◌, Option, Some, None}
 use Rattle.zr_kinds.specs.declared.ring.Rqe.{Rqe}
 use Rattle.area_layout.specs.Layout.{Shape, judged}

@@ -79,8 +79,8 @@ pub record SweptWord (old new : NicView) (word count : ℕ) : Type 0 where
   pub within : All (λ b. (b / word_bits ≡ word) × (b < pool_buffers old.setting.layout)) found
   pub falling : AllPairs (λ a b. b < a) found
 
--- An entry of the application was honoured: it names a buffer of which the application was seen to owe something, and no
--- pool buffer came to be free by it.
+-- An entry of the application was honoured: it names a buffer whose user count was seen above 0, and no pool buffer came
+-- to be free by it.
 pub record HonouredEntry (old new : NicView) (app : ℕ) : Type 0 where
   pub entry : Rqe
   pub buffer : ℕ

@@ -1,5 +1,6 @@
 -- The sides of a board after an event of a view, and the applications in the order of their numbers.
-use Rattle.std.specs.Prelude.{◌≡◌, ℕ, suc, ◌<◌, List, [], ◌∷◌, length, slice_index_or, slice_set, ⊤}
+use Rattle.std.specs.Prelude.{◌≡◌, ℕ, suc, ◌<◌, List, [], ◌∷◌, length, slice_index_or, slice_set, All, ⊤}
+use Rattle.board_face.specs.NicCalls.{apps_of}
 use Rattle.board_face.specs.declared.views.nic.NicView.{NicView}
 use Rattle.board_face.specs.declared.views.nic.NicSide.{NicSide}
 use Rattle.board_face.specs.declared.views.app.AppView.{AppView}
@@ -16,6 +17,11 @@ app_at app view = record app { view = view }
 -- the applications, one of which has another view
 abbrev pub apps_at : List AppSide → ℕ → AppSide → AppView → List AppSide
 apps_at apps a app view = slice_set apps a (app_at app view)
+
+-- All sides are of one board, and there is one for each application.
+pub record HaveOneSetting (nic : NicSide) (apps : List AppSide) : Type 0 where
+  pub same : All (λ app. app.view.setting ≡ nic.view.setting) apps
+  pub many : length apps ≡ apps_of nic.view.setting
 
 -- this is the application with this number
 pub record IsApp (apps : List AppSide) (a : ℕ) (app : AppSide) : Type 0 where

@@ -15,7 +15,11 @@ used_buffers nic apps = nic.view.used ++ picked_buffers apps
 abbrev pub IsUsed : NicSide → List AppSide → ℕ → Type 0
 IsUsed nic apps b = Contains (used_buffers nic apps) b
 
--- An application has picked and was given at most as many buffers as the unsplit notes that it has taken have bytes.
+-- An application has picked, and was given, at most as many buffers as the unsplit notes that it has taken have bytes.
 pub record HasFewPicks (app : AppSide) : Type 0 where
-  pub picks : length app.view.picked ≤ app.view.spares
+  pub picks : length app.view.picked ≤ unsplit_bytes (map (λ t. t.note) app.view.taken)
   pub spares : app.view.spares ≤ unsplit_bytes (map (λ t. t.note) app.view.taken)
+
+-- Between two calls each buffer that it picked was given.
+abbrev pub PicksAreGiven : AppSide → Type 0
+PicksAreGiven app = length app.view.picked ≤ app.view.spares

@@ -8,7 +8,7 @@ pub enum Entry {
     Freed,
     /// Another entry that gave a reference back.
     Honoured,
-    /// An entry that names no buffer, or one of which the application owes nothing. It changed no count.
+    /// An entry that names no buffer, or one of which the application's user count was seen 0. It changed no count.
     Stray,
     /// No entry: the slot was seen free.
     Empty,

@@ -14,7 +14,7 @@ use zr_kinds::{Place, Rqe};
 
 /// What an application does at a board. No call takes memory, and none waits for another's step.
 ///
-/// A call changes of the view what its event says, and nothing else. After `leave` none follows.
+/// A call changes of the view what its event says, and nothing else. After `leave` only the readers go on.
 pub trait AppFace {
     /// What no call of this face changes, as the other roles' views on a board that this face holds.
     type Beside;
@@ -24,8 +24,8 @@ pub trait AppFace {
 
     ghost beside: { Self → Self.Beside };
 
-    /// What a board says, where this look is noted, of what the application knows but for its looks, and of what stands
-    /// beside it. A board on which others step meanwhile says nothing.
+    /// What a board says, where this look is noted, of what the application knows but for its looks and its refill slots,
+    /// and of what stands beside it. A board on which others step meanwhile says nothing.
     ghost tells: { AppLook → AppView → Self.Beside → Type 0 } = { λ _ _ _. Unit {0} };
 
     /// How many slots each ring has.
@@ -51,7 +51,7 @@ pub trait AppFace {
 
     /// Takes the next note. The bytes of `Linear` are the first of `linear`.
     fn poll(&mut self, linear: &mut [u8; 256]) -> Polled
-        requires { IsHere (seen self.old) }
+        requires here { IsHere (seen self.old) }
         ensures view { Looked (seen self.old) (seen self.new) linear.new result }
         ensures told { result ≡ Polled.Empty → tells NoNote (app_gist (seen self.old)) (beside self.old) }
         ensures beside { beside self.new ≡ beside self.old };
@@ -68,7 +68,7 @@ pub trait AppFace {
 
     /// Whether no raw entry is on its way: `false` says that the slot of the last was seen in use.
     fn settle(&mut self) -> bool
-        requires { IsHere (seen self.old) }
+        requires here { IsHere (seen self.old) }
         ensures view { MatchBool result
             (seen self.new ≡ came_to_rest (seen self.old))
             (AppOnlySaw RawOnItsWay (seen self.old) (seen self.new)) }
@@ -169,7 +169,7 @@ pub trait AppFace {
 
     /// Whether each refill slot is free: `false` says that one was seen in use.
     fn quiet(&mut self) -> bool
-        requires { IsHere (seen self.old) }
+        requires here { IsHere (seen self.old) }
         ensures view { MatchBool result
             (seen self.new ≡ fell_quiet (seen self.old))
             (AppOnlySaw NotQuiet (seen self.old) (seen self.new)) }

@@ -48,7 +48,7 @@ pub trait NicFace {
 
     /// How many words the free list has. Word `w` has the pool buffers from `64 * w` on, 64 at most.
     fn free_words(&self) -> u32
-        ensures { result ≡ free_words_of (seen self.now).setting };
+        ensures value { result ≡ free_words_of (seen self.now).setting };
 
     /// How many buffers are cached.
     fn cached(&self) -> u32
@@ -58,7 +58,7 @@ pub trait NicFace {
     /// Takes the buffer that entered the cache last, as the page pool's `page_pool_alloc_netmems` does. Its pool count
     /// goes from 0 to 1.
     fn take(&mut self) -> Option<Own>
-        requires { IsOpen (seen self.old) }
+        requires open { IsOpen (seen self.old) }
         ensures view { MatchOption result
             (((seen self.old).cache ≡ []) × (seen self.new ≡ seen self.old))
             (λ own. TookBuffer (seen self.old) (seen self.new) own) }
@@ -76,7 +76,7 @@ pub trait NicFace {
 
     /// Deals with the next refill entry of an application.
     fn entry(&mut self, app: u32) -> Entry
-        requires { app < apps_of (seen self.old).setting }
+        requires app { app < apps_of (seen self.old).setting }
         ensures view { DealtWith (seen self.old) (seen self.new) app result }
         ensures told { result ≡ Entry.Empty → tells (RingEmpty app) (nic_gist (seen self.old)) (beside self.old) }
         ensures beside { beside self.new ≡ beside self.old };
@@ -132,7 +132,7 @@ pub trait NicFace {
 
     /// Whether an application was seen to have left.
     fn left(&mut self, app: u32) -> bool
-        requires { app < apps_of (seen self.old).setting }
+        requires app { app < apps_of (seen self.old).setting }
         ensures view { MatchBool result
             (seen self.new ≡ saw_leave (seen self.old) app)
             (NicOnlySaw (NotLeft app) (seen self.old) (seen self.new)) }

@@ -1,5 +1,5 @@
 -- What an application that reads each piece at once keeps and does.
-use Rattle.std.specs.Prelude.{◌≡◌, ℕ, ◌+◌, List, [], ◌∷◌, ◌++◌, length, sum_by, count_by, true, if◌then◌else◌}
+use Rattle.std.specs.Prelude.{◌≡◌, ℕ, ◌+◌, List, [], ◌∷◌, ◌++◌, length, sum_by, count_by, if◌then◌else◌}
 use Rattle.zr_kinds.specs.declared.place.Place.{Place}
 use Rattle.board_face.specs.Texts.{further}
 use Rattle.board_face.specs.Looks.{AppLooksStay, AppRose}
@@ -7,7 +7,7 @@ use Rattle.board_face.specs.AppEvents.{loan_origin}
 use Rattle.board_face.specs.declared.views.app.Origin.{Origin}
 use Rattle.board_face.specs.declared.views.app.Reading.{Reading}
 use Rattle.board_face.specs.declared.views.app.TakenNote.{TakenNote}
-use Rattle.board_face.specs.declared.views.app.AppLook.TheVariants.{NoNote, RefillInUse}
+use Rattle.board_face.specs.declared.views.app.AppLook.TheVariants.{NoNote, CardEnded, RefillInUse}
 use Rattle.board_face.specs.declared.views.app.AppView.{AppView}
 use Rattle.face_callers.specs.declared.reader.Served.{Served}
 use Rattle.face_callers.specs.declared.reader.Served.TheVariants.{All as all_taken, NoNote as no_note, Ended as ended, RefillFull as refill_full}
@@ -45,5 +45,5 @@ pub record Serves (old new : AppView) : Type 0 where
 abbrev pub Stopped : AppView → AppView → ℕ → Served → Type 0
 Stopped old new count all_taken = length new.taken ≡ length old.taken + count
 Stopped old new count no_note = AppRose NoNote old new
-Stopped old new count ended = new.ended ≡ true
+Stopped old new count ended = AppRose CardEnded old new
 Stopped old new count refill_full = AppRose RefillInUse old new

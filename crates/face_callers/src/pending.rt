@@ -1,5 +1,6 @@
 ghost use Rattle.face_callers.specs.Flush.{IsReady, Sends};
-ghost use Rattle.std.specs.Prelude.{◌≡◌, [], ◌++◌, MatchOption, option_to_list};
+ghost use Rattle.std.specs.Prelude.{◌≡◌, [], ◌++◌, MatchOption, IfSome, option_to_list};
+ghost use Rattle.board_face.specs.NicEvents.{nic_gist};
 ghost use Rattle.board_face.specs.NicCalls.{IsOpen};
 ghost use Rattle.board_face.specs.Looks.{NicRose};
 ghost use Rattle.board_face.specs.declared.views.nic.NicLook.TheVariants.{NoteInUse};
@@ -23,6 +24,7 @@ pub fn flush<F: NicFace>(face: &mut F, pending: &mut VecDeque<Pending>) -> Optio
     ensures sends { Sends (F.seen face.old) (F.seen face.new) pending.old.items (option_to_list result ++ pending.new.items) }
     ensures ready { IsReady (F.seen face.new) (option_to_list result ++ pending.new.items) }
     ensures stopped { MatchOption result (pending.new.items ≡ []) (λ back. NicRose (NoteInUse back.app) (F.seen face.old) (F.seen face.new)) }
+    ensures told { IfSome result (λ back. F.tells (NoteInUse back.app) (nic_gist (F.seen face.new)) (F.beside face.new)) }
     ensures beside { F.beside face.new ≡ F.beside face.old }
 {
     while let Some(next) = pending.pop_front() {

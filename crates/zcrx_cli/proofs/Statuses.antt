@@ -1,7 +1,7 @@
 -- What the status of a replay says of how it went.
 use Rattle.std.proofs.Common.{◌≡◌, ◌≢◌, nat_eq, ℕ, suc, List, [], ◌∷◌, length, ◌<◌, Bool, true, false, ◌||◌, Option, None, Some, refl, sym, ap, subst, ◌∙◌, ◌⊎◌, ⊎_elim, inl, inr, arith}
 use Rattle.std.specs.Prelude.{IfSome, Result, Ok, Err, ◌==◌, if◌then◌else◌}
-use Rattle.std.specs.List.{slice_get, list_any}
+use Rattle.std.specs.List.{slice_get}
 use Rattle.std.proofs.lemmas.Bool.{cases_eq}
 use Rattle.std.proofs.lemmas.Bool.Decides.{nat_tests}
 use Rattle.zr_kinds.specs.declared.fault.Fault.{Fault}
@@ -12,9 +12,9 @@ use Rattle.zr_kinds.specs.declared.outcome.AppLine.{AppLine}
 use Rattle.zr_io.specs.Moved.{Rose, Took}
 use Rattle.zr_io.proofs.Moved.{Took-weaker}
 use Rattle.copying_replay.specs.Ending.{Ended, ended_of}
-use Rattle.copying_replay.specs.Reading.{ShowsEnding, BreaksOff, TakenEnds, IsEnding, IsReadToEnd, HasEnded}
+use Rattle.copying_replay.specs.Reading.{ShowsEnding, BreaksOff, TakenEnds, IsEnding, IsReadToEnd}
 use Rattle.copying_replay.specs.Streams.{losses_in}
-use Rattle.copying_replay.specs.Replayed.{Replayed, IsAppLine}
+use Rattle.copying_replay.specs.Replayed.{Replayed}
 use Rattle.copying_replay.specs.declared.outcome.Outcome.{Outcome}
 use Rattle.copying_replay.proofs.Turns.{some-weaker}
 use Rattle.copying_replay.proofs.Flowing.{there}

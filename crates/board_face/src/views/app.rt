@@ -53,7 +53,7 @@ pub struct Reading {
     pub bytes: LinkedList<u8>,
 }
 
-/// What an application saw that keeps it from going on.
+/// What an application saw that keeps it from going on, or that tells why it does.
 #[derive(Clone, Copy)]
 pub enum AppLook {
     /// The card hadn't ended, and after that the next note slot was empty.

@@ -1,0 +1,95 @@
+-- A board that was just opened: nobody has a buffer, no text lies anywhere, and nothing is owed.
+use Rattle.std.proofs.Common.{◌≡◌, ℕ, zero, suc, ◌<◌, List, [], ◌∷◌, length, get_or, replicate, refl, sym, subst, arith}
+use Rattle.std.specs.Prelude.{All, true}
+use Rattle.std.proofs.lemmas.List.Elements.{All-nil, All-head, All-tail, All-drop, All-weaker}
+use Rattle.area_layout.specs.Layout.{total as all_buffers, pool_buffers, size_of}
+use Rattle.board_face.specs.AppEvents.{begin_place}
+use Rattle.board_face.specs.Holders.{ended_in}
+use Rattle.board_face.specs.Counts.{pool_count, EndedWereReturned}
+use Rattle.board_face.specs.Fillings.{IsFilledByOne, FillingsFit}
+use Rattle.board_face.specs.Places.{has_byte, is_empty, ends_behind, ArePlaced}
+use Rattle.board_face.specs.Shown.{IsShown, text_of, AppIsShown, AreShown}
+use Rattle.board_face.specs.Opened.{new_nic, new_app}
+use Rattle.board_face.specs.declared.views.parts.Setting.{Setting}
+use Rattle.board_face.specs.declared.views.parts.Filling.{Filling}
+use Rattle.board_face.specs.declared.views.nic.PlacedText.{PlacedText}
+use Rattle.board_face.specs.declared.views.nic.SentNote.{SentNote}
+use Rattle.board_face.specs.declared.views.app.HeldPiece.{HeldPiece}
+use Rattle.board_face.specs.declared.views.app.LentPiece.{LentPiece}
+use Rattle.board_face.specs.declared.views.app.SpareOwn.{SpareOwn}
+use Rattle.board_face.specs.declared.views.app.AppSide.{AppSide}
+use Rattle.board_face.proofs.Tallies.{total}
+use Rattle.board_face.proofs.Parts.{app_count, pool_count-parts}
+use Rattle.board_face.proofs.FilledLemmas.{IsFilledByOne-from, fillings-held}
+use Rattle.board_face.proofs.FitLemmas.{IsFit, AreFit}
+use Rattle.board_face.proofs.PlacedLemmas.{IsBehind, places-none}
+
+-- the application has done nothing
+abbrev pub IsNew : Setting → AppSide → Type 0
+IsNew setting app = app ≡ new_app setting app.view.app
+
+zeros : (n b : ℕ) → get_or {A = ℕ} (replicate n 0) b 0 ≡ 0
+zeros zero b = refl
+zeros (suc n) zero = refl
+zeros (suc n) (suc b) = zeros n b
+
+all-new : (P : AppSide → Type 0) (setting : Setting) → ((a : ℕ) → P (new_app setting a)) → (apps : List AppSide) → All (IsNew setting) apps → All P apps
+all-new P setting each apps news = All-weaker (IsNew setting) P (λ app is. subst P (sym is) (each app.view.app)) apps news
+
+none-held : (b : ℕ) (setting : Setting) (apps : List AppSide) → All (IsNew setting) apps → total (app_count b (new_nic setting)) apps ≡ 0
+none-held b setting [] news = refl
+none-held b setting (app ∷ apps) news =
+    let new : app_count b (new_nic setting) (new_app setting app.view.app) ≡ 0 = omega arith in
+    let here : app_count b (new_nic setting) app ≡ 0 = subst (λ (x : AppSide). app_count b (new_nic setting) x ≡ 0) (sym (All-head (IsNew setting) app apps news)) new in
+    omega (arith, here, none-held b setting apps (All-tail (IsNew setting) app apps news))
+
+pub pool_count-opened : (b : ℕ) (setting : Setting) (apps : List AppSide) → All (IsNew setting) apps → pool_count b (new_nic setting) apps ≡ 0
+pool_count-opened b setting apps news = omega (arith, pool_count-parts b (new_nic setting) apps, none-held b setting apps news)
+
+pub EndedWereReturned-opened : (b : ℕ) (setting : Setting) (a : ℕ) → EndedWereReturned b (new_nic setting) (new_app setting a)
+EndedWereReturned-opened b setting a = let none = zeros (all_buffers setting.layout) b in record { ended = omega (arith, none); returning = omega (arith, none) }
+
+pub IsFilledByOne-opened : (b : ℕ) (setting : Setting) (apps : List AppSide) → All (IsNew setting) apps → IsFilledByOne b (new_nic setting) apps
+IsFilledByOne-opened b setting apps news =
+    let none = pool_count-opened b setting apps news in
+    let held = fillings-held b (new_nic setting) apps in
+    IsFilledByOne-from b (new_nic setting) apps (omega arith) (λ some. absurd (omega arith)) (λ _. none)
+
+pub FillingsFit-opened : (setting : Setting) (apps : List AppSide) → All (IsNew setting) apps → FillingsFit (new_nic setting) apps
+FillingsFit-opened setting apps news = record {
+  of_pool = All-nil (λ (o : Filling). o.buffer < pool_buffers setting.layout);
+  card = All-nil (IsFit (new_nic setting));
+  sides = all-new (λ app. AreFit (new_nic setting) app.view.owns) setting (λ a. All-nil (λ (s : SpareOwn). IsFit (new_nic setting) s.own)) apps news;
+}
+
+pub ArePlaced-opened : (b : ℕ) (setting : Setting) (apps : List AppSide) → All (IsNew setting) apps → ArePlaced b (new_nic setting) apps
+ArePlaced-opened b setting apps news =
+    let nic = new_nic setting in
+    let free = pool_count-opened b setting apps news in
+    record {
+      some_bytes = places-none b is_empty nic apps free;
+      within = places-none b (ends_behind (size_of setting.layout b)) nic apps free;
+      apart = λ x. omega (arith, places-none b (has_byte x) nic apps free);
+      behind = All-nil (IsBehind b nic apps);
+    }
+
+module _ (byte : ℕ → ℕ → ℕ) where
+  pub AppIsShown-opened : (setting : Setting) (a : ℕ) → AppIsShown byte (new_nic setting) (new_app setting a)
+  AppIsShown-opened setting a =
+      let nic = new_nic setting in
+      let app = new_app setting a in
+      let P : LentPiece → Type 0 = λ l. IsShown byte l.place (text_of nic app l.origin l.place) in
+      record {
+        sent = All-nil (λ (s : SentNote). s.note.split ≡ true → IsShown byte s.note.place s.bytes);
+        helds = All-nil (λ (h : HeldPiece). IsShown byte h.place (text_of nic app h.origin h.place));
+        spares = All-nil (λ (s : SpareOwn). IsShown byte (begin_place s.own.buffer (length s.bytes)) s.bytes);
+        loans = All-nil P;
+        owed = λ b. All-drop P (ended_in b nic app) [] (All-nil P);
+      }
+
+  pub AreShown-opened : (setting : Setting) (apps : List AppSide) → All (IsNew setting) apps → AreShown byte (new_nic setting) apps
+  AreShown-opened setting apps news = record {
+    card = record { pieces = All-nil (λ (p : PlacedText). IsShown byte p.place p.bytes) };
+    apps = all-new (AppIsShown byte (new_nic setting)) setting (AppIsShown-opened setting) apps news;
+    places = λ b. ArePlaced-opened b setting apps news;
+  }
