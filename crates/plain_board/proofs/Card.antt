@@ -1,0 +1,75 @@
+-- What an event of the card leaves that sends nothing, deals with nothing and keeps the setting.
+use Rattle.std.proofs.Common.{◌≡◌, ℕ, ◌<◌, ◌≤◌, List, length, set, sym, ◌∙◌, arith}
+use Rattle.std.specs.Prelude.{◌≢◌, All}
+use Rattle.std.proofs.lemmas.List.Elements.{All-weaker}
+use Rattle.area_layout.specs.Layout.{total}
+use Rattle.board_face.specs.Sides.{nic_at}
+use Rattle.board_face.specs.Counts.{pool_count, EndedWereReturned}
+use Rattle.board_face.specs.declared.views.parts.Setting.{Setting}
+use Rattle.board_face.specs.declared.views.nic.NicView.{NicView}
+use Rattle.board_face.specs.declared.views.nic.NicSide.{NicSide}
+use Rattle.board_face.specs.declared.views.app.AppSide.{AppSide}
+use Rattle.board_face.proofs.NicLemmas.{user_count-nic}
+use Rattle.board_face.proofs.RelayLemmas.{Relayed-nic}
+use Rattle.plain_board.specs.Returns.{AreReturns}
+use Rattle.plain_board.specs.Board.{Arrays}
+use Rattle.plain_board.specs.Sound.{IsSet, AreCounted, AreRelayed}
+use Rattle.plain_board.proofs.Lists.{counts-set}
+
+-- the event touches neither what is on its way nor the setting
+pub record IsQuiet (old new : NicView) : Type 0 where
+  pub sent : new.sent ≡ old.sent
+  pub dealt : new.dealt ≡ old.dealt
+  pub setting : new.setting ≡ old.setting
+
+pub IsSet-nic : (setting : Setting) (nic : NicSide) (v : NicView) (apps : List AppSide) → v.setting ≡ nic.view.setting → IsSet setting nic apps → IsSet setting (nic_at nic v) apps
+IsSet-nic setting nic v apps same h = record {
+  card = rw same h.card;
+  card_rest = h.card_rest;
+  many = h.many;
+  numbers = h.numbers;
+  roles = h.roles;
+  roles_rest = h.roles_rest;
+}
+
+pub EndedWereReturned-nic : (nic : NicSide) (v : NicView) (apps : List AppSide) → v.dealt ≡ nic.view.dealt → (b : ℕ) → All (EndedWereReturned b nic) apps → All (EndedWereReturned b (nic_at nic v)) apps
+EndedWereReturned-nic nic v apps deals b all =
+    All-weaker (EndedWereReturned b nic) (EndedWereReturned b (nic_at nic v)) (λ app h. record { ended = rw deals h.ended; returning = rw deals h.returning }) apps all
+
+pub AreRelayed-nic : (arrays now : Arrays) (nic : NicSide) (v : NicView) (apps : List AppSide) → v.sent ≡ nic.view.sent → v.dealt ≡ nic.view.dealt → now.notes ≡ arrays.notes → now.refills ≡ arrays.refills → now.places ≡ arrays.places
+    → AreRelayed arrays nic apps → AreRelayed now (nic_at nic v) apps
+AreRelayed-nic arrays now nic v apps sents deals notes refills places h = record {
+  relayed = λ a app here. rw (notes, refills) (Relayed-nic nic v app _ _ sents deals (h.relayed a app here));
+  notes = rw (notes, places) h.notes;
+  refills = rw (refills, places) h.refills;
+}
+
+-- Where a count is set to what the holders of one buffer came to be, and no other buffer's changed, counts are holders.
+pub AreCounted-nic : (arrays now : Arrays) (nic : NicSide) (v : NicView) (apps : List AppSide) (i n : ℕ) → v.dealt ≡ nic.view.dealt → now.layout ≡ arrays.layout → now.users ≡ arrays.users → now.pool ≡ set arrays.pool i n
+    → i < total arrays.layout → length arrays.pool ≡ total arrays.layout → n ≡ pool_count i (nic_at nic v) apps → ((b : ℕ) → b ≢ i → pool_count b (nic_at nic v) apps ≡ pool_count b nic apps)
+    → AreCounted arrays nic apps → AreCounted now (nic_at nic v) apps
+AreCounted-nic arrays now nic v apps i n deals layout users pool there many here others h = record {
+  pool = λ b within. rw pool (counts-set (total arrays.layout) arrays.pool (λ b. pool_count b nic apps) (λ b. pool_count b (nic_at nic v) apps) i n (omega arith) h.pool here others b (rw (← layout) within));
+  users = λ a b app within. rw (users, layout) (h.users a b app (rw (← layout) within) ∙ sym (user_count-nic a b nic v apps deals));
+  beyond = λ b past. others b (λ e. absurd (let past' : total arrays.layout ≤ b = rw (← layout) past in omega arith)) ∙ h.beyond b (rw (← layout) past);
+  returned = λ b. EndedWereReturned-nic nic v apps deals b (h.returned b);
+}
+
+-- Where no buffer's holders changed in number, counts are holders.
+pub AreCounted-same : (arrays now : Arrays) (nic : NicSide) (v : NicView) (apps : List AppSide) → v.dealt ≡ nic.view.dealt → now.layout ≡ arrays.layout → now.users ≡ arrays.users → now.pool ≡ arrays.pool
+    → ((b : ℕ) → pool_count b (nic_at nic v) apps ≡ pool_count b nic apps) → AreCounted arrays nic apps → AreCounted now (nic_at nic v) apps
+AreCounted-same arrays now nic v apps deals layout users pool same h = record {
+  pool = λ b within. rw pool (h.pool b (rw (← layout) within)) ∙ sym (same b);
+  users = λ a b app within. rw (users, layout) (h.users a b app (rw (← layout) within) ∙ sym (user_count-nic a b nic v apps deals));
+  beyond = λ b past. same b ∙ h.beyond b (rw (← layout) past);
+  returned = λ b. EndedWereReturned-nic nic v apps deals b (h.returned b);
+}
+
+pub AreReturns-nic : (nic : NicSide) (v : NicView) (app : AppSide) → v.dealt ≡ nic.view.dealt → AreReturns nic app → AreReturns (nic_at nic v) app
+AreReturns-nic nic v app deals h = record {
+  owed = λ b. rw deals (h.owed b);
+  clear = λ b. rw deals (h.clear b);
+  named = rw deals h.named;
+  settled = λ e. rw deals (h.settled e);
+  strays = rw deals h.strays;
+}

@@ -1,0 +1,118 @@
+-- The entry that is next in an application's ring is dealt with.
+use Rattle.std.proofs.Common.{◌≡◌, ℕ, zero, suc, ◌+◌, ◌-◌, ◌≤◌, Bool, true, false, eqb, List, [], ◌∷◌, ◌++◌, length, map, drop, refl, ap, sym, ◌∙◌, arith, length-append, length-drop}
+use Rattle.std.specs.Prelude.{◌≢◌, filter, count_by, ◌==◌, if◌then◌else◌}
+use Rattle.std.specs.List.{zip}
+use Rattle.std.proofs.lemmas.List.{append-nil, drop-map}
+use Rattle.std.proofs.lemmas.List.Elements.{filter-append, All-tail, All-push}
+use Rattle.std.proofs.lemmas.List.Sums.{sum_by-cons}
+use Rattle.std.proofs.lemmas.Bool.{eq-eqb}
+use Rattle.std.proofs.Math.Seq.{drop-append_seam}
+use Rattle.zr_kinds.specs.declared.ring.Rqe.{Rqe}
+use Rattle.board_face.specs.Sides.{nic_at}
+use Rattle.board_face.specs.Holders.{ended_in, owed_in, returned_in}
+use Rattle.board_face.specs.Relay.{Relayed, dealt_entries, IsNoLoanStray}
+use Rattle.board_face.specs.declared.views.nic.Dealt.{Dealt}
+use Rattle.board_face.specs.declared.views.nic.NicView.{NicView}
+use Rattle.board_face.specs.declared.views.nic.NicSide.{NicSide}
+use Rattle.board_face.specs.declared.views.app.TakenNote.{TakenNote}
+use Rattle.board_face.specs.declared.views.app.WrittenEntry.{WrittenEntry}
+use Rattle.board_face.specs.declared.views.app.AppSide.{AppSide}
+use Rattle.board_face.proofs.ListLemmas.{not-eqb}
+use Rattle.board_face.proofs.Parts.{returned_in-count, owed_count}
+use Rattle.board_face.proofs.Tallies.{weight}
+use Rattle.plain_board.specs.Returns.{entries_on_way, returns, IsNamed, IsOfLoan, AreReturns}
+
+pub count-first : {A : Type 0} (p : A → Bool) (x : A) (xs : List A) → count_by p (x ∷ xs) ≡ weight (p x) + count_by p xs
+count-first p x xs = sum_by-cons (λ y. if p y then 1 else 0) x xs
+
+-- ---- the front
+
+-- the first entry on its way is this one
+pub record HasFront (nic : NicSide) (app : AppSide) (e : Rqe) : Type 0 where
+  pub first : WrittenEntry
+  pub others : List WrittenEntry
+  pub way : entries_on_way nic app ≡ first ∷ others
+  pub entry : first.entry ≡ e
+
+length-mapped : {A B : Type 0} (f : A → B) (xs : List A) → length (map f xs) ≡ length xs
+length-mapped f [] = refl
+length-mapped f (x ∷ xs) = omega (arith, length-mapped f xs)
+
+front-case : (nic : NicSide) (app : AppSide) (e : Rqe) (es : List Rqe) (q : List WrittenEntry) → entries_on_way nic app ≡ q → map (λ w. w.entry) q ≡ e ∷ es → HasFront nic app e
+front-case nic app e es [] way same = absurd (let none : ⊥ = cc in none)
+front-case nic app e es (w ∷ ws) way same = record { first = w; others = ws; way = way; entry = let is : w.entry ≡ e = cc in is }
+
+pub HasFront-relayed : (nic : NicSide) (app : AppSide) (ns : List TakenNote) (e : Rqe) (es : List Rqe) → Relayed nic app ns (e ∷ es) → HasFront nic app e
+HasFront-relayed nic app ns e es relayed =
+    let dealt = dealt_entries app.view.app nic in
+    let rest : drop (length dealt) (map (λ w. w.entry) app.view.written) ≡ e ∷ es = rw (← relayed.entries) (drop-append_seam dealt (e ∷ es)) in
+    front-case nic app e es (entries_on_way nic app) refl (sym (drop-map (λ (w : WrittenEntry). w.entry) (length dealt) app.view.written) ∙ rest)
+
+drop-after : {A : Type 0} (n : ℕ) (xs : List A) (x : A) (rest : List A) → drop n xs ≡ x ∷ rest → drop (suc n) xs ≡ rest
+drop-after zero xs x rest e = rw e refl
+drop-after (suc n) [] x rest e = absurd (let none : ⊥ = cc in none)
+drop-after (suc n) (y ∷ xs) x rest e = drop-after n xs x rest e
+
+-- ---- what the card has dealt with
+
+pub dealt-more : (nic : NicSide) (v : NicView) (a : ℕ) (d : Dealt) → v.dealt ≡ nic.view.dealt ++ d ∷ [] → d.app ≡ a → filter (λ x. x.app == a) v.dealt ≡ filter (λ x. x.app == a) nic.view.dealt ++ d ∷ []
+dealt-more nic v a d deals same =
+    let mine : Dealt → Bool = λ x. x.app == a in
+    let is : eqb d.app a ≡ true = eq-eqb d.app a same in
+    let one : filter mine (d ∷ []) ≡ d ∷ [] = rw is refl in
+    rw deals (filter-append mine nic.view.dealt (d ∷ []) ∙ ap (λ ds. filter mine nic.view.dealt ++ ds) one)
+
+pub dealt-same : (nic : NicSide) (v : NicView) (a : ℕ) (d : Dealt) → v.dealt ≡ nic.view.dealt ++ d ∷ [] → d.app ≢ a → filter (λ x. x.app == a) v.dealt ≡ filter (λ x. x.app == a) nic.view.dealt
+dealt-same nic v a d deals other =
+    let mine : Dealt → Bool = λ x. x.app == a in
+    let no_one : eqb d.app a ≡ false = not-eqb d.app a other in
+    let none : filter mine (d ∷ []) ≡ [] = rw no_one refl in
+    rw deals (filter-append mine nic.view.dealt (d ∷ []) ∙ (ap (λ ds. filter mine nic.view.dealt ++ ds) none ∙ append-nil (filter mine nic.view.dealt)))
+
+zip-nil : {A B : Type 0} (xs : List A) → zip {K = A} {X = B} xs [] ≡ []
+zip-nil [] = refl
+zip-nil (x ∷ xs) = refl
+
+zip-push : {A B : Type 0} (xs : List A) (ds : List B) (d : B) (x : A) (rest : List A) → drop (length ds) xs ≡ x ∷ rest → zip xs (ds ++ d ∷ []) ≡ zip xs ds ++ (x, d) ∷ []
+zip-push [] [] d x rest e = absurd (let none : ⊥ = cc in none)
+zip-push [] (z ∷ ds) d x rest e = absurd (let none : ⊥ = cc in none)
+zip-push {A = A} {B = B} (y ∷ ys) [] d x rest e = let same : y ≡ x = cc in let none = zip-nil {B = B} ys in rw (same, none) refl
+zip-push (y ∷ ys) (z ∷ ds) d x rest e = ap (λ ps. (y, z) ∷ ps) (zip-push ys ds d x rest e)
+
+-- ---- the application whose entry it is
+
+module _ (nic : NicSide) (v : NicView) (app : AppSide) (d : Dealt) (deals : v.dealt ≡ nic.view.dealt ++ d ∷ []) (front : HasFront nic app d.entry) (mine : d.app ≡ app.view.app) where
+  pub way-after : entries_on_way (nic_at nic v) app ≡ front.others
+  way-after =
+      let before = filter (λ (x : Dealt). x.app == app.view.app) nic.view.dealt in
+      let after = filter (λ (x : Dealt). x.app == app.view.app) v.dealt in
+      let more : length (dealt_entries app.view.app (nic_at nic v)) ≡ suc (length (dealt_entries app.view.app nic)) =
+      omega (arith, length-mapped (λ (x : Dealt). x.entry) after, length-mapped (λ (x : Dealt). x.entry) before, ap length (dealt-more nic v app.view.app d deals mine), length-append before (d ∷ [])) in
+      rw more (drop-after (length (dealt_entries app.view.app nic)) app.view.written front.first front.others front.way)
+
+  pub AreReturns-dealt : AreReturns nic app → ((b : ℕ) → count_by (returns app.view.setting.layout b) front.others ≤ length (owed_in b (nic_at nic v) app)) → IsNoLoanStray (front.first, d) → AreReturns (nic_at nic v) app
+  AreReturns-dealt h still_owed good =
+      let before = filter (λ (x : Dealt). x.app == app.view.app) nic.view.dealt in
+      record {
+        owed = λ b. rw way-after (still_owed b);
+        clear = λ b. rw way-after ((rw front.way at (h.clear b)).1);
+        named = rw way-after (All-tail (IsNamed app.view.setting.layout) front.first front.others (rw front.way at h.named));
+        settled = λ e. rw way-after (All-tail IsOfLoan front.first front.others (rw front.way at (h.settled e)));
+        strays = rw (dealt-more nic v app.view.app d deals mine, zip-push app.view.written before d front.first front.others (rw (length-mapped (λ (x : Dealt). x.entry) before) at front.way)) (All-push IsNoLoanStray (zip app.view.written before) (front.first, d) h.strays good);
+      }
+
+-- ---- the other applications
+
+pub AreReturns-other : (nic : NicSide) (v : NicView) (app : AppSide) (d : Dealt) → v.dealt ≡ nic.view.dealt ++ d ∷ [] → d.app ≢ app.view.app → ((b : ℕ) → ended_in b (nic_at nic v) app ≡ ended_in b nic app) → AreReturns nic app → AreReturns (nic_at nic v) app
+AreReturns-other nic v app d deals other ends h =
+    let same = dealt-same nic v app.view.app d deals other in
+    record {
+      owed = λ b. rw (same, ends b) (h.owed b);
+      clear = λ b. rw same (h.clear b);
+      named = rw same h.named;
+      settled = λ e. rw same (h.settled e);
+      strays = rw same h.strays;
+    }
+
+pub length-owed_in : (b : ℕ) (nic : NicSide) (app : AppSide) → length (owed_in b nic app) ≡ owed_count b nic app
+length-owed_in b nic app = length-drop (ended_in b nic app) (returned_in b app) ∙ ap (λ n. n - ended_in b nic app) (returned_in-count b app)

@@ -1,0 +1,15 @@
+pub mod Lists
+pub mod Card
+pub mod Freeing
+pub mod Taking
+pub mod Shutting
+pub mod Moving
+pub mod Sweeping
+pub mod Losing
+pub mod Opening
+pub mod Still
+pub mod Dealing
+pub mod Popping
+pub mod Honouring
+pub mod Straying
+pub mod NotesSent

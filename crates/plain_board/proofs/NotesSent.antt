@@ -1,0 +1,143 @@
+-- A note is sent.
+use Rattle.std.proofs.Common.{◌≡◌, ℕ, ◌<◌, ◌≤◌, Bool, true, false, List, [], ◌∷◌, ◌++◌, length, map, take, set, get_or, refl, ap, sym, ◌∙◌, subst, arith, ⊎_elim}
+use Rattle.std.specs.Prelude.{◌≢◌, ◌==◌, if◌then◌else◌}
+use Rattle.std.proofs.lemmas.List.{map-append, length-set, get_or-set_same, get_or-set_other}
+use Rattle.std.proofs.lemmas.List.Elements.{All-set}
+use Rattle.std.proofs.lemmas.Bool.Decides.{eqb_tells}
+use Rattle.circular_buffer.specs.Buffer.{Buffer, buffer}
+use Rattle.zr_kinds.specs.declared.place.Note.{Note}
+use Rattle.board_face.specs.NicEvents.{sent, sent_linear, text_at}
+use Rattle.board_face.specs.NicCalls.{HasPiece}
+use Rattle.board_face.specs.Holders.{sent_to}
+use Rattle.board_face.proofs.NicLemmas.{pool_count-sent, pool_count-sent_linear}
+use Rattle.board_face.specs.Sides.{nic_at, IsApp}
+use Rattle.board_face.specs.Counts.{pool_count}
+use Rattle.board_face.specs.Relay.{Relayed, as_taken}
+use Rattle.board_face.specs.declared.views.nic.SentNote.{SentNote}
+use Rattle.board_face.specs.declared.views.nic.NicView.{NicView}
+use Rattle.board_face.specs.declared.views.app.AppSide.{AppSide}
+use Rattle.board_face.proofs.FreeLemmas.{free_places-nic}
+use Rattle.board_face.proofs.RelayLemmas.{taken-within, Relayed-sent, Relayed-sent_other}
+use Rattle.plain_board.specs.declared.slots.NoteSlot.{NoteSlot}
+use Rattle.plain_board.specs.Board.{Arrays, Board, listed_in}
+use Rattle.plain_board.specs.Returns.{pushed}
+use Rattle.plain_board.specs.Sound.{IsSound, AreRelayed, refills_of, notes_of, taken_of}
+use Rattle.plain_board.proofs.Card.{IsSet-nic, AreCounted-same, AreReturns-nic}
+use Rattle.plain_board.proofs.Popping.{same-app, other-number}
+
+-- no more changed than what was sent, and the pieces
+pub record IsPosted (old new : NicView) (s : SentNote) : Type 0 where
+  pub setting : new.setting ≡ old.setting
+  pub ended : new.ended ≡ old.ended
+  pub cache : new.cache ≡ old.cache
+  pub swept : new.swept ≡ old.swept
+  pub used : new.used ≡ old.used
+  pub owns : new.owns ≡ old.owns
+  pub dealt : new.dealt ≡ old.dealt
+  pub sent : new.sent ≡ old.sent ++ s ∷ []
+
+module _ (board : Board) (a : ℕ) (x : AppSide) (v : NicView) (s : SentNote) (slot : NoteSlot) (sound : IsSound board) (here : IsApp board.apps a x)
+    (posted : IsPosted board.nic.view v s) (target : s.app ≡ a) (text : taken_of slot ≡ as_taken s) (same : (b : ℕ) → pool_count b (nic_at board.nic v) board.apps ≡ pool_count b board.nic board.apps) where
+  abbrev pub notes_then : Buffer NoteSlot
+  notes_then = pushed (get_or board.arrays.notes a (buffer [] 0)) slot
+
+  notes_there : a < length board.arrays.notes
+  notes_there = let h = here.there in let many = sound.set.many in let size = sound.sizes.notes in omega arith
+
+  relayed_then : (now : Arrays) → now.refills ≡ board.arrays.refills → now.places ≡ board.arrays.places → now.notes ≡ set board.arrays.notes a notes_then → AreRelayed now (nic_at board.nic v) board.apps
+  relayed_then now refills places notes = record {
+    relayed = λ k y it. ⊎_elim
+        (λ t. let one : k ≡ a = t.1 in
+        let is : y ≡ x = same-app board.apps a x y here (subst (λ n. IsApp board.apps n y) one it) in
+        let more : map taken_of (notes_of now k) ≡ map taken_of (notes_of board.arrays a) ++ as_taken s ∷ [] =
+        ap (λ (rings : List (Buffer NoteSlot)). map taken_of (get_or rings k (buffer [] 0)).items) notes
+        ∙ (ap (λ (n : ℕ). map taken_of (get_or (set board.arrays.notes a notes_then) n (buffer [] 0)).items) one
+        ∙ (ap (λ (r : Buffer NoteSlot). map taken_of r.items) (get_or-set_same board.arrays.notes a notes_then (buffer [] 0) notes_there)
+        ∙ (map-append taken_of (notes_of board.arrays a) (slot ∷ []) ∙ ap (λ t. map taken_of (notes_of board.arrays a) ++ t ∷ []) text))) in
+        let back : refills_of now k ≡ refills_of board.arrays a = rw (refills, one) refl in
+        subst (λ app. Relayed (nic_at board.nic v) app (map taken_of (notes_of now k)) (refills_of now k)) (sym is)
+        (rw (more, back) (Relayed-sent board.nic v x s _ _ posted.sent posted.dealt (target ∙ sym here.number) (sound.relayed.relayed a x here))))
+        (λ t. let ne : k ≢ a = t.1 in
+        let rest : notes_of now k ≡ notes_of board.arrays k =
+        ap (λ (rings : List (Buffer NoteSlot)). (get_or rings k (buffer [] 0)).items) notes ∙ ap (λ (r : Buffer NoteSlot). r.items) (get_or-set_other board.arrays.notes a k notes_then (buffer [] 0) ne) in
+        let back : refills_of now k ≡ refills_of board.arrays k = rw refills refl in
+        rw (rest, back) (Relayed-sent_other board.nic v y s _ _ posted.sent posted.dealt (λ e. other-number board.apps a k y it ne (sym e ∙ target)) (sound.relayed.relayed k y it)))
+        (eqb_tells k a);
+    notes = rw (notes, places) (All-set (λ ring. ring.capacity ≡ board.arrays.places) board.arrays.notes a notes_then (sound.relayed.notes a (buffer [] 0) notes_there) sound.relayed.notes);
+    refills = rw (refills, places) sound.relayed.refills;
+  }
+
+  pub IsSound-posted : IsSound (record { arrays = record board.arrays { notes = set board.arrays.notes a notes_then }; nic = nic_at board.nic v; apps = board.apps })
+  IsSound-posted = record {
+    sizes = record {
+      layout = sound.sizes.layout;
+      places = sound.sizes.places;
+      area = sound.sizes.area;
+      pool = sound.sizes.pool;
+      users = sound.sizes.users;
+      listed = sound.sizes.listed;
+      cache = sound.sizes.cache;
+      notes = length-set board.arrays.notes a notes_then ∙ sound.sizes.notes;
+      refills = sound.sizes.refills;
+      left = sound.sizes.left;
+    };
+    cached = sound.cached ∙ sym posted.cache;
+    set = IsSet-nic _ board.nic v board.apps posted.setting sound.set;
+    counted = AreCounted-same board.arrays _ board.nic v board.apps posted.dealt refl refl refl same sound.counted;
+    free = record {
+      pool = λ b within. free_places-nic (listed_in board.arrays.listed) b board.nic v board.apps posted.cache
+          ∙ (sound.free.pool b (rw (← posted.setting) within) ∙ ap (λ p. if p == 0 then 1 else 0) (sym (same b)));
+      reserves = λ b past. free_places-nic (listed_in board.arrays.listed) b board.nic v board.apps posted.cache ∙ sound.free.reserves b (rw (← posted.setting) past);
+    };
+    relayed = relayed_then _ refl refl refl;
+    returns = λ k y it. AreReturns-nic board.nic v y posted.dealt (sound.returns k y it);
+    flags = record { ended = sound.flags.ended ∙ sym posted.ended; left = sound.flags.left };
+    kept = record {
+      kept = λ b within. rw (posted.cache, posted.used) (sound.kept.kept b (rw (← posted.setting) within));
+      swept = λ b within gone. rw (posted.cache, posted.used) (sound.kept.swept b (rw (← posted.setting) within) (rw (← posted.swept) gone));
+    };
+    due = sound.due;
+    filled = record { pool = rw posted.owns sound.filled.pool; sizes = rw posted.owns sound.filled.sizes };
+  }
+
+if-true : (c : Bool) (t u : List ℕ) → c ≡ true → (if c then [] else t) ≡ (if c then [] else u)
+if-true true t u e = refl
+if-true false t u e = absurd (let none : ⊥ = cc in none)
+
+-- a split note with its piece
+pub IsSound-sent : (board : Board) (a : ℕ) (x : AppSide) (note : Note) (bytes : List ℕ) → IsSound board → IsApp board.apps a x → HasPiece board.nic.view note.place → note.split ≡ true → IsSound (record {
+  arrays = record board.arrays { notes = set board.arrays.notes a (pushed (get_or board.arrays.notes a (buffer [] 0)) (record { note = note; bytes = bytes })) };
+  nic = nic_at board.nic (sent board.nic.view a note);
+  apps = board.apps;
+})
+IsSound-sent board a x note bytes sound here out split =
+    let v = sent board.nic.view a note in
+    let s : SentNote = record { app = a; note = note; bytes = text_at board.nic.view note.place } in
+    let within : length x.view.taken ≤ length (sent_to a board.nic) =
+    subst (λ n. length x.view.taken ≤ length (sent_to n board.nic)) here.number (taken-within board.nic x _ _ (sound.relayed.relayed a x here)) in
+    IsSound-posted board a x v s (record { note = note; bytes = bytes }) sound here
+    (record { setting = refl; ended = refl; cache = refl; swept = refl; used = refl; owns = refl; dealt = refl; sent = refl })
+    refl
+    (ap (λ t. record { note = note; bytes = t }) (if-true note.split (take note.total bytes) s.bytes split))
+    (λ b. pool_count-sent b board.nic board.apps a note x out split sound.set.numbers here within)
+
+if-false : (c : Bool) (t u : List ℕ) → c ≡ false → t ≡ u → (if c then [] else t) ≡ (if c then [] else u)
+if-false true t u e same = absurd (let none : ⊥ = cc in none)
+if-false false t u e same = same
+
+-- a note in which its bytes travel
+pub IsSound-sent_linear : (board : Board) (a : ℕ) (x : AppSide) (note : Note) (room bytes : List ℕ) → IsSound board → IsApp board.apps a x → note.split ≡ false → take note.total room ≡ bytes → IsSound (record {
+  arrays = record board.arrays { notes = set board.arrays.notes a (pushed (get_or board.arrays.notes a (buffer [] 0)) (record { note = note; bytes = room })) };
+  nic = nic_at board.nic (sent_linear board.nic.view a note bytes);
+  apps = board.apps;
+})
+IsSound-sent_linear board a x note room bytes sound here split travels =
+    let v = sent_linear board.nic.view a note bytes in
+    let s : SentNote = record { app = a; note = note; bytes = bytes } in
+    let within : length x.view.taken ≤ length (sent_to a board.nic) =
+    subst (λ n. length x.view.taken ≤ length (sent_to n board.nic)) here.number (taken-within board.nic x _ _ (sound.relayed.relayed a x here)) in
+    IsSound-posted board a x v s (record { note = note; bytes = room }) sound here
+    (record { setting = refl; ended = refl; cache = refl; swept = refl; used = refl; owns = refl; dealt = refl; sent = refl })
+    refl
+    (ap (λ t. record { note = note; bytes = t }) (if-false note.split (take note.total room) bytes split travels))
+    (λ b. pool_count-sent_linear b board.nic board.apps a note bytes x split sound.set.numbers here within)

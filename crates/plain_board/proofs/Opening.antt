@@ -1,0 +1,151 @@
+-- A board that was just opened.
+use Rattle.std.proofs.Common.{◌≡◌, ℕ, zero, suc, ◌+◌, ◌*◌, ◌<◌, ◌≤◌, Bool, true, false, [], ◌∷◌, ◌++◌, length, map, get_or, replicate, refl, ap, sym, ◌∙◌, subst, arith, add-zero}
+use Rattle.std.specs.Prelude.{nat_eq, count_by, ◌==◌, if◌then◌else◌, All}
+use Rattle.std.specs.List.{flat_map}
+use Rattle.std.proofs.lemmas.List.{length-replicate, get_or-replicate}
+use Rattle.std.proofs.Math.ListN.{get_or-eq_default}
+use Rattle.std.proofs.lemmas.List.Elements.{All-nil, All-cons, All-replicate}
+use Rattle.circular_buffer.specs.Buffer.{Buffer, buffer}
+use Rattle.area_layout.specs.Layout.{Shape, IsLayout, pool_buffers, total}
+use Rattle.board_face.specs.Opened.{new_nic, new_app}
+use Rattle.board_face.specs.Sides.{IsApp, AreNumbered}
+use Rattle.board_face.specs.Counts.{pool_count, user_count, EndedWereReturned}
+use Rattle.board_face.specs.Relay.{Relayed}
+use Rattle.board_face.specs.Texts.{unsplit_bytes}
+use Rattle.board_face.specs.declared.views.parts.Setting.{Setting}
+use Rattle.board_face.specs.declared.views.app.AppSide.{AppSide}
+use Rattle.board_face.proofs.Parts.{app_count, user_part, pool_count-parts, user_count-parts}
+use Rattle.board_face.proofs.Tallies.{weight, total as sum_of}
+use Rattle.zr_kinds.specs.declared.ring.Rqe.{Rqe}
+use Rattle.plain_board.specs.declared.slots.NoteSlot.{NoteSlot}
+use Rattle.plain_board.specs.Returns.{AreReturns}
+use Rattle.plain_board.specs.Board.{Board, new_apps, new_board, listed_in, user_at}
+use Rattle.plain_board.specs.Sound.{IsSound, IsAtRest}
+
+pub new_apps-push : (s : Setting) (first n : ℕ) → new_apps s first (suc n) ≡ new_apps s first n ++ new_app s (first + n) ∷ []
+new_apps-push s first zero = rw (add-zero first) refl
+new_apps-push s first (suc n) = let next : first + suc n ≡ suc first + n = omega arith in rw next (ap (λ apps. new_app s first ∷ apps) (new_apps-push s (suc first) n))
+
+pub length-new_apps : (s : Setting) (first n : ℕ) → length (new_apps s first n) ≡ n
+length-new_apps s first zero = refl
+length-new_apps s first (suc n) = omega (arith, length-new_apps s (suc first) n)
+
+pub numbered-new_apps : (s : Setting) (first n : ℕ) → AreNumbered first (new_apps s first n)
+numbered-new_apps s first zero = tt
+numbered-new_apps s first (suc n) = (refl, numbered-new_apps s (suc first) n)
+
+-- what holds of each application that has done nothing
+pub All-new : (P : AppSide → Type 0) (s : Setting) (first n : ℕ) → ((a : ℕ) → P (new_app s a)) → All P (new_apps s first n)
+All-new P s first zero each = All-nil P
+All-new P s first (suc n) each = All-cons P (new_app s first) (new_apps s (suc first) n) (each first) (All-new P s (suc first) n each)
+
+sum-new : (f : AppSide → ℕ) (s : Setting) (first n : ℕ) → ((a : ℕ) → f (new_app s a) ≡ 0) → sum_of f (new_apps s first n) ≡ 0
+sum-new f s first zero each = refl
+sum-new f s first (suc n) each = omega (arith, each first, sum-new f s (suc first) n each)
+
+hands-new : (b : ℕ) (s : Setting) (first n : ℕ) → count_by (nat_eq b) (flat_map (λ app. app.inside.hands) (new_apps s first n)) ≡ 0
+hands-new b s first zero = refl
+hands-new b s first (suc n) = hands-new b s (suc first) n
+
+picked-new : (b : ℕ) (s : Setting) (first n : ℕ) → count_by (nat_eq b) (flat_map (λ app. app.view.picked) (new_apps s first n)) ≡ 0
+picked-new b s first zero = refl
+picked-new b s first (suc n) = picked-new b s (suc first) n
+
+left-new : (s : Setting) (first n : ℕ) → replicate n false ≡ map (λ app. app.view.left) (new_apps s first n)
+left-new s first zero = refl
+left-new s first (suc n) = ap (λ xs. false ∷ xs) (left-new s (suc first) n)
+
+app-none : (b : ℕ) (s : Setting) (a : ℕ) → app_count b (new_nic s) (new_app s a) ≡ 0
+app-none b s a = omega arith
+
+user-case : (c : Bool) (n m : ℕ) → n ≡ 0 → m ≡ 0 → (if c then n else m) ≡ 0
+user-case true n m e f = e
+user-case false n m e f = f
+
+user-none : (x b : ℕ) (s : Setting) (a : ℕ) → user_part x b (new_nic s) (new_app s a) ≡ 0
+user-none x b s a = user-case (a == x) _ _ (omega arith) refl
+
+count-new : (b : ℕ) (s : Setting) (n : ℕ) → pool_count b (new_nic s) (new_apps s 0 n) ≡ 0
+count-new b s n = omega (arith, pool_count-parts b (new_nic s) (new_apps s 0 n), sum-new (app_count b (new_nic s)) s 0 n (app-none b s))
+
+users-new : (a b : ℕ) (s : Setting) (n : ℕ) → user_count a b (new_nic s) (new_apps s 0 n) ≡ 0
+users-new a b s n = omega (arith, user_count-parts a b (new_nic s) (new_apps s 0 n), sum-new (user_part a b (new_nic s)) s 0 n (user-none a b s))
+
+zeros : (n i z : ℕ) → get_or (replicate n z) i z ≡ z
+zeros zero i z = refl
+zeros (suc n) zero z = refl
+zeros (suc n) (suc i) z = zeros n i z
+
+module _ (layout : Shape) (places : ℕ) (good : IsLayout layout) (some : 1 ≤ places) (few : places ≤ 256) where
+  abbrev s : Setting
+  s = record { layout = layout; places = places }
+
+  listed-new : (b : ℕ) → b < pool_buffers layout → weight (listed_in (replicate (pool_buffers layout) true) b) ≡ 1
+  listed-new b within = ap weight (get_or-replicate (pool_buffers layout) b true false within)
+
+  unlisted-new : (b : ℕ) → pool_buffers layout ≤ b → weight (listed_in (replicate (pool_buffers layout) true) b) ≡ 0
+  unlisted-new b past = ap weight (get_or-eq_default (replicate (pool_buffers layout) true) false (omega (arith, length-replicate (pool_buffers layout) true)))
+
+  relayed-new : (a : ℕ) (app : AppSide) → IsApp (new_apps s 0 layout.reserves) a app → Relayed (new_nic s) app [] []
+  relayed-new a app here =
+      subst (λ x. Relayed (new_nic s) x [] []) here.is
+      (All-new (λ x. Relayed (new_nic s) x [] []) s 0 layout.reserves (λ n. record { notes = refl; reads = All-nil _; entries = refl }) a app here.there)
+
+  slots-new : {X : Type 0} (a : ℕ) → a < layout.reserves → (get_or (replicate layout.reserves (buffer {X = X} [] places)) a (buffer [] 0)).items ≡ []
+  slots-new {X} a within = ap (λ (ring : Buffer X). ring.items) (get_or-replicate layout.reserves a (buffer [] places) (buffer [] 0) within)
+
+  pub IsSound-new : IsSound (new_board layout places)
+  IsSound-new = record {
+    sizes = record {
+      layout = good;
+      places = (some, few);
+      area = length-replicate (total layout * layout.size) 0;
+      pool = length-replicate (total layout) 0;
+      users = length-replicate (layout.reserves * total layout) 0;
+      listed = length-replicate (pool_buffers layout) true;
+      cache = omega arith;
+      notes = length-replicate layout.reserves _;
+      refills = length-replicate layout.reserves _;
+      left = length-replicate layout.reserves false;
+    };
+    cached = refl;
+    set = record {
+      card = refl;
+      card_rest = refl;
+      many = length-new_apps s 0 layout.reserves;
+      numbers = numbered-new_apps s 0 layout.reserves;
+      roles = All-new (λ app. app.view.setting ≡ s) s 0 layout.reserves (λ a. refl);
+      roles_rest = All-new IsAtRest s 0 layout.reserves (λ a. record { hands = refl; owes = λ b. zeros (total layout) b 0 });
+    };
+    counted = record {
+      pool = λ b within. get_or-replicate (total layout) b 0 0 within ∙ sym (count-new b s layout.reserves);
+      users = λ a b app within. zeros (layout.reserves * total layout) (user_at layout a b) 0 ∙ sym (users-new a b s layout.reserves);
+      beyond = λ b past. count-new b s layout.reserves;
+      returned = λ b. All-new (EndedWereReturned b (new_nic s)) s 0 layout.reserves (λ a. record { ended = omega (arith, zeros (total layout) b 0); returning = omega (arith, zeros (total layout) b 0) });
+    };
+    free = record {
+      pool = λ b within. omega (arith, listed-new b within, hands-new b s 0 layout.reserves, ap (λ n. weight (n == 0)) (count-new b s layout.reserves));
+      reserves = λ b past. omega (arith, unlisted-new b past, hands-new b s 0 layout.reserves);
+    };
+    relayed = record {
+      relayed = λ a app here. let within : a < layout.reserves = omega (arith, here.there, length-new_apps s 0 layout.reserves) in rw (slots-new a within, slots-new a within) (relayed-new a app here);
+      notes = All-replicate (λ (ring : Buffer NoteSlot). ring.capacity ≡ places) layout.reserves _ refl;
+      refills = All-replicate (λ (ring : Buffer Rqe). ring.capacity ≡ places) layout.reserves _ refl;
+    };
+    returns = λ a app here. subst (AreReturns (new_nic s)) here.is (All-new (AreReturns (new_nic s)) s 0 layout.reserves (λ n. record { owed = λ b. omega arith; clear = λ b. tt; named = All-nil _; settled = λ e. All-nil _; strays = All-nil _ }) a app here.there);
+    flags = record { ended = refl; left = left-new s 0 layout.reserves };
+    kept = record {
+      kept = λ b within. omega (arith, listed-new b within);
+      swept = λ b within gone. absurd (omega (arith, gone));
+    };
+    due = record {
+      picked = All-new (λ app. length app.view.picked ≤ app.view.spares) s 0 layout.reserves (λ a. omega arith);
+      spares = All-new (λ app. app.view.spares ≤ unsplit_bytes (map (λ t. t.note) app.view.taken)) s 0 layout.reserves (λ a. omega arith);
+    };
+    filled = record { pool = All-nil _; sizes = All-nil _ };
+  }
+
+-- the same of lists that are made by lengths which turn out to be right
+pub IsSound-opened : (layout : Shape) (places : ℕ) → IsLayout layout → 1 ≤ places → places ≤ 256
+    → (board : Board) → board ≡ new_board layout places → IsSound board
+IsSound-opened layout places good some few board e = subst IsSound (sym e) (IsSound-new layout places good some few)

@@ -1,0 +1,70 @@
+-- An entry leaves its slot.
+use Rattle.std.proofs.Common.{◌≡◌, ℕ, ◌<◌, List, [], ◌∷◌, ◌++◌, length, map, drop, set, get_or, refl, ap, sym, ◌∙◌, subst, arith, ⊎_elim, Some, None}
+use Rattle.std.specs.Prelude.{◌≢◌, slice_get}
+use Rattle.std.proofs.lemmas.List.{set-get_or, get_or_default, get_or-set_same, get_or-set_other}
+use Rattle.std.proofs.lemmas.List.Elements.{All-set}
+use Rattle.std.proofs.lemmas.Bool.Decides.{eqb_tells}
+use Rattle.circular_buffer.specs.Buffer.{Buffer, buffer}
+use Rattle.zr_kinds.specs.declared.ring.Rqe.{Rqe}
+use Rattle.board_face.specs.Sides.{nic_at, IsApp}
+use Rattle.board_face.specs.Relay.{Relayed}
+use Rattle.board_face.specs.declared.views.nic.Dealt.{Dealt}
+use Rattle.board_face.specs.declared.views.nic.NicView.{NicView}
+use Rattle.board_face.specs.declared.views.app.AppSide.{AppSide}
+use Rattle.board_face.proofs.RelayLemmas.{Relayed-dealt, Relayed-dealt_other}
+use Rattle.plain_board.specs.Board.{Arrays, Board}
+use Rattle.plain_board.specs.Returns.{popped}
+use Rattle.plain_board.specs.Sound.{IsSound, AreRelayed, refills_of, notes_of, taken_of}
+
+pub same-app : (apps : List AppSide) (a : ℕ) (x y : AppSide) → IsApp apps a x → IsApp apps a y → y ≡ x
+same-app apps a x y one other = sym other.is ∙ (get_or_default apps a y x one.there ∙ one.is)
+
+pub other-number : (apps : List AppSide) (a k : ℕ) (y : AppSide) → IsApp apps k y → k ≢ a → y.view.app ≢ a
+other-number apps a k y it ne e = ne (sym it.number ∙ e)
+
+-- the ring without the entry
+abbrev pub ring_then : Board → ℕ → Buffer Rqe
+ring_then board a = popped (get_or board.arrays.refills a (buffer [] 0))
+
+module _ (board : Board) (a : ℕ) (x : AppSide) (e : Rqe) (es : List Rqe) (sound : IsSound board) (here : IsApp board.apps a x) (found : refills_of board.arrays a ≡ e ∷ es)
+    (v : NicView) (d : Dealt) (sents : v.sent ≡ board.nic.view.sent) (deals : v.dealt ≡ board.nic.view.dealt ++ d ∷ []) (mine : d.app ≡ a) (its : d.entry ≡ e) where
+  ring_there : a < length board.arrays.refills
+  ring_there = let h = here.there in let many = sound.set.many in let size = sound.sizes.refills in omega arith
+
+  pub AreRelayed-popped : (now : Arrays) → now.notes ≡ board.arrays.notes → now.places ≡ board.arrays.places → now.refills ≡ set board.arrays.refills a (ring_then board a) → AreRelayed now (nic_at board.nic v) board.apps
+  AreRelayed-popped now notes places refills = record {
+    relayed = λ k y it. ⊎_elim
+        (λ t. let same : k ≡ a = t.1 in
+        let is : y ≡ x = same-app board.apps a x y here (subst (λ n. IsApp board.apps n y) same it) in
+        let rest : refills_of now k ≡ es =
+        ap (λ (rings : List (Buffer Rqe)). (get_or rings k (buffer [] 0)).items) refills
+        ∙ (ap (λ (n : ℕ). (get_or (set board.arrays.refills a (ring_then board a)) n (buffer [] 0)).items) same
+        ∙ (ap (λ (r : Buffer Rqe). r.items) (get_or-set_same board.arrays.refills a (ring_then board a) (buffer [] 0) ring_there) ∙ ap (λ (es : List Rqe). drop 1 es) found)) in
+        let slots : notes_of now k ≡ notes_of board.arrays a = rw (notes, same) refl in
+        subst (λ app. Relayed (nic_at board.nic v) app (map taken_of (notes_of now k)) (refills_of now k)) (sym is)
+        (rw (rest, slots) (Relayed-dealt board.nic v x d _ es sents deals (mine ∙ sym here.number) (rw its (rw found at (sound.relayed.relayed a x here))))))
+        (λ t. let ne : k ≢ a = t.1 in
+        let rest : refills_of now k ≡ refills_of board.arrays k =
+        ap (λ (rings : List (Buffer Rqe)). (get_or rings k (buffer [] 0)).items) refills ∙ ap (λ (r : Buffer Rqe). r.items) (get_or-set_other board.arrays.refills a k (ring_then board a) (buffer [] 0) ne) in
+        let slots : notes_of now k ≡ notes_of board.arrays k = rw notes refl in
+        rw (rest, slots) (Relayed-dealt_other board.nic v y d _ _ sents deals (λ same. other-number board.apps a k y it ne (sym same ∙ mine)) (sound.relayed.relayed k y it)))
+        (eqb_tells k a);
+    notes = rw (notes, places) sound.relayed.notes;
+    refills = rw (refills, places) (All-set (λ ring. ring.capacity ≡ board.arrays.places) board.arrays.refills a (ring_then board a) (sound.relayed.refills a (buffer [] 0) ring_there) sound.relayed.refills);
+  }
+
+-- ---- the front of a ring
+
+pub front-some : {A : Type 0} (xs : List A) (x : A) → slice_get xs 0 ≡ Some x → xs ≡ x ∷ drop 1 xs
+front-some [] x e = absurd (let none : ⊥ = cc in none)
+front-some (y ∷ ys) x e = let same : y ≡ x = cc in ap (λ z. z ∷ ys) same
+
+pub front-none : {A : Type 0} (xs : List A) → slice_get xs 0 ≡ None → xs ≡ []
+front-none [] e = refl
+front-none (y ∷ ys) e = absurd (let none : ⊥ = cc in none)
+
+-- nothing leaves an empty ring
+pub rings-same : {A : Type 0} (rings : List (Buffer A)) (a : ℕ) → (get_or rings a (buffer [] 0)).items ≡ [] → set rings a (popped (get_or rings a (buffer [] 0))) ≡ rings
+rings-same {A} rings a empty =
+    let n = (get_or rings a (buffer [] 0)).capacity in
+    ap (λ (xs : List A). set rings a (buffer (drop 1 xs) n)) empty ∙ (ap (λ (xs : List A). set rings a (buffer xs n)) (sym empty) ∙ set-get_or rings a (buffer [] 0))

@@ -1,0 +1,131 @@
+-- A buffer is closed.
+use Rattle.std.proofs.Common.{◌≡◌, ℕ, ◌+◌, ◌-◌, ◌<◌, ◌≤◌, Bool, set, get_or, refl, ap, sym, ◌∙◌, arith, ⊎_elim, inl, inr}
+use Rattle.std.specs.Prelude.{nat_eq, count_by, ◌==◌, if◌then◌else◌, true, false, nat_lt, ◌&&◌}
+use Rattle.std.proofs.lemmas.List.{length-set}
+use Rattle.std.proofs.lemmas.Bool.{lt-ltb}
+use Rattle.area_layout.specs.Layout.{pool_buffers, total}
+use Rattle.board_face.specs.NicEvents.{shut}
+use Rattle.board_face.specs.NicCalls.{HasOwn}
+use Rattle.board_face.specs.Tokens.{same_filling}
+use Rattle.board_face.specs.Sides.{nic_at}
+use Rattle.board_face.specs.Counts.{pool_count}
+use Rattle.board_face.specs.FreeOnce.{free_places}
+use Rattle.board_face.specs.declared.views.parts.Filling.{Filling}
+use Rattle.board_face.proofs.NicLemmas.{pool_count-shut}
+use Rattle.board_face.proofs.ListLemmas.{not-eqb}
+use Rattle.board_face.proofs.Tallies.{weight}
+use Rattle.plain_board.specs.Board.{Board, listed_in}
+use Rattle.plain_board.specs.Sound.{IsSound}
+use Rattle.plain_board.proofs.Lists.{weight-none, weight-same, weight-other, same-or-other, All-without}
+use Rattle.plain_board.proofs.Freeing.{and-true, All-at, cache_after, listed_after, places-after, cache-grows, cache-short, length-listed_after, once-freed}
+use Rattle.plain_board.proofs.Card.{IsSet-nic, AreCounted-nic, AreRelayed-nic, AreReturns-nic}
+use Rattle.plain_board.proofs.Taking.{IsOfPool, HasSize}
+
+-- a buffer with a holder stands in no free place
+pub used-nowhere : (p f : ℕ) → f ≡ (if p == 0 then 1 else 0) → 0 < p → f ≡ 0
+used-nowhere p f e some = e ∙ ap weight (not-eqb p 0 (λ z. absurd (omega arith)))
+
+pub none-listed : (c : Bool) → weight c ≡ 0 → c ≡ false
+none-listed c none = weight-none c none
+
+pub outside : (last : Bool) (f w : ℕ) → f ≡ 0 → w ≡ 0 → f + (if last then w else 0) ≡ 0
+outside true f w empty none = omega arith
+outside false f w empty none = omega arith
+
+module _ (board : Board) (own : Filling) (sound : IsSound board) (out : HasOwn board.nic.view own) where
+  pub of_pool : own.buffer < pool_buffers board.arrays.layout
+  of_pool = All-at (IsOfPool board.arrays.layout) board.nic.view.owns own sound.filled.pool out
+
+  pub less : (last : Bool) (b : ℕ) → pool_count b (nic_at board.nic (shut board.nic.view own last)) board.apps + weight (own.buffer == b) ≡ pool_count b board.nic board.apps
+  less last b = pool_count-shut b board.nic board.apps own last out
+
+  pub is_held : 0 < get_or board.arrays.pool own.buffer 0
+  is_held = omega (arith, less false own.buffer, weight-same own.buffer, sound.counted.pool own.buffer (let p = of_pool in omega arith))
+
+  pools : pool_buffers board.nic.view.setting.layout ≡ pool_buffers board.arrays.layout
+  pools = ap (λ s. pool_buffers s.layout) sound.set.card
+
+  nowhere : free_places (listed_in board.arrays.listed) own.buffer board.nic board.apps ≡ 0
+  nowhere =
+      let p = of_pool in
+      used-nowhere (pool_count own.buffer board.nic board.apps) _ (sound.free.pool own.buffer (rw pools p)) (omega (arith, is_held, sound.counted.pool own.buffer (omega arith)))
+
+  unlisted : listed_in board.arrays.listed own.buffer ≡ false
+  unlisted = none-listed (listed_in board.arrays.listed own.buffer) (omega (arith, nowhere))
+
+  -- whether it came to be free
+  abbrev pub came : Bool → Bool
+  came last = last && nat_lt own.buffer (pool_buffers board.nic.view.setting.layout)
+
+  pub came-code : (last : Bool) → (last && nat_lt own.buffer (pool_buffers board.arrays.layout)) ≡ came last
+  came-code last = ap (λ n. last && nat_lt own.buffer n) (sym pools)
+
+  pub came-zero : (last : Bool) (n : ℕ) → last ≡ (n == 0) → came last ≡ (n == 0)
+  came-zero last n is = let p = of_pool in and-true last _ (lt-ltb own.buffer (pool_buffers board.nic.view.setting.layout) (rw pools p)) ∙ is
+
+  free_after : (last : Bool) (b : ℕ) → free_places (listed_in (listed_after (came last) board.arrays.cache board.arrays.listed own.buffer)) b (nic_at board.nic (shut board.nic.view own last)) board.apps
+      ≡ free_places (listed_in board.arrays.listed) b board.nic board.apps + (if came last then weight (own.buffer == b) else 0)
+  free_after last b =
+      let p = of_pool in
+      omega (
+        arith,
+        places-after (came last) board.arrays.cache board.arrays.listed own.buffer b (omega (arith, sound.sizes.listed)) unlisted,
+        ap (count_by (nat_eq b)) sound.cached,
+        ap (λ cache. count_by (nat_eq b) (cache_after (came last) cache own.buffer)) sound.cached,
+      )
+
+  pub IsSound-shut : (n : ℕ) (last : Bool) → n ≡ get_or board.arrays.pool own.buffer 0 - 1 → came last ≡ (n == 0) → IsSound (record {
+    arrays = record board.arrays {
+      pool = set board.arrays.pool own.buffer n;
+      cache = cache_after (came last) board.arrays.cache own.buffer;
+      listed = listed_after (came last) board.arrays.cache board.arrays.listed own.buffer;
+    };
+    nic = nic_at board.nic (shut board.nic.view own last);
+    apps = board.apps;
+  })
+  IsSound-shut n last many is =
+      let p = of_pool in
+      let there : own.buffer < total board.arrays.layout = omega arith in
+      let now : n ≡ pool_count own.buffer (nic_at board.nic (shut board.nic.view own last)) board.apps = omega (arith, less last own.buffer, weight-same own.buffer, sound.counted.pool own.buffer there) in
+      record {
+        sizes = record {
+          layout = sound.sizes.layout;
+          places = sound.sizes.places;
+          area = sound.sizes.area;
+          pool = length-set board.arrays.pool own.buffer n ∙ sound.sizes.pool;
+          users = sound.sizes.users;
+          listed = length-listed_after (came last) board.arrays.cache board.arrays.listed own.buffer ∙ sound.sizes.listed;
+          cache = cache-short (came last) board.arrays.cache own.buffer sound.sizes.cache;
+          notes = sound.sizes.notes;
+          refills = sound.sizes.refills;
+          left = sound.sizes.left;
+        };
+        cached = ap (λ cache. cache_after (came last) cache own.buffer) sound.cached;
+        set = IsSet-nic _ board.nic (shut board.nic.view own last) board.apps refl sound.set;
+        counted = AreCounted-nic board.arrays _ board.nic (shut board.nic.view own last) board.apps own.buffer n refl refl refl refl there sound.sizes.pool now
+            (λ b other. omega (arith, less last b, weight-other own.buffer b (λ e. other (sym e))))
+            sound.counted;
+        free = record {
+          pool = λ b within. once-freed (came last) (pool_count b board.nic board.apps) _ (free_places (listed_in board.arrays.listed) b board.nic board.apps) _ (weight (own.buffer == b)) n (sound.free.pool b within) (less last b) is (free_after last b)
+              (⊎_elim (λ same. inr (same.0, ap (λ x. pool_count x (nic_at board.nic (shut board.nic.view own last)) board.apps) same.1 ∙ sym now)) (λ other. inl other) (same-or-other b own.buffer));
+          reserves = λ b past. let past' : pool_buffers board.arrays.layout ≤ b = rw (← pools) past in free_after last b ∙ outside (came last) _ _ (sound.free.reserves b past) (weight-other own.buffer b (λ e. absurd (omega arith)));
+        };
+        relayed = AreRelayed-nic board.arrays _ board.nic (shut board.nic.view own last) board.apps refl refl refl refl refl sound.relayed;
+        returns = λ a app here. AreReturns-nic board.nic (shut board.nic.view own last) app refl (sound.returns a app here);
+        flags = record { ended = sound.flags.ended; left = sound.flags.left };
+        kept = record {
+          kept = λ b within. omega (
+            arith,
+            sound.kept.kept b within,
+            places-after (came last) board.arrays.cache board.arrays.listed own.buffer b (omega (arith, sound.sizes.listed)) unlisted,
+            ap (count_by (nat_eq b)) sound.cached,
+            ap (λ cache. count_by (nat_eq b) (cache_after (came last) cache own.buffer)) sound.cached,
+          );
+          swept = λ b within gone. omega (arith, sound.kept.swept b within gone, cache-grows (came last) board.nic.view.cache own.buffer b);
+        };
+        due = sound.due;
+        filled = record {
+          pool = All-without (IsOfPool board.arrays.layout) (same_filling own) board.nic.view.owns sound.filled.pool;
+          sizes = All-without (HasSize board.arrays.layout) (same_filling own) board.nic.view.owns sound.filled.sizes;
+        };
+      }

@@ -1,0 +1,88 @@
+-- Events of the card that move no buffer, no note and no entry.
+use Rattle.std.proofs.Common.{◌≡◌, ℕ, Bool, true, false, List, [], ◌∷◌, ◌++◌, refl, ap, sym, ◌∙◌, subst, arith}
+use Rattle.std.specs.Prelude.{◌==◌, if◌then◌else◌}
+use Rattle.board_face.specs.NicEvents.{nic_ended, saw_leave, nic_saw}
+use Rattle.board_face.specs.declared.views.nic.NicLook.{NicLook}
+use Rattle.board_face.specs.declared.views.nic.NicLook.TheVariants.{NotLeft}
+use Rattle.board_face.specs.Sides.{nic_at}
+use Rattle.board_face.specs.Counts.{pool_count}
+use Rattle.board_face.specs.declared.views.nic.NicView.{NicView}
+use Rattle.board_face.specs.declared.views.nic.NicSide.{NicSide}
+use Rattle.board_face.specs.declared.views.app.AppSide.{AppSide}
+use Rattle.board_face.proofs.NicLemmas.{pool_count-nic}
+use Rattle.board_face.proofs.FreeLemmas.{free_places-nic}
+use Rattle.board_face.proofs.Parts.{nic_count}
+use Rattle.plain_board.specs.Board.{Board, listed_in}
+use Rattle.plain_board.specs.Sound.{IsSound}
+use Rattle.plain_board.proofs.Card.{IsSet-nic, AreCounted-same, AreRelayed-nic, AreReturns-nic}
+
+-- no more changed than what was seen, and whether the card ended
+pub record IsStill (old new : NicView) : Type 0 where
+  pub setting : new.setting ≡ old.setting
+  pub cache : new.cache ≡ old.cache
+  pub swept : new.swept ≡ old.swept
+  pub used : new.used ≡ old.used
+  pub owns : new.owns ≡ old.owns
+  pub pieces : new.pieces ≡ old.pieces
+  pub sent : new.sent ≡ old.sent
+  pub dealt : new.dealt ≡ old.dealt
+
+pub pool_count-still : (b : ℕ) (nic : NicSide) (v : NicView) (apps : List AppSide) → IsStill nic.view v → pool_count b (nic_at nic v) apps ≡ pool_count b nic apps
+pool_count-still b nic v apps still =
+    let same : nic_count b (nic_at nic v) ≡ nic_count b nic = rw (still.owns, still.pieces) refl in
+    omega (arith, pool_count-nic b nic v apps still.sent still.dealt)
+
+pub IsSound-still : (board : Board) (v : NicView) → IsSound board → IsStill board.nic.view v → IsSound (record { arrays = record board.arrays { ended = v.ended }; nic = nic_at board.nic v; apps = board.apps })
+IsSound-still board v sound still = record {
+  sizes = record {
+    layout = sound.sizes.layout;
+    places = sound.sizes.places;
+    area = sound.sizes.area;
+    pool = sound.sizes.pool;
+    users = sound.sizes.users;
+    listed = sound.sizes.listed;
+    cache = sound.sizes.cache;
+    notes = sound.sizes.notes;
+    refills = sound.sizes.refills;
+    left = sound.sizes.left;
+  };
+  cached = sound.cached ∙ sym still.cache;
+  set = IsSet-nic _ board.nic v board.apps still.setting sound.set;
+  counted = AreCounted-same board.arrays _ board.nic v board.apps still.dealt refl refl refl (λ b. pool_count-still b board.nic v board.apps still) sound.counted;
+  free = record {
+    pool = λ b within. free_places-nic (listed_in board.arrays.listed) b board.nic v board.apps still.cache
+        ∙ (sound.free.pool b (rw (← still.setting) within) ∙ ap (λ p. if p == 0 then 1 else 0) (sym (pool_count-still b board.nic v board.apps still)));
+    reserves = λ b past. free_places-nic (listed_in board.arrays.listed) b board.nic v board.apps still.cache ∙ sound.free.reserves b (rw (← still.setting) past);
+  };
+  relayed = AreRelayed-nic board.arrays _ board.nic v board.apps still.sent still.dealt refl refl refl sound.relayed;
+  returns = λ a app here. AreReturns-nic board.nic v app still.dealt (sound.returns a app here);
+  flags = record { ended = refl; left = sound.flags.left };
+  kept = record {
+    kept = λ b within. rw (still.cache, still.used) (sound.kept.kept b (rw (← still.setting) within));
+    swept = λ b within gone. rw (still.cache, still.used) (sound.kept.swept b (rw (← still.setting) within) (rw (← still.swept) gone));
+  };
+  due = sound.due;
+  filled = record { pool = rw still.owns sound.filled.pool; sizes = rw still.owns sound.filled.sizes };
+}
+
+-- the same where the card didn't end
+pub IsSound-seen : (board : Board) (v : NicView) → IsSound board → IsStill board.nic.view v → v.ended ≡ board.nic.view.ended → IsSound (record { arrays = board.arrays; nic = nic_at board.nic v; apps = board.apps })
+IsSound-seen board v sound still same =
+    let now : v.ended ≡ board.arrays.ended = same ∙ sym sound.flags.ended in
+    subst (λ ended. IsSound (record { arrays = record board.arrays { ended = ended }; nic = nic_at board.nic v; apps = board.apps })) now (IsSound-still board v sound still)
+
+-- ---- the events
+
+pub still : (v : NicView) (ended : Bool) (gone : List ℕ) (looks : List NicLook) → IsStill v (record v { ended = ended; gone = gone; looks = looks })
+still v ended gone looks = record { setting = refl; cache = refl; swept = refl; used = refl; owns = refl; pieces = refl; sent = refl; dealt = refl }
+
+pub IsSound-ended : (board : Board) → IsSound board → IsSound (record { arrays = record board.arrays { ended = true }; nic = nic_at board.nic (nic_ended board.nic.view); apps = board.apps })
+IsSound-ended board sound = IsSound-still board (nic_ended board.nic.view) sound (still board.nic.view true board.nic.view.gone board.nic.view.looks)
+
+pub IsSound-saw : (board : Board) (look : NicLook) → IsSound board → IsSound (record { arrays = board.arrays; nic = nic_at board.nic (nic_saw board.nic.view look); apps = board.apps })
+IsSound-saw board look sound = IsSound-seen board (nic_saw board.nic.view look) sound (still board.nic.view board.nic.view.ended board.nic.view.gone (look ∷ board.nic.view.looks)) refl
+
+pub IsSound-asked : (board : Board) (a : ℕ) (gone : Bool) → IsSound board
+    → IsSound (record { arrays = board.arrays; nic = if gone then nic_at board.nic (saw_leave board.nic.view a) else nic_at board.nic (nic_saw board.nic.view (NotLeft a)); apps = board.apps })
+IsSound-asked board a true sound = IsSound-seen board (saw_leave board.nic.view a) sound (still board.nic.view board.nic.view.ended (board.nic.view.gone ++ a ∷ []) board.nic.view.looks) refl
+IsSound-asked board a false sound = IsSound-saw board (NotLeft a) sound

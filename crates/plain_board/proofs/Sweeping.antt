@@ -1,0 +1,180 @@
+-- A word of the free list is swept.
+use Rattle.std.proofs.Common.{◌≡◌, ℕ, zero, suc, ◌+◌, ◌*◌, ◌<◌, ◌≤◌, Bool, true, false, List, [], ◌∷◌, ◌++◌, length, refl, ap, sym, ◌∙◌, subst, arith, ⊎_elim, inl, inr, length-append}
+use Rattle.std.specs.Prelude.{◌⊎◌, nat_eq, count_by, ◌==◌, ◌/◌, if◌then◌else◌, All, AllPairs}
+use Rattle.std.proofs.lemmas.List.Elements.{All-nil, All-cons, All-weaker}
+use Rattle.std.proofs.lemmas.List.Kept.{AllPairs-cons}
+use Rattle.std.proofs.lemmas.Bool.{cases_lt}
+use Rattle.std.proofs.lemmas.Bool.Decides.{eqb_tells}
+use Rattle.board_face.specs.NicEvents.{swept, word_bits}
+use Rattle.board_face.specs.NicCalls.{SweptWord, free_words_of}
+use Rattle.board_face.specs.declared.views.nic.NicLook.TheVariants.{Swept}
+use Rattle.board_face.specs.Sides.{nic_at}
+use Rattle.board_face.specs.FreeOnce.{free_places}
+use Rattle.area_layout.specs.Layout.{pool_buffers}
+use Rattle.board_face.proofs.NicLemmas.{pool_count-swept}
+use Rattle.board_face.proofs.FreeLemmas.{free_places-swept}
+use Rattle.board_face.proofs.LookLemmas.{NicRose-nic_saw}
+use Rattle.board_face.proofs.Tallies.{weight}
+use Rattle.plain_board.specs.Board.{Board, listed_in}
+use Rattle.plain_board.specs.Free.{listed_from, found_in, word_len, word_end}
+use Rattle.plain_board.specs.Sound.{IsSound}
+use Rattle.plain_board.proofs.Lists.{weight-same, weight-other, count-push, count-append}
+use Rattle.plain_board.proofs.Card.{IsSet-nic, AreCounted-same, AreRelayed-nic, AreReturns-nic}
+use Rattle.plain_board.proofs.Moving.{length-listed_from}
+
+-- ---- the buffers found
+
+module _ (listed : List Bool) (first : ℕ) where
+  found-case : (c : Bool) (b x : ℕ) (rest : List ℕ) → count_by (nat_eq b) ((if c then x ∷ [] else []) ++ rest) ≡ (if c then weight (b == x) else 0) + count_by (nat_eq b) rest
+  found-case true b x rest = omega (arith, count-append b (x ∷ []) rest, count-push b x [])
+  found-case false b x rest = omega arith
+
+  pub found-outside : (n b : ℕ) → (b < first) ⊎ (first + n ≤ b) → count_by (nat_eq b) (listed_from listed first n) ≡ 0
+  found-outside zero b where_ = refl
+  found-outside (suc n) b where_ = omega (
+    arith,
+    found-case (listed_in listed (first + n)) b (first + n) (listed_from listed first n),
+    nothing (listed_in listed (first + n)) (weight-other b (first + n) (λ e. ⊎_elim (λ under. absurd (omega arith)) (λ over. absurd (omega arith)) where_)),
+    found-outside n b (⊎_elim (λ under. inl under) (λ over. inr (omega arith)) where_),
+  )
+    where
+      nothing : (c : Bool) {w : ℕ} → w ≡ 0 → (if c then w else 0) ≡ 0
+      nothing true none = none
+      nothing false none = refl
+
+  pub found-inside : (n b : ℕ) → first ≤ b → b < first + n → count_by (nat_eq b) (listed_from listed first n) ≡ weight (listed_in listed b)
+  found-inside zero b from to = absurd (omega arith)
+  found-inside (suc n) b from to =
+      ⊎_elim
+      (λ less. omega (arith, found-case (listed_in listed (first + n)) b (first + n) (listed_from listed first n), nothing (listed_in listed (first + n)) (weight-other b (first + n) (λ e. absurd (omega arith))), found-inside n b from less))
+      (λ more. let same : b ≡ first + n = omega arith in
+      subst (λ x. count_by (nat_eq x) (listed_from listed first (suc n)) ≡ weight (listed_in listed x)) (sym same) (omega (
+        arith,
+        found-case (listed_in listed (first + n)) (first + n) (first + n) (listed_from listed first n),
+        one (listed_in listed (first + n)) (weight-same (first + n)),
+        found-outside n (first + n) (inr (omega arith)),
+      )))
+      (cases_lt b (first + n))
+    where
+      nothing : (c : Bool) {w : ℕ} → w ≡ 0 → (if c then w else 0) ≡ 0
+      nothing true none = none
+      nothing false none = refl
+
+      one : (c : Bool) {w : ℕ} → w ≡ 1 → (if c then w else 0) ≡ weight c
+      one true is = is
+      one false is = refl
+
+abbrev pub IsBetween : ℕ → ℕ → ℕ → Type 0
+IsBetween first n b = (first ≤ b) × (b < first + n)
+
+module _ (listed : List Bool) (first : ℕ) where
+  between-case : (c : Bool) (n : ℕ) → All (IsBetween first n) (listed_from listed first n) → All (IsBetween first (suc n)) ((if c then (first + n) ∷ [] else []) ++ listed_from listed first n)
+  between-case true n rest = All-cons (IsBetween first (suc n)) (first + n) (listed_from listed first n) (omega arith, omega arith) (All-weaker (IsBetween first n) (IsBetween first (suc n)) (λ b h. (h.0, omega arith)) (listed_from listed first n) rest)
+  between-case false n rest = All-weaker (IsBetween first n) (IsBetween first (suc n)) (λ b h. (h.0, omega arith)) (listed_from listed first n) rest
+
+  pub found-between : (n : ℕ) → All (IsBetween first n) (listed_from listed first n)
+  found-between zero = All-nil (IsBetween first zero)
+  found-between (suc n) = between-case (listed_in listed (first + n)) n (found-between n)
+
+  falling-case : (c : Bool) (n : ℕ) → AllPairs (λ a b. b < a) (listed_from listed first n) → AllPairs (λ a b. b < a) ((if c then (first + n) ∷ [] else []) ++ listed_from listed first n)
+  falling-case true n rest = AllPairs-cons (λ a b. b < a) (first + n) (listed_from listed first n) (All-weaker (IsBetween first n) (λ b. b < first + n) (λ b h. h.1) (listed_from listed first n) (found-between n)) rest
+  falling-case false n rest = rest
+
+  pub found-falling : (n : ℕ) → AllPairs (λ a b. b < a) (listed_from listed first n)
+  found-falling zero = λ i j d less within. absurd (omega arith)
+  found-falling (suc n) = falling-case (listed_in listed (first + n)) n (found-falling n)
+
+-- ---- the board
+
+module _ (board : Board) (word : ℕ) (sound : IsSound board) (inside : word < free_words_of board.nic.view.setting) where
+  pools : pool_buffers board.nic.view.setting.layout ≡ pool_buffers board.arrays.layout
+  pools = ap (λ s. pool_buffers s.layout) sound.set.card
+
+  pub starts : word_bits * word < length board.arrays.listed
+  starts = let p = pools in let l = sound.sizes.listed in omega arith
+
+  -- how often each buffer was found
+  pub found-times : (listed' : List Bool)
+      → ((b : ℕ) → word_bits * word ≤ b → b < word_end board.arrays.listed word → listed_in listed' b ≡ false)
+      → ((b : ℕ) → (b < word_bits * word) ⊎ (word_end board.arrays.listed word ≤ b) → listed_in listed' b ≡ listed_in board.arrays.listed b)
+      → (b : ℕ) → weight (listed_in listed' b) + count_by (nat_eq b) (found_in board.arrays.listed word) ≡ weight (listed_in board.arrays.listed b)
+  found-times listed' gone others b =
+      let first = word_bits * word in
+      let n = word_len board.arrays.listed word in
+      ⊎_elim
+      (λ under. omega (arith, ap weight (others b (inl under)), found-outside board.arrays.listed first n b (inl under)))
+      (λ from. ⊎_elim
+      (λ to. omega (arith, ap weight (gone b from to), found-inside board.arrays.listed first n b from to))
+      (λ over. omega (arith, ap weight (others b (inr over)), found-outside board.arrays.listed first n b (inr over)))
+      (cases_lt b (first + n)))
+      (cases_lt b first)
+
+  pub found-of_word : (listed' : List Bool) → ((b : ℕ) → word_bits * word ≤ b → b < word_end board.arrays.listed word → listed_in listed' b ≡ false)
+      → (b : ℕ) → b < pool_buffers board.arrays.layout → b / word_bits ≡ word → weight (listed_in listed' b) ≡ 0
+  found-of_word listed' gone b within same = let l = sound.sizes.listed in ap weight (gone b (omega arith) (omega arith))
+
+  pub IsSound-swept : (listed' : List Bool) → length board.arrays.cache < 64 → length listed' ≡ length board.arrays.listed
+      → ((b : ℕ) → word_bits * word ≤ b → b < word_end board.arrays.listed word → listed_in listed' b ≡ false)
+      → ((b : ℕ) → (b < word_bits * word) ⊎ (word_end board.arrays.listed word ≤ b) → listed_in listed' b ≡ listed_in board.arrays.listed b)
+      → IsSound (record {
+        arrays = record board.arrays { listed = listed'; cache = board.arrays.cache ++ found_in board.arrays.listed word };
+        nic = nic_at board.nic (swept board.nic.view word (found_in board.arrays.listed word));
+        apps = board.apps;
+      })
+  IsSound-swept listed' short same gone others =
+      let found = found_in board.arrays.listed word in
+      let v = swept board.nic.view word found in
+      record {
+        sizes = record {
+          layout = sound.sizes.layout;
+          places = sound.sizes.places;
+          area = sound.sizes.area;
+          pool = sound.sizes.pool;
+          users = sound.sizes.users;
+          listed = same ∙ sound.sizes.listed;
+          cache = omega (arith, length-append board.arrays.cache found, length-listed_from board.arrays.listed (word_bits * word) (word_len board.arrays.listed word));
+          notes = sound.sizes.notes;
+          refills = sound.sizes.refills;
+          left = sound.sizes.left;
+        };
+        cached = ap (λ cache. cache ++ found) sound.cached;
+        set = IsSet-nic _ board.nic v board.apps refl sound.set;
+        counted = AreCounted-same board.arrays _ board.nic v board.apps refl refl refl refl (λ b. pool_count-swept b board.nic board.apps word found) sound.counted;
+        free = record {
+          pool = λ b within. free-same b ∙ (sound.free.pool b within ∙ ap (λ p. if p == 0 then 1 else 0) (sym (pool_count-swept b board.nic board.apps word found)));
+          reserves = λ b past. free-same b ∙ sound.free.reserves b past;
+        };
+        relayed = AreRelayed-nic board.arrays _ board.nic v board.apps refl refl refl refl refl sound.relayed;
+        returns = λ a app here. AreReturns-nic board.nic v app refl (sound.returns a app here);
+        flags = record { ended = sound.flags.ended; left = sound.flags.left };
+        kept = record {
+          kept = λ b within. omega (arith, sound.kept.kept b within, found-times listed' gone others b, count-append b board.nic.view.cache found);
+          swept = λ b within seen.
+              ⊎_elim
+              (λ t. let here : b / word_bits ≡ word = t.1 in
+              omega (arith, sound.kept.kept b within, found-times listed' gone others b, found-of_word listed' gone b (rw (← pools) within) here, count-append b board.nic.view.cache found))
+              (λ t. let before : 1 ≤ count_by (nat_eq (b / word_bits)) board.nic.view.swept = omega (arith, seen, count-push (b / word_bits) word board.nic.view.swept, ap weight t.0) in
+              omega (arith, sound.kept.swept b within before, count-append b board.nic.view.cache found))
+              (eqb_tells (b / word_bits) word);
+        };
+        due = sound.due;
+        filled = record { pool = sound.filled.pool; sizes = sound.filled.sizes };
+      }
+    where
+      free-same : (b : ℕ) → free_places (listed_in listed') b (nic_at board.nic (swept board.nic.view word (found_in board.arrays.listed word))) board.apps ≡ free_places (listed_in board.arrays.listed) b board.nic board.apps
+      free-same b = omega (arith, found-times listed' gone others b, free_places-swept (listed_in listed') b board.nic board.apps word (found_in board.arrays.listed word))
+
+  pub SweptWord-swept : (count : ℕ) (found : List ℕ) → found ≡ found_in board.arrays.listed word → count ≡ length found → SweptWord board.nic.view (swept board.nic.view word found) word count
+  SweptWord-swept count found is many =
+      let first = word_bits * word in
+      let n = word_len board.arrays.listed word in
+      let l = sound.sizes.listed in
+      let p = pools in
+      record {
+        found = found;
+        event = refl;
+        look = record { rose = (NicRose-nic_saw board.nic.view (Swept word)).rose };
+        many = sym many;
+        within = rw is (All-weaker (IsBetween first n) (λ b. (b / word_bits ≡ word) × (b < pool_buffers board.nic.view.setting.layout)) (λ b h. let from = h.0 in let to = h.1 in (omega arith, omega arith)) (found_in board.arrays.listed word) (found-between board.arrays.listed first n));
+        falling = rw is (found-falling board.arrays.listed first n);
+      }

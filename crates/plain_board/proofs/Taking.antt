@@ -1,0 +1,143 @@
+-- A buffer is taken.
+use Rattle.std.proofs.Common.{◌≡◌, ℕ, ◌+◌, ◌-◌, ◌<◌, ◌≤◌, Bool, true, false, [], ◌∷◌, ◌++◌, length, take, set, get_or, refl, ap, sym, ◌∙◌, arith, inl, inr, ⊎_elim, length-take, Some}
+use Rattle.std.specs.Prelude.{nat_eq, count_by, ◌==◌, if◌then◌else◌}
+use Rattle.std.proofs.lemmas.List.{length-set}
+use Rattle.std.proofs.lemmas.List.Elements.{All-push}
+use Rattle.std.proofs.lemmas.Bool.Decides.{eqb_tells}
+use Rattle.std.proofs.lemmas.Bool.{cases_lt}
+use Rattle.circular_buffer.specs.Buffer.{last_item}
+use Rattle.area_layout.specs.Layout.{Shape, pool_buffers, size_of}
+use Rattle.board_face.specs.Tokens.{filling}
+use Rattle.board_face.specs.NicEvents.{took, fresh}
+use Rattle.board_face.specs.NicCalls.{HasNothingIn, TookBuffer}
+use Rattle.board_face.specs.Sides.{nic_at}
+use Rattle.board_face.specs.Counts.{pool_count}
+use Rattle.board_face.specs.FreeOnce.{free_places, AreFreeOnce}
+use Rattle.board_face.specs.declared.views.parts.Filling.{Filling}
+use Rattle.board_face.proofs.NicLemmas.{pool_count-took}
+use Rattle.board_face.proofs.FreeLemmas.{free_places-took}
+use Rattle.board_face.proofs.Parts.{pool_count-parts}
+use Rattle.board_face.proofs.Tallies.{weight}
+use Rattle.plain_board.specs.Board.{Board, listed_in}
+use Rattle.plain_board.specs.Sound.{IsSound}
+use Rattle.plain_board.proofs.Lists.{take-last, once-taken, same-or-other, count-push, weight-same, weight-other, weight-swap, All-none}
+use Rattle.plain_board.proofs.Card.{IsSet-nic, AreCounted-nic, AreRelayed-nic, AreReturns-nic}
+
+abbrev pub IsOfPool : Shape → Filling → Type 0
+IsOfPool layout own = own.buffer < pool_buffers layout
+
+abbrev pub HasSize : Shape → Filling → Type 0
+HasSize layout own = own.size ≡ size_of layout own.buffer
+
+-- how many elements of the free places one count stands for
+free-case : (c : Bool) (f : ℕ) → f ≡ (if c then 1 else 0) → 1 ≤ f → (c ≡ true) × (f ≡ 1)
+free-case true f e some = (refl, e)
+free-case false f e some = absurd (omega (arith, e))
+
+zero-is : (n : ℕ) → (n == 0) ≡ true → n ≡ 0
+zero-is n e = ⊎_elim (λ t. t.1) (λ t. absurd (let no : true ≡ false = cc in cc)) (eqb_tells n 0)
+
+-- The buffer that stands last in the cache is one of the pool, stands there alone, and has no holder.
+pub record IsSpareIn (b : ℕ) (board : Board) : Type 0 where
+  pub of_pool : b < pool_buffers board.arrays.layout
+  pub once : free_places (listed_in board.arrays.listed) b board.nic board.apps ≡ 1
+  pub none : pool_count b board.nic board.apps ≡ 0
+  pub there : b < length board.arrays.pool
+  pub count : get_or board.arrays.pool b 0 ≡ 0
+
+module _ (board : Board) (buffer : ℕ) (sound : IsSound board) (found : last_item board.arrays.cache ≡ Some buffer) where
+  pub last : board.nic.view.cache ≡ (took board.nic.view buffer).cache ++ buffer ∷ []
+  last = take-last board.nic.view.cache buffer (ap last_item (sym sound.cached) ∙ found)
+
+  -- every count of free places, by the set part: the board's setting is that of its arrays
+  pools : pool_buffers board.nic.view.setting.layout ≡ pool_buffers board.arrays.layout
+  pools = ap (λ s. pool_buffers s.layout) sound.set.card
+
+  in_cache : 1 ≤ free_places (listed_in board.arrays.listed) buffer board.nic board.apps
+  in_cache = omega (arith, free_places-took (listed_in board.arrays.listed) buffer board.nic board.apps buffer last, weight-same buffer)
+
+  pub is_spare : IsSpareIn buffer board
+  is_spare =
+      ⊎_elim
+      (λ inside. let once = sound.free.pool buffer (rw pools inside) in
+      let both = free-case (pool_count buffer board.nic board.apps == 0) (free_places (listed_in board.arrays.listed) buffer board.nic board.apps) once in_cache in
+      let zero_count = zero-is (pool_count buffer board.nic board.apps) both.0 in
+      record {
+        of_pool = inside;
+        once = both.1;
+        none = zero_count;
+        there = omega (arith, sound.sizes.pool);
+        count = sound.counted.pool buffer (omega arith) ∙ zero_count;
+      })
+      (λ outside. absurd (let none = sound.free.reserves buffer (rw pools outside) in omega (arith, in_cache, none)))
+      (cases_lt buffer (pool_buffers board.arrays.layout))
+
+  -- no token lies in it
+  pub is_apart : HasNothingIn board.nic.view buffer
+  is_apart =
+      let none = is_spare.none in
+      let parts = pool_count-parts buffer board.nic board.apps in
+      record {
+        owns = All-none (λ o. o.buffer) buffer board.nic.view.owns (omega (arith, parts, none));
+        pieces = All-none (λ p. p.place.buffer) buffer board.nic.view.pieces (omega (arith, parts, none));
+      }
+
+  taken_counts : (b : ℕ) → pool_count b (nic_at board.nic (took board.nic.view buffer)) board.apps ≡ pool_count b board.nic board.apps + weight (buffer == b)
+  taken_counts b = pool_count-took b board.nic board.apps buffer
+
+  free_after : AreFreeOnce (listed_in board.arrays.listed) (nic_at board.nic (took board.nic.view buffer)) board.apps
+  free_after = record {
+    pool = λ b within. once-taken (pool_count b board.nic board.apps) _ (free_places (listed_in board.arrays.listed) b board.nic board.apps) _ (weight (buffer == b)) (sound.free.pool b within)
+        (omega (arith, free_places-took (listed_in board.arrays.listed) b board.nic board.apps buffer last, weight-swap b buffer)) (taken_counts b)
+        (⊎_elim (λ same. inr (same.0, ap (λ x. pool_count x board.nic board.apps) same.1 ∙ is_spare.none)) (λ other. inl other) (same-or-other b buffer));
+    reserves = λ b past. omega (arith, sound.free.reserves b past, free_places-took (listed_in board.arrays.listed) b board.nic board.apps buffer last);
+  }
+
+  pub IsSound-took : IsSound (record {
+    arrays = record board.arrays { pool = set board.arrays.pool buffer (get_or board.arrays.pool buffer 0 + 1); cache = take (length board.arrays.cache - 1) board.arrays.cache };
+    nic = nic_at board.nic (took board.nic.view buffer);
+    apps = board.apps;
+  })
+  IsSound-took = record {
+    sizes = record {
+      layout = sound.sizes.layout;
+      places = sound.sizes.places;
+      area = sound.sizes.area;
+      pool = length-set board.arrays.pool buffer (get_or board.arrays.pool buffer 0 + 1) ∙ sound.sizes.pool;
+      users = sound.sizes.users;
+      listed = sound.sizes.listed;
+      cache = let short = length-take (length board.arrays.cache - 1) board.arrays.cache in omega (arith, sound.sizes.cache);
+      notes = sound.sizes.notes;
+      refills = sound.sizes.refills;
+      left = sound.sizes.left;
+    };
+    cached = ap (λ cache. take (length cache - 1) cache) sound.cached;
+    set = IsSet-nic _ board.nic (took board.nic.view buffer) board.apps refl sound.set;
+    counted = AreCounted-nic board.arrays _ board.nic (took board.nic.view buffer) board.apps buffer (get_or board.arrays.pool buffer 0 + 1) refl refl refl refl
+        (let p = is_spare.of_pool in omega arith) sound.sizes.pool
+        (let p = is_spare.of_pool in omega (arith, taken_counts buffer, weight-same buffer, sound.counted.pool buffer (omega arith)))
+        (λ b other. omega (arith, taken_counts b, weight-other buffer b (λ e. other (sym e))))
+        sound.counted;
+    free = free_after;
+    relayed = AreRelayed-nic board.arrays _ board.nic (took board.nic.view buffer) board.apps refl refl refl refl refl sound.relayed;
+    returns = λ a app here. AreReturns-nic board.nic (took board.nic.view buffer) app refl (sound.returns a app here);
+    flags = record { ended = sound.flags.ended; left = sound.flags.left };
+    kept = record {
+      kept = λ b within. omega (arith, sound.kept.kept b within, ap (count_by (nat_eq b)) last, count-push b buffer (took board.nic.view buffer).cache, count-push b buffer board.nic.view.used);
+      swept = λ b within gone. omega (arith, sound.kept.swept b within gone, ap (count_by (nat_eq b)) last, count-push b buffer (took board.nic.view buffer).cache, count-push b buffer board.nic.view.used);
+    };
+    due = sound.due;
+    filled = record {
+      pool = All-push (IsOfPool board.arrays.layout) board.nic.view.owns (fresh board.nic.view.setting buffer) sound.filled.pool is_spare.of_pool;
+      sizes = All-push (HasSize board.arrays.layout) board.nic.view.owns (fresh board.nic.view.setting buffer) sound.filled.sizes (ap (λ s. s.layout.size) sound.set.card);
+    };
+  }
+
+  pub TookBuffer-took : TookBuffer board.nic.view (took board.nic.view buffer) (filling buffer 0 (size_of board.arrays.layout buffer))
+  TookBuffer-took = record {
+    last = last;
+    of_pool = rw pools is_spare.of_pool;
+    fresh = ap (λ s. filling buffer 0 s.layout.size) (sym sound.set.card);
+    event = refl;
+    apart = is_apart;
+  }

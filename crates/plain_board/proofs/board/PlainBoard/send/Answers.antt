@@ -1,0 +1,19 @@
+-- Where the ring is full nothing moves. Else the note is the last on its way, and its piece only changes its kind.
+use Rattle.std.proofs.Common.{arith}
+use Rattle.board_face.specs.declared.views.nic.NicLook.TheVariants.{NoteInUse}
+use Rattle.plain_board.specs.Blank.{blank_app}
+use Rattle.plain_board.proofs.Still.{IsSound-saw}
+use Rattle.plain_board.proofs.Losing.{IsApp-at}
+use Rattle.plain_board.proofs.NotesSent.{IsSound-sent}
+use Rattle.plain_board.proofs.board.PlainBoard.send.Goals as goal
+
+pub invariant_of-self : goal.invariant_of-self
+invariant_of-self c = rw (c.note.ensures, c.if-not-put_note.ensures.0) (IsSound-saw _ (NoteInUse c.args.app) c.self.invariant.0, c.self.invariant.1)
+
+pub invariant_of-self-2 : goal.invariant_of-self-2
+invariant_of-self-2 c =
+    let sound = c.self.invariant.0 in
+    let few = rw (← c.self.view_is) at c.requires.app in
+    let here = IsApp-at c.self.inside.apps.items c.args.app blank_app sound.set.numbers (let many = sound.set.many in omega arith) in
+    let out = rw (← c.self.view_is, ← c.requires.place) at c.requires.out in
+    rw (c.note-2.ensures, c.if-not-put_note.ensures) (IsSound-sent _ c.args.app _ c.args.note _ sound here out c.requires.fields.split, c.self.invariant.1)

@@ -1,0 +1,7 @@
+-- The card's diary says then that it took the buffer.
+use Rattle.board_face.specs.Sides.{nic_at}
+use Rattle.board_face.specs.NicEvents.{took}
+use Rattle.plain_board.proofs.board.PlainBoard.take.Given as goal
+
+abbrev pub ghosts-note : goal.ghosts-note
+ghosts-note a = record { next = nic_at a.self.now (took a.self.now.view a.about) }

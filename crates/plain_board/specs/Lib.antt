@@ -1,0 +1,5 @@
+pub mod Blank
+pub mod Board
+pub mod Returns
+pub mod Sound
+pub mod Free

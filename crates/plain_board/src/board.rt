@@ -1,0 +1,205 @@
+ghost use Rattle.std.specs.Prelude.{◌≡◌, ◌<◌, ◌≤◌, [], ◌∷◌, ◌++◌, false, length, slice_index, ◌==◌, slice_index_or, MatchOption, MatchBool, IfOk};
+ghost use Rattle.board_face.specs.NicCalls.{IsOpen, HasOwn, HasNoToken, TookBuffer, SweptWord, free_words_of, lost_of, sent_unsplit_bytes};
+ghost use Rattle.board_face.specs.NicEvents.{shut, nic_ended, saw_leave, nic_saw};
+ghost use Rattle.board_face.specs.declared.views.nic.NicLook.TheVariants.{NotLeft};
+ghost use Rattle.board_face.specs.declared.views.app.AppSide.{AppSide};
+ghost use Rattle.board_face.specs.Sides.{nic_at};
+ghost use Rattle.plain_board.specs.Board.{new_board};
+
+use crate::counts::{lower, raise};
+use crate::diary::{Diary, diaries};
+use crate::free::{came_free, free_if, move_word};
+use crate::slots::{NoteSlot, rings};
+use area_layout::Layout;
+use board_face::{AppSide, NicSide, Own};
+use circular_buffer::HeapCircularBuffer;
+use std::alloc::{AllocError, Global};
+use std::marker::{Brand, Model};
+use zr_kinds::Rqe;
+
+/// How many buffers the cache holds at most.
+const CACHE_ROOM: usize = 128;
+
+/// A board for one thread: counts, rings and free buffers in plain arrays. All its memory is taken at opening.
+#[derive(Drop)]
+pub struct PlainBoard {
+    pub(crate) layout: Layout,
+    pub(crate) places: u32,
+    pub(crate) area: Vec<u8>,
+    pub(crate) pool: Vec<u64>,
+    pub(crate) users: Vec<u64>,
+    pub(crate) listed: Vec<bool>,
+    pub(crate) cache: HeapCircularBuffer<u32>,
+    pub(crate) notes: Vec<HeapCircularBuffer<NoteSlot>>,
+    pub(crate) refills: Vec<HeapCircularBuffer<Rqe>>,
+    pub(crate) ended: bool,
+    pub(crate) left: Vec<bool>,
+    pub(crate) nic: Diary<NicSide, Brand>,
+    pub(crate) apps: Vec<Diary<AppSide, Brand>>,
+    /// Empty, with room for each pool buffer.
+    pub(crate) free: Vec<u32>,
+}
+
+impl Model for PlainBoard {
+    ghost use Rattle.plain_board.specs.Board.{Board, HasRoom};
+    ghost use Rattle.plain_board.specs.Sound.{IsSound};
+    ghost use Rattle.std.specs.Prelude.{vec_capacity};
+
+    ghost Value = { Board };
+
+    ghost view = { λ s. record {
+      arrays = record {
+        layout = s.layout;
+        places = s.places;
+        area = s.area.items;
+        pool = s.pool.items;
+        users = s.users.items;
+        listed = s.listed.items;
+        cache = s.cache.items;
+        notes = s.notes.items;
+        refills = s.refills.items;
+        ended = s.ended;
+        left = s.left.items;
+      };
+      nic = s.nic;
+      apps = s.apps.items;
+    } };
+
+    ghost invariant = { λ s. IsSound (record {
+      arrays = record {
+        layout = s.layout;
+        places = s.places;
+        area = s.area.items;
+        pool = s.pool.items;
+        users = s.users.items;
+        listed = s.listed.items;
+        cache = s.cache.items;
+        notes = s.notes.items;
+        refills = s.refills.items;
+        ended = s.ended;
+        left = s.left.items;
+      };
+      nic = s.nic;
+      apps = s.apps.items;
+    }) × HasRoom s.layout s.cache.capacity s.free.items (vec_capacity s.free) };
+}
+
+impl PlainBoard {
+    ghost use Rattle.plain_board.specs.Sound.{IsSound};
+
+    /// A board on which nothing has happened, each pool buffer on the free list. All its memory is taken here.
+    pub fn open(
+        alloc: Global,
+        layout: Layout,
+        apps: u32,
+        places: u32,
+    ) -> Result<PlainBoard, AllocError>
+        requires reserves { layout.reserves ≡ apps }
+        requires some { 1 ≤ places }
+        requires few { places ≤ 256 }
+        ensures { IfOk result (λ board. board ≡ new_board layout places) }
+    {
+        let buffers = layout.buffers() as usize;
+        let total = layout.total() as usize;
+        let count = apps as usize;
+        let mut nic = Diary::open(alloc)?;
+        nic.note::<Brand, (Layout, u32)>((layout, places));
+        Ok(PlainBoard {
+            layout,
+            places,
+            area: vec![in alloc; 0; total * layout.size() as usize]?,
+            pool: vec![in alloc; 0; total]?,
+            users: vec![in alloc; 0; count * total]?,
+            listed: vec![in alloc; true; buffers]?,
+            cache: HeapCircularBuffer::with_capacity(alloc, CACHE_ROOM)?,
+            notes: rings(alloc, count, places as usize)?,
+            refills: rings(alloc, count, places as usize)?,
+            ended: false,
+            left: vec![in alloc; false; count]?,
+            nic,
+            apps: diaries(alloc, layout, apps, places)?,
+            free: Vec::with_capacity(alloc, buffers)?,
+        })
+    }
+
+    /// What holds of every board, between any two calls: counts are holders, each pool buffer is free once or held, what
+    /// lies in the slots is what is on its way, and no entry of a loan was a stray. It does nothing: its contract says so.
+    pub fn sound(&self)
+        ensures { IsSound self.now }
+    {
+        let _ = &self.places;
+    }
+
+    /// Takes the buffer that entered the cache last.
+    pub(crate) fn take(&mut self) -> Option<Own>
+        requires { IsOpen self.old.nic.view }
+        ensures view { MatchOption result
+            ((self.old.nic.view.cache ≡ []) × (self.new ≡ self.old))
+            (λ own. TookBuffer self.old.nic.view self.new.nic.view own) }
+        ensures apps { self.new.apps ≡ self.old.apps }
+    {
+        let buffer = self.cache.pop_back()?;
+        raise(&mut self.pool, buffer as usize);
+        let nic = &mut self.nic;
+        nic.note::<Brand, u32>(buffer);
+        let size = self.layout.size_of(buffer);
+        Some(Own::new(buffer, 0, size))
+    }
+
+    /// Gives the card's reference up. A buffer that came to be free is cached, or listed where the cache is full.
+    pub(crate) fn shut(&mut self, own: Own)
+        requires open { IsOpen self.old.nic.view }
+        requires out { HasOwn self.old.nic.view own }
+        ensures view { self.new.nic ≡ nic_at self.old.nic
+            (shut self.old.nic.view own (slice_index self.new.arrays.pool own.buffer == 0)) }
+        ensures apps { self.new.apps ≡ self.old.apps }
+    {
+        let buffer = own.buffer();
+        let last = lower(&mut self.pool, buffer as usize) == 0;
+        let free = came_free(last, buffer, &self.layout);
+        free_if(free, buffer, &mut self.cache, &mut self.listed);
+        let nic = &mut self.nic;
+        nic.note::<Brand, (&Own, bool)>((&own, last));
+    }
+
+    /// Moves all buffers of a word of the free list into the cache, and answers how many.
+    pub(crate) fn sweep(&mut self, word: u32) -> u32
+        requires room { length self.old.nic.view.cache < 64 }
+        requires word { word < free_words_of self.old.nic.view.setting }
+        ensures view { SweptWord self.old.nic.view self.new.nic.view word result }
+        ensures bound { lost_of self.new.nic.view ≤ sent_unsplit_bytes self.new.nic.view }
+        ensures apps { self.new.apps ≡ self.old.apps }
+    {
+        let count = move_word(word, &mut self.cache, &mut self.listed);
+        let nic = &mut self.nic;
+        let cache = &self.cache;
+        nic.note::<Brand, (u32, &HeapCircularBuffer<u32>)>((word, cache));
+        count
+    }
+
+    /// Ends the card's part.
+    pub(crate) fn end(&mut self)
+        requires { HasNoToken self.old.nic.view }
+        ensures view { self.new.nic ≡ nic_at self.old.nic (nic_ended self.old.nic.view) }
+        ensures apps { self.new.apps ≡ self.old.apps }
+    {
+        self.ended = true;
+        let nic = &mut self.nic;
+        nic.note::<Brand, ()>(());
+    }
+
+    /// Whether an application has left.
+    pub(crate) fn left(&mut self, app: u32) -> bool
+        requires { app < self.old.arrays.layout.reserves }
+        ensures view { MatchBool result
+            (self.new.nic ≡ nic_at self.old.nic (saw_leave self.old.nic.view app))
+            (self.new.nic ≡ nic_at self.old.nic (nic_saw self.old.nic.view (NotLeft app))) }
+        ensures apps { self.new.apps ≡ self.old.apps }
+        ensures exact { (d : AppSide) → result ≡ (slice_index_or self.old.apps app d).view.left }
+    {
+        let gone = self.left[app as usize];
+        let nic = &mut self.nic;
+        nic.note::<Brand, (u32, bool)>((app, gone));
+        gone
+    }
+}

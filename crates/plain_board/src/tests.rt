@@ -1,0 +1,16 @@
+use super::PlainBoard;
+use area_layout::Layout;
+use board_face::Entry;
+use std::test::Fail;
+
+/// All buffers of a word are swept, the highest first, so the lowest is taken first.
+#[test]
+fn swept_buffer_is_taken(rt: HostRuntime) -> Result<(), Fail> {
+    let layout = Layout::new(2, 1, 1024).ok_or("no layout")?;
+    let mut board = PlainBoard::open(rt.alloc(), layout, 1, 4)?;
+    assert_eq!(rt; board.sweep(0), 2);
+    let own = board.take().ok_or("nothing cached")?;
+    assert_eq!(rt; own.buffer(), 0);
+    assert_eq!(rt; own.size(), 1024);
+    Ok(())
+}
