@@ -1,6 +1,5 @@
 -- What holds of a board between any two calls: the arrays say what the roles did.
 use Rattle.std.specs.Prelude.{◌≡◌, ℕ, ◌+◌, ◌*◌, ◌/◌, ◌<◌, ◌≤◌, Bool, if◌then◌else◌, List, [], length, map, take, All, nat_eq, count_by, slice_index, slice_index_or}
-use Rattle.std.specs.List.{flat_map}
 use Rattle.circular_buffer.specs.Buffer.{buffer}
 use Rattle.zr_kinds.specs.declared.ring.Rqe.{Rqe}
 use Rattle.area_layout.specs.Layout.{Shape, IsLayout, pool_buffers, total, size_of}
@@ -10,6 +9,7 @@ use Rattle.board_face.specs.Counts.{pool_count, user_count, EndedWereReturned}
 use Rattle.board_face.specs.FreeOnce.{AreFreeOnce}
 use Rattle.board_face.specs.Relay.{Relayed}
 use Rattle.board_face.specs.Texts.{unsplit_bytes}
+use Rattle.board_face.specs.Used.{picked_buffers, PicksAreGiven}
 use Rattle.board_face.specs.Opened.{new_nic}
 use Rattle.board_face.specs.declared.views.parts.Setting.{Setting}
 use Rattle.board_face.specs.declared.views.nic.NicSide.{NicSide}
@@ -75,13 +75,9 @@ pub record AreFlags (arrays : Arrays) (nic : NicSide) (apps : List AppSide) : Ty
   pub ended : arrays.ended ≡ nic.view.ended
   pub left : arrays.left ≡ map (λ app. app.view.left) apps
 
--- the buffers that applications picked as spares
-abbrev pub picked_of : List AppSide → List ℕ
-picked_of apps = flat_map (λ app. app.view.picked) apps
-
 -- how often a buffer was picked as a spare
 abbrev pub times_picked : ℕ → List AppSide → ℕ
-times_picked b apps = count_by (nat_eq b) (flat_map (λ app. app.view.picked) apps)
+times_picked b apps = count_by (nat_eq b) (picked_buffers apps)
 
 -- Each pool buffer is free as it was at the opening, or it was taken or picked. One whose word was swept is cached, or was
 -- taken or picked.
@@ -93,7 +89,7 @@ pub record AreKept (listed : ℕ → Bool) (nic : NicSide) (apps : List AppSide)
 
 -- Each spare is for a byte of an unsplit note that was taken.
 pub record AreDue (apps : List AppSide) : Type 0 where
-  pub picked : All (λ app. length app.view.picked ≤ app.view.spares) apps
+  pub picked : All PicksAreGiven apps
   pub spares : All (λ app. app.view.spares ≤ unsplit_bytes (map (λ t. t.note) app.view.taken)) apps
 
 -- The card fills pool buffers, whose size it knows.
