@@ -1,15 +1,18 @@
 -- A look raises its count by one, and lowers none.
-use Rattle.std.proofs.Common.{◌≡◌, ◌≤◌, Bool, true, List, ◌∷◌, refl, arith}
+use Rattle.std.proofs.Common.{◌≡◌, ℕ, ◌≤◌, Bool, true, false, List, ◌∷◌, refl, ap, sym, subst, arith, inl, inr, ⊎_elim}
+use Rattle.std.specs.Prelude.{◌==◌, ◌&&◌, ◌⊎◌}
+use Rattle.std.proofs.lemmas.Bool.Decides.{eqb_tells}
 use Rattle.board_face.specs.declared.views.nic.NicLook.{NicLook}
 use Rattle.board_face.specs.declared.views.nic.NicLook.TheVariants.{RingEmpty, NoteInUse, Swept, NotLeft, NotOwed, Owed, LastHolder, StillHeld}
 use Rattle.board_face.specs.declared.views.app.AppLook.{AppLook}
 use Rattle.board_face.specs.declared.views.app.AppLook.TheVariants.{NoNote, CardEnded, RefillInUse, RawOnItsWay, NoneListed, NoSpare, NotQuiet}
 use Rattle.board_face.specs.declared.views.nic.NicView.{NicView}
 use Rattle.board_face.specs.declared.views.app.AppView.{AppView}
-use Rattle.board_face.specs.Looks.{same_nic_look, same_app_look, times, NicRose, AppRose, NicLooksStay, AppLooksStay}
+use Rattle.board_face.specs.Looks.{same_nic_look, same_app_look, times, NicRose, AppRose, NicLooksStay, AppLooksStay, NicTold, AppTold}
 use Rattle.board_face.specs.NicEvents.{nic_saw}
 use Rattle.board_face.specs.AppEvents.{app_saw}
 use Rattle.board_face.proofs.ListLemmas.{eqb_same}
+use Rattle.board_face.proofs.Tallies.{weight}
 
 pub same_nic_look-refl : (look : NicLook) → same_nic_look look look ≡ true
 same_nic_look-refl (RingEmpty a) = eqb_same a
@@ -74,3 +77,71 @@ AppRose-later u v w look stay rose = record { rose = omega (arith, stay.later lo
 
 pub AppRose-before : (u v w : AppView) (look : AppLook) → AppRose look u v → AppLooksStay v w → AppRose look u w
 AppRose-before u v w look rose stay = record { rose = omega (arith, stay.later look, rose.rose) }
+
+-- ---- what is told of a look that rose
+
+are-one : (a b : ℕ) → (a == b) ≡ true → a ≡ b
+are-one a b e = ⊎_elim (λ t. t.1) (λ t. absurd (let no : true ≡ false = cc in cc)) (eqb_tells a b)
+
+both-are : (c d : Bool) → (c && d) ≡ true → (c ≡ true) × (d ≡ true)
+both-are true d e = (refl, e)
+both-are false d e = absurd (let no : false ≡ true = e in cc)
+
+pub same_nic_look-is : (x y : NicLook) → same_nic_look x y ≡ true → x ≡ y
+same_nic_look-is (RingEmpty a) (RingEmpty b) e = ap RingEmpty (are-one a b e)
+same_nic_look-is (NoteInUse a) (NoteInUse b) e = ap NoteInUse (are-one a b e)
+same_nic_look-is (Swept a) (Swept b) e = ap Swept (are-one a b e)
+same_nic_look-is (NotLeft a) (NotLeft b) e = ap NotLeft (are-one a b e)
+same_nic_look-is (NotOwed a i) (NotOwed b j) e = let both = both-are (a == b) (i == j) e in let app = are-one a b both.0 in let buffer = are-one i j both.1 in cc
+same_nic_look-is (Owed a i) (Owed b j) e = let both = both-are (a == b) (i == j) e in let app = are-one a b both.0 in let buffer = are-one i j both.1 in cc
+same_nic_look-is (LastHolder a) (LastHolder b) e = ap LastHolder (are-one a b e)
+same_nic_look-is (StillHeld a) (StillHeld b) e = ap StillHeld (are-one a b e)
+same_nic_look-is x y e = absurd (let no : false ≡ true = e in cc)
+
+pub same_app_look-is : (x y : AppLook) → same_app_look x y ≡ true → x ≡ y
+same_app_look-is NoNote NoNote e = refl
+same_app_look-is CardEnded CardEnded e = refl
+same_app_look-is RefillInUse RefillInUse e = refl
+same_app_look-is RawOnItsWay RawOnItsWay e = refl
+same_app_look-is NoneListed NoneListed e = refl
+same_app_look-is NoSpare NoSpare e = refl
+same_app_look-is NotQuiet NotQuiet e = refl
+same_app_look-is x y e = absurd (let no : false ≡ true = e in cc)
+
+true-or-false : (c : Bool) → (c ≡ true) ⊎ (c ≡ false)
+true-or-false true = inl refl
+true-or-false false = inr refl
+
+-- a look that isn't the one in front stands no more often than behind it
+times-other : {A : Type 0} (same : A → A → Bool) (x y : A) (ys : List A) → same x y ≡ false → times same x (y ∷ ys) ≡ times same x ys
+times-other same x y ys other = omega (arith, ap weight other)
+
+pub NicTold-none : (is_so : NicLook → Type 0) (v w : NicView) → w.looks ≡ v.looks → NicTold is_so v w
+NicTold-none is_so v w same look rose = absurd (omega (arith, rose.rose, ap (times same_nic_look look) same))
+
+pub NicTold-one : (is_so : NicLook → Type 0) (v w : NicView) (x : NicLook) → w.looks ≡ x ∷ v.looks → is_so x → NicTold is_so v w
+NicTold-one is_so v w x more so look rose =
+    ⊎_elim
+    (λ same. subst is_so (sym (same_nic_look-is look x same)) so)
+    (λ other. absurd (omega (arith, rose.rose, ap (times same_nic_look look) more, times-other same_nic_look look x v.looks other)))
+    (true-or-false (same_nic_look look x))
+
+pub NicTold-two : (is_so : NicLook → Type 0) (v w : NicView) (x y : NicLook) → w.looks ≡ x ∷ y ∷ v.looks → is_so x → is_so y → NicTold is_so v w
+NicTold-two is_so v w x y more so also look rose =
+    ⊎_elim
+    (λ same. subst is_so (sym (same_nic_look-is look x same)) so)
+    (λ other. ⊎_elim
+    (λ same. subst is_so (sym (same_nic_look-is look y same)) also)
+    (λ other_too. absurd (omega (arith, rose.rose, ap (times same_nic_look look) more, times-other same_nic_look look x (y ∷ v.looks) other, times-other same_nic_look look y v.looks other_too)))
+    (true-or-false (same_nic_look look y)))
+    (true-or-false (same_nic_look look x))
+
+pub AppTold-none : (is_so : AppLook → Type 0) (v w : AppView) → w.looks ≡ v.looks → AppTold is_so v w
+AppTold-none is_so v w same look rose = absurd (omega (arith, rose.rose, ap (times same_app_look look) same))
+
+pub AppTold-one : (is_so : AppLook → Type 0) (v w : AppView) (x : AppLook) → w.looks ≡ x ∷ v.looks → is_so x → AppTold is_so v w
+AppTold-one is_so v w x more so look rose =
+    ⊎_elim
+    (λ same. subst is_so (sym (same_app_look-is look x same)) so)
+    (λ other. absurd (omega (arith, rose.rose, ap (times same_app_look look) more, times-other same_app_look look x v.looks other)))
+    (true-or-false (same_app_look look x))

@@ -56,3 +56,10 @@ pub record NicLooksStay (old new : NicView) : Type 0 where
 
 pub record AppLooksStay (old new : AppView) : Type 0 where
   pub later : (look : AppLook) → app_looks old look ≤ app_looks new look
+
+-- What is said of each look whose count rose.
+abbrev pub NicTold : (NicLook → Type 0) → NicView → NicView → Type 0
+NicTold is_so old new = (look : NicLook) → NicRose look old new → is_so look
+
+abbrev pub AppTold : (AppLook → Type 0) → AppView → AppView → Type 0
+AppTold is_so old new = (look : AppLook) → AppRose look old new → is_so look

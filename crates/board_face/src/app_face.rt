@@ -1,9 +1,9 @@
-ghost use Rattle.std.specs.Prelude.{◌≡◌, ℕ, ◌+◌, ◌-◌, ◌<◌, ◌≤◌, ◌↔◌, true, false, length, IsTrue, MatchOption, MatchResult, MatchBool, OnErr, IfNone};
+ghost use Rattle.std.specs.Prelude.{◌≡◌, ℕ, ◌+◌, ◌-◌, ◌<◌, ◌≤◌, ◌↔◌, true, false, length, IsTrue, MatchOption, MatchResult, MatchBool};
 ghost use Rattle.area_layout.specs.Layout.{IsLayout, total, least_size, off_of};
 ghost use Rattle.board_face.specs.declared.views.app.AppView.{AppView};
-ghost use Rattle.board_face.specs.declared.views.app.AppLook.TheVariants.{NoNote, RefillInUse, RawOnItsWay, NoSpare, NotQuiet};
+ghost use Rattle.board_face.specs.declared.views.app.AppLook.TheVariants.{RefillInUse, RawOnItsWay, NoSpare, NotQuiet};
 ghost use Rattle.board_face.specs.declared.views.app.AppLook.{AppLook};
-ghost use Rattle.std.specs.Bool.{OnFalse};
+ghost use Rattle.board_face.specs.Looks.{AppTold};
 ghost use Rattle.board_face.specs.Tokens.{filled_by};
 ghost use Rattle.board_face.specs.Texts.{front_place, rest_place};
 ghost use Rattle.board_face.specs.AppEvents.{app_gist, cut, released, lent, loan_origin, has_read, abandoned, gave, pushed_raw, came_to_rest, reserve_of, filled, own_bytes, begin_place, lent_own, fell_quiet, scrubbed, left_board};
@@ -24,8 +24,9 @@ pub trait AppFace {
 
     ghost beside: { Self → Self.Beside };
 
-    /// What a board says, where this look is noted, of what the application knows but for its looks and its refill slots,
-    /// and of what stands beside it. A board on which others step meanwhile says nothing.
+    /// What a board says of this look: that it is so, by what the application knows but for its looks and its refill
+    /// slots, and by what stands beside it. Each call whose count of a look rose is told so of the board before it. A
+    /// board on which others step meanwhile says nothing.
     ghost tells: { AppLook → AppView → Self.Beside → Type 0 } = { λ _ _ _. Unit {0} };
 
     /// How many slots each ring has.
@@ -53,7 +54,7 @@ pub trait AppFace {
     fn poll(&mut self, linear: &mut [u8; 256]) -> Polled
         requires here { IsHere (seen self.old) }
         ensures view { Looked (seen self.old) (seen self.new) linear.new result }
-        ensures told { result ≡ Polled.Empty → tells NoNote (app_gist (seen self.old)) (beside self.old) }
+        ensures told { AppTold (λ look. tells look (app_gist (seen self.old)) (beside self.old)) (seen self.old) (seen self.new) }
         ensures beside { beside self.new ≡ beside self.old };
 
     /// Cuts a piece in two behind its first `at` bytes, each with a reference of its own.
@@ -72,7 +73,7 @@ pub trait AppFace {
         ensures view { MatchBool result
             (seen self.new ≡ came_to_rest (seen self.old))
             (AppOnlySaw RawOnItsWay (seen self.old) (seen self.new)) }
-        ensures told { OnFalse result (tells RawOnItsWay (app_gist (seen self.old)) (beside self.old)) }
+        ensures told { AppTold (λ look. tells look (app_gist (seen self.old)) (beside self.old)) (seen self.old) (seen self.new) }
         // Where nothing was pushed raw since the last `true`, it is `true` again.
         ensures still { (seen self.old).settled ≡ true → IsTrue result }
         ensures beside { beside self.new ≡ beside self.old };
@@ -103,7 +104,7 @@ pub trait AppFace {
         ensures view { MatchResult result
             (λ _. seen self.new ≡ gave (seen self.old) loan)
             (λ back. (back ≡ loan) × AppOnlySaw RefillInUse (seen self.old) (seen self.new)) }
-        ensures told { OnErr result (tells RefillInUse (app_gist (seen self.old)) (beside self.old)) }
+        ensures told { AppTold (λ look. tells look (app_gist (seen self.old)) (beside self.old)) (seen self.old) (seen self.new) }
         ensures beside { beside self.new ≡ beside self.old };
 
     /// Whether a loan in this buffer is out.
@@ -118,7 +119,7 @@ pub trait AppFace {
         ensures view { MatchResult result
             (λ _. seen self.new ≡ pushed_raw (seen self.old) entry)
             (λ back. (back ≡ entry) × AppOnlySaw RefillInUse (seen self.old) (seen self.new)) }
-        ensures told { OnErr result (tells RefillInUse (app_gist (seen self.old)) (beside self.old)) }
+        ensures told { AppTold (λ look. tells look (app_gist (seen self.old)) (beside self.old)) (seen self.old) (seen self.new) }
         ensures beside { beside self.new ≡ beside self.old };
 
     /// Gives a piece up, unread.
@@ -136,7 +137,7 @@ pub trait AppFace {
         ensures view { MatchOption result
             (AppOnlySaw NoSpare (seen self.old) (seen self.new))
             (λ own. GotSpare (seen self.old) (seen self.new) own) }
-        ensures told { IfNone result (tells NoSpare (app_gist (seen self.old)) (beside self.old)) }
+        ensures told { AppTold (λ look. tells look (app_gist (seen self.old)) (beside self.old)) (seen self.old) (seen self.new) }
         ensures beside { beside self.new ≡ beside self.old };
 
     /// Stores a short payload at the begin of a spare.
@@ -173,7 +174,7 @@ pub trait AppFace {
         ensures view { MatchBool result
             (seen self.new ≡ fell_quiet (seen self.old))
             (AppOnlySaw NotQuiet (seen self.old) (seen self.new)) }
-        ensures told { OnFalse result (tells NotQuiet (app_gist (seen self.old)) (beside self.old)) }
+        ensures told { AppTold (λ look. tells look (app_gist (seen self.old)) (beside self.old)) (seen self.old) (seen self.new) }
         ensures beside { beside self.new ≡ beside self.old };
 
     /// Takes back all references that this application still owes, as the kernel does when a queue goes down.

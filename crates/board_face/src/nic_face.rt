@@ -1,9 +1,9 @@
-ghost use Rattle.std.specs.Prelude.{◌≡◌, ◌+◌, ◌<◌, ◌≤◌, [], length, MatchOption, MatchResult, MatchBool, OnErr};
+ghost use Rattle.std.specs.Prelude.{◌≡◌, ◌+◌, ◌<◌, ◌≤◌, [], length, MatchOption, MatchResult, MatchBool};
 ghost use Rattle.area_layout.specs.Layout.{IsLayout, least_size};
 ghost use Rattle.board_face.specs.declared.views.nic.NicView.{NicView};
-ghost use Rattle.board_face.specs.declared.views.nic.NicLook.TheVariants.{RingEmpty, NoteInUse, NotLeft};
+ghost use Rattle.board_face.specs.declared.views.nic.NicLook.TheVariants.{NoteInUse, NotLeft};
 ghost use Rattle.board_face.specs.declared.views.nic.NicLook.{NicLook};
-ghost use Rattle.std.specs.Bool.{OnFalse};
+ghost use Rattle.board_face.specs.Looks.{NicTold};
 ghost use Rattle.board_face.specs.Tokens.{filled_by, next_place};
 ghost use Rattle.board_face.specs.Texts.{IsSplitNote, IsLinearNote};
 ghost use Rattle.board_face.specs.NicEvents.{nic_gist, placed, sent, sent_linear, saw_leave, nic_ended};
@@ -25,8 +25,9 @@ pub trait NicFace {
 
     ghost beside: { Self → Self.Beside };
 
-    /// What a board says, where this look is noted, of what the card knows but for its looks, and of what stands beside
-    /// it. A board on which others step meanwhile says nothing.
+    /// What a board says of this look: that it is so, by what the card knows but for its looks, and by what stands beside
+    /// it. Each call whose count of a look rose is told so of the board before it. A board on which others step
+    /// meanwhile says nothing.
     ghost tells: { NicLook → NicView → Self.Beside → Type 0 } = { λ _ _ _. Unit {0} };
 
     /// How many applications share the board.
@@ -72,13 +73,14 @@ pub trait NicFace {
         // Buffers of swept words that are neither cached nor were taken were picked as spares, and each spare is for a
         // byte of an unsplit note.
         ensures bound { lost_of (seen self.new) ≤ sent_unsplit_bytes (seen self.new) }
+        ensures told { NicTold (λ look. tells look (nic_gist (seen self.old)) (beside self.old)) (seen self.old) (seen self.new) }
         ensures beside { beside self.new ≡ beside self.old };
 
     /// Deals with the next refill entry of an application.
     fn entry(&mut self, app: u32) -> Entry
         requires app { app < apps_of (seen self.old).setting }
         ensures view { DealtWith (seen self.old) (seen self.new) app result }
-        ensures told { result ≡ Entry.Empty → tells (RingEmpty app) (nic_gist (seen self.old)) (beside self.old) }
+        ensures told { NicTold (λ look. tells look (nic_gist (seen self.old)) (beside self.old)) (seen self.old) (seen self.new) }
         ensures beside { beside self.new ≡ beside self.old };
 
     /// Stores a text where the buffer's next bytes go.
@@ -102,7 +104,7 @@ pub trait NicFace {
         ensures view { MatchResult result
             (λ _. seen self.new ≡ sent (seen self.old) app note)
             (λ back. (back ≡ piece) × NicOnlySaw (NoteInUse app) (seen self.old) (seen self.new)) }
-        ensures told { OnErr result (tells (NoteInUse app) (nic_gist (seen self.old)) (beside self.old)) }
+        ensures told { NicTold (λ look. tells look (nic_gist (seen self.old)) (beside self.old)) (seen self.old) (seen self.new) }
         ensures beside { beside self.new ≡ beside self.old };
 
     /// Sends a note in which its bytes travel. `false` says that the next note slot was seen in use.
@@ -114,7 +116,7 @@ pub trait NicFace {
         ensures view { MatchBool result
             (seen self.new ≡ sent_linear (seen self.old) app note bytes.now)
             (NicOnlySaw (NoteInUse app) (seen self.old) (seen self.new)) }
-        ensures told { OnFalse result (tells (NoteInUse app) (nic_gist (seen self.old)) (beside self.old)) }
+        ensures told { NicTold (λ look. tells look (nic_gist (seen self.old)) (beside self.old)) (seen self.old) (seen self.new) }
         ensures beside { beside self.new ≡ beside self.old };
 
     /// Closes a buffer. If no reference to it is left, it is free.
@@ -122,6 +124,7 @@ pub trait NicFace {
         requires open { IsOpen (seen self.old) }
         requires out { HasOwn (seen self.old) own }
         ensures view { Closed (seen self.old) (seen self.new) own }
+        ensures told { NicTold (λ look. tells look (nic_gist (seen self.old)) (beside self.old)) (seen self.old) (seen self.new) }
         ensures beside { beside self.new ≡ beside self.old };
 
     /// Ends: nothing is taken, placed, sent or closed any more.
@@ -136,6 +139,6 @@ pub trait NicFace {
         ensures view { MatchBool result
             (seen self.new ≡ saw_leave (seen self.old) app)
             (NicOnlySaw (NotLeft app) (seen self.old) (seen self.new)) }
-        ensures told { OnFalse result (tells (NotLeft app) (nic_gist (seen self.old)) (beside self.old)) }
+        ensures told { NicTold (λ look. tells look (nic_gist (seen self.old)) (beside self.old)) (seen self.old) (seen self.new) }
         ensures beside { beside self.new ≡ beside self.old };
 }

@@ -1,10 +1,12 @@
 -- What an event of the card leaves that sends nothing, deals with nothing and keeps the setting.
-use Rattle.std.proofs.Common.{◌≡◌, ℕ, ◌<◌, ◌≤◌, List, length, set, sym, ◌∙◌, arith}
+use Rattle.std.proofs.Common.{◌≡◌, ℕ, ◌<◌, ◌≤◌, true, List, length, set, ap, sym, ◌∙◌, arith}
 use Rattle.std.specs.Prelude.{◌≢◌, All}
+use Rattle.std.proofs.lemmas.Bool.{false≢true}
 use Rattle.std.proofs.lemmas.List.Elements.{All-weaker}
 use Rattle.area_layout.specs.Layout.{total}
 use Rattle.board_face.specs.Sides.{nic_at}
 use Rattle.board_face.specs.Counts.{pool_count, EndedWereReturned}
+use Rattle.board_face.specs.NicCalls.{apps_of, IsOpen, HasNoToken}
 use Rattle.board_face.specs.declared.views.parts.Setting.{Setting}
 use Rattle.board_face.specs.declared.views.nic.NicView.{NicView}
 use Rattle.board_face.specs.declared.views.nic.NicSide.{NicSide}
@@ -12,8 +14,8 @@ use Rattle.board_face.specs.declared.views.app.AppSide.{AppSide}
 use Rattle.board_face.proofs.NicLemmas.{user_count-nic}
 use Rattle.board_face.proofs.RelayLemmas.{Relayed-nic}
 use Rattle.plain_board.specs.Returns.{AreReturns}
-use Rattle.plain_board.specs.Board.{Arrays}
-use Rattle.plain_board.specs.Sound.{IsSet, AreCounted, AreRelayed}
+use Rattle.plain_board.specs.Board.{Arrays, Board}
+use Rattle.plain_board.specs.Sound.{IsSound, IsSet, AreCounted, AreRelayed, AreBooked, IsPhased, ArePhased}
 use Rattle.plain_board.proofs.Lists.{counts-set}
 
 -- the event touches neither what is on its way nor the setting
@@ -21,6 +23,10 @@ pub record IsQuiet (old new : NicView) : Type 0 where
   pub sent : new.sent ≡ old.sent
   pub dealt : new.dealt ≡ old.dealt
   pub setting : new.setting ≡ old.setting
+
+-- the board's setting is that of its arrays
+pub within-setting : (board : Board) (a : ℕ) → IsSound board → a < apps_of board.nic.view.setting → a < board.arrays.layout.reserves
+within-setting board a sound few = omega (arith, few, ap (λ s. s.layout.reserves) sound.set.card)
 
 pub IsSet-nic : (setting : Setting) (nic : NicSide) (v : NicView) (apps : List AppSide) → v.setting ≡ nic.view.setting → IsSet setting nic apps → IsSet setting (nic_at nic v) apps
 IsSet-nic setting nic v apps same h = record {
@@ -71,5 +77,41 @@ AreReturns-nic nic v app deals h = record {
   clear = λ b. rw deals (h.clear b);
   named = rw deals h.named;
   settled = λ e. rw deals (h.settled e);
+  quiet = λ e. rw deals (h.quiet e);
   strays = rw deals h.strays;
+}
+
+pub AreBooked-nic : (arrays now : Arrays) (nic : NicSide) (v : NicView) (apps : List AppSide) → v.dealt ≡ nic.view.dealt → now.layout ≡ arrays.layout → now.loans ≡ arrays.loans → now.filled ≡ arrays.filled → now.raw ≡ arrays.raw → AreBooked arrays nic apps → AreBooked now (nic_at nic v) apps
+AreBooked-nic arrays now nic v apps deals layout loans filled raw h = record {
+  loans = λ a b app here within. rw (loans, layout) (h.loans a b app here (rw (← layout) within));
+  filled = λ a app here. rw filled (h.filled a app here);
+  raw = λ a app here. rw (raw, deals) (h.raw a app here);
+}
+
+-- No more is sent and dealt with, and where the card has ended it stays so, with no token out.
+pub ArePhased-nic : (nic : NicSide) (v : NicView) (apps : List AppSide) → v.sent ≡ nic.view.sent → v.dealt ≡ nic.view.dealt → (nic.view.ended ≡ true → v.ended ≡ true) → (v.ended ≡ true → HasNoToken v) → ArePhased nic apps → ArePhased (nic_at nic v) apps
+ArePhased-nic nic v apps sents deals ends none h = record {
+  card = none;
+  sides = All-weaker (IsPhased nic) (IsPhased (nic_at nic v))
+      (λ app p. record {
+        ended = λ e. (ends (p.ended e).0, rw sents (p.ended e).1);
+        unscrubbed = p.unscrubbed;
+        scrubbed = λ e. ((p.scrubbed e).0, λ b. rw deals ((p.scrubbed e).1 b));
+        left = p.left;
+      })
+      apps h.sides;
+}
+
+-- As long as the card hasn't ended, no application was told the end, so it may send.
+pub ArePhased-open : (nic : NicSide) (v : NicView) (apps : List AppSide) → IsOpen nic.view → v.dealt ≡ nic.view.dealt → v.ended ≡ nic.view.ended → ArePhased nic apps → ArePhased (nic_at nic v) apps
+ArePhased-open nic v apps running deals same h = record {
+  card = λ e. absurd (false≢true (sym running ∙ (sym same ∙ e)));
+  sides = All-weaker (IsPhased nic) (IsPhased (nic_at nic v))
+      (λ app p. record {
+        ended = λ e. absurd (false≢true (sym running ∙ (p.ended e).0));
+        unscrubbed = p.unscrubbed;
+        scrubbed = λ e. ((p.scrubbed e).0, λ b. rw deals ((p.scrubbed e).1 b));
+        left = p.left;
+      })
+      apps h.sides;
 }

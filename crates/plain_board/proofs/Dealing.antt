@@ -1,11 +1,11 @@
 -- The entry that is next in an application's ring is dealt with.
 use Rattle.std.proofs.Common.{◌≡◌, ℕ, zero, suc, ◌+◌, ◌-◌, ◌≤◌, Bool, true, false, eqb, List, [], ◌∷◌, ◌++◌, length, map, drop, refl, ap, sym, ◌∙◌, arith, length-append, length-drop}
-use Rattle.std.specs.Prelude.{◌≢◌, filter, count_by, ◌==◌, if◌then◌else◌}
+use Rattle.std.specs.Prelude.{◌≢◌, filter, count_by, ◌==◌, nat_lt, if◌then◌else◌}
 use Rattle.std.specs.List.{zip}
 use Rattle.std.proofs.lemmas.List.{append-nil, drop-map}
-use Rattle.std.proofs.lemmas.List.Elements.{filter-append, All-tail, All-push}
+use Rattle.std.proofs.lemmas.List.Elements.{filter-append, All-tail, All-push, All-weaker}
 use Rattle.std.proofs.lemmas.List.Sums.{sum_by-cons}
-use Rattle.std.proofs.lemmas.Bool.{eq-eqb}
+use Rattle.std.proofs.lemmas.Bool.{eq-eqb, ltb-false}
 use Rattle.std.proofs.Math.Seq.{drop-append_seam}
 use Rattle.zr_kinds.specs.declared.ring.Rqe.{Rqe}
 use Rattle.board_face.specs.Sides.{nic_at}
@@ -18,9 +18,11 @@ use Rattle.board_face.specs.declared.views.app.TakenNote.{TakenNote}
 use Rattle.board_face.specs.declared.views.app.WrittenEntry.{WrittenEntry}
 use Rattle.board_face.specs.declared.views.app.AppSide.{AppSide}
 use Rattle.board_face.proofs.ListLemmas.{not-eqb}
+use Rattle.board_face.proofs.NicLemmas.{ended_in-push}
 use Rattle.board_face.proofs.Parts.{returned_in-count, owed_count}
 use Rattle.board_face.proofs.Tallies.{weight}
-use Rattle.plain_board.specs.Returns.{entries_on_way, returns, IsNamed, IsOfLoan, AreReturns}
+use Rattle.plain_board.specs.Returns.{entries_on_way, returns, reach_of, IsNamed, IsOfLoan, AreReturns}
+use Rattle.plain_board.specs.Sound.{IsPhased, ArePhased}
 
 pub count-first : {A : Type 0} (p : A → Bool) (x : A) (xs : List A) → count_by p (x ∷ xs) ≡ weight (p x) + count_by p xs
 count-first p x xs = sum_by-cons (λ y. if p y then 1 else 0) x xs
@@ -34,7 +36,7 @@ pub record HasFront (nic : NicSide) (app : AppSide) (e : Rqe) : Type 0 where
   pub way : entries_on_way nic app ≡ first ∷ others
   pub entry : first.entry ≡ e
 
-length-mapped : {A B : Type 0} (f : A → B) (xs : List A) → length (map f xs) ≡ length xs
+pub length-mapped : {A B : Type 0} (f : A → B) (xs : List A) → length (map f xs) ≡ length xs
 length-mapped f [] = refl
 length-mapped f (x ∷ xs) = omega (arith, length-mapped f xs)
 
@@ -42,11 +44,15 @@ front-case : (nic : NicSide) (app : AppSide) (e : Rqe) (es : List Rqe) (q : List
 front-case nic app e es [] way same = absurd (let none : ⊥ = cc in none)
 front-case nic app e es (w ∷ ws) way same = record { first = w; others = ws; way = way; entry = let is : w.entry ≡ e = cc in is }
 
-pub HasFront-relayed : (nic : NicSide) (app : AppSide) (ns : List TakenNote) (e : Rqe) (es : List Rqe) → Relayed nic app ns (e ∷ es) → HasFront nic app e
-HasFront-relayed nic app ns e es relayed =
+-- what lies in the slots are the entries on their way
+pub entries-relayed : (nic : NicSide) (app : AppSide) (ns : List TakenNote) (es : List Rqe) → Relayed nic app ns es → map (λ w. w.entry) (entries_on_way nic app) ≡ es
+entries-relayed nic app ns es relayed =
     let dealt = dealt_entries app.view.app nic in
-    let rest : drop (length dealt) (map (λ w. w.entry) app.view.written) ≡ e ∷ es = rw (← relayed.entries) (drop-append_seam dealt (e ∷ es)) in
-    front-case nic app e es (entries_on_way nic app) refl (sym (drop-map (λ (w : WrittenEntry). w.entry) (length dealt) app.view.written) ∙ rest)
+    let rest : drop (length dealt) (map (λ w. w.entry) app.view.written) ≡ es = rw (← relayed.entries) (drop-append_seam dealt es) in
+    sym (drop-map (λ (w : WrittenEntry). w.entry) (length dealt) app.view.written) ∙ rest
+
+pub HasFront-relayed : (nic : NicSide) (app : AppSide) (ns : List TakenNote) (e : Rqe) (es : List Rqe) → Relayed nic app ns (e ∷ es) → HasFront nic app e
+HasFront-relayed nic app ns e es relayed = front-case nic app e es (entries_on_way nic app) refl (entries-relayed nic app ns (e ∷ es) relayed)
 
 drop-after : {A : Type 0} (n : ℕ) (xs : List A) (x : A) (rest : List A) → drop n xs ≡ x ∷ rest → drop (suc n) xs ≡ rest
 drop-after zero xs x rest e = rw e refl
@@ -98,6 +104,7 @@ module _ (nic : NicSide) (v : NicView) (app : AppSide) (d : Dealt) (deals : v.de
         clear = λ b. rw way-after ((rw front.way at (h.clear b)).1);
         named = rw way-after (All-tail (IsNamed app.view.setting.layout) front.first front.others (rw front.way at h.named));
         settled = λ e. rw way-after (All-tail IsOfLoan front.first front.others (rw front.way at (h.settled e)));
+        quiet = λ e. absurd (let empty : front.first ∷ front.others ≡ [] = sym front.way ∙ h.quiet e in let none : ⊥ = cc in none);
         strays = rw (dealt-more nic v app.view.app d deals mine, zip-push app.view.written before d front.first front.others (rw (length-mapped (λ (x : Dealt). x.entry) before) at front.way)) (All-push IsNoLoanStray (zip app.view.written before) (front.first, d) h.strays good);
       }
 
@@ -111,8 +118,38 @@ AreReturns-other nic v app d deals other ends h =
       clear = λ b. rw same (h.clear b);
       named = rw same h.named;
       settled = λ e. rw same (h.settled e);
+      quiet = λ e. rw same (h.quiet e);
       strays = rw same h.strays;
     }
 
 pub length-owed_in : (b : ℕ) (nic : NicSide) (app : AppSide) → length (owed_in b nic app) ≡ owed_count b nic app
 length-owed_in b nic app = length-drop (ended_in b nic app) (returned_in b app) ∙ ap (λ n. n - ended_in b nic app) (returned_in-count b app)
+
+-- ---- how far the applications have come
+
+-- an entry more is dealt with: who has scrubbed still owes nothing
+pub ArePhased-dealt : (nic : NicSide) (v : NicView) (apps : List AppSide) (d : Dealt) → v.sent ≡ nic.view.sent → v.dealt ≡ nic.view.dealt ++ d ∷ [] → v.ended ≡ nic.view.ended → v.owns ≡ nic.view.owns → v.pieces ≡ nic.view.pieces → ArePhased nic apps → ArePhased (nic_at nic v) apps
+ArePhased-dealt nic v apps d sents deals same owns pieces h = record {
+  card = λ e. let none = h.card (sym same ∙ e) in record { owns = owns ∙ none.owns; pieces = pieces ∙ none.pieces };
+  sides = All-weaker (IsPhased nic) (IsPhased (nic_at nic v))
+      (λ app p. record {
+        ended = λ e. (same ∙ (p.ended e).0, rw sents (p.ended e).1);
+        unscrubbed = p.unscrubbed;
+        scrubbed = λ e. ((p.scrubbed e).0, λ b. omega (arith, (p.scrubbed e).1 b, length-owed_in b nic app, length-owed_in b (nic_at nic v) app, ended_in-push b nic v d app deals));
+        left = p.left;
+      })
+      apps h.sides;
+}
+
+-- ---- how far back the last raw entry lies
+
+pub reach-popped : (w : WrittenEntry) (ws : List WrittenEntry) → reach_of (w ∷ ws) - 1 ≡ reach_of ws
+reach-popped w ws = by (nat_lt 0 (reach_of ws)) refl w.of_loan
+  where
+    first : (l : Bool) → reach_of ws ≡ 0 → (if l then 0 else 1) - 1 ≡ reach_of ws
+    first true none = omega arith
+    first false none = omega arith
+
+    by : (c : Bool) → nat_lt 0 (reach_of ws) ≡ c → (l : Bool) → (if c then suc (reach_of ws) else if l then 0 else 1) - 1 ≡ reach_of ws
+    by true e l = omega arith
+    by false e l = first l (let past = ltb-false 0 (reach_of ws) e in omega arith)

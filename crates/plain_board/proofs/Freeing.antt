@@ -7,8 +7,8 @@ use Rattle.std.proofs.lemmas.Bool.{ltb-true}
 use Rattle.board_face.specs.NicEvents.{cached, cache_room}
 use Rattle.board_face.proofs.ListLemmas.{not-eqb}
 use Rattle.board_face.proofs.Tallies.{weight}
-use Rattle.plain_board.specs.Board.{listed_in}
-use Rattle.plain_board.specs.Free.{relisted}
+use Rattle.plain_parts.specs.Free.{listed_in}
+use Rattle.plain_parts.specs.Free.{relisted}
 use Rattle.plain_board.proofs.Lists.{weight-swap, count-push}
 
 pub and-right : (c d : Bool) → (c && d) ≡ true → d ≡ true
@@ -30,7 +30,7 @@ cache_after last cache i = if last then cached cache i else cache
 abbrev pub listed_after : Bool → List ℕ → List Bool → ℕ → List Bool
 listed_after last cache listed i = if last then relisted cache listed i else listed
 
-listed-set : (listed : List Bool) (i b : ℕ) → i < length listed → listed_in listed i ≡ false → weight (listed_in (set listed i true) b) ≡ weight (listed_in listed b) + weight (i == b)
+pub listed-set : (listed : List Bool) (i b : ℕ) → i < length listed → listed_in listed i ≡ false → weight (listed_in (set listed i true) b) ≡ weight (listed_in listed b) + weight (i == b)
 listed-set listed i b there was =
     ⊎_elim
     (λ t. let e : i ≡ b = t.1 in
@@ -77,8 +77,8 @@ length-listed_after false cache listed i = refl
 
 -- ---- free once
 
-zero-test : (n : ℕ) → ((n == 0) ≡ true) → n ≡ 0
-zero-test n e = ⊎_elim (λ t. t.1) (λ t. absurd (let no : true ≡ false = sym e ∙ t.0 in let none : ⊥ = cc in none)) (eqb_tells n 0)
+pub zero-test : (n : ℕ) → ((n == 0) ≡ true) → n ≡ 0
+zero-test n e = ⊎_elim (λ t. t.1) (λ t. absurd (let both : true ≡ false = sym e ∙ t.0 in let none : ⊥ = cc in none)) (eqb_tells n 0)
 
 -- A buffer has a holder less at i. It is free there where none is left.
 pub once-freed : (last : Bool) (p p' f f' w n : ℕ) → f ≡ (if p == 0 then 1 else 0) → p' + w ≡ p → last ≡ (n == 0) → f' ≡ f + (if last then w else 0) → (w ≡ 0) ⊎ ((w ≡ 1) × (p' ≡ n)) → f' ≡ (if p' == 0 then 1 else 0)

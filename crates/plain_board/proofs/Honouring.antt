@@ -25,16 +25,21 @@ use Rattle.board_face.proofs.ListLemmas.{eqb_same, not-eqb}
 use Rattle.board_face.proofs.NicLemmas.{Owes, pool_count-honoured, user_count-honoured, honoured-other, honoured-target}
 use Rattle.board_face.proofs.Parts.{returned_in-count, user_part, user_count-parts, total-only, loans_in, owed_count, count-tally}
 use Rattle.board_face.proofs.Tallies.{weight}
-use Rattle.plain_board.specs.Board.{Board, listed_in, user_at}
+use Rattle.board_face.proofs.FitLemmas.{FillingsFit-nic}
+use Rattle.board_face.proofs.FilledLemmas.{IsFilledByOne-honoured, IsFilledByOne-gave_up}
+use Rattle.board_face.proofs.AreShownLemmas.{AreShown-honoured, AreShown-gave_up}
+use Rattle.plain_parts.specs.Free.{listed_in}
+use Rattle.plain_parts.specs.Counts.{user_at}
+use Rattle.plain_board.specs.Board.{Board, byte_of}
 use Rattle.plain_board.specs.Returns.{AreReturns, is_some_of, returns, names}
 use Rattle.plain_board.specs.Sound.{IsSound, refills_of}
 use Rattle.plain_board.proofs.Lists.{counts-set, weight-same, weight-other, same-or-other, same-user, true-or-false}
 use Rattle.plain_board.proofs.Card.{IsSet-nic}
-use Rattle.plain_board.proofs.Freeing.{and-true, and-right, cache_after, listed_after, places-after, cache-grows, cache-short, length-listed_after, once-freed}
+use Rattle.plain_board.proofs.Freeing.{All-at, and-true, and-right, cache_after, listed_after, places-after, cache-grows, cache-short, length-listed_after, once-freed}
 use Rattle.plain_board.proofs.Shutting.{used-nowhere, none-listed}
 use Rattle.plain_board.proofs.Losing.{IsApp-at}
-use Rattle.plain_board.proofs.Popping.{same-app, other-number, ring_then, AreRelayed-popped}
-use Rattle.plain_board.proofs.Dealing.{HasFront, HasFront-relayed, AreReturns-dealt, AreReturns-other, count-first, length-owed_in}
+use Rattle.plain_board.proofs.Popping.{same-app, other-number, ring_then, AreRelayed-popped, AreBooked-popped}
+use Rattle.plain_board.proofs.Dealing.{HasFront, HasFront-relayed, AreReturns-dealt, AreReturns-other, ArePhased-dealt, count-first, length-owed_in}
 
 -- the entry gave its reference back, which was the last of its buffer, or not
 abbrev pub honoured_if : NicView → ℕ → Rqe → ℕ → Bool → NicView
@@ -102,6 +107,9 @@ module _ (board : Board) (a i : ℕ) (x : AppSide) (e : Rqe) (es : List Rqe) (so
 
   pub owes : Owes i board.nic x
   owes = record { owes = omega (arith, owes_some); returning = (returned i).returning }
+
+  abbrev nic_honoured : NicSide
+  nic_honoured = nic_at board.nic (honoured board.nic.view a e i)
 
   abbrev pub nic_then : Bool → NicSide
   nic_then last = nic_at board.nic (honoured_if board.nic.view a e i last)
@@ -249,6 +257,7 @@ module _ (board : Board) (a i : ℕ) (x : AppSide) (e : Rqe) (es : List Rqe) (so
           cache = cache_after (came last) board.arrays.cache i;
           listed = listed_after (came last) board.arrays.cache board.arrays.listed i;
           refills = set board.arrays.refills a (ring_then board a);
+          raw = set board.arrays.raw a (get_or board.arrays.raw a 0 - 1);
         };
         nic = nic_then last;
         apps = board.apps;
@@ -266,6 +275,9 @@ module _ (board : Board) (a i : ℕ) (x : AppSide) (e : Rqe) (es : List Rqe) (so
           cache = cache-short (came last) board.arrays.cache i sound.sizes.cache;
           notes = sound.sizes.notes;
           refills = length-set board.arrays.refills a (ring_then board a) ∙ sound.sizes.refills;
+          loans = sound.sizes.loans;
+          filled = sound.sizes.filled;
+          raw = length-set board.arrays.raw a (get_or board.arrays.raw a 0 - 1) ∙ sound.sizes.raw;
           left = sound.sizes.left;
         };
         cached = ap (λ cache. cache_after (came last) cache i) sound.cached;
@@ -295,7 +307,13 @@ module _ (board : Board) (a i : ℕ) (x : AppSide) (e : Rqe) (es : List Rqe) (so
           swept = λ b within gone. omega (arith, sound.kept.swept b within gone, cache-grows (came last) board.nic.view.cache i b);
         };
         due = sound.due;
-        filled = record { pool = sound.filled.pool; sizes = sound.filled.sizes };
+        filled = FillingsFit-nic board.nic (honoured_if board.nic.view a e i last) board.apps refl refl sound.filled;
+        by_one = λ b. IsFilledByOne-gave_up b nic_honoured board.apps i last (IsFilledByOne-honoured b board.nic board.apps a i e x sound.set.numbers here owes (sound.by_one b));
+        shown = AreShown-gave_up (byte_of board.arrays) nic_honoured board.apps i last
+            (AreShown-honoured (byte_of board.arrays) board.nic board.apps a i e (λ b app has. (All-at (EndedWereReturned b board.nic) board.apps app (sound.counted.returned b) has).returning) sound.shown);
+        notes = sound.notes;
+        booked = AreBooked-popped board a x e es sound here found (honoured_if board.nic.view a e i last) the_dealt refl refl refl refl _ refl refl refl refl front;
+        phased = ArePhased-dealt board.nic (honoured_if board.nic.view a e i last) board.apps the_dealt refl refl refl refl refl sound.phased;
       }
     where
       beyond_pool : (free : Bool) → (free ≡ true → i < pool_buffers board.arrays.layout) → (b : ℕ) → pool_buffers board.arrays.layout ≤ b → {f : ℕ} → f ≡ 0 → f + (if free then weight (i == b) else 0) ≡ 0

@@ -1,5 +1,5 @@
 -- Lists of counts, and the cache.
-use Rattle.std.proofs.Common.{◌≡◌, ℕ, zero, suc, ◌+◌, ◌-◌, ◌*◌, ◌<◌, Bool, true, false, List, [], ◌∷◌, ◌++◌, length, take, set, get_or, refl, ap, sym, ◌∙◌, arith, inl, inr, ⊎_elim, subst, Some}
+use Rattle.std.proofs.Common.{◌≡◌, ℕ, zero, suc, ◌+◌, ◌-◌, ◌*◌, ◌<◌, ◌≤◌, Bool, true, false, List, [], ◌∷◌, ◌++◌, length, take, set, get_or, refl, ap, sym, ◌∙◌, arith, inl, inr, ⊎_elim, subst, Some}
 use Rattle.std.specs.Prelude.{◌≢◌, ◌⊎◌, ◌/◌, nat_eq, count_by, ◌==◌, slice_get, All, if◌then◌else◌}
 use Rattle.std.proofs.lemmas.List.{get_or-set_same, get_or-set_other}
 use Rattle.std.proofs.lemmas.List.Elements.{All-nil, All-cons, All-head, All-tail}
@@ -8,7 +8,7 @@ use Rattle.std.proofs.lemmas.Bool.Decides.{eqb_tells}
 use Rattle.circular_buffer.specs.Buffer.{last_item}
 use Rattle.board_face.specs.Lists.{without}
 use Rattle.board_face.proofs.ListLemmas.{eqb_same, not-eqb}
-use Rattle.board_face.proofs.Tallies.{weight, tally, tally-append, tally-push}
+use Rattle.board_face.proofs.Tallies.{weight, tally, total, tally-append, tally-push}
 use Rattle.board_face.proofs.Parts.{count-tally}
 
 -- ---- one count raised or lowered
@@ -34,6 +34,24 @@ counts-set t counts f g i n there are here others b within =
     (λ h. let e : b ≡ i = h.1 in subst (λ x. get_or (set counts i n) x 0 ≡ g x) (sym e) (get_or-set_same counts i n 0 there ∙ here))
     (λ h. let ne : b ≢ i = h.1 in get_or-set_other counts i b n 0 ne ∙ (are b within ∙ sym (others b ne)))
     (eqb_tells b i)
+
+pub raised : (counts : List ℕ) (i b : ℕ) → i < length counts → get_or (set counts i (get_or counts i 0 + 1)) b 0 ≡ get_or counts b 0 + weight (i == b)
+raised counts i b there =
+    ⊎_elim
+    (λ t. let e : i ≡ b = t.1 in
+    let now : get_or (set counts i (get_or counts i 0 + 1)) b 0 ≡ get_or counts i 0 + 1 = subst (λ n. get_or (set counts i (get_or counts i 0 + 1)) n 0 ≡ get_or counts i 0 + 1) e (get_or-set_same counts i (get_or counts i 0 + 1) 0 there) in
+    omega (arith, ap weight t.0, ap (λ n. get_or counts n 0) e))
+    (λ t. let ne : b ≢ i = λ e. t.1 (sym e) in omega (arith, ap weight t.0, get_or-set_other counts i b (get_or counts i 0 + 1) 0 ne))
+    (eqb_tells i b)
+
+pub lowered : (counts : List ℕ) (i b : ℕ) → i < length counts → 0 < get_or counts i 0 → get_or (set counts i (get_or counts i 0 - 1)) b 0 + weight (i == b) ≡ get_or counts b 0
+lowered counts i b there some =
+    ⊎_elim
+    (λ t. let e : i ≡ b = t.1 in
+    let now : get_or (set counts i (get_or counts i 0 - 1)) b 0 ≡ get_or counts i 0 - 1 = subst (λ n. get_or (set counts i (get_or counts i 0 - 1)) n 0 ≡ get_or counts i 0 - 1) e (get_or-set_same counts i (get_or counts i 0 - 1) 0 there) in
+    omega (arith, ap weight t.0, ap (λ n. get_or counts n 0) e))
+    (λ t. let ne : b ≢ i = λ e. t.1 (sym e) in omega (arith, ap weight t.0, get_or-set_other counts i b (get_or counts i 0 - 1) 0 ne))
+    (eqb_tells i b)
 
 pub count-push : (b x : ℕ) (xs : List ℕ) → count_by (nat_eq b) (xs ++ x ∷ []) ≡ count_by (nat_eq b) xs + weight (b == x)
 count-push b x xs = omega (arith, count-tally (nat_eq b) (xs ++ x ∷ []), count-tally (nat_eq b) xs, tally-push (nat_eq b) xs x)
@@ -62,6 +80,16 @@ same-user t a a' b b' less less' e =
 pub true-or-false : (c : Bool) → (c ≡ true) ⊎ (c ≡ false)
 true-or-false true = inl refl
 true-or-false false = inr refl
+
+-- ---- one among many
+
+pub total-of : {A : Type 0} (f : A → ℕ) (xs : List A) (k : ℕ) (d : A) → k < length xs → f (get_or xs k d) ≤ total f xs
+total-of f [] k d there = absurd (omega arith)
+total-of f (x ∷ xs) zero d there = omega arith
+total-of f (x ∷ xs) (suc k) d there = omega (arith, total-of f xs k d (omega arith))
+
+pub total-at : {A : Type 0} (f : A → ℕ) (xs : List A) (i : ℕ) (v : A) → i < length xs → get_or xs i v ≡ v → f v ≤ total f xs
+total-at f xs i v there is = omega (arith, total-of f xs i v there, ap f is)
 
 -- ---- the last item
 

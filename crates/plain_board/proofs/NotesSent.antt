@@ -1,13 +1,17 @@
 -- A note is sent.
 use Rattle.std.proofs.Common.{◌≡◌, ℕ, ◌<◌, ◌≤◌, Bool, true, false, List, [], ◌∷◌, ◌++◌, length, map, take, set, get_or, refl, ap, sym, ◌∙◌, subst, arith, ⊎_elim}
-use Rattle.std.specs.Prelude.{◌≢◌, ◌==◌, if◌then◌else◌}
+use Rattle.std.specs.Prelude.{◌≢◌, ◌==◌, if◌then◌else◌, Contains}
+use Rattle.std.proofs.lemmas.Bool.{false≢true}
 use Rattle.std.proofs.lemmas.List.{map-append, length-set, get_or-set_same, get_or-set_other}
-use Rattle.std.proofs.lemmas.List.Elements.{All-set}
+use Rattle.std.proofs.lemmas.List.Elements.{All-set, All-push}
 use Rattle.std.proofs.lemmas.Bool.Decides.{eqb_tells}
 use Rattle.circular_buffer.specs.Buffer.{Buffer, buffer}
 use Rattle.zr_kinds.specs.declared.place.Note.{Note}
 use Rattle.board_face.specs.NicEvents.{sent, sent_linear, text_at}
-use Rattle.board_face.specs.NicCalls.{HasPiece}
+use Rattle.board_face.specs.NicCalls.{IsOpen, HasPiece}
+use Rattle.board_face.specs.Texts.{IsSplitNote, IsLinearNote}
+use Rattle.board_face.specs.Fillings.{IsFilledByOne}
+use Rattle.board_face.specs.Shown.{AreShown}
 use Rattle.board_face.specs.Holders.{sent_to}
 use Rattle.board_face.proofs.NicLemmas.{pool_count-sent, pool_count-sent_linear}
 use Rattle.board_face.specs.Sides.{nic_at, IsApp}
@@ -17,12 +21,17 @@ use Rattle.board_face.specs.declared.views.nic.SentNote.{SentNote}
 use Rattle.board_face.specs.declared.views.nic.NicView.{NicView}
 use Rattle.board_face.specs.declared.views.app.AppSide.{AppSide}
 use Rattle.board_face.proofs.FreeLemmas.{free_places-nic}
+use Rattle.board_face.proofs.FitLemmas.{FillingsFit-nic}
+use Rattle.board_face.proofs.FilledLemmas.{IsFilledByOne-sent, IsFilledByOne-sent_linear}
+use Rattle.board_face.proofs.AreShownLemmas.{AreShown-sent, AreShown-sent_linear}
 use Rattle.board_face.proofs.RelayLemmas.{taken-within, Relayed-sent, Relayed-sent_other}
-use Rattle.plain_board.specs.declared.slots.NoteSlot.{NoteSlot}
-use Rattle.plain_board.specs.Board.{Arrays, Board, listed_in}
-use Rattle.plain_board.specs.Returns.{pushed}
-use Rattle.plain_board.specs.Sound.{IsSound, AreRelayed, refills_of, notes_of, taken_of}
-use Rattle.plain_board.proofs.Card.{IsSet-nic, AreCounted-same, AreReturns-nic}
+use Rattle.plain_parts.specs.declared.slots.NoteSlot.{NoteSlot}
+use Rattle.plain_parts.specs.Free.{listed_in}
+use Rattle.plain_board.specs.Board.{Arrays, Board, byte_of}
+use Rattle.plain_parts.specs.Rings.{pushed}
+use Rattle.plain_board.specs.Sound.{IsSound, AreRelayed, IsProper, refills_of, notes_of, taken_of}
+use Rattle.plain_board.proofs.Losing.{IsApp-at}
+use Rattle.plain_board.proofs.Card.{IsSet-nic, AreCounted-same, AreReturns-nic, AreBooked-nic, ArePhased-open}
 use Rattle.plain_board.proofs.Popping.{same-app, other-number}
 
 -- no more changed than what was sent, and the pieces
@@ -67,8 +76,8 @@ module _ (board : Board) (a : ℕ) (x : AppSide) (v : NicView) (s : SentNote) (s
     refills = rw (refills, places) sound.relayed.refills;
   }
 
-  pub IsSound-posted : IsSound (record { arrays = record board.arrays { notes = set board.arrays.notes a notes_then }; nic = nic_at board.nic v; apps = board.apps })
-  IsSound-posted = record {
+  pub IsSound-posted : IsOpen board.nic.view → IsProper s → ((b : ℕ) → IsFilledByOne b (nic_at board.nic v) board.apps) → AreShown (byte_of board.arrays) (nic_at board.nic v) board.apps → IsSound (record { arrays = record board.arrays { notes = set board.arrays.notes a notes_then }; nic = nic_at board.nic v; apps = board.apps })
+  IsSound-posted running proper by_one shown = record {
     sizes = record {
       layout = sound.sizes.layout;
       places = sound.sizes.places;
@@ -79,6 +88,9 @@ module _ (board : Board) (a : ℕ) (x : AppSide) (v : NicView) (s : SentNote) (s
       cache = sound.sizes.cache;
       notes = length-set board.arrays.notes a notes_then ∙ sound.sizes.notes;
       refills = sound.sizes.refills;
+      loans = sound.sizes.loans;
+      filled = sound.sizes.filled;
+      raw = sound.sizes.raw;
       left = sound.sizes.left;
     };
     cached = sound.cached ∙ sym posted.cache;
@@ -97,20 +109,32 @@ module _ (board : Board) (a : ℕ) (x : AppSide) (v : NicView) (s : SentNote) (s
       swept = λ b within gone. rw (posted.cache, posted.used) (sound.kept.swept b (rw (← posted.setting) within) (rw (← posted.swept) gone));
     };
     due = sound.due;
-    filled = record { pool = rw posted.owns sound.filled.pool; sizes = rw posted.owns sound.filled.sizes };
+    filled = FillingsFit-nic board.nic v board.apps posted.setting posted.owns sound.filled;
+    by_one = by_one;
+    shown = shown;
+    notes = rw posted.sent (All-push IsProper board.nic.view.sent s sound.notes proper);
+    booked = AreBooked-nic board.arrays _ board.nic v board.apps posted.dealt refl refl refl refl sound.booked;
+    phased = ArePhased-open board.nic v board.apps running posted.dealt posted.ended sound.phased;
   }
+
+-- no application has taken more notes than were sent to it
+taken-few : (board : Board) → IsSound board → (x : AppSide) → Contains board.apps x → length x.view.taken ≤ length (sent_to x.view.app board.nic)
+taken-few board sound x has =
+    let it : IsApp board.apps has.0 x = subst (IsApp board.apps has.0) has.2 (IsApp-at board.apps has.0 x sound.set.numbers has.1) in
+    taken-within board.nic x _ _ (sound.relayed.relayed has.0 x it)
 
 if-true : (c : Bool) (t u : List ℕ) → c ≡ true → (if c then [] else t) ≡ (if c then [] else u)
 if-true true t u e = refl
 if-true false t u e = absurd (let none : ⊥ = cc in none)
 
 -- a split note with its piece
-pub IsSound-sent : (board : Board) (a : ℕ) (x : AppSide) (note : Note) (bytes : List ℕ) → IsSound board → IsApp board.apps a x → HasPiece board.nic.view note.place → note.split ≡ true → IsSound (record {
+pub IsSound-sent : (board : Board) (a : ℕ) (x : AppSide) (note : Note) (bytes : List ℕ) → IsSound board → IsApp board.apps a x → IsOpen board.nic.view → HasPiece board.nic.view note.place → IsSplitNote note → IsSound (record {
   arrays = record board.arrays { notes = set board.arrays.notes a (pushed (get_or board.arrays.notes a (buffer [] 0)) (record { note = note; bytes = bytes })) };
   nic = nic_at board.nic (sent board.nic.view a note);
   apps = board.apps;
 })
-IsSound-sent board a x note bytes sound here out split =
+IsSound-sent board a x note bytes sound here running out fields =
+    let split = fields.split in
     let v = sent board.nic.view a note in
     let s : SentNote = record { app = a; note = note; bytes = text_at board.nic.view note.place } in
     let within : length x.view.taken ≤ length (sent_to a board.nic) =
@@ -120,18 +144,23 @@ IsSound-sent board a x note bytes sound here out split =
     refl
     (ap (λ t. record { note = note; bytes = t }) (if-true note.split (take note.total bytes) s.bytes split))
     (λ b. pool_count-sent b board.nic board.apps a note x out split sound.set.numbers here within)
+    running
+    (record { split = λ _. fields; linear = λ not_split. absurd (false≢true (sym not_split ∙ split)) })
+    (λ b. IsFilledByOne-sent b board.nic board.apps a note x out split sound.set.numbers here within (sound.by_one b))
+    (AreShown-sent (byte_of board.arrays) board.nic board.apps a note x out split sound.set.numbers here (taken-few board sound) sound.shown)
 
 if-false : (c : Bool) (t u : List ℕ) → c ≡ false → t ≡ u → (if c then [] else t) ≡ (if c then [] else u)
 if-false true t u e same = absurd (let none : ⊥ = cc in none)
 if-false false t u e same = same
 
 -- a note in which its bytes travel
-pub IsSound-sent_linear : (board : Board) (a : ℕ) (x : AppSide) (note : Note) (room bytes : List ℕ) → IsSound board → IsApp board.apps a x → note.split ≡ false → take note.total room ≡ bytes → IsSound (record {
+pub IsSound-sent_linear : (board : Board) (a : ℕ) (x : AppSide) (note : Note) (room bytes : List ℕ) → IsSound board → IsApp board.apps a x → IsOpen board.nic.view → IsLinearNote note → note.total ≡ length bytes → take note.total room ≡ bytes → IsSound (record {
   arrays = record board.arrays { notes = set board.arrays.notes a (pushed (get_or board.arrays.notes a (buffer [] 0)) (record { note = note; bytes = room })) };
   nic = nic_at board.nic (sent_linear board.nic.view a note bytes);
   apps = board.apps;
 })
-IsSound-sent_linear board a x note room bytes sound here split travels =
+IsSound-sent_linear board a x note room bytes sound here running fields many travels =
+    let split = fields.split in
     let v = sent_linear board.nic.view a note bytes in
     let s : SentNote = record { app = a; note = note; bytes = bytes } in
     let within : length x.view.taken ≤ length (sent_to a board.nic) =
@@ -141,3 +170,7 @@ IsSound-sent_linear board a x note room bytes sound here split travels =
     refl
     (ap (λ t. record { note = note; bytes = t }) (if-false note.split (take note.total room) bytes split travels))
     (λ b. pool_count-sent_linear b board.nic board.apps a note bytes x split sound.set.numbers here within)
+    running
+    (record { split = λ is_split. absurd (false≢true (sym split ∙ is_split)); linear = λ _. (fields, sym many) })
+    (λ b. IsFilledByOne-sent_linear b board.nic board.apps a note bytes x split sound.set.numbers here within (sound.by_one b))
+    (AreShown-sent_linear (byte_of board.arrays) board.nic board.apps a note bytes x split sound.set.numbers here (taken-few board sound) sound.shown)

@@ -1,7 +1,8 @@
 -- A board that was just opened.
-use Rattle.std.proofs.Common.{◌≡◌, ℕ, zero, suc, ◌+◌, ◌*◌, ◌<◌, ◌≤◌, Bool, true, false, [], ◌∷◌, ◌++◌, length, map, get_or, replicate, refl, ap, sym, ◌∙◌, subst, arith, add-zero}
+use Rattle.std.proofs.Common.{◌≡◌, ℕ, zero, suc, ◌*◌, ◌<◌, ◌≤◌, Bool, true, false, List, [], ◌∷◌, length, map, get_or, replicate, refl, ap, sym, ◌∙◌, subst, arith}
 use Rattle.std.specs.Prelude.{nat_eq, count_by, ◌==◌, if◌then◌else◌, All}
 use Rattle.std.specs.List.{flat_map}
+use Rattle.std.proofs.lemmas.Bool.{false≢true}
 use Rattle.std.proofs.lemmas.List.{length-replicate, get_or-replicate}
 use Rattle.std.proofs.Math.ListN.{get_or-eq_default}
 use Rattle.std.proofs.lemmas.List.Elements.{All-nil, All-cons, All-replicate}
@@ -16,15 +17,15 @@ use Rattle.board_face.specs.declared.views.parts.Setting.{Setting}
 use Rattle.board_face.specs.declared.views.app.AppSide.{AppSide}
 use Rattle.board_face.proofs.Parts.{app_count, user_part, pool_count-parts, user_count-parts}
 use Rattle.board_face.proofs.Tallies.{weight, total as sum_of}
+use Rattle.board_face.proofs.OpenedLemmas.{IsNew, FillingsFit-opened, IsFilledByOne-opened, AreShown-opened}
 use Rattle.zr_kinds.specs.declared.ring.Rqe.{Rqe}
-use Rattle.plain_board.specs.declared.slots.NoteSlot.{NoteSlot}
-use Rattle.plain_board.specs.Returns.{AreReturns}
-use Rattle.plain_board.specs.Board.{Board, new_apps, new_board, listed_in, user_at}
-use Rattle.plain_board.specs.Sound.{IsSound, IsAtRest}
-
-pub new_apps-push : (s : Setting) (first n : ℕ) → new_apps s first (suc n) ≡ new_apps s first n ++ new_app s (first + n) ∷ []
-new_apps-push s first zero = rw (add-zero first) refl
-new_apps-push s first (suc n) = let next : first + suc n ≡ suc first + n = omega arith in rw next (ap (λ apps. new_app s first ∷ apps) (new_apps-push s (suc first) n))
+use Rattle.plain_parts.specs.declared.slots.NoteSlot.{NoteSlot}
+use Rattle.plain_board.specs.Returns.{AreReturns, entries_on_way, loans_out, reach_of}
+use Rattle.plain_parts.specs.Opened.{new_apps}
+use Rattle.plain_parts.specs.Free.{listed_in}
+use Rattle.plain_parts.specs.Counts.{user_at}
+use Rattle.plain_board.specs.Board.{Board, new_board, byte_of}
+use Rattle.plain_board.specs.Sound.{IsSound, IsAtRest, IsProper, IsPhased}
 
 pub length-new_apps : (s : Setting) (first n : ℕ) → length (new_apps s first n) ≡ n
 length-new_apps s first zero = refl
@@ -94,6 +95,15 @@ module _ (layout : Shape) (places : ℕ) (good : IsLayout layout) (some : 1 ≤ 
   slots-new : {X : Type 0} (a : ℕ) → a < layout.reserves → (get_or (replicate layout.reserves (buffer {X = X} [] places)) a (buffer [] 0)).items ≡ []
   slots-new {X} a within = ap (λ (ring : Buffer X). ring.items) (get_or-replicate layout.reserves a (buffer [] places) (buffer [] 0) within)
 
+  abbrev apps : List AppSide
+  apps = new_apps s 0 layout.reserves
+
+  news : All (IsNew s) apps
+  news = All-new (IsNew s) s 0 layout.reserves (λ a. refl)
+
+  abbrev AreLengths : AppSide → Type 0
+  AreLengths app = All (λ own. get_or (new_board layout places).arrays.filled own.own.buffer 0 ≡ length own.bytes) app.view.owns
+
   pub IsSound-new : IsSound (new_board layout places)
   IsSound-new = record {
     sizes = record {
@@ -106,6 +116,9 @@ module _ (layout : Shape) (places : ℕ) (good : IsLayout layout) (some : 1 ≤ 
       cache = omega arith;
       notes = length-replicate layout.reserves _;
       refills = length-replicate layout.reserves _;
+      loans = length-replicate (layout.reserves * total layout) 0;
+      filled = length-replicate (total layout) 0;
+      raw = length-replicate layout.reserves 0;
       left = length-replicate layout.reserves false;
     };
     cached = refl;
@@ -132,7 +145,7 @@ module _ (layout : Shape) (places : ℕ) (good : IsLayout layout) (some : 1 ≤ 
       notes = All-replicate (λ (ring : Buffer NoteSlot). ring.capacity ≡ places) layout.reserves _ refl;
       refills = All-replicate (λ (ring : Buffer Rqe). ring.capacity ≡ places) layout.reserves _ refl;
     };
-    returns = λ a app here. subst (AreReturns (new_nic s)) here.is (All-new (AreReturns (new_nic s)) s 0 layout.reserves (λ n. record { owed = λ b. omega arith; clear = λ b. tt; named = All-nil _; settled = λ e. All-nil _; strays = All-nil _ }) a app here.there);
+    returns = λ a app here. subst (AreReturns (new_nic s)) here.is (All-new (AreReturns (new_nic s)) s 0 layout.reserves (λ n. record { owed = λ b. omega arith; clear = λ b. tt; named = All-nil _; settled = λ e. All-nil _; quiet = λ e. refl; strays = All-nil _ }) a app here.there);
     flags = record { ended = refl; left = left-new s 0 layout.reserves };
     kept = record {
       kept = λ b within. omega (arith, listed-new b within);
@@ -142,7 +155,27 @@ module _ (layout : Shape) (places : ℕ) (good : IsLayout layout) (some : 1 ≤ 
       picked = All-new (λ app. length app.view.picked ≤ app.view.spares) s 0 layout.reserves (λ a. omega arith);
       spares = All-new (λ app. app.view.spares ≤ unsplit_bytes (map (λ t. t.note) app.view.taken)) s 0 layout.reserves (λ a. omega arith);
     };
-    filled = record { pool = All-nil _; sizes = All-nil _ };
+    filled = FillingsFit-opened s apps news;
+    by_one = λ b. IsFilledByOne-opened b s apps news;
+    shown = AreShown-opened (byte_of (new_board layout places).arrays) s apps news;
+    notes = All-nil IsProper;
+    booked = record {
+      loans = λ a b app here within. zeros (layout.reserves * total layout) (user_at layout a b) 0
+          ∙ subst (λ x. 0 ≡ loans_out b x) here.is (All-new (λ x. 0 ≡ loans_out b x) s 0 layout.reserves (λ n. refl) a app here.there);
+      filled = λ a app here. subst AreLengths here.is (All-new AreLengths s 0 layout.reserves (λ n. All-nil _) a app here.there);
+      raw = λ a app here. zeros layout.reserves a 0
+          ∙ subst (λ x. 0 ≡ reach_of (entries_on_way (new_nic s) x)) here.is (All-new (λ x. 0 ≡ reach_of (entries_on_way (new_nic s) x)) s 0 layout.reserves (λ n. refl) a app here.there);
+    };
+    phased = record {
+      card = λ e. absurd (false≢true e);
+      sides = All-new (IsPhased (new_nic s)) s 0 layout.reserves
+          (λ n. record {
+            ended = λ e. absurd (false≢true e);
+            unscrubbed = λ _ b. zeros (total layout) b 0;
+            scrubbed = λ e. absurd (false≢true e);
+            left = λ e. absurd (false≢true e);
+          });
+    };
   }
 
 -- the same of lists that are made by lengths which turn out to be right

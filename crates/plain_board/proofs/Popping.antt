@@ -1,5 +1,5 @@
 -- An entry leaves its slot.
-use Rattle.std.proofs.Common.{◌≡◌, ℕ, ◌<◌, List, [], ◌∷◌, ◌++◌, length, map, drop, set, get_or, refl, ap, sym, ◌∙◌, subst, arith, ⊎_elim, Some, None}
+use Rattle.std.proofs.Common.{◌≡◌, ℕ, ◌-◌, ◌<◌, List, [], ◌∷◌, ◌++◌, length, map, drop, set, get_or, refl, ap, sym, ◌∙◌, subst, arith, ⊎_elim, Some, None}
 use Rattle.std.specs.Prelude.{◌≢◌, slice_get}
 use Rattle.std.proofs.lemmas.List.{set-get_or, get_or_default, get_or-set_same, get_or-set_other}
 use Rattle.std.proofs.lemmas.List.Elements.{All-set}
@@ -13,8 +13,10 @@ use Rattle.board_face.specs.declared.views.nic.NicView.{NicView}
 use Rattle.board_face.specs.declared.views.app.AppSide.{AppSide}
 use Rattle.board_face.proofs.RelayLemmas.{Relayed-dealt, Relayed-dealt_other}
 use Rattle.plain_board.specs.Board.{Arrays, Board}
-use Rattle.plain_board.specs.Returns.{popped}
-use Rattle.plain_board.specs.Sound.{IsSound, AreRelayed, refills_of, notes_of, taken_of}
+use Rattle.plain_parts.specs.Rings.{popped}
+use Rattle.plain_board.specs.Returns.{entries_on_way, reach_of}
+use Rattle.plain_board.specs.Sound.{IsSound, AreRelayed, AreBooked, refills_of, notes_of, taken_of}
+use Rattle.plain_board.proofs.Dealing.{HasFront, dealt-same, way-after, reach-popped}
 
 pub same-app : (apps : List AppSide) (a : ℕ) (x y : AppSide) → IsApp apps a x → IsApp apps a y → y ≡ x
 same-app apps a x y one other = sym other.is ∙ (get_or_default apps a y x one.there ∙ one.is)
@@ -51,6 +53,31 @@ module _ (board : Board) (a : ℕ) (x : AppSide) (e : Rqe) (es : List Rqe) (soun
         (eqb_tells k a);
     notes = rw (notes, places) sound.relayed.notes;
     refills = rw (refills, places) (All-set (λ ring. ring.capacity ≡ board.arrays.places) board.arrays.refills a (ring_then board a) (sound.relayed.refills a (buffer [] 0) ring_there) sound.relayed.refills);
+  }
+
+  raw_there : a < length board.arrays.raw
+  raw_there = let h = here.there in let many = sound.set.many in let size = sound.sizes.raw in omega arith
+
+  -- the last raw entry lies one less far back
+  pub AreBooked-popped : (now : Arrays) → now.layout ≡ board.arrays.layout → now.loans ≡ board.arrays.loans → now.filled ≡ board.arrays.filled → now.raw ≡ set board.arrays.raw a (get_or board.arrays.raw a 0 - 1) → HasFront board.nic x d.entry
+      → AreBooked now (nic_at board.nic v) board.apps
+  AreBooked-popped now layout loans filled raw front = record {
+    loans = λ k b app it within. rw (loans, layout) (sound.booked.loans k b app it (rw (← layout) within));
+    filled = λ k app it. rw filled (sound.booked.filled k app it);
+    raw = λ k y it. ⊎_elim
+        (λ t. let same : k ≡ a = t.1 in
+        let is : y ≡ x = same-app board.apps a x y here (subst (λ n. IsApp board.apps n y) same it) in
+        let less : get_or now.raw k 0 ≡ get_or board.arrays.raw a 0 - 1 =
+        ap (λ counts. get_or counts k 0) raw
+        ∙ (ap (λ n. get_or (set board.arrays.raw a (get_or board.arrays.raw a 0 - 1)) n 0) same ∙ get_or-set_same board.arrays.raw a (get_or board.arrays.raw a 0 - 1) 0 raw_there) in
+        let was : get_or board.arrays.raw a 0 ≡ reach_of (front.first ∷ front.others) = sound.booked.raw a x here ∙ ap reach_of front.way in
+        subst (λ app. get_or now.raw k 0 ≡ reach_of (entries_on_way (nic_at board.nic v) app)) (sym is)
+        (less ∙ (ap (λ n. n - 1) was ∙ (reach-popped front.first front.others ∙ sym (ap reach_of (way-after board.nic v x d deals front (mine ∙ sym here.number)))))))
+        (λ t. let ne : k ≢ a = t.1 in
+        let rest : get_or now.raw k 0 ≡ get_or board.arrays.raw k 0 = ap (λ counts. get_or counts k 0) raw ∙ get_or-set_other board.arrays.raw a k (get_or board.arrays.raw a 0 - 1) 0 ne in
+        let others = dealt-same board.nic v y.view.app d deals (λ same. other-number board.apps a k y it ne (sym same ∙ mine)) in
+        rest ∙ rw others (sound.booked.raw k y it))
+        (eqb_tells k a);
   }
 
 -- ---- the front of a ring

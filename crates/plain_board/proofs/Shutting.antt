@@ -5,21 +5,23 @@ use Rattle.std.proofs.lemmas.List.{length-set}
 use Rattle.std.proofs.lemmas.Bool.{lt-ltb}
 use Rattle.area_layout.specs.Layout.{pool_buffers, total}
 use Rattle.board_face.specs.NicEvents.{shut}
-use Rattle.board_face.specs.NicCalls.{HasOwn}
-use Rattle.board_face.specs.Tokens.{same_filling}
+use Rattle.board_face.specs.NicCalls.{IsOpen, HasOwn}
 use Rattle.board_face.specs.Sides.{nic_at}
 use Rattle.board_face.specs.Counts.{pool_count}
 use Rattle.board_face.specs.FreeOnce.{free_places}
 use Rattle.board_face.specs.declared.views.parts.Filling.{Filling}
 use Rattle.board_face.proofs.NicLemmas.{pool_count-shut}
 use Rattle.board_face.proofs.ListLemmas.{not-eqb}
+use Rattle.board_face.proofs.FitLemmas.{FillingsFit-shut}
+use Rattle.board_face.proofs.FilledLemmas.{IsFilledByOne-shut}
+use Rattle.board_face.proofs.AreShownLemmas.{AreShown-shut}
 use Rattle.board_face.proofs.Tallies.{weight}
-use Rattle.plain_board.specs.Board.{Board, listed_in}
+use Rattle.plain_parts.specs.Free.{listed_in}
+use Rattle.plain_board.specs.Board.{Board, byte_of}
 use Rattle.plain_board.specs.Sound.{IsSound}
-use Rattle.plain_board.proofs.Lists.{weight-none, weight-same, weight-other, same-or-other, All-without}
+use Rattle.plain_board.proofs.Lists.{weight-none, weight-same, weight-other, same-or-other}
 use Rattle.plain_board.proofs.Freeing.{and-true, All-at, cache_after, listed_after, places-after, cache-grows, cache-short, length-listed_after, once-freed}
-use Rattle.plain_board.proofs.Card.{IsSet-nic, AreCounted-nic, AreRelayed-nic, AreReturns-nic}
-use Rattle.plain_board.proofs.Taking.{IsOfPool, HasSize}
+use Rattle.plain_board.proofs.Card.{IsSet-nic, AreCounted-nic, AreRelayed-nic, AreReturns-nic, AreBooked-nic, ArePhased-open}
 
 -- a buffer with a holder stands in no free place
 pub used-nowhere : (p f : ℕ) → f ≡ (if p == 0 then 1 else 0) → 0 < p → f ≡ 0
@@ -33,17 +35,17 @@ outside true f w empty none = omega arith
 outside false f w empty none = omega arith
 
 module _ (board : Board) (own : Filling) (sound : IsSound board) (out : HasOwn board.nic.view own) where
+  pools : pool_buffers board.nic.view.setting.layout ≡ pool_buffers board.arrays.layout
+  pools = ap (λ s. pool_buffers s.layout) sound.set.card
+
   pub of_pool : own.buffer < pool_buffers board.arrays.layout
-  of_pool = All-at (IsOfPool board.arrays.layout) board.nic.view.owns own sound.filled.pool out
+  of_pool = rw (← pools) (All-at (λ (o : Filling). o.buffer < pool_buffers board.nic.view.setting.layout) board.nic.view.owns own sound.filled.of_pool out)
 
   pub less : (last : Bool) (b : ℕ) → pool_count b (nic_at board.nic (shut board.nic.view own last)) board.apps + weight (own.buffer == b) ≡ pool_count b board.nic board.apps
   less last b = pool_count-shut b board.nic board.apps own last out
 
   pub is_held : 0 < get_or board.arrays.pool own.buffer 0
   is_held = omega (arith, less false own.buffer, weight-same own.buffer, sound.counted.pool own.buffer (let p = of_pool in omega arith))
-
-  pools : pool_buffers board.nic.view.setting.layout ≡ pool_buffers board.arrays.layout
-  pools = ap (λ s. pool_buffers s.layout) sound.set.card
 
   nowhere : free_places (listed_in board.arrays.listed) own.buffer board.nic board.apps ≡ 0
   nowhere =
@@ -74,7 +76,7 @@ module _ (board : Board) (own : Filling) (sound : IsSound board) (out : HasOwn b
         ap (λ cache. count_by (nat_eq b) (cache_after (came last) cache own.buffer)) sound.cached,
       )
 
-  pub IsSound-shut : (n : ℕ) (last : Bool) → n ≡ get_or board.arrays.pool own.buffer 0 - 1 → came last ≡ (n == 0) → IsSound (record {
+  pub IsSound-shut : IsOpen board.nic.view → (n : ℕ) (last : Bool) → n ≡ get_or board.arrays.pool own.buffer 0 - 1 → came last ≡ (n == 0) → IsSound (record {
     arrays = record board.arrays {
       pool = set board.arrays.pool own.buffer n;
       cache = cache_after (came last) board.arrays.cache own.buffer;
@@ -83,7 +85,7 @@ module _ (board : Board) (own : Filling) (sound : IsSound board) (out : HasOwn b
     nic = nic_at board.nic (shut board.nic.view own last);
     apps = board.apps;
   })
-  IsSound-shut n last many is =
+  IsSound-shut running n last many is =
       let p = of_pool in
       let there : own.buffer < total board.arrays.layout = omega arith in
       let now : n ≡ pool_count own.buffer (nic_at board.nic (shut board.nic.view own last)) board.apps = omega (arith, less last own.buffer, weight-same own.buffer, sound.counted.pool own.buffer there) in
@@ -98,6 +100,9 @@ module _ (board : Board) (own : Filling) (sound : IsSound board) (out : HasOwn b
           cache = cache-short (came last) board.arrays.cache own.buffer sound.sizes.cache;
           notes = sound.sizes.notes;
           refills = sound.sizes.refills;
+          loans = sound.sizes.loans;
+          filled = sound.sizes.filled;
+          raw = sound.sizes.raw;
           left = sound.sizes.left;
         };
         cached = ap (λ cache. cache_after (came last) cache own.buffer) sound.cached;
@@ -124,8 +129,10 @@ module _ (board : Board) (own : Filling) (sound : IsSound board) (out : HasOwn b
           swept = λ b within gone. omega (arith, sound.kept.swept b within gone, cache-grows (came last) board.nic.view.cache own.buffer b);
         };
         due = sound.due;
-        filled = record {
-          pool = All-without (IsOfPool board.arrays.layout) (same_filling own) board.nic.view.owns sound.filled.pool;
-          sizes = All-without (HasSize board.arrays.layout) (same_filling own) board.nic.view.owns sound.filled.sizes;
-        };
+        filled = FillingsFit-shut board.nic board.apps own last sound.filled;
+        by_one = λ b. IsFilledByOne-shut b board.nic board.apps own last out (sound.by_one b);
+        shown = AreShown-shut (byte_of board.arrays) board.nic board.apps own last sound.shown;
+        notes = sound.notes;
+        booked = AreBooked-nic board.arrays _ board.nic (shut board.nic.view own last) board.apps refl refl refl refl refl sound.booked;
+        phased = ArePhased-open board.nic (shut board.nic.view own last) board.apps running refl refl sound.phased;
       }

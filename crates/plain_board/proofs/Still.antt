@@ -6,15 +6,20 @@ use Rattle.board_face.specs.declared.views.nic.NicLook.{NicLook}
 use Rattle.board_face.specs.declared.views.nic.NicLook.TheVariants.{NotLeft}
 use Rattle.board_face.specs.Sides.{nic_at}
 use Rattle.board_face.specs.Counts.{pool_count}
+use Rattle.board_face.specs.NicCalls.{HasNoToken}
 use Rattle.board_face.specs.declared.views.nic.NicView.{NicView}
 use Rattle.board_face.specs.declared.views.nic.NicSide.{NicSide}
 use Rattle.board_face.specs.declared.views.app.AppSide.{AppSide}
 use Rattle.board_face.proofs.NicLemmas.{pool_count-nic}
 use Rattle.board_face.proofs.FreeLemmas.{free_places-nic}
 use Rattle.board_face.proofs.Parts.{nic_count}
-use Rattle.plain_board.specs.Board.{Board, listed_in}
+use Rattle.board_face.proofs.FitLemmas.{FillingsFit-nic}
+use Rattle.board_face.proofs.FilledLemmas.{IsFilledByOne-nic}
+use Rattle.board_face.proofs.AreShownLemmas.{AreShown-nic}
+use Rattle.plain_parts.specs.Free.{listed_in}
+use Rattle.plain_board.specs.Board.{Board, byte_of}
 use Rattle.plain_board.specs.Sound.{IsSound}
-use Rattle.plain_board.proofs.Card.{IsSet-nic, AreCounted-same, AreRelayed-nic, AreReturns-nic}
+use Rattle.plain_board.proofs.Card.{IsSet-nic, AreCounted-same, AreRelayed-nic, AreReturns-nic, AreBooked-nic, ArePhased-nic}
 
 -- no more changed than what was seen, and whether the card ended
 pub record IsStill (old new : NicView) : Type 0 where
@@ -32,8 +37,8 @@ pool_count-still b nic v apps still =
     let same : nic_count b (nic_at nic v) ≡ nic_count b nic = rw (still.owns, still.pieces) refl in
     omega (arith, pool_count-nic b nic v apps still.sent still.dealt)
 
-pub IsSound-still : (board : Board) (v : NicView) → IsSound board → IsStill board.nic.view v → IsSound (record { arrays = record board.arrays { ended = v.ended }; nic = nic_at board.nic v; apps = board.apps })
-IsSound-still board v sound still = record {
+pub IsSound-still : (board : Board) (v : NicView) → IsSound board → IsStill board.nic.view v → (board.nic.view.ended ≡ true → v.ended ≡ true) → (v.ended ≡ true → HasNoToken v) → IsSound (record { arrays = record board.arrays { ended = v.ended }; nic = nic_at board.nic v; apps = board.apps })
+IsSound-still board v sound still ends none = record {
   sizes = record {
     layout = sound.sizes.layout;
     places = sound.sizes.places;
@@ -44,6 +49,9 @@ IsSound-still board v sound still = record {
     cache = sound.sizes.cache;
     notes = sound.sizes.notes;
     refills = sound.sizes.refills;
+    loans = sound.sizes.loans;
+    filled = sound.sizes.filled;
+    raw = sound.sizes.raw;
     left = sound.sizes.left;
   };
   cached = sound.cached ∙ sym still.cache;
@@ -62,22 +70,28 @@ IsSound-still board v sound still = record {
     swept = λ b within gone. rw (still.cache, still.used) (sound.kept.swept b (rw (← still.setting) within) (rw (← still.swept) gone));
   };
   due = sound.due;
-  filled = record { pool = rw still.owns sound.filled.pool; sizes = rw still.owns sound.filled.sizes };
+  filled = FillingsFit-nic board.nic v board.apps still.setting still.owns sound.filled;
+  by_one = λ b. IsFilledByOne-nic b board.nic v board.apps still.setting still.owns still.pieces still.sent still.dealt (sound.by_one b);
+  shown = AreShown-nic (byte_of board.arrays) board.nic v board.apps still.setting still.owns still.pieces still.sent still.dealt sound.shown;
+  notes = rw still.sent sound.notes;
+  booked = AreBooked-nic board.arrays _ board.nic v board.apps still.dealt refl refl refl refl sound.booked;
+  phased = ArePhased-nic board.nic v board.apps still.sent still.dealt ends none sound.phased;
 }
 
 -- the same where the card didn't end
 pub IsSound-seen : (board : Board) (v : NicView) → IsSound board → IsStill board.nic.view v → v.ended ≡ board.nic.view.ended → IsSound (record { arrays = board.arrays; nic = nic_at board.nic v; apps = board.apps })
 IsSound-seen board v sound still same =
     let now : v.ended ≡ board.arrays.ended = same ∙ sym sound.flags.ended in
-    subst (λ ended. IsSound (record { arrays = record board.arrays { ended = ended }; nic = nic_at board.nic v; apps = board.apps })) now (IsSound-still board v sound still)
+    let none : v.ended ≡ true → HasNoToken v = λ e. let h = sound.phased.card (sym same ∙ e) in record { owns = still.owns ∙ h.owns; pieces = still.pieces ∙ h.pieces } in
+    subst (λ ended. IsSound (record { arrays = record board.arrays { ended = ended }; nic = nic_at board.nic v; apps = board.apps })) now (IsSound-still board v sound still (λ e. same ∙ e) none)
 
 -- ---- the events
 
 pub still : (v : NicView) (ended : Bool) (gone : List ℕ) (looks : List NicLook) → IsStill v (record v { ended = ended; gone = gone; looks = looks })
 still v ended gone looks = record { setting = refl; cache = refl; swept = refl; used = refl; owns = refl; pieces = refl; sent = refl; dealt = refl }
 
-pub IsSound-ended : (board : Board) → IsSound board → IsSound (record { arrays = record board.arrays { ended = true }; nic = nic_at board.nic (nic_ended board.nic.view); apps = board.apps })
-IsSound-ended board sound = IsSound-still board (nic_ended board.nic.view) sound (still board.nic.view true board.nic.view.gone board.nic.view.looks)
+pub IsSound-ended : (board : Board) → IsSound board → HasNoToken board.nic.view → IsSound (record { arrays = record board.arrays { ended = true }; nic = nic_at board.nic (nic_ended board.nic.view); apps = board.apps })
+IsSound-ended board sound none = IsSound-still board (nic_ended board.nic.view) sound (still board.nic.view true board.nic.view.gone board.nic.view.looks) (λ e. refl) (λ e. record { owns = none.owns; pieces = none.pieces })
 
 pub IsSound-saw : (board : Board) (look : NicLook) → IsSound board → IsSound (record { arrays = board.arrays; nic = nic_at board.nic (nic_saw board.nic.view look); apps = board.apps })
 IsSound-saw board look sound = IsSound-seen board (nic_saw board.nic.view look) sound (still board.nic.view board.nic.view.ended board.nic.view.gone (look ∷ board.nic.view.looks)) refl

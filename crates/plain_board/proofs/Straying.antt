@@ -1,5 +1,5 @@
 -- An entry is a stray.
-use Rattle.std.proofs.Common.{◌≡◌, ℕ, ◌+◌, ◌≤◌, true, false, List, [], ◌∷◌, ◌++◌, length, set, get_or, refl, ap, sym, ◌∙◌, subst, arith, ⊎_elim, Option, Some, None}
+use Rattle.std.proofs.Common.{◌≡◌, ℕ, ◌+◌, ◌-◌, ◌≤◌, true, false, List, [], ◌∷◌, ◌++◌, length, set, get_or, refl, ap, sym, ◌∙◌, subst, arith, ⊎_elim, Option, Some, None}
 use Rattle.std.specs.Prelude.{◌≢◌, count_by, ◌==◌, if◌then◌else◌, IsSome, IfSome}
 use Rattle.std.proofs.lemmas.List.{length-set}
 use Rattle.std.proofs.lemmas.List.Elements.{All-head, All-weaker}
@@ -23,15 +23,20 @@ use Rattle.board_face.specs.declared.views.app.AppSide.{AppSide}
 use Rattle.board_face.proofs.ListLemmas.{eqb_same, not-eqb}
 use Rattle.board_face.proofs.NicLemmas.{pool_count-passed_over, user_count-passed_over, ended_in-passed_over}
 use Rattle.board_face.proofs.FreeLemmas.{user_count-le}
+use Rattle.board_face.proofs.FitLemmas.{FillingsFit-nic}
+use Rattle.board_face.proofs.FilledLemmas.{IsFilledByOne-passed_over}
+use Rattle.board_face.proofs.AreShownLemmas.{AreShown-passed_over}
 use Rattle.board_face.proofs.Parts.{user_part, user_count-parts, total-only, loans_in, owed_count}
 use Rattle.board_face.proofs.Tallies.{weight}
-use Rattle.plain_board.specs.Board.{Board, user_at}
+use Rattle.plain_parts.specs.Counts.{user_at}
+use Rattle.plain_board.specs.Board.{Board, byte_of}
 use Rattle.plain_board.specs.Returns.{AreReturns, returns, is_some_of, IsNamed}
 use Rattle.plain_board.specs.Sound.{IsSound, refills_of}
 use Rattle.plain_board.proofs.Lists.{true-or-false}
 use Rattle.plain_board.proofs.Card.{IsSet-nic}
-use Rattle.plain_board.proofs.Popping.{same-app, other-number, ring_then, AreRelayed-popped}
-use Rattle.plain_board.proofs.Dealing.{HasFront, HasFront-relayed, AreReturns-dealt, AreReturns-other, count-first, length-owed_in}
+use Rattle.plain_board.proofs.Freeing.{All-at}
+use Rattle.plain_board.proofs.Popping.{same-app, other-number, ring_then, AreRelayed-popped, AreBooked-popped}
+use Rattle.plain_board.proofs.Dealing.{HasFront, HasFront-relayed, AreReturns-dealt, AreReturns-other, ArePhased-dealt, count-first, length-owed_in}
 use Rattle.plain_board.proofs.Honouring.{part-none, part-all}
 
 some-of : (o : Option ℕ) → IsSome o → (i : ℕ) × (o ≡ Some i)
@@ -104,7 +109,7 @@ module _ (board : Board) (a : ℕ) (x : AppSide) (e : Rqe) (es : List Rqe) (soun
       AreReturns-other board.nic (passed_over board.nic.view a e) y stray_dealt refl (λ same. other (sym same)) (λ b. ended_in-passed_over b board.nic a e y) (sound.returns k y it))
       (eqb_tells k a)
 
-  pub IsSound-passed_over : IsSound (record { arrays = record board.arrays { refills = set board.arrays.refills a (ring_then board a) }; nic = nic_passed; apps = board.apps })
+  pub IsSound-passed_over : IsSound (record { arrays = record board.arrays { refills = set board.arrays.refills a (ring_then board a); raw = set board.arrays.raw a (get_or board.arrays.raw a 0 - 1) }; nic = nic_passed; apps = board.apps })
   IsSound-passed_over =
       let v = passed_over board.nic.view a e in
       let same : (b : ℕ) → pool_count b nic_passed board.apps ≡ pool_count b board.nic board.apps = λ b. pool_count-passed_over b board.nic board.apps a e in
@@ -119,6 +124,9 @@ module _ (board : Board) (a : ℕ) (x : AppSide) (e : Rqe) (es : List Rqe) (soun
           cache = sound.sizes.cache;
           notes = sound.sizes.notes;
           refills = length-set board.arrays.refills a (ring_then board a) ∙ sound.sizes.refills;
+          loans = sound.sizes.loans;
+          filled = sound.sizes.filled;
+          raw = length-set board.arrays.raw a (get_or board.arrays.raw a 0 - 1) ∙ sound.sizes.raw;
           left = sound.sizes.left;
         };
         cached = sound.cached;
@@ -139,7 +147,12 @@ module _ (board : Board) (a : ℕ) (x : AppSide) (e : Rqe) (es : List Rqe) (soun
         flags = record { ended = sound.flags.ended; left = sound.flags.left };
         kept = record { kept = sound.kept.kept; swept = sound.kept.swept };
         due = sound.due;
-        filled = record { pool = sound.filled.pool; sizes = sound.filled.sizes };
+        filled = FillingsFit-nic board.nic v board.apps refl refl sound.filled;
+        by_one = λ b. IsFilledByOne-passed_over b board.nic board.apps a e (sound.by_one b);
+        shown = AreShown-passed_over (byte_of board.arrays) board.nic board.apps a e (λ b app has. (All-at (EndedWereReturned b board.nic) board.apps app (sound.counted.returned b) has).returning) sound.shown;
+        notes = sound.notes;
+        booked = AreBooked-popped board a x e es sound here found v stray_dealt refl refl refl refl _ refl refl refl refl front;
+        phased = ArePhased-dealt board.nic v board.apps stray_dealt refl refl refl refl refl sound.phased;
       }
 
 -- ---- what the answer says

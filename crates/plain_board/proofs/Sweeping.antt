@@ -13,14 +13,18 @@ use Rattle.board_face.specs.FreeOnce.{free_places}
 use Rattle.area_layout.specs.Layout.{pool_buffers}
 use Rattle.board_face.proofs.NicLemmas.{pool_count-swept}
 use Rattle.board_face.proofs.FreeLemmas.{free_places-swept}
+use Rattle.board_face.proofs.FitLemmas.{FillingsFit-nic}
+use Rattle.board_face.proofs.FilledLemmas.{IsFilledByOne-swept}
+use Rattle.board_face.proofs.AreShownLemmas.{AreShown-swept}
 use Rattle.board_face.proofs.LookLemmas.{NicRose-nic_saw}
 use Rattle.board_face.proofs.Tallies.{weight}
-use Rattle.plain_board.specs.Board.{Board, listed_in}
-use Rattle.plain_board.specs.Free.{listed_from, found_in, word_len, word_end}
+use Rattle.plain_parts.specs.Free.{listed_in}
+use Rattle.plain_board.specs.Board.{Board, byte_of}
+use Rattle.plain_parts.specs.Free.{listed_from, found_in, word_len, word_end}
 use Rattle.plain_board.specs.Sound.{IsSound}
 use Rattle.plain_board.proofs.Lists.{weight-same, weight-other, count-push, count-append}
-use Rattle.plain_board.proofs.Card.{IsSet-nic, AreCounted-same, AreRelayed-nic, AreReturns-nic}
-use Rattle.plain_board.proofs.Moving.{length-listed_from}
+use Rattle.plain_board.proofs.Card.{IsSet-nic, AreCounted-same, AreRelayed-nic, AreReturns-nic, AreBooked-nic, ArePhased-nic}
+use Rattle.plain_parts.proofs.Moving.{length-listed_from}
 
 -- ---- the buffers found
 
@@ -135,6 +139,9 @@ module _ (board : Board) (word : ℕ) (sound : IsSound board) (inside : word < f
           cache = omega (arith, length-append board.arrays.cache found, length-listed_from board.arrays.listed (word_bits * word) (word_len board.arrays.listed word));
           notes = sound.sizes.notes;
           refills = sound.sizes.refills;
+          loans = sound.sizes.loans;
+          filled = sound.sizes.filled;
+          raw = sound.sizes.raw;
           left = sound.sizes.left;
         };
         cached = ap (λ cache. cache ++ found) sound.cached;
@@ -158,7 +165,12 @@ module _ (board : Board) (word : ℕ) (sound : IsSound board) (inside : word < f
               (eqb_tells (b / word_bits) word);
         };
         due = sound.due;
-        filled = record { pool = sound.filled.pool; sizes = sound.filled.sizes };
+        filled = FillingsFit-nic board.nic v board.apps refl refl sound.filled;
+        by_one = λ b. IsFilledByOne-swept b board.nic board.apps word found (sound.by_one b);
+        shown = AreShown-swept (byte_of board.arrays) board.nic board.apps word found sound.shown;
+        notes = sound.notes;
+        booked = AreBooked-nic board.arrays _ board.nic v board.apps refl refl refl refl refl sound.booked;
+        phased = ArePhased-nic board.nic v board.apps refl refl (λ e. e) (λ e. let h = sound.phased.card e in record { owns = h.owns; pieces = h.pieces }) sound.phased;
       }
     where
       free-same : (b : ℕ) → free_places (listed_in listed') b (nic_at board.nic (swept board.nic.view word (found_in board.arrays.listed word))) board.apps ≡ free_places (listed_in board.arrays.listed) b board.nic board.apps

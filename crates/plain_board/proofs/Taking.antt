@@ -2,40 +2,33 @@
 use Rattle.std.proofs.Common.{◌≡◌, ℕ, ◌+◌, ◌-◌, ◌<◌, ◌≤◌, Bool, true, false, [], ◌∷◌, ◌++◌, length, take, set, get_or, refl, ap, sym, ◌∙◌, arith, inl, inr, ⊎_elim, length-take, Some}
 use Rattle.std.specs.Prelude.{nat_eq, count_by, ◌==◌, if◌then◌else◌}
 use Rattle.std.proofs.lemmas.List.{length-set}
-use Rattle.std.proofs.lemmas.List.Elements.{All-push}
-use Rattle.std.proofs.lemmas.Bool.Decides.{eqb_tells}
 use Rattle.std.proofs.lemmas.Bool.{cases_lt}
 use Rattle.circular_buffer.specs.Buffer.{last_item}
-use Rattle.area_layout.specs.Layout.{Shape, pool_buffers, size_of}
+use Rattle.area_layout.specs.Layout.{pool_buffers, size_of}
 use Rattle.board_face.specs.Tokens.{filling}
-use Rattle.board_face.specs.NicEvents.{took, fresh}
-use Rattle.board_face.specs.NicCalls.{HasNothingIn, TookBuffer}
+use Rattle.board_face.specs.NicEvents.{took}
+use Rattle.board_face.specs.NicCalls.{IsOpen, HasNothingIn, TookBuffer}
 use Rattle.board_face.specs.Sides.{nic_at}
 use Rattle.board_face.specs.Counts.{pool_count}
 use Rattle.board_face.specs.FreeOnce.{free_places, AreFreeOnce}
-use Rattle.board_face.specs.declared.views.parts.Filling.{Filling}
 use Rattle.board_face.proofs.NicLemmas.{pool_count-took}
 use Rattle.board_face.proofs.FreeLemmas.{free_places-took}
 use Rattle.board_face.proofs.Parts.{pool_count-parts}
+use Rattle.board_face.proofs.FitLemmas.{FillingsFit-took}
+use Rattle.board_face.proofs.FilledLemmas.{IsFilledByOne-took}
+use Rattle.board_face.proofs.AreShownLemmas.{AreShown-took}
 use Rattle.board_face.proofs.Tallies.{weight}
-use Rattle.plain_board.specs.Board.{Board, listed_in}
+use Rattle.plain_parts.specs.Free.{listed_in}
+use Rattle.plain_board.specs.Board.{Board, byte_of}
 use Rattle.plain_board.specs.Sound.{IsSound}
 use Rattle.plain_board.proofs.Lists.{take-last, once-taken, same-or-other, count-push, weight-same, weight-other, weight-swap, All-none}
-use Rattle.plain_board.proofs.Card.{IsSet-nic, AreCounted-nic, AreRelayed-nic, AreReturns-nic}
-
-abbrev pub IsOfPool : Shape → Filling → Type 0
-IsOfPool layout own = own.buffer < pool_buffers layout
-
-abbrev pub HasSize : Shape → Filling → Type 0
-HasSize layout own = own.size ≡ size_of layout own.buffer
+use Rattle.plain_board.proofs.Freeing.{zero-test}
+use Rattle.plain_board.proofs.Card.{IsSet-nic, AreCounted-nic, AreRelayed-nic, AreReturns-nic, AreBooked-nic, ArePhased-open}
 
 -- how many elements of the free places one count stands for
 free-case : (c : Bool) (f : ℕ) → f ≡ (if c then 1 else 0) → 1 ≤ f → (c ≡ true) × (f ≡ 1)
 free-case true f e some = (refl, e)
 free-case false f e some = absurd (omega (arith, e))
-
-zero-is : (n : ℕ) → (n == 0) ≡ true → n ≡ 0
-zero-is n e = ⊎_elim (λ t. t.1) (λ t. absurd (let no : true ≡ false = cc in cc)) (eqb_tells n 0)
 
 -- The buffer that stands last in the cache is one of the pool, stands there alone, and has no holder.
 pub record IsSpareIn (b : ℕ) (board : Board) : Type 0 where
@@ -61,7 +54,7 @@ module _ (board : Board) (buffer : ℕ) (sound : IsSound board) (found : last_it
       ⊎_elim
       (λ inside. let once = sound.free.pool buffer (rw pools inside) in
       let both = free-case (pool_count buffer board.nic board.apps == 0) (free_places (listed_in board.arrays.listed) buffer board.nic board.apps) once in_cache in
-      let zero_count = zero-is (pool_count buffer board.nic board.apps) both.0 in
+      let zero_count = zero-test (pool_count buffer board.nic board.apps) both.0 in
       record {
         of_pool = inside;
         once = both.1;
@@ -93,12 +86,12 @@ module _ (board : Board) (buffer : ℕ) (sound : IsSound board) (found : last_it
     reserves = λ b past. omega (arith, sound.free.reserves b past, free_places-took (listed_in board.arrays.listed) b board.nic board.apps buffer last);
   }
 
-  pub IsSound-took : IsSound (record {
+  pub IsSound-took : IsOpen board.nic.view → IsSound (record {
     arrays = record board.arrays { pool = set board.arrays.pool buffer (get_or board.arrays.pool buffer 0 + 1); cache = take (length board.arrays.cache - 1) board.arrays.cache };
     nic = nic_at board.nic (took board.nic.view buffer);
     apps = board.apps;
   })
-  IsSound-took = record {
+  IsSound-took running = record {
     sizes = record {
       layout = sound.sizes.layout;
       places = sound.sizes.places;
@@ -109,6 +102,9 @@ module _ (board : Board) (buffer : ℕ) (sound : IsSound board) (found : last_it
       cache = let short = length-take (length board.arrays.cache - 1) board.arrays.cache in omega (arith, sound.sizes.cache);
       notes = sound.sizes.notes;
       refills = sound.sizes.refills;
+      loans = sound.sizes.loans;
+      filled = sound.sizes.filled;
+      raw = sound.sizes.raw;
       left = sound.sizes.left;
     };
     cached = ap (λ cache. take (length cache - 1) cache) sound.cached;
@@ -127,10 +123,12 @@ module _ (board : Board) (buffer : ℕ) (sound : IsSound board) (found : last_it
       swept = λ b within gone. omega (arith, sound.kept.swept b within gone, ap (count_by (nat_eq b)) last, count-push b buffer (took board.nic.view buffer).cache, count-push b buffer board.nic.view.used);
     };
     due = sound.due;
-    filled = record {
-      pool = All-push (IsOfPool board.arrays.layout) board.nic.view.owns (fresh board.nic.view.setting buffer) sound.filled.pool is_spare.of_pool;
-      sizes = All-push (HasSize board.arrays.layout) board.nic.view.owns (fresh board.nic.view.setting buffer) sound.filled.sizes (ap (λ s. s.layout.size) sound.set.card);
-    };
+    filled = FillingsFit-took board.nic board.apps buffer (rw sound.set.card sound.sizes.layout) (rw pools is_spare.of_pool) sound.filled;
+    by_one = λ b. IsFilledByOne-took b board.nic board.apps buffer (let p = is_spare.of_pool in let l = pools in omega arith) is_spare.none (sound.by_one b);
+    shown = AreShown-took (byte_of board.arrays) board.nic board.apps buffer is_spare.none sound.shown;
+    notes = sound.notes;
+    booked = AreBooked-nic board.arrays _ board.nic (took board.nic.view buffer) board.apps refl refl refl refl refl sound.booked;
+    phased = ArePhased-open board.nic (took board.nic.view buffer) board.apps running refl refl sound.phased;
   }
 
   pub TookBuffer-took : TookBuffer board.nic.view (took board.nic.view buffer) (filling buffer 0 (size_of board.arrays.layout buffer))

@@ -1,14 +1,18 @@
 -- The board for one thread as plain data: what each role has done and knows, and the arrays.
-use Rattle.std.specs.Prelude.{◌≡◌, ℕ, zero, suc, ◌*◌, ◌+◌, ◌≤◌, Bool, true, false, List, [], ◌∷◌, replicate, slice_index, slice_index_or}
+use Rattle.std.specs.Prelude.{◌≡◌, ℕ, ◌*◌, ◌+◌, ◌≤◌, Bool, true, false, List, [], replicate, slice_index, slice_index_or, slice_set}
 use Rattle.circular_buffer.specs.Buffer.{Buffer, buffer}
 use Rattle.zr_kinds.specs.declared.ring.Rqe.{Rqe}
 use Rattle.area_layout.specs.Layout.{Shape, pool_buffers, total, begin_of}
-use Rattle.board_face.specs.Opened.{new_nic, new_app}
+use Rattle.board_face.specs.Opened.{new_nic}
 use Rattle.board_face.specs.NicEvents.{cache_room}
 use Rattle.board_face.specs.declared.views.parts.Setting.{Setting}
 use Rattle.board_face.specs.declared.views.nic.NicSide.{NicSide}
 use Rattle.board_face.specs.declared.views.app.AppSide.{AppSide}
-use Rattle.plain_board.specs.declared.slots.NoteSlot.{NoteSlot}
+use Rattle.plain_parts.specs.Blank.{blank_app}
+use Rattle.plain_parts.specs.Free.{listed_in}
+use Rattle.plain_parts.specs.Opened.{new_apps}
+use Rattle.plain_parts.specs.declared.slots.NoteSlot.{NoteSlot}
+use Rattle.plain_board.specs.declared.others.Others.{Others}
 
 -- Counts and flags, and what lies in the area and in the slots.
 pub record Arrays : Type 0 where
@@ -20,6 +24,10 @@ pub record Arrays : Type 0 where
   pub pool : List ℕ
   -- the user counts, those of one application after another
   pub users : List ℕ
+  -- how many loans each application has out in each buffer, in the same order
+  pub loans : List ℕ
+  -- how many bytes the filled spare in a buffer has, where there is one
+  pub filled : List ℕ
   -- whether a pool buffer is on the free list
   pub listed : List Bool
   -- the card's cache, in the order in which buffers entered
@@ -27,6 +35,8 @@ pub record Arrays : Type 0 where
   -- the notes and the refill entries on their way, by application
   pub notes : List (Buffer NoteSlot)
   pub refills : List (Buffer Rqe)
+  -- how many refill entries on their way don't stand behind the last raw one, by application
+  pub raw : List ℕ
   pub ended : Bool
   pub left : List Bool
 
@@ -42,18 +52,34 @@ setting_of arrays = record { layout = arrays.layout; places = arrays.places }
 abbrev pub byte_of : Arrays → ℕ → ℕ → ℕ
 byte_of arrays buffer offset = slice_index arrays.area (begin_of arrays.layout buffer + offset)
 
--- whether a buffer is on the free list
-abbrev pub listed_in : List Bool → ℕ → Bool
-listed_in listed buffer = slice_index_or listed buffer false
+-- the board as an application holds it
+pub record Part : Type 0 where
+  pub board : Board
+  pub app : ℕ
 
--- where the user count of an application for a buffer stands
-abbrev pub user_at : Shape → ℕ → ℕ → ℕ
-user_at layout app buffer = app * total layout + buffer
+-- the side of an application
+abbrev pub side_in : List AppSide → ℕ → AppSide
+side_in apps a = slice_index_or apps a blank_app
 
--- applications that have done nothing, numbered from the first on
-abbrev pub new_apps : Setting → ℕ → ℕ → List AppSide
-new_apps setting first zero = []
-new_apps setting first (suc n) = new_app setting first ∷ new_apps setting (suc first) n
+abbrev pub side_of : Board → ℕ → AppSide
+side_of board a = side_in board.apps a
+
+-- what no call of an application changes: the card's side, those of the other applications, and its own number
+abbrev pub others_of : Board → ℕ → Others
+others_of board a = record { card = board.nic; apps = slice_set board.apps a blank_app; number = a }
+
+-- Where a pool buffer is listed, this is the lowest of those.
+pub record IsLowestFree (arrays : Arrays) (buffer : ℕ) : Type 0 where
+  pub is_listed : (b : ℕ) → listed_in arrays.listed b ≡ true → listed_in arrays.listed buffer ≡ true
+  pub lowest : (b : ℕ) → listed_in arrays.listed b ≡ true → buffer ≤ b
+
+-- No count, no free place and no byte changed.
+pub record IsUntouched (old new : Arrays) : Type 0 where
+  pub area : new.area ≡ old.area
+  pub pool : new.pool ≡ old.pool
+  pub users : new.users ≡ old.users
+  pub listed : new.listed ≡ old.listed
+  pub cache : new.cache ≡ old.cache
 
 -- A board that was just opened: each pool buffer is on the free list, and all else is empty or 0.
 abbrev pub new_board : Shape → ℕ → Board
@@ -64,10 +90,13 @@ new_board layout places = record {
     area = replicate (total layout * layout.size) 0;
     pool = replicate (total layout) 0;
     users = replicate (layout.reserves * total layout) 0;
+    loans = replicate (layout.reserves * total layout) 0;
+    filled = replicate (total layout) 0;
     listed = replicate (pool_buffers layout) true;
     cache = [];
     notes = replicate layout.reserves (buffer [] places);
     refills = replicate layout.reserves (buffer [] places);
+    raw = replicate layout.reserves 0;
     ended = false;
     left = replicate layout.reserves false;
   };

@@ -1,5 +1,6 @@
-pub mod Blank
 pub mod Board
 pub mod Returns
 pub mod Sound
-pub mod Free
+pub mod Seen
+pub mod Finish
+pub mod Lent

@@ -1,6 +1,5 @@
 -- Refill entries on their way, and what they give back.
-use Rattle.std.specs.Prelude.{⊤, ◌≡◌, ℕ, ◌≤◌, Bool, true, false, ◌==◌, if◌then◌else◌, List, [], ◌∷◌, ◌++◌, length, drop, count_by, All, Option, Some, None, IsSome}
-use Rattle.circular_buffer.specs.Buffer.{Buffer, buffer}
+use Rattle.std.specs.Prelude.{⊤, ◌≡◌, ℕ, suc, ◌≤◌, nat_lt, Bool, true, false, not, ◌==◌, if◌then◌else◌, List, [], ◌∷◌, length, drop, count_by, All, Option, Some, None, IsSome}
 use Rattle.area_layout.specs.Layout.{Shape, judged}
 use Rattle.board_face.specs.Holders.{owed_in}
 use Rattle.board_face.specs.Relay.{dealt_entries, HasNoLoanStray}
@@ -28,6 +27,15 @@ returns layout b w = if w.of_loan then names layout b w else false
 abbrev pub loans_out : ℕ → AppSide → ℕ
 loans_out b app = count_by (λ l. l.place.buffer == b) app.view.loans
 
+-- it came from no loan
+abbrev pub is_raw : WrittenEntry → Bool
+is_raw w = not w.of_loan
+
+-- how many entries don't stand behind the last raw one
+abbrev pub reach_of : List WrittenEntry → ℕ
+reach_of [] = 0
+reach_of (w ∷ ws) = if nat_lt 0 (reach_of ws) then suc (reach_of ws) else if w.of_loan then 0 else 1
+
 abbrev pub IsOfLoan : WrittenEntry → Type 0
 IsOfLoan w = w.of_loan ≡ true
 
@@ -47,12 +55,5 @@ pub record AreReturns (nic : NicSide) (app : AppSide) : Type 0 where
   pub clear : (b : ℕ) → IsClear app.view.setting.layout b (loans_out b app) (entries_on_way nic app)
   pub named : All (IsNamed app.view.setting.layout) (entries_on_way nic app)
   pub settled : app.view.settled ≡ true → All IsOfLoan (entries_on_way nic app)
+  pub quiet : app.view.quiet ≡ true → entries_on_way nic app ≡ []
   pub strays : HasNoLoanStray nic app
-
--- the ring without its front
-abbrev pub popped : {X : Type 0} → Buffer X → Buffer X
-popped ring = buffer (drop 1 ring.items) ring.capacity
-
--- the ring with one more behind the others
-abbrev pub pushed : {X : Type 0} → Buffer X → X → Buffer X
-pushed ring x = buffer (ring.items ++ x ∷ []) ring.capacity

@@ -1,23 +1,31 @@
 -- What holds of a board between any two calls: the arrays say what the roles did.
-use Rattle.std.specs.Prelude.{◌≡◌, ℕ, ◌+◌, ◌*◌, ◌/◌, ◌<◌, ◌≤◌, Bool, if◌then◌else◌, List, [], length, map, take, All, nat_eq, count_by, slice_index, slice_index_or}
+use Rattle.std.specs.Prelude.{◌≡◌, ℕ, ◌+◌, ◌*◌, ◌/◌, ◌<◌, ◌≤◌, Bool, true, false, if◌then◌else◌, List, [], length, map, take, All, nat_eq, count_by, slice_index, slice_index_or}
 use Rattle.circular_buffer.specs.Buffer.{buffer}
 use Rattle.zr_kinds.specs.declared.ring.Rqe.{Rqe}
-use Rattle.area_layout.specs.Layout.{Shape, IsLayout, pool_buffers, total, size_of}
+use Rattle.area_layout.specs.Layout.{IsLayout, pool_buffers, total}
 use Rattle.board_face.specs.NicEvents.{word_bits, cache_room}
 use Rattle.board_face.specs.Sides.{IsApp, AreNumbered}
 use Rattle.board_face.specs.Counts.{pool_count, user_count, EndedWereReturned}
 use Rattle.board_face.specs.FreeOnce.{AreFreeOnce}
 use Rattle.board_face.specs.Relay.{Relayed}
-use Rattle.board_face.specs.Texts.{unsplit_bytes}
+use Rattle.board_face.specs.Texts.{unsplit_bytes, IsSplitNote, IsLinearNote}
+use Rattle.board_face.specs.Fillings.{FillingsFit, IsFilledByOne}
+use Rattle.board_face.specs.Shown.{AreShown}
+use Rattle.board_face.specs.Holders.{on_way, owed_in}
+use Rattle.board_face.specs.NicCalls.{HasNoToken}
+use Rattle.board_face.specs.AppCalls.{CanLeave}
 use Rattle.board_face.specs.Used.{picked_buffers, PicksAreGiven}
 use Rattle.board_face.specs.Opened.{new_nic}
 use Rattle.board_face.specs.declared.views.parts.Setting.{Setting}
+use Rattle.board_face.specs.declared.views.nic.SentNote.{SentNote}
 use Rattle.board_face.specs.declared.views.nic.NicSide.{NicSide}
 use Rattle.board_face.specs.declared.views.app.AppSide.{AppSide}
 use Rattle.board_face.specs.declared.views.app.TakenNote.{TakenNote}
-use Rattle.plain_board.specs.declared.slots.NoteSlot.{NoteSlot}
-use Rattle.plain_board.specs.Returns.{AreReturns}
-use Rattle.plain_board.specs.Board.{Arrays, Board, setting_of, listed_in, user_at}
+use Rattle.plain_parts.specs.declared.slots.NoteSlot.{NoteSlot}
+use Rattle.plain_board.specs.Returns.{AreReturns, entries_on_way, loans_out, reach_of}
+use Rattle.plain_parts.specs.Free.{listed_in}
+use Rattle.plain_parts.specs.Counts.{user_at}
+use Rattle.plain_board.specs.Board.{Arrays, Board, setting_of, byte_of}
 
 -- The arrays have an element for each buffer, for each application, or for both.
 pub record HasSizes (arrays : Arrays) : Type 0 where
@@ -30,6 +38,9 @@ pub record HasSizes (arrays : Arrays) : Type 0 where
   pub cache : length arrays.cache ≤ cache_room
   pub notes : length arrays.notes ≡ arrays.layout.reserves
   pub refills : length arrays.refills ≡ arrays.layout.reserves
+  pub loans : length arrays.loans ≡ arrays.layout.reserves * total arrays.layout
+  pub filled : length arrays.filled ≡ total arrays.layout
+  pub raw : length arrays.raw ≡ arrays.layout.reserves
   pub left : length arrays.left ≡ arrays.layout.reserves
 
 -- An application is in the middle of nothing. What a scrub took is all that it keeps beside its view.
@@ -92,10 +103,29 @@ pub record AreDue (apps : List AppSide) : Type 0 where
   pub picked : All PicksAreGiven apps
   pub spares : All (λ app. app.view.spares ≤ unsplit_bytes (map (λ t. t.note) app.view.taken)) apps
 
--- The card fills pool buffers, whose size it knows.
-pub record AreFilled (layout : Shape) (nic : NicSide) : Type 0 where
-  pub pool : All (λ o. o.buffer < pool_buffers layout) nic.view.owns
-  pub sizes : All (λ o. o.size ≡ size_of layout o.buffer) nic.view.owns
+-- a note as it may be sent, with as many bytes as it tells of
+pub record IsProper (s : SentNote) : Type 0 where
+  pub split : s.note.split ≡ true → IsSplitNote s.note
+  pub linear : s.note.split ≡ false → IsLinearNote s.note × (length s.bytes ≡ s.note.total)
+
+-- What the arrays keep beside the counts: the loans that are out, the lengths of filled spares, and how far back the last
+-- raw entry lies.
+pub record AreBooked (arrays : Arrays) (nic : NicSide) (apps : List AppSide) : Type 0 where
+  pub loans : (a b : ℕ) (app : AppSide) → IsApp apps a app → b < total arrays.layout → slice_index arrays.loans (user_at arrays.layout a b) ≡ loans_out b app
+  pub filled : (a : ℕ) (app : AppSide) → IsApp apps a app → All (λ s. slice_index arrays.filled s.own.buffer ≡ length s.bytes) app.view.owns
+  pub raw : (a : ℕ) (app : AppSide) → IsApp apps a app → slice_index arrays.raw a ≡ reach_of (entries_on_way nic app)
+
+-- How far an application has come. Once it was told the end, the card has ended and no note is on its way. Until its scrub
+-- none of its user references was taken by one, and then it has no loan and owes none. When it left it could leave.
+pub record IsPhased (nic : NicSide) (app : AppSide) : Type 0 where
+  pub ended : app.view.ended ≡ true → (nic.view.ended ≡ true) × (on_way nic app ≡ [])
+  pub unscrubbed : app.view.scrubbed ≡ false → (b : ℕ) → slice_index app.inside.scrub_took b ≡ 0
+  pub scrubbed : app.view.scrubbed ≡ true → (app.view.loans ≡ []) × ((b : ℕ) → length (owed_in b nic app) ≡ 0)
+  pub left : app.view.left ≡ true → CanLeave app.view
+
+pub record ArePhased (nic : NicSide) (apps : List AppSide) : Type 0 where
+  pub card : nic.view.ended ≡ true → HasNoToken nic.view
+  pub sides : All (IsPhased nic) apps
 
 pub record IsSound (board : Board) : Type 0 where
   pub sizes : HasSizes board.arrays
@@ -108,4 +138,9 @@ pub record IsSound (board : Board) : Type 0 where
   pub flags : AreFlags board.arrays board.nic board.apps
   pub kept : AreKept (listed_in board.arrays.listed) board.nic board.apps
   pub due : AreDue board.apps
-  pub filled : AreFilled board.arrays.layout board.nic
+  pub filled : FillingsFit board.nic board.apps
+  pub by_one : (b : ℕ) → IsFilledByOne b board.nic board.apps
+  pub shown : AreShown (byte_of board.arrays) board.nic board.apps
+  pub notes : All IsProper board.nic.view.sent
+  pub booked : AreBooked board.arrays board.nic board.apps
+  pub phased : ArePhased board.nic board.apps

@@ -1,18 +1,17 @@
-ghost use Rattle.std.specs.Prelude.{◌≡◌, ◌<◌, ◌≤◌, [], ◌∷◌, ◌++◌, false, length, slice_index, ◌==◌, slice_index_or, MatchOption, MatchBool, IfOk};
-ghost use Rattle.board_face.specs.NicCalls.{IsOpen, HasOwn, HasNoToken, TookBuffer, SweptWord, free_words_of, lost_of, sent_unsplit_bytes};
-ghost use Rattle.board_face.specs.NicEvents.{shut, nic_ended, saw_leave, nic_saw};
+ghost use Rattle.std.specs.Prelude.{◌≡◌, ℕ, ◌/◌, false, ◌<◌, ◌≤◌, [], ◌∷◌, ◌++◌, false, length, slice_index, ◌==◌, MatchOption, MatchBool, IfOk};
+ghost use Rattle.board_face.specs.NicCalls.{apps_of, IsOpen, HasOwn, HasNoToken, TookBuffer, SweptWord, free_words_of, lost_of, sent_unsplit_bytes};
+ghost use Rattle.board_face.specs.NicEvents.{word_bits, shut, nic_ended, saw_leave, nic_saw, nic_gist};
+ghost use Rattle.board_face.specs.Looks.{NicTold};
 ghost use Rattle.board_face.specs.declared.views.nic.NicLook.TheVariants.{NotLeft};
-ghost use Rattle.board_face.specs.declared.views.app.AppSide.{AppSide};
 ghost use Rattle.board_face.specs.Sides.{nic_at};
+ghost use Rattle.plain_parts.specs.Free.{listed_in};
 ghost use Rattle.plain_board.specs.Board.{new_board};
+ghost use Rattle.plain_board.specs.Seen.{IsSeenByCard};
 
-use crate::counts::{lower, raise};
-use crate::diary::{Diary, diaries};
-use crate::free::{came_free, free_if, move_word};
-use crate::slots::{NoteSlot, rings};
 use area_layout::Layout;
 use board_face::{AppSide, NicSide, Own};
 use circular_buffer::HeapCircularBuffer;
+use plain_parts::{Diary, NoteSlot, came_free, diaries, free_if, lower, move_word, raise, rings};
 use std::alloc::{AllocError, Global};
 use std::marker::{Brand, Model};
 use zr_kinds::Rqe;
@@ -28,10 +27,13 @@ pub struct PlainBoard {
     pub(crate) area: Vec<u8>,
     pub(crate) pool: Vec<u64>,
     pub(crate) users: Vec<u64>,
+    pub(crate) loans: Vec<u64>,
+    pub(crate) filled: Vec<u32>,
     pub(crate) listed: Vec<bool>,
     pub(crate) cache: HeapCircularBuffer<u32>,
     pub(crate) notes: Vec<HeapCircularBuffer<NoteSlot>>,
     pub(crate) refills: Vec<HeapCircularBuffer<Rqe>>,
+    pub(crate) raw: Vec<u32>,
     pub(crate) ended: bool,
     pub(crate) left: Vec<bool>,
     pub(crate) nic: Diary<NicSide, Brand>,
@@ -54,10 +56,13 @@ impl Model for PlainBoard {
         area = s.area.items;
         pool = s.pool.items;
         users = s.users.items;
+        loans = s.loans.items;
+        filled = s.filled.items;
         listed = s.listed.items;
         cache = s.cache.items;
         notes = s.notes.items;
         refills = s.refills.items;
+        raw = s.raw.items;
         ended = s.ended;
         left = s.left.items;
       };
@@ -72,10 +77,13 @@ impl Model for PlainBoard {
         area = s.area.items;
         pool = s.pool.items;
         users = s.users.items;
+        loans = s.loans.items;
+        filled = s.filled.items;
         listed = s.listed.items;
         cache = s.cache.items;
         notes = s.notes.items;
         refills = s.refills.items;
+        raw = s.raw.items;
         ended = s.ended;
         left = s.left.items;
       };
@@ -110,10 +118,13 @@ impl PlainBoard {
             area: vec![in alloc; 0; total * layout.size() as usize]?,
             pool: vec![in alloc; 0; total]?,
             users: vec![in alloc; 0; count * total]?,
+            loans: vec![in alloc; 0; count * total]?,
+            filled: vec![in alloc; 0; total]?,
             listed: vec![in alloc; true; buffers]?,
             cache: HeapCircularBuffer::with_capacity(alloc, CACHE_ROOM)?,
             notes: rings(alloc, count, places as usize)?,
             refills: rings(alloc, count, places as usize)?,
+            raw: vec![in alloc; 0; count]?,
             ended: false,
             left: vec![in alloc; false; count]?,
             nic,
@@ -152,6 +163,7 @@ impl PlainBoard {
         requires out { HasOwn self.old.nic.view own }
         ensures view { self.new.nic ≡ nic_at self.old.nic
             (shut self.old.nic.view own (slice_index self.new.arrays.pool own.buffer == 0)) }
+        ensures told { NicTold (λ look. IsSeenByCard look (nic_gist self.old.nic.view) self.old.apps) self.old.nic.view self.new.nic.view }
         ensures apps { self.new.apps ≡ self.old.apps }
     {
         let buffer = own.buffer();
@@ -168,6 +180,8 @@ impl PlainBoard {
         requires word { word < free_words_of self.old.nic.view.setting }
         ensures view { SweptWord self.old.nic.view self.new.nic.view word result }
         ensures bound { lost_of self.new.nic.view ≤ sent_unsplit_bytes self.new.nic.view }
+        ensures emptied { (b : ℕ) → b / word_bits ≡ word → listed_in self.new.arrays.listed b ≡ false }
+        ensures told { NicTold (λ look. IsSeenByCard look (nic_gist self.old.nic.view) self.old.apps) self.old.nic.view self.new.nic.view }
         ensures apps { self.new.apps ≡ self.old.apps }
     {
         let count = move_word(word, &mut self.cache, &mut self.listed);
@@ -190,12 +204,12 @@ impl PlainBoard {
 
     /// Whether an application has left.
     pub(crate) fn left(&mut self, app: u32) -> bool
-        requires { app < self.old.arrays.layout.reserves }
+        requires { app < apps_of self.old.nic.view.setting }
         ensures view { MatchBool result
             (self.new.nic ≡ nic_at self.old.nic (saw_leave self.old.nic.view app))
             (self.new.nic ≡ nic_at self.old.nic (nic_saw self.old.nic.view (NotLeft app))) }
+        ensures told { NicTold (λ look. IsSeenByCard look (nic_gist self.old.nic.view) self.old.apps) self.old.nic.view self.new.nic.view }
         ensures apps { self.new.apps ≡ self.old.apps }
-        ensures exact { (d : AppSide) → result ≡ (slice_index_or self.old.apps app d).view.left }
     {
         let gone = self.left[app as usize];
         let nic = &mut self.nic;

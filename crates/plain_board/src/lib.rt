@@ -1,17 +1,29 @@
-//! The board for one thread: counts, rings and free buffers in plain arrays. As far as it stands: its opening, what holds
-//! of it between any two calls, and the card's calls but `place`.
+//! The board for one thread: counts, rings and free buffers in plain arrays. The card and each application reach it
+//! through a part that holds the whole board and gives it back.
 #![tactic(auto)]
 
+mod app_end;
+mod app_entries;
+mod app_loans;
+mod app_notes;
+mod app_pieces;
+mod app_spares;
 mod board;
-mod counts;
-mod diary;
-mod entries;
-mod free;
+mod finish;
+mod laws;
+mod nic;
+mod others;
+mod part;
+mod placing;
 mod posting;
+mod readers;
 mod refill;
-mod slots;
 
 pub use board::PlainBoard;
+pub use laws::lent_texts_stand;
+pub use nic::PlainNic;
+pub use others::Others;
+pub use part::PlainApp;
 
 #[cfg(test)]
 mod tests;

@@ -1,19 +1,23 @@
 ghost use Rattle.std.specs.Prelude.{◌≡◌, ◌<◌};
-ghost use Rattle.board_face.specs.NicCalls.{DealtWith};
+ghost use Rattle.board_face.specs.NicCalls.{apps_of, DealtWith};
+ghost use Rattle.board_face.specs.NicEvents.{nic_gist};
+ghost use Rattle.board_face.specs.Looks.{NicTold};
+ghost use Rattle.plain_board.specs.Board.{IsUntouched};
+ghost use Rattle.plain_board.specs.Seen.{IsSeenByCard};
 
 use crate::PlainBoard;
-use crate::counts::lower;
-use crate::entries::{owed_buffer, take_front};
-use crate::free::{came_free, free_if};
 use board_face::Entry;
+use plain_parts::{came_free, free_if, lower, lower_if_some, owed_buffer, take_front, user_index};
 use std::marker::Brand;
 use zr_kinds::Rqe;
 
 impl PlainBoard {
     /// Deals with the next refill entry of an application.
     pub(crate) fn entry(&mut self, app: u32) -> Entry
-        requires { app < self.old.arrays.layout.reserves }
+        requires { app < apps_of self.old.nic.view.setting }
         ensures view { DealtWith self.old.nic.view self.new.nic.view app result }
+        ensures stray { result ≡ Entry.Stray → IsUntouched self.old.arrays self.new.arrays }
+        ensures told { NicTold (λ look. IsSeenByCard look (nic_gist self.old.nic.view) self.old.apps) self.old.nic.view self.new.nic.view }
         ensures apps { self.new.apps ≡ self.old.apps }
     {
         let Some(entry) = take_front(&mut self.refills, app as usize) else {
@@ -21,12 +25,13 @@ impl PlainBoard {
             nic.note::<Brand, u32>(app);
             return Entry::Empty;
         };
+        lower_if_some(&mut self.raw, app as usize);
         let Some(buffer) = owed_buffer(&self.layout, self.users.as_slice(), app, &entry) else {
             let nic = &mut self.nic;
             nic.note::<Brand, (u32, Rqe)>((app, entry));
             return Entry::Stray;
         };
-        let user = app as usize * self.layout.total() as usize + buffer as usize;
+        let user = user_index(&self.layout, app, buffer);
         lower(&mut self.users, user);
         let left = lower(&mut self.pool, buffer as usize);
         let last = left == 0;

@@ -15,3 +15,6 @@ loop-next-preserved g c =
 
 pub returns-in-Err-clause-stopped : goal.returns-in-Err-clause-stopped
 returns-in-Err-clause-stopped g c = NicRose-later _ _ _ _ c.loop-next.invariant.sends.looks c.in-Err.ensures.view.1.rose
+
+pub returns-in-Err-clause-told : goal.returns-in-Err-clause-told
+returns-in-Err-clause-told g c = rw (c.in-Err.ensures.beside, c.in-Err.ensures.view.1.event) (c.in-Err.ensures.told _ c.in-Err.ensures.view.1.rose)

@@ -20,7 +20,8 @@ pub invariant_of-self-2 : goal.invariant_of-self-2
 invariant_of-self-2 c =
     let sound = c.self.invariant.0 in
     let found = sym c.pop_back.ensures.value ∙ c.in_ok-buffer.was in
-    rw (c.note.ensures, c.pop_back.ensures.items, c.raise.ensures) (IsSound-took _ c.in_ok-buffer.buffer sound found, c.self.invariant.1)
+    let running = rw (← c.self.view_is) at c.requires in
+    rw (c.note.ensures, c.pop_back.ensures.items, c.raise.ensures) (IsSound-took _ c.in_ok-buffer.buffer sound found running, c.self.invariant.1)
 
 pub returns-clause-view : goal.returns-clause-view
 returns-clause-view c =

@@ -1,0 +1,169 @@
+-- A loan is given back by an entry behind all on their way: it is out no more, and owed until the card deals with the entry.
+use Rattle.std.proofs.Common.{◌≡◌, ℕ, ◌-◌, ◌<◌, true, false, List, [], ◌∷◌, ◌++◌, length, map, set, get_or, refl, ap, sym, ◌∙◌, subst, arith, inl}
+use Rattle.std.specs.Prelude.{All, Some, count_by}
+use Rattle.std.proofs.lemmas.List.{length-set, get_or-set_same, get_or-set_other}
+use Rattle.std.proofs.lemmas.List.Elements.{All-set, All-push, All-get_or}
+use Rattle.circular_buffer.specs.Buffer.{Buffer, buffer}
+use Rattle.zr_kinds.specs.declared.place.Place.{Place}
+use Rattle.zr_kinds.specs.declared.ring.Rqe.{Rqe}
+use Rattle.area_layout.specs.Layout.{total, judged, LiesIn}
+use Rattle.area_layout.proofs.Words.{place_judged}
+use Rattle.board_face.specs.Sides.{IsApp, app_at}
+use Rattle.board_face.specs.AppEvents.{gave, entry_of}
+use Rattle.board_face.specs.AppCalls.{HasLoan}
+use Rattle.board_face.specs.Relay.{Relayed}
+use Rattle.board_face.specs.declared.views.app.WrittenEntry.{WrittenEntry}
+use Rattle.board_face.specs.declared.views.app.AppSide.{AppSide}
+use Rattle.board_face.proofs.Tallies.{weight}
+use Rattle.board_face.proofs.AppLemmas.{app_count-gave, user_part-gave, EndedWereReturned-abandoned}
+use Rattle.board_face.proofs.RelayLemmas.{Relayed-wrote}
+use Rattle.board_face.proofs.FilledLemmas.{IsFilledByOne-gave}
+use Rattle.board_face.proofs.FitLemmas.{FillingsFit-same}
+use Rattle.board_face.proofs.AreShownLemmas.{AreShown-gave}
+use Rattle.plain_parts.specs.Rings.{ring_in, pushed}
+use Rattle.plain_parts.specs.Counts.{user_at}
+use Rattle.plain_board.specs.Board.{Arrays, Board, byte_of}
+use Rattle.plain_board.specs.Returns.{AreReturns, entries_on_way, loans_out, reach_of, returns, IsClear, IsOfLoan, IsNamed}
+use Rattle.plain_board.specs.Sound.{IsSound, notes_of, refills_of, taken_of}
+use Rattle.plain_board.proofs.AppFrames.{IsSet-app, was-at_rest, has-setting, AreCounted-app, was-returned, AreRelayed-app, was-relayed, returns-app, was-returns, AreFlags-kept, AreFreeOnce-app, AreKept-app, AreDue-app, was-given, was-due, AreBooked-app, was-booked_filled, was-booked_raw, ArePhased-app, was-phased}
+use Rattle.plain_board.proofs.Users.{user-other}
+use Rattle.plain_board.proofs.Lying.{loan-none, loan-lies}
+use Rattle.plain_board.proofs.Owing.{loans-fewer, owed-more}
+use Rattle.plain_board.proofs.Abandoning.{loans-rest}
+use Rattle.plain_board.proofs.Writing.{way-longer, strays-written, reach-longer, returns-one, returns-longer, IsClear-longer}
+
+module _ (board : Board) (a : ℕ) (x : AppSide) (place : Place) (sound : IsSound board) (here : IsApp board.apps a x) (out : HasLoan x.view place) where
+  abbrev now : AppSide
+  now = app_at x (gave x.view place)
+
+  abbrev user : ℕ
+  user = user_at board.arrays.layout a place.buffer
+
+  abbrev entry : Rqe
+  entry = entry_of x.view.setting.layout place
+
+  abbrev written : WrittenEntry
+  written = record { entry = entry; of_loan = true }
+
+  abbrev refills_then : Rqe → List (Buffer Rqe)
+  refills_then e = set board.arrays.refills a (pushed (ring_in board.arrays.refills a) e)
+
+  abbrev arrays_then : Rqe → ℕ → Arrays
+  arrays_then e n = record board.arrays { loans = set board.arrays.loans user n; refills = refills_then e }
+
+  layout-is : x.view.setting.layout ≡ board.arrays.layout
+  layout-is = ap (λ s. s.layout) (has-setting board a x now sound here)
+
+  -- the entry by the board's own layout
+  pub same-entry : entry_of board.arrays.layout place ≡ entry
+  same-entry = ap (λ l. entry_of l place) (sym layout-is)
+
+  pub lies : LiesIn board.arrays.layout place
+  lies = (loan-lies board a x sound here place out).0
+
+  names-own : judged x.view.setting.layout entry ≡ Some place.buffer
+  names-own =
+      let some = (loan-lies board a x sound here place out).1 in
+      let inside = lies.bytes in
+      rw layout-is (place_judged board.arrays.layout place place.len sound.sizes.layout lies (omega arith))
+
+  there : a < length board.arrays.refills
+  there = let many = sound.set.many in let t = here.there in omega (arith, sound.sizes.refills)
+
+  -- the ring has the entry behind the others
+  ring-then : (e : Rqe) (n : ℕ) → refills_of (arrays_then e n) a ≡ refills_of board.arrays a ++ e ∷ []
+  ring-then e n = ap (λ r. r.items) (get_or-set_same board.arrays.refills a (pushed (ring_in board.arrays.refills a) e) (buffer [] 0) there)
+
+  rooms-then : (e : Rqe) → All (λ ring. ring.capacity ≡ board.arrays.places) (refills_then e)
+  rooms-then e =
+      All-set (λ ring. ring.capacity ≡ board.arrays.places) board.arrays.refills a (pushed (ring_in board.arrays.refills a) e)
+      (All-get_or (λ ring. ring.capacity ≡ board.arrays.places) board.arrays.refills a (buffer [] 0) there sound.relayed.refills) sound.relayed.refills
+
+  way-then : entries_on_way board.nic now ≡ entries_on_way board.nic x ++ written ∷ []
+  way-then = way-longer board.nic x _ _ written (was-relayed board a x now sound here)
+
+  within : place.buffer < total board.arrays.layout
+  within = lies.buffer
+
+  returns-then : AreReturns board.nic now
+  returns-then =
+      let was = was-returns board a x now sound here in
+      let layout = x.view.setting.layout in
+      let ws = entries_on_way board.nic x in
+      record {
+        owed = λ b. omega (
+          arith,
+          was.owed b,
+          owed-more b board.nic x place (was-returned board a x now sound here b),
+          ap (count_by (returns layout b)) way-then,
+          returns-longer layout b ws written,
+          ap weight (returns-one layout b place.buffer written refl names-own),
+        );
+        clear = λ b. subst (IsClear layout b (loans_out b now)) (sym way-then) (IsClear-longer layout b place.buffer (loans_out b x) (loans_out b now) ws written refl names-own (loans-fewer b x place out) (was.clear b));
+        named = subst (All (IsNamed layout)) (sym way-then) (All-push (IsNamed layout) ws written was.named (λ of_loan. rw names-own refl));
+        settled = λ e. subst (All IsOfLoan) (sym way-then) (All-push IsOfLoan ws written (was.settled e) refl);
+        quiet = λ e. absurd (let wrong : false ≡ true = e in cc);
+        strays = strays-written board.nic x _ _ written (was-relayed board a x now sound here) was.strays;
+      }
+
+  pub IsSound-gave : (e : Rqe) (n : ℕ) → e ≡ entry → n ≡ get_or board.arrays.loans user 0 - 1 → IsSound (record { arrays = arrays_then e n; nic = board.nic; apps = set board.apps a now })
+  IsSound-gave e n same less =
+      let arr = arrays_then e n in
+      let phase = was-phased board a x now sound here in
+      let ended = was-returned board a x now sound here in
+      let at_rest = was-at_rest board a x now sound here in
+      record {
+        sizes = record {
+          layout = sound.sizes.layout;
+          places = sound.sizes.places;
+          area = sound.sizes.area;
+          pool = sound.sizes.pool;
+          users = sound.sizes.users;
+          listed = sound.sizes.listed;
+          cache = sound.sizes.cache;
+          notes = sound.sizes.notes;
+          refills = length-set board.arrays.refills a (pushed (ring_in board.arrays.refills a) e) ∙ sound.sizes.refills;
+          loans = length-set board.arrays.loans user n ∙ sound.sizes.loans;
+          filled = sound.sizes.filled;
+          raw = sound.sizes.raw;
+          left = sound.sizes.left;
+        };
+        cached = sound.cached;
+        set = IsSet-app board a x now sound here refl refl (record { hands = at_rest.hands; owes = at_rest.owes });
+        counted = AreCounted-app board a x now sound here arr refl refl
+            (λ b inside. omega (arith, app_count-gave b board.nic x place out (ended b)))
+            (λ b inside. omega (arith, user_part-gave a b board.nic x place out (ended b)))
+            (λ k b ne app inside. refl)
+            (λ b past. omega (arith, app_count-gave b board.nic x place out (ended b)))
+            (λ b. let e = EndedWereReturned-abandoned b board.nic x place (ended b) in record { ended = e.ended; returning = e.returning });
+        free = AreFreeOnce-app board a x now sound here _ (record { hands = at_rest.hands; owes = at_rest.owes }) (λ b. app_count-gave b board.nic x place out (ended b)) sound.free;
+        relayed = AreRelayed-app board a x now sound here arr refl
+            (subst (Relayed board.nic now (map taken_of (notes_of board.arrays a))) (sym (ring-then e n ∙ ap (λ r. refills_of board.arrays a ++ r ∷ []) same)) (Relayed-wrote board.nic x now.view written _ _ refl refl refl refl (was-relayed board a x now sound here)))
+            (λ k ne. refl)
+            (λ k ne. ap (λ r. r.items) (get_or-set_other board.arrays.refills a k (pushed (ring_in board.arrays.refills a) e) (buffer [] 0) ne))
+            sound.relayed.notes
+            (rooms-then e);
+        returns = returns-app board a x now sound here returns-then;
+        flags = AreFlags-kept board a x now sound here arr refl refl refl;
+        kept = AreKept-app board a x now sound here _ _ refl (λ b. omega arith) sound.kept;
+        due = AreDue-app board a x now sound here (was-given board a x now sound here) (was-due board a x now sound here);
+        filled = FillingsFit-same board.nic board.apps a x now here refl sound.filled;
+        by_one = λ b. IsFilledByOne-gave b board.nic board.apps a x place here out (ended b) (sound.by_one b);
+        shown = AreShown-gave (byte_of board.arrays) board.nic board.apps a x place here out ended sound.shown;
+        notes = sound.notes;
+        booked = AreBooked-app board a x now sound here arr refl
+            (record {
+              loans = loans-rest board a x place sound here out n less;
+              filled = was-booked_filled board a x now sound here;
+              raw = was-booked_raw board a x now sound here ∙ sym (ap reach_of way-then ∙ reach-longer (entries_on_way board.nic x) written refl);
+            })
+            (λ k b ne app inside. user-other (total board.arrays.layout) board.arrays.loans a place.buffer n within k b inside (inl ne))
+            (λ k y ne it. sound.booked.filled k y it)
+            (λ k ne. refl);
+        phased = ArePhased-app board a x now sound here (record {
+          ended = phase.ended;
+          unscrubbed = phase.unscrubbed;
+          scrubbed = λ e. absurd (loan-none board a x sound here place out (phase.scrubbed e).0);
+          left = λ e. absurd (loan-none board a x sound here place out (phase.left e).loans);
+        });
+      }

@@ -1,0 +1,152 @@
+-- A held piece lies in its buffer, which has few holders; an event of held pieces alone leaves all but counts and the free list.
+use Rattle.std.proofs.Common.{◌≡◌, ℕ, ◌+◌, ◌<◌, ◌≤◌, Bool, List, length, set, get_or, refl, ap, ◌∙◌, arith, ⊎_elim}
+use Rattle.std.specs.Prelude.{count_by}
+use Rattle.std.proofs.lemmas.Bool.{cases_lt, lt-ltb}
+use Rattle.zr_kinds.specs.declared.place.Place.{Place}
+use Rattle.area_layout.specs.Layout.{size_of, total as all_buffers}
+use Rattle.board_face.specs.Lists.{same_place}
+use Rattle.board_face.specs.Sides.{IsApp, app_at}
+use Rattle.board_face.specs.Counts.{pool_count}
+use Rattle.board_face.specs.Places.{places_of, ends_behind}
+use Rattle.board_face.specs.FreeOnce.{AreFreeOnce}
+use Rattle.board_face.specs.Fillings.{IsFilledByOne}
+use Rattle.board_face.specs.Shown.{AreShown}
+use Rattle.board_face.specs.AppCalls.{IsHere, HasHeld}
+use Rattle.board_face.specs.declared.views.app.HeldPiece.{HeldPiece}
+use Rattle.board_face.specs.declared.views.app.AppSide.{AppSide}
+use Rattle.board_face.proofs.ListLemmas.{eqb_same, same_place-refl, same_place-is}
+use Rattle.board_face.proofs.Tallies.{weight, tally-without}
+use Rattle.board_face.proofs.Parts.{app_count, pool_count-parts, count-tally}
+use Rattle.board_face.proofs.PlaceParts.{in_buffer, app_places, places-parts}
+use Rattle.board_face.proofs.AppLemmas.{app_count-released}
+use Rattle.board_face.proofs.RelayLemmas.{Relayed-app}
+use Rattle.board_face.proofs.FewLemmas.{pool_count-few}
+use Rattle.board_face.proofs.FitLemmas.{FillingsFit-same}
+use Rattle.plain_parts.specs.Free.{listed_in}
+use Rattle.plain_board.specs.Board.{Arrays, Board, byte_of}
+use Rattle.plain_board.specs.Sound.{IsSound, IsAtRest}
+use Rattle.plain_board.proofs.Lists.{total-at}
+use Rattle.plain_board.proofs.FirstNote.{in-own}
+use Rattle.plain_board.proofs.AppFrames.{IsSet-app, was-at_rest, AreCounted-app, was-returned, AreRelayed-kept, was-relayed, returns-app, was-returns, AreFlags-kept, AreKept-app, AreDue-app, was-given, was-due, AreBooked-app, was-booked_loans, was-booked_filled, was-booked_raw, ArePhased-app, was-phased}
+
+-- ---- a held piece
+
+module _ (board : Board) (a : ℕ) (x : AppSide) (place : Place) (sound : IsSound board) (here : IsApp board.apps a x) (out : HasHeld x.view place) where
+  pub is_held : 0 < pool_count place.buffer board.nic board.apps
+  is_held =
+      omega (
+        arith,
+        pool_count-parts place.buffer board.nic board.apps,
+        total-at (app_count place.buffer board.nic) board.apps a x here.there here.is,
+        app_count-released place.buffer board.nic x place out,
+        ap weight (eqb_same place.buffer),
+      )
+
+  pub of_area : place.buffer < all_buffers board.arrays.layout
+  of_area = ⊎_elim (λ inside. inside) (λ past. absurd (omega (arith, is_held, sound.counted.beyond place.buffer past))) (cases_lt place.buffer (all_buffers board.arrays.layout))
+
+  pub there-pool : place.buffer < length board.arrays.pool
+  there-pool = omega (arith, of_area, sound.sizes.pool)
+
+  pub held-count : get_or board.arrays.pool place.buffer 0 ≡ pool_count place.buffer board.nic board.apps
+  held-count = sound.counted.pool place.buffer of_area
+
+  sizes-same : size_of board.nic.view.setting.layout place.buffer ≡ board.arrays.layout.size
+  sizes-same = ap (λ s. size_of s.layout place.buffer) sound.set.card
+
+  -- the buffer has few holders, as each of them has a byte of it
+  pub held-few : get_or board.arrays.pool place.buffer 0 ≤ 65537
+  held-few =
+      let layout = sound.sizes.layout in
+      let most = layout.size.most in
+      omega (arith, held-count, pool_count-few place.buffer board.nic board.apps (sound.shown.places place.buffer) (sound.by_one place.buffer), sizes-same)
+
+  held-in : (b : ℕ) (test : Place → Bool) → weight (in_buffer b test place) ≤ count_by test (places_of b board.nic board.apps)
+  held-in b test =
+      omega (
+        arith,
+        count-tally test (places_of b board.nic board.apps),
+        places-parts b test board.nic board.apps,
+        total-at (app_places b test board.nic) board.apps a x here.there here.is,
+        tally-without (λ (h : HeldPiece). h.place) (same_place place) place (same_place-is place) (same_place-refl place) (in_buffer b test) x.view.helds out,
+      )
+
+  -- it ends within its buffer
+  pub held-ends : place.offset + place.len ≤ 65536
+  held-ends =
+      let b = place.buffer in
+      let n = size_of board.nic.view.setting.layout b in
+      let layout = sound.sizes.layout in
+      let most = layout.size.most in
+      ⊎_elim
+      (λ behind. absurd (omega (arith, held-in b (ends_behind n), (sound.shown.places b).within, ap weight (in-own (ends_behind n) place), ap weight (lt-ltb n (place.offset + place.len) behind))))
+      (λ inside. omega (arith, sizes-same))
+      (cases_lt n (place.offset + place.len))
+
+-- ---- an event of held pieces alone
+
+module _ (board : Board) (a : ℕ) (x : AppSide) (helds : List HeldPiece) (pool : List ℕ) (listed : List Bool) (sound : IsSound board) (here : IsApp board.apps a x) (stays : IsHere x.view) where
+  abbrev pub side_then : AppSide
+  side_then = app_at x (record x.view { helds = helds })
+
+  abbrev pub arrays_then : Arrays
+  arrays_then = record board.arrays { pool = pool; listed = listed }
+
+  pub record IsMove : Type 0 where
+    pub pool_len : length pool ≡ length board.arrays.pool
+    pub listed_len : length listed ≡ length board.arrays.listed
+    pub counts : (b : ℕ) → b < all_buffers board.arrays.layout → get_or pool b 0 + app_count b board.nic x ≡ get_or board.arrays.pool b 0 + app_count b board.nic side_then
+    pub few : (b : ℕ) → all_buffers board.arrays.layout ≤ b → app_count b board.nic side_then ≤ app_count b board.nic x
+    pub free : AreFreeOnce (listed_in listed) board.nic (set board.apps a side_then)
+    pub more : (b : ℕ) → weight (listed_in board.arrays.listed b) ≤ weight (listed_in listed b)
+    pub by_one : (b : ℕ) → IsFilledByOne b board.nic (set board.apps a side_then)
+    pub shown : AreShown (byte_of board.arrays) board.nic (set board.apps a side_then)
+
+  pub at-rest : IsAtRest side_then
+  at-rest = let rest = was-at_rest board a x side_then sound here in record { hands = rest.hands; owes = rest.owes }
+
+  pub IsSound-helds : IsMove → IsSound (record { arrays = arrays_then; nic = board.nic; apps = set board.apps a side_then })
+  IsSound-helds move =
+      let was = was-returns board a x side_then sound here in
+      let phase = was-phased board a x side_then sound here in
+      record {
+        sizes = record {
+          layout = sound.sizes.layout;
+          places = sound.sizes.places;
+          area = sound.sizes.area;
+          pool = move.pool_len ∙ sound.sizes.pool;
+          users = sound.sizes.users;
+          listed = move.listed_len ∙ sound.sizes.listed;
+          cache = sound.sizes.cache;
+          notes = sound.sizes.notes;
+          refills = sound.sizes.refills;
+          loans = sound.sizes.loans;
+          filled = sound.sizes.filled;
+          raw = sound.sizes.raw;
+          left = sound.sizes.left;
+        };
+        cached = sound.cached;
+        set = IsSet-app board a x side_then sound here refl refl at-rest;
+        counted = AreCounted-app board a x side_then sound here arrays_then refl refl
+            move.counts
+            (λ b within. refl)
+            (λ k b ne app within. refl)
+            move.few
+            (λ b. let e = was-returned board a x side_then sound here b in record { ended = e.ended; returning = e.returning });
+        free = move.free;
+        relayed = AreRelayed-kept board a x side_then sound here arrays_then refl refl refl (Relayed-app board.nic x side_then.view _ _ refl refl refl refl (was-relayed board a x side_then sound here));
+        returns = returns-app board a x side_then sound here (record { owed = was.owed; clear = was.clear; named = was.named; settled = was.settled; quiet = was.quiet; strays = was.strays });
+        flags = AreFlags-kept board a x side_then sound here arrays_then refl refl refl;
+        kept = AreKept-app board a x side_then sound here _ _ refl move.more sound.kept;
+        due = AreDue-app board a x side_then sound here (was-given board a x side_then sound here) (was-due board a x side_then sound here);
+        filled = FillingsFit-same board.nic board.apps a x side_then here refl sound.filled;
+        by_one = move.by_one;
+        shown = move.shown;
+        notes = sound.notes;
+        booked = AreBooked-app board a x side_then sound here arrays_then refl
+            (record { loans = was-booked_loans board a x side_then sound here; filled = was-booked_filled board a x side_then sound here; raw = was-booked_raw board a x side_then sound here })
+            (λ k b ne app within. refl)
+            (λ k y ne it. sound.booked.filled k y it)
+            (λ k ne. refl);
+        phased = ArePhased-app board a x side_then sound here (record { ended = phase.ended; unscrubbed = phase.unscrubbed; scrubbed = phase.scrubbed; left = λ gone. absurd (let none : ⊥ = cc in none) });
+      }

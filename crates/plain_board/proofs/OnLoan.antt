@@ -1,0 +1,139 @@
+-- What was held or filled is on loan: one user more, and no holder more or less.
+use Rattle.std.proofs.Common.{◌≡◌, ℕ, ◌+◌, ◌<◌, ◌^◌, true, false, List, [], ◌∷◌, length, set, get_or, refl, sym, ◌∙◌, arith, inl}
+use Rattle.std.specs.Prelude.{◌==◌, All}
+use Rattle.std.proofs.lemmas.List.{length-set}
+use Rattle.std.proofs.lemmas.List.Elements.{All-head, All-tail}
+use Rattle.area_layout.specs.Layout.{Shape, total}
+use Rattle.board_face.specs.Sides.{IsApp, app_at}
+use Rattle.board_face.specs.AppCalls.{CanLend}
+use Rattle.board_face.specs.Fillings.{FillingsFit, IsFilledByOne}
+use Rattle.board_face.specs.Shown.{AreShown}
+use Rattle.board_face.specs.declared.views.app.HeldPiece.{HeldPiece}
+use Rattle.board_face.specs.declared.views.app.LentPiece.{LentPiece}
+use Rattle.board_face.specs.declared.views.app.SpareOwn.{SpareOwn}
+use Rattle.board_face.specs.declared.views.app.WrittenEntry.{WrittenEntry}
+use Rattle.board_face.specs.declared.views.app.AppSide.{AppSide}
+use Rattle.board_face.proofs.Tallies.{weight}
+use Rattle.board_face.proofs.Parts.{app_count, user_part, count-tally}
+use Rattle.board_face.proofs.FreeLemmas.{user_count-le}
+use Rattle.board_face.proofs.RelayLemmas.{Relayed-app}
+use Rattle.plain_parts.specs.Counts.{user_at}
+use Rattle.plain_board.specs.Board.{Arrays, Board, byte_of}
+use Rattle.plain_board.specs.Returns.{IsClear, IsOfLoan, loans_out}
+use Rattle.plain_board.specs.Sound.{IsSound}
+use Rattle.plain_board.proofs.AppFrames.{IsSet-app, was-at_rest, AreCounted-app, was-returned, AreRelayed-kept, was-relayed, returns-app, was-returns, AreFlags-kept, AreFreeOnce-app, AreKept-app, AreDue-app, was-given, was-due, AreBooked-app, was-booked_loans, was-booked_raw, ArePhased-app, was-phased}
+use Rattle.plain_board.proofs.Users.{loans-there, users-there, user-other, user-raised}
+use Rattle.plain_board.proofs.Lying.{part-le, pool-few}
+
+-- where each entry came from a loan, no raw one is in front of any
+pub IsClear-of_loans : (layout : Shape) (b n : ℕ) (ws : List WrittenEntry) → All IsOfLoan ws → IsClear layout b n ws
+IsClear-of_loans layout b n [] all = tt
+IsClear-of_loans layout b n (w ∷ ws) all =
+    (λ raw named. absurd (let wrong : true ≡ false = sym (All-head IsOfLoan w ws all) ∙ raw in cc), IsClear-of_loans layout b n ws (All-tail IsOfLoan w ws all))
+
+module _ (board : Board) (a : ℕ) (x : AppSide) (buffer : ℕ) (sound : IsSound board) (here : IsApp board.apps a x) (within : buffer < total board.arrays.layout) where
+  abbrev user : ℕ
+  user = user_at board.arrays.layout a buffer
+
+  app-within : a < board.arrays.layout.reserves
+  app-within = let many = sound.set.many in let there = here.there in omega arith
+
+  pub user-there : user < length board.arrays.users
+  user-there = users-there board sound a buffer app-within within
+
+  pub loan-there : user < length board.arrays.loans
+  loan-there = loans-there board sound a buffer app-within within
+
+  -- no count of users is large
+  pub user-few : get_or board.arrays.users user 0 + 1 < 2 ^ 64
+  user-few = omega (arith, sound.counted.users a buffer here.there within, user_count-le a buffer board.nic board.apps, pool-few board a x sound here buffer)
+
+  pub loan-few : get_or board.arrays.loans user 0 + 1 < 2 ^ 64
+  loan-few =
+      omega (
+        arith,
+        was-booked_loans board a x x sound here buffer within,
+        count-tally (λ (l : LentPiece). l.place.buffer == buffer) x.view.loans,
+        part-le board a x sound here buffer,
+        pool-few board a x sound here buffer,
+      )
+
+  module _ (helds : List HeldPiece) (owns : List SpareOwn) (loans : List LentPiece) (can : CanLend x.view) where
+    abbrev pub loaned : AppSide
+    loaned = app_at x (record x.view { helds = helds; owns = owns; loans = loans })
+
+    abbrev arrays_then : ℕ → ℕ → Arrays
+    arrays_then n m = record board.arrays { users = set board.arrays.users user n; loans = set board.arrays.loans user m }
+
+    pub IsSound-on_loan : (n m : ℕ) → n ≡ get_or board.arrays.users user 0 + 1 → m ≡ get_or board.arrays.loans user 0 + 1
+        → ((b : ℕ) → app_count b board.nic loaned ≡ app_count b board.nic x)
+        → ((b : ℕ) → user_part a b board.nic loaned ≡ user_part a b board.nic x + weight (buffer == b))
+        → ((b : ℕ) → loans_out b loaned ≡ loans_out b x + weight (buffer == b))
+        → All (λ s. get_or board.arrays.filled s.own.buffer 0 ≡ length s.bytes) owns
+        → FillingsFit board.nic (set board.apps a loaned)
+        → ((b : ℕ) → IsFilledByOne b board.nic (set board.apps a loaned))
+        → AreShown (byte_of board.arrays) board.nic (set board.apps a loaned)
+        → IsSound (record { arrays = arrays_then n m; nic = board.nic; apps = set board.apps a loaned })
+    IsSound-on_loan n m user_more loan_more holders users more filled fit by_one shown =
+        let arr = arrays_then n m in
+        let was = was-returns board a x loaned sound here in
+        let phase = was-phased board a x loaned sound here in
+        let not_yet : x.view.scrubbed ≡ true → ⊥ = λ e. let wrong : true ≡ false = sym e ∙ can.counted in cc in
+        let at_rest = was-at_rest board a x loaned sound here in
+        record {
+          sizes = record {
+            layout = sound.sizes.layout;
+            places = sound.sizes.places;
+            area = sound.sizes.area;
+            pool = sound.sizes.pool;
+            users = length-set board.arrays.users user n ∙ sound.sizes.users;
+            listed = sound.sizes.listed;
+            cache = sound.sizes.cache;
+            notes = sound.sizes.notes;
+            refills = sound.sizes.refills;
+            loans = length-set board.arrays.loans user m ∙ sound.sizes.loans;
+            filled = sound.sizes.filled;
+            raw = sound.sizes.raw;
+            left = sound.sizes.left;
+          };
+          cached = sound.cached;
+          set = IsSet-app board a x loaned sound here refl refl (record { hands = at_rest.hands; owes = at_rest.owes });
+          counted = AreCounted-app board a x loaned sound here arr refl refl
+              (λ b inside. omega (arith, holders b))
+              (λ b inside. omega (arith, users b, user-raised (total board.arrays.layout) board.arrays.users a buffer n within user-there user_more b inside))
+              (λ k b ne app inside. user-other (total board.arrays.layout) board.arrays.users a buffer n within k b inside (inl ne))
+              (λ b past. omega (arith, holders b))
+              (λ b. let e = was-returned board a x loaned sound here b in record { ended = e.ended; returning = e.returning });
+          free = AreFreeOnce-app board a x loaned sound here _ (record { hands = at_rest.hands; owes = at_rest.owes }) holders sound.free;
+          relayed = AreRelayed-kept board a x loaned sound here arr refl refl refl (Relayed-app board.nic x loaned.view _ _ refl refl refl refl (was-relayed board a x loaned sound here));
+          returns = returns-app board a x loaned sound here (record {
+            owed = was.owed;
+            clear = λ b. IsClear-of_loans _ b (loans_out b loaned) _ (was.settled can.settled);
+            named = was.named;
+            settled = was.settled;
+            quiet = was.quiet;
+            strays = was.strays;
+          });
+          flags = AreFlags-kept board a x loaned sound here arr refl refl refl;
+          kept = AreKept-app board a x loaned sound here _ _ refl (λ b. omega arith) sound.kept;
+          due = AreDue-app board a x loaned sound here (was-given board a x loaned sound here) (was-due board a x loaned sound here);
+          filled = fit;
+          by_one = by_one;
+          shown = shown;
+          notes = sound.notes;
+          booked = AreBooked-app board a x loaned sound here arr refl
+              (record {
+                loans = λ b inside. omega (arith, user-raised (total board.arrays.layout) board.arrays.loans a buffer m within loan-there loan_more b inside, was-booked_loans board a x loaned sound here b inside, more b);
+                filled = filled;
+                raw = was-booked_raw board a x loaned sound here;
+              })
+              (λ k b ne app inside. user-other (total board.arrays.layout) board.arrays.loans a buffer m within k b inside (inl ne))
+              (λ k y ne it. sound.booked.filled k y it)
+              (λ k ne. refl);
+          phased = ArePhased-app board a x loaned sound here (record {
+            ended = phase.ended;
+            unscrubbed = phase.unscrubbed;
+            scrubbed = λ e. absurd (not_yet e);
+            left = λ e. absurd (not_yet (phase.left e).scrubbed);
+          });
+        }

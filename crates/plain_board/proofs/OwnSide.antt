@@ -1,0 +1,79 @@
+-- What an application knows of itself counts as its side does: before its scrub nothing was taken by one, and then it owes nothing.
+use Rattle.std.proofs.Common.{◌≡◌, ℕ, ◌-◌, Bool, true, false, List, [], ◌∷◌, get_or, set, replicate, refl, ap, sym, ◌∙◌, arith, ⊎_elim, length-drop}
+use Rattle.std.specs.Prelude.{◌==◌, nat_eq, count_by, if◌then◌else◌, All}
+use Rattle.std.specs.List.{flat_map}
+use Rattle.std.proofs.lemmas.Bool.{cases_lt}
+use Rattle.std.proofs.Math.ListN.{get_or-eq_default}
+use Rattle.std.proofs.lemmas.List.{length-replicate, get_or-replicate, set-set}
+use Rattle.std.proofs.lemmas.List.Elements.{All-head, All-tail}
+use Rattle.area_layout.specs.Layout.{total as all_buffers}
+use Rattle.board_face.specs.Sides.{IsApp}
+use Rattle.board_face.specs.Holders.{returning_in_hand, returned_in, ended_in}
+use Rattle.board_face.specs.Counts.{pool_count}
+use Rattle.board_face.specs.AppEvents.{app_gist}
+use Rattle.board_face.specs.declared.views.app.LentPiece.{LentPiece}
+use Rattle.board_face.specs.declared.views.app.AppSide.{AppSide}
+use Rattle.board_face.proofs.Tallies.{weight, tally, total, tally-flat}
+use Rattle.board_face.proofs.Parts.{app_count, owed_count, returned_in-count, count-tally}
+use Rattle.board_face.proofs.AppLemmas.{pool_count-app}
+use Rattle.plain_parts.specs.Blank.{blank_app}
+use Rattle.plain_parts.specs.Free.{HasNoneListed}
+use Rattle.plain_board.specs.Board.{Board, others_of}
+use Rattle.plain_board.specs.Seen.{self_of, all_of, HasNothingListed}
+use Rattle.plain_board.specs.Sound.{IsSound, IsAtRest}
+use Rattle.plain_board.proofs.AppFrames.{has-setting, was-at_rest, was-phased}
+
+zeros : (n b : ℕ) → get_or {A = ℕ} (replicate n 0) b 0 ≡ 0
+zeros n b =
+    ⊎_elim
+    (λ inside. get_or-replicate n b 0 0 inside)
+    (λ past. get_or-eq_default (replicate n 0) 0 (omega (arith, length-replicate {A = ℕ} n 0)))
+    (cases_lt b n)
+
+-- applications at rest have no buffer in hand
+hands-none : (b : ℕ) (apps : List AppSide) → All IsAtRest apps → total (λ app. tally (nat_eq b) app.inside.hands) apps ≡ 0
+hands-none b [] rest = refl
+hands-none b (app ∷ apps) rest =
+    let here = All-head IsAtRest app apps rest in
+    omega (arith, ap (tally (nat_eq b)) here.hands, hands-none b apps (All-tail IsAtRest app apps rest))
+
+module _ (board : Board) (a : ℕ) (x : AppSide) (sound : IsSound board) (here : IsApp board.apps a x) where
+  abbrev self : AppSide
+  self = self_of (app_gist x.view)
+
+  no-returning : (b : ℕ) → returning_in_hand x.view.app b board.nic.inside.entry ≡ 0
+  no-returning b = ap (λ inside. returning_in_hand x.view.app b inside.entry) sound.set.card_rest
+
+  ended-same : (b : ℕ) → x.view.scrubbed ≡ false → ended_in b board.nic self ≡ ended_in b board.nic x
+  ended-same b is = let phase = was-phased board a x x sound here in omega (arith, phase.unscrubbed is b, zeros (all_buffers x.view.setting.layout) b)
+
+  owed-by : (b : ℕ) (c : Bool) → x.view.scrubbed ≡ c → tally (λ (l : LentPiece). l.place.buffer == b) (if c then [] else x.view.returned) - ended_in b board.nic self ≡ owed_count b board.nic x
+  owed-by b true is = let phase = was-phased board a x x sound here in omega (arith, (phase.scrubbed is).1 b, length-drop (ended_in b board.nic x) (returned_in b x), returned_in-count b x)
+  owed-by b false is = omega (arith, ended-same b is)
+
+  self-count : (b : ℕ) → app_count b board.nic self ≡ app_count b board.nic x
+  self-count b =
+      let rest = was-at_rest board a x x sound here in
+      omega (arith, owed-by b x.view.scrubbed refl, no-returning b, rest.owes b, zeros (all_buffers x.view.setting.layout) b)
+
+  -- a buffer has as many holders as the application knows of, with the others
+  pub seen-count : (b : ℕ) → pool_count b board.nic (all_of (app_gist x.view) (others_of board a)) ≡ pool_count b board.nic board.apps
+  seen-count b =
+      let sides : all_of (app_gist x.view) (others_of board a) ≡ set board.apps a self = ap (λ n. set (set board.apps a blank_app) n self) here.number ∙ set-set board.apps a blank_app self in
+      omega (arith, ap (pool_count b board.nic) sides, pool_count-app b board.nic board.apps a x self here, self-count b)
+
+  -- where no buffer is listed, one without holder is cached
+  pub nothing-listed : HasNoneListed board.arrays.listed → HasNothingListed (app_gist x.view) (others_of board a)
+  nothing-listed none b within free =
+      let before : pool_count b board.nic board.apps ≡ 0 = sym (seen-count b) ∙ free in
+      let once = sound.free.pool b (rw sound.set.card (rw (has-setting board a x x sound here) at within)) in
+      let hands : AppSide → List ℕ = λ app. app.inside.hands in
+      omega (
+        arith,
+        rw before at once,
+        ap weight (none b),
+        ap (λ inside. count_by (nat_eq b) inside.hands) sound.set.card_rest,
+        count-tally (nat_eq b) (flat_map hands board.apps),
+        tally-flat (nat_eq b) hands board.apps,
+        hands-none b board.apps sound.set.roles_rest,
+      )

@@ -1,0 +1,231 @@
+-- A raw entry is the last on its way: it came from no loan, and names no buffer in which one is out.
+use Rattle.std.proofs.Common.{◌≡◌, ℕ, suc, ◌+◌, ◌<◌, ◌≤◌, Bool, true, false, List, [], ◌∷◌, ◌++◌, length, map, set, get_or, refl, ap, sym, ◌∙◌, subst, arith, ⊎_elim, Option, Some, None, length-append, length-drop}
+use Rattle.std.specs.Prelude.{◌≢◌, ◌==◌, All, Contains, IfSome, count_by, filter}
+use Rattle.std.specs.List.{zip}
+use Rattle.std.proofs.lemmas.List.{drop-append-le, length-set, length-map, get_or-set_same, get_or-set_other}
+use Rattle.std.proofs.lemmas.List.Elements.{All-push, All-set}
+use Rattle.std.proofs.lemmas.Bool.{lt-ltb}
+use Rattle.std.proofs.lemmas.Bool.Decides.{eqb_tells}
+use Rattle.circular_buffer.specs.Buffer.{Buffer, buffer}
+use Rattle.zr_kinds.specs.declared.ring.Rqe.{Rqe}
+use Rattle.area_layout.specs.Layout.{Shape, judged}
+use Rattle.board_face.specs.Sides.{IsApp, app_at}
+use Rattle.board_face.specs.AppCalls.{IsLive, NamesNoLoan}
+use Rattle.board_face.specs.AppEvents.{app_gist, app_saw, pushed_raw}
+use Rattle.board_face.specs.Looks.{AppTold}
+use Rattle.board_face.specs.Relay.{Relayed, dealt_entries, IsNoLoanStray}
+use Rattle.board_face.specs.declared.views.nic.Dealt.{Dealt}
+use Rattle.board_face.specs.declared.views.nic.NicSide.{NicSide}
+use Rattle.board_face.specs.declared.views.app.AppLook.TheVariants.{RefillInUse}
+use Rattle.board_face.specs.declared.views.app.LentPiece.{LentPiece}
+use Rattle.board_face.specs.declared.views.app.TakenNote.{TakenNote}
+use Rattle.board_face.specs.declared.views.app.WrittenEntry.{WrittenEntry}
+use Rattle.board_face.specs.declared.views.app.AppSide.{AppSide}
+use Rattle.board_face.proofs.Parts.{count-tally}
+use Rattle.board_face.proofs.Tallies.{weight, tally, tally-push}
+use Rattle.board_face.proofs.LookLemmas.{AppTold-one}
+use Rattle.board_face.proofs.AppLemmas.{SameHoldings, app_count-same, user_part-same}
+use Rattle.board_face.proofs.RelayLemmas.{Relayed-wrote}
+use Rattle.board_face.proofs.FilledLemmas.{IsFilledByOne-same}
+use Rattle.board_face.proofs.FitLemmas.{FillingsFit-same}
+use Rattle.board_face.proofs.AreShownLemmas.{AreShown-same}
+use Rattle.plain_parts.specs.Rings.{ring_in, pushed}
+use Rattle.plain_board.specs.Board.{Board, byte_of, others_of}
+use Rattle.plain_board.specs.Returns.{AreReturns, entries_on_way, names, is_some_of, returns, loans_out, reach_of, IsClear, IsNamed}
+use Rattle.plain_board.specs.Seen.{IsSeenBy}
+use Rattle.plain_board.specs.Sound.{IsSound, refills_of}
+use Rattle.plain_board.proofs.AppFrames.{has-setting, IsSet-app, was-at_rest, AreCounted-app, was-returned, AreRelayed-app, was-relayed, returns-app, was-returns, AreFlags-kept, AreFreeOnce-app, AreKept-app, AreDue-app, was-given, was-due, AreBooked-app, was-booked_loans, was-booked_filled, ArePhased-app, was-phased}
+use Rattle.plain_board.proofs.Settling.{reach_with}
+
+-- ---- lists that grow by one at the end
+
+zip-within : {A B : Type 0} (xs : List A) (ys : List B) (x : A) → length ys ≤ length xs → zip (xs ++ x ∷ []) ys ≡ zip xs ys
+zip-within [] [] x few = refl
+zip-within [] (y ∷ ys) x few = absurd (omega arith)
+zip-within (z ∷ xs) [] x few = refl
+zip-within (z ∷ xs) (y ∷ ys) x few = ap (λ ps. (z, y) ∷ ps) (zip-within xs ys x (omega arith))
+
+returns-raw : (layout : Shape) (b : ℕ) (ws : List WrittenEntry) (w : WrittenEntry) → w.of_loan ≡ false → count_by (returns layout b) (ws ++ w ∷ []) ≡ count_by (returns layout b) ws
+returns-raw layout b ws w raw =
+    let none : weight (returns layout b w) ≡ 0 = rw raw refl in
+    omega (arith, none, count-tally (returns layout b) (ws ++ w ∷ []), count-tally (returns layout b) ws, tally-push (returns layout b) ws w)
+
+-- an entry that came from no loan is clear where none is out, and leaves those before it clear
+IsClear-push : (layout : Shape) (b loans : ℕ) (ws : List WrittenEntry) (w : WrittenEntry) → w.of_loan ≡ false → (names layout b w ≡ true → loans ≡ 0) → IsClear layout b loans ws → IsClear layout b loans (ws ++ w ∷ [])
+IsClear-push layout b loans [] w raw idle clear = (λ is named. (idle named, refl), tt)
+IsClear-push layout b loans (v ∷ ws) w raw idle clear =
+    (λ is named. let was = clear.0 is named in (was.0, returns-raw layout b ws w raw ∙ was.1), IsClear-push layout b loans ws w raw idle clear.1)
+
+reach-front : (of_loan : Bool) (r : ℕ) → 0 < r → reach_with of_loan r ≡ suc r
+reach-front of_loan r some = rw (lt-ltb 0 r some) refl
+
+-- no entry stands behind a raw one at the end
+reach-push : (ws : List WrittenEntry) (w : WrittenEntry) → w.of_loan ≡ false → reach_of (ws ++ w ∷ []) ≡ suc (length ws)
+reach-push [] w raw = rw raw refl
+reach-push (v ∷ ws) w raw =
+    let rest = reach-push ws w raw in
+    reach-front v.of_loan (reach_of (ws ++ w ∷ [])) (omega (arith, rest)) ∙ ap suc rest
+
+-- ---- no loan is out where the entry points
+
+none-out : (b : ℕ) (ls : List LentPiece) → (Contains (map (λ l. l.place.buffer) ls) b → ⊥) → tally (λ l. l.place.buffer == b) ls ≡ 0
+none-out b [] idle = refl
+none-out b (l ∷ ls) idle =
+    ⊎_elim
+    (λ t. absurd (idle (0, omega arith, t.1)))
+    (λ t. omega (arith, ap weight t.0, none-out b ls (λ live. idle (suc live.0, omega (arith, live.1), live.2))))
+    (eqb_tells l.place.buffer b)
+
+idle-case : (o : Option ℕ) (x : AppSide) (b : ℕ) → IfSome o (λ buffer. IsLive x.view buffer → ⊥) → is_some_of o b ≡ true → loans_out b x ≡ 0
+idle-case None x b idle named = absurd (let wrong : false ≡ true = named in cc)
+idle-case (Some i) x b idle named =
+    ⊎_elim
+    (λ t. count-tally (λ (l : LentPiece). l.place.buffer == b) x.view.loans ∙ none-out b x.view.loans (subst (λ c. IsLive x.view c → ⊥) t.1 idle))
+    (λ t. absurd (let wrong : true ≡ false = sym named ∙ t.0 in cc))
+    (eqb_tells i b)
+
+-- ---- what is on its way
+
+-- the card has dealt with no more entries than were written
+pub dealt-within : (nic : NicSide) (app : AppSide) (ns : List TakenNote) (es : List Rqe) → Relayed nic app ns es → length (dealt_entries app.view.app nic) + length es ≡ length app.view.written
+dealt-within nic app ns es relayed = omega (arith, length-append (dealt_entries app.view.app nic) es, ap length relayed.entries, length-map app.view.written (λ w. w.entry))
+
+module _ (board : Board) (a : ℕ) (x : AppSide) (entry : Rqe) (sound : IsSound board) (here : IsApp board.apps a x) where
+  abbrev one : WrittenEntry
+  one = record { entry = entry; of_loan = false }
+
+  abbrev pub raw_then : AppSide
+  raw_then = app_at x (pushed_raw x.view entry)
+
+  abbrev pub ring_then : Buffer Rqe
+  ring_then = pushed (ring_in board.arrays.refills a) entry
+
+  way-then : entries_on_way board.nic raw_then ≡ entries_on_way board.nic x ++ one ∷ []
+  way-then = drop-append-le (length (dealt_entries x.view.app board.nic)) x.view.written (one ∷ []) (omega (arith, dealt-within board.nic x _ _ (was-relayed board a x x sound here)))
+
+  same : SameHoldings x.view (pushed_raw x.view entry)
+  same = record { app = refl; taken = refl; helds = refl; owns = refl; loans = refl; returned = refl }
+
+  ring_there : a < length board.arrays.refills
+  ring_there = let h = here.there in let many = sound.set.many in let size = sound.sizes.refills in omega arith
+
+  refills-mine : (get_or (set board.arrays.refills a ring_then) a (buffer [] 0)).items ≡ refills_of board.arrays a ++ entry ∷ []
+  refills-mine = ap (λ (r : Buffer Rqe). r.items) (get_or-set_same board.arrays.refills a ring_then (buffer [] 0) ring_there)
+
+  -- how many lie in the ring then
+  pub ring-length : (rings : List (Buffer Rqe)) (r : Buffer Rqe) (n : ℕ) → rings ≡ set board.arrays.refills a ring_then → r ≡ get_or rings a r → n ≡ length r.items → n ≡ length ring_then.items
+  ring-length rings r n are read many =
+      let is : r ≡ ring_then = read ∙ (ap (λ (rs : List (Buffer Rqe)). get_or rs a r) are ∙ get_or-set_same board.arrays.refills a ring_then r ring_there) in
+      many ∙ ap (λ (r : Buffer Rqe). length r.items) is
+
+  refills-others : (k : ℕ) → k ≢ a → (get_or (set board.arrays.refills a ring_then) k (buffer [] 0)).items ≡ refills_of board.arrays k
+  refills-others k ne = ap (λ (r : Buffer Rqe). r.items) (get_or-set_other board.arrays.refills a k ring_then (buffer [] 0) ne)
+
+  strays-then : All IsNoLoanStray (zip (x.view.written ++ one ∷ []) (filter (λ (d : Dealt). d.app == x.view.app) board.nic.view.dealt))
+  strays-then =
+      let mine = filter (λ (d : Dealt). d.app == x.view.app) board.nic.view.dealt in
+      rw (zip-within x.view.written mine one (omega (arith, length-map mine (λ d. d.entry), dealt-within board.nic x _ _ (was-relayed board a x x sound here)))) (was-returns board a x x sound here).strays
+
+  AreReturns-raw : NamesNoLoan x.view entry → AreReturns board.nic raw_then
+  AreReturns-raw idle =
+      let layout = x.view.setting.layout in
+      let was = was-returns board a x x sound here in
+      record {
+        owed = λ b. rw way-then (omega (arith, was.owed b, returns-raw layout b (entries_on_way board.nic x) one refl));
+        clear = λ b. rw way-then (IsClear-push layout b (loans_out b x) (entries_on_way board.nic x) one refl (idle-case (judged layout entry) x b idle) (was.clear b));
+        named = rw way-then (All-push (IsNamed layout) (entries_on_way board.nic x) one was.named (λ e. absurd (let wrong : false ≡ true = e in cc)));
+        settled = λ e. absurd (let wrong : false ≡ true = e in cc);
+        quiet = λ e. absurd (let wrong : false ≡ true = e in cc);
+        strays = strays-then;
+      }
+
+  reach-then : (n : ℕ) → n ≡ length ring_then.items → n ≡ reach_of (entries_on_way board.nic raw_then)
+  reach-then n many =
+      rw way-then (
+      omega (
+        arith,
+        many,
+        length-append (refills_of board.arrays a) (entry ∷ []),
+        reach-push (entries_on_way board.nic x) one refl,
+        length-drop (length (dealt_entries x.view.app board.nic)) x.view.written,
+        dealt-within board.nic x _ _ (was-relayed board a x x sound here),
+      )
+      )
+
+  pub IsSound-pushed : NamesNoLoan x.view entry → (n : ℕ) → n ≡ length ring_then.items
+      → IsSound (record { arrays = record board.arrays { refills = set board.arrays.refills a ring_then; raw = set board.arrays.raw a n }; nic = board.nic; apps = set board.apps a raw_then })
+  IsSound-pushed idle n many =
+      let v = pushed_raw x.view entry in
+      let rest = was-at_rest board a x raw_then sound here in
+      let phase = was-phased board a x raw_then sound here in
+      let raw_there : a < length board.arrays.raw = let h = here.there in let many = sound.set.many in let size = sound.sizes.raw in omega arith in
+      record {
+        sizes = record {
+          layout = sound.sizes.layout;
+          places = sound.sizes.places;
+          area = sound.sizes.area;
+          pool = sound.sizes.pool;
+          users = sound.sizes.users;
+          listed = sound.sizes.listed;
+          cache = sound.sizes.cache;
+          notes = sound.sizes.notes;
+          refills = length-set board.arrays.refills a ring_then ∙ sound.sizes.refills;
+          loans = sound.sizes.loans;
+          filled = sound.sizes.filled;
+          raw = length-set board.arrays.raw a n ∙ sound.sizes.raw;
+          left = sound.sizes.left;
+        };
+        cached = sound.cached;
+        set = IsSet-app board a x raw_then sound here refl refl (record { hands = rest.hands; owes = rest.owes });
+        counted = AreCounted-app board a x raw_then sound here _ refl refl
+            (λ b within. omega (arith, app_count-same b board.nic x v same))
+            (λ b within. omega (arith, user_part-same a b board.nic x v same))
+            (λ k b ne app within. refl)
+            (λ b past. omega (arith, app_count-same b board.nic x v same))
+            (λ b. let e = was-returned board a x raw_then sound here b in record { ended = e.ended; returning = e.returning });
+        free = AreFreeOnce-app board a x raw_then sound here _ (record { hands = rest.hands; owes = rest.owes }) (λ b. app_count-same b board.nic x v same) sound.free;
+        relayed = AreRelayed-app board a x raw_then sound here _ refl
+            (rw refills-mine (Relayed-wrote board.nic x v one _ _ refl refl refl refl (was-relayed board a x raw_then sound here)))
+            (λ k ne. refl) refills-others sound.relayed.notes
+            (All-set (λ ring. ring.capacity ≡ board.arrays.places) board.arrays.refills a ring_then (sound.relayed.refills a (buffer [] 0) ring_there) sound.relayed.refills);
+        returns = returns-app board a x raw_then sound here (AreReturns-raw idle);
+        flags = AreFlags-kept board a x raw_then sound here _ refl refl refl;
+        kept = AreKept-app board a x raw_then sound here _ _ refl (λ b. omega arith) sound.kept;
+        due = AreDue-app board a x raw_then sound here (was-given board a x raw_then sound here) (was-due board a x raw_then sound here);
+        filled = FillingsFit-same board.nic board.apps a x raw_then here refl sound.filled;
+        by_one = λ b. IsFilledByOne-same b board.nic board.apps a x v here same (sound.by_one b);
+        shown = AreShown-same (byte_of board.arrays) board.nic board.apps a x v here same sound.shown;
+        notes = sound.notes;
+        booked = AreBooked-app board a x raw_then sound here _ refl
+            (record {
+              loans = was-booked_loans board a x raw_then sound here;
+              filled = was-booked_filled board a x raw_then sound here;
+              raw = get_or-set_same board.arrays.raw a n 0 raw_there ∙ reach-then n many;
+            })
+            (λ k b ne app within. refl)
+            (λ k y ne it. sound.booked.filled k y it)
+            (λ k ne. get_or-set_other board.arrays.raw a k n 0 ne);
+        phased = ArePhased-app board a x raw_then sound here (record {
+          ended = phase.ended;
+          unscrubbed = phase.unscrubbed;
+          scrubbed = phase.scrubbed;
+          left = λ e. let can = phase.left e in record { scrubbed = can.scrubbed; ended = can.ended; helds = can.helds; loans = can.loans; spares = can.spares };
+        });
+      }
+
+  -- ---- a full ring
+
+  -- as many entries are on their way as lie in the ring
+  full : (ring_in board.arrays.refills a).capacity ≤ length (refills_of board.arrays a) → x.view.setting.places ≤ length (entries_on_way board.nic x)
+  full no_room =
+      omega (
+        arith,
+        no_room,
+        sound.relayed.refills a (buffer [] 0) ring_there,
+        ap (λ s. s.places) (has-setting board a x x sound here),
+        length-drop (length (dealt_entries x.view.app board.nic)) x.view.written,
+        dealt-within board.nic x _ _ (was-relayed board a x x sound here),
+      )
+
+  pub told-full : (ring_in board.arrays.refills a).capacity ≤ length (ring_in board.arrays.refills a).items → AppTold (λ look. IsSeenBy look (app_gist x.view) (others_of board a)) x.view (app_saw x.view RefillInUse)
+  told-full no_room = AppTold-one (λ look. IsSeenBy look (app_gist x.view) (others_of board a)) x.view (app_saw x.view RefillInUse) RefillInUse refl (full no_room)

@@ -1,0 +1,63 @@
+-- A look is exact on this board: what a role saw is so. It is said of the board before the call that saw it.
+use Rattle.std.specs.Prelude.{◌≡◌, ℕ, ◌<◌, ◌≤◌, true, false, if◌then◌else◌, List, [], length, nat_eq, count_by, slice_set, ⊤}
+use Rattle.area_layout.specs.Layout.{pool_buffers}
+use Rattle.board_face.specs.Opened.{new_nic, new_app}
+use Rattle.board_face.specs.Holders.{on_way}
+use Rattle.board_face.specs.Counts.{pool_count, user_count}
+use Rattle.board_face.specs.AppEvents.{reserve_of}
+use Rattle.board_face.specs.declared.views.nic.NicLook.{NicLook}
+use Rattle.board_face.specs.declared.views.nic.NicLook.TheVariants.{RingEmpty, NoteInUse, Swept, NotLeft, NotOwed, Owed, LastHolder, StillHeld}
+use Rattle.board_face.specs.declared.views.nic.NicView.{NicView}
+use Rattle.board_face.specs.declared.views.nic.NicSide.{NicSide}
+use Rattle.board_face.specs.declared.views.app.AppLook.{AppLook}
+use Rattle.board_face.specs.declared.views.app.AppLook.TheVariants.{NoNote, CardEnded, RefillInUse, RawOnItsWay, NoneListed, NoSpare, NotQuiet}
+use Rattle.board_face.specs.declared.views.app.AppView.{AppView}
+use Rattle.board_face.specs.declared.views.app.AppSide.{AppSide}
+use Rattle.plain_board.specs.declared.others.Others.{Others}
+use Rattle.plain_board.specs.Board.{side_in}
+use Rattle.plain_board.specs.Returns.{entries_on_way, is_raw}
+
+-- ---- the card
+
+-- the card's side between two of its calls
+abbrev pub card_of : NicView → NicSide
+card_of v = record { view = v; inside = (new_nic v.setting).inside }
+
+-- What the card sees is so. (That it swept a word is no more than its own doing.)
+abbrev pub IsSeenByCard : NicLook → NicView → List AppSide → Type 0
+IsSeenByCard (RingEmpty a) v apps = entries_on_way (card_of v) (side_in apps a) ≡ []
+IsSeenByCard (NoteInUse a) v apps = v.setting.places ≤ length (on_way (card_of v) (side_in apps a))
+IsSeenByCard (Swept word) v apps = ⊤
+IsSeenByCard (NotLeft a) v apps = (side_in apps a).view.left ≡ false
+IsSeenByCard (NotOwed a b) v apps = user_count a b (card_of v) apps ≡ 0
+IsSeenByCard (Owed a b) v apps = 0 < user_count a b (card_of v) apps
+IsSeenByCard (LastHolder b) v apps = pool_count b (card_of v) apps ≡ 1
+IsSeenByCard (StillHeld b) v apps = 2 ≤ pool_count b (card_of v) apps
+
+-- ---- an application
+
+-- An application's side between two of its calls, as far as it holds anything: once it has scrubbed it owes nothing.
+abbrev pub self_of : AppView → AppSide
+self_of v = record {
+  view = record v { returned = if v.scrubbed then [] else v.returned };
+  inside = (new_app v.setting v.app).inside;
+}
+
+-- the sides of all applications
+abbrev pub all_of : AppView → Others → List AppSide
+all_of v others = slice_set others.apps v.app (self_of v)
+
+-- no pool buffer is on the free list: one without holder is cached
+abbrev pub HasNothingListed : AppView → Others → Type 0
+HasNothingListed v others =
+    (b : ℕ) → b < pool_buffers v.setting.layout → pool_count b others.card (all_of v others) ≡ 0 → 1 ≤ count_by (nat_eq b) others.card.view.cache
+
+-- What an application sees is so.
+abbrev pub IsSeenBy : AppLook → AppView → Others → Type 0
+IsSeenBy NoNote v others = (others.card.view.ended ≡ false) × (on_way others.card (self_of v) ≡ [])
+IsSeenBy CardEnded v others = (others.card.view.ended ≡ true) × (on_way others.card (self_of v) ≡ [])
+IsSeenBy RefillInUse v others = v.setting.places ≤ length (entries_on_way others.card (self_of v))
+IsSeenBy RawOnItsWay v others = 0 < count_by is_raw (entries_on_way others.card (self_of v))
+IsSeenBy NoneListed v others = HasNothingListed v others
+IsSeenBy NoSpare v others = HasNothingListed v others × (0 < pool_count (reserve_of v) others.card (all_of v others))
+IsSeenBy NotQuiet v others = 0 < length (entries_on_way others.card (self_of v))

@@ -1,0 +1,83 @@
+ghost use Rattle.std.specs.Prelude.{◌≡◌, ◌+◌, ◌<◌, ◌≤◌, ◌↔◌, length, IsTrue, MatchResult};
+ghost use Rattle.board_face.specs.declared.views.app.AppLook.TheVariants.{RefillInUse};
+ghost use Rattle.board_face.specs.AppCalls.{IsHere, HasLoan, IsLive, AppOnlySaw, ShowsCopy};
+ghost use Rattle.board_face.specs.AppEvents.{app_gist, has_read, loan_origin, gave, abandoned};
+ghost use Rattle.board_face.specs.Looks.{AppTold};
+ghost use Rattle.plain_board.specs.Board.{side_of, others_of};
+ghost use Rattle.plain_board.specs.Seen.{IsSeenBy};
+
+use crate::PlainBoard;
+use board_face::Loan;
+use plain_parts::{load, lower, note_at, put_back, user_index};
+use std::marker::Brand;
+use zr_kinds::{Place, Rqe};
+
+impl PlainBoard {
+    /// Reads bytes of a loan, from its byte `from` on.
+    pub(crate) fn read(&mut self, app: u32, loan: &Loan, from: u32, into: &mut [u8])
+        requires app { app < self.old.arrays.layout.reserves }
+        requires here { IsHere (side_of self.old app).view }
+        requires out { HasLoan (side_of self.old app).view loan.now }
+        requires within { from + length into.old ≤ loan.now.len }
+        ensures view { (side_of self.new app).view ≡ has_read (side_of self.old app).view loan.now from into.new }
+        ensures copied { ShowsCopy (loan_origin (side_of self.old app).view loan.now) from into.new }
+        ensures others { others_of self.new app ≡ others_of self.old app }
+        ensures layout { self.new.arrays.layout ≡ self.old.arrays.layout }
+    {
+        let place = loan.place();
+        let at = self.layout.off_of(&place) as usize + from as usize;
+        load(self.area.as_slice(), at, into);
+        note_at::<Brand, (Place, u32, &[u8])>(&mut self.apps, app as usize, (place, from, into));
+    }
+
+    /// Gives a loan back by a refill entry, unless the ring is full.
+    pub(crate) fn give(&mut self, app: u32, loan: Loan) -> Result<(), Loan>
+        requires app { app < self.old.arrays.layout.reserves }
+        requires here { IsHere (side_of self.old app).view }
+        requires out { HasLoan (side_of self.old app).view loan }
+        ensures view { MatchResult result
+            (λ _. (side_of self.new app).view ≡ gave (side_of self.old app).view loan)
+            (λ back. (back ≡ loan) × AppOnlySaw RefillInUse (side_of self.old app).view (side_of self.new app).view) }
+        ensures told { AppTold (λ look. IsSeenBy look (app_gist (side_of self.old app).view) (others_of self.old app)) (side_of self.old app).view (side_of self.new app).view }
+        ensures others { others_of self.new app ≡ others_of self.old app }
+        ensures layout { self.new.arrays.layout ≡ self.old.arrays.layout }
+    {
+        let place = loan.place();
+        let entry = Rqe {
+            off: self.layout.off_of(&place),
+            len: place.len,
+            pad: 0,
+        };
+        if !put_back(&mut self.refills, app as usize, entry) {
+            note_at::<Brand, ()>(&mut self.apps, app as usize, ());
+            return Err(loan);
+        }
+        let user = user_index(&self.layout, app, place.buffer);
+        lower(&mut self.loans, user);
+        note_at::<Brand, Place>(&mut self.apps, app as usize, place);
+        Ok(())
+    }
+
+    /// Gives a loan up without an entry.
+    pub(crate) fn abandon(&mut self, app: u32, loan: Loan)
+        requires app { app < self.old.arrays.layout.reserves }
+        requires here { IsHere (side_of self.old app).view }
+        requires out { HasLoan (side_of self.old app).view loan }
+        ensures view { (side_of self.new app).view ≡ abandoned (side_of self.old app).view loan }
+        ensures others { others_of self.new app ≡ others_of self.old app }
+        ensures layout { self.new.arrays.layout ≡ self.old.arrays.layout }
+    {
+        let place = loan.place();
+        let user = user_index(&self.layout, app, place.buffer);
+        lower(&mut self.loans, user);
+        note_at::<Brand, Place>(&mut self.apps, app as usize, place);
+    }
+
+    /// Whether a loan of the application in this buffer is out.
+    pub(crate) fn live(&self, app: u32, buffer: u32) -> bool
+        requires { app < self.now.arrays.layout.reserves }
+        ensures { IsTrue result ↔ IsLive (side_of self.now app).view buffer }
+    {
+        buffer < self.layout.total() && self.loans[user_index(&self.layout, app, buffer)] > 0
+    }
+}

@@ -1,0 +1,39 @@
+ghost use Rattle.std.specs.Prelude.{◌≡◌, ◌<◌};
+ghost use Rattle.board_face.specs.AppCalls.{IsHere, Looked};
+ghost use Rattle.board_face.specs.AppEvents.{app_gist};
+ghost use Rattle.board_face.specs.Looks.{AppTold};
+ghost use Rattle.plain_board.specs.Board.{side_of, others_of};
+ghost use Rattle.plain_board.specs.Seen.{IsSeenBy};
+
+use crate::PlainBoard;
+use board_face::{Held, Polled};
+use plain_parts::{note_at, take_front};
+use std::marker::Brand;
+use zr_kinds::Note;
+
+impl PlainBoard {
+    /// Takes the next note of an application.
+    pub(crate) fn poll(&mut self, app: u32, linear: &mut [u8; 256]) -> Polled
+        requires app { app < self.old.arrays.layout.reserves }
+        requires here { IsHere (side_of self.old app).view }
+        ensures view { Looked (side_of self.old app).view (side_of self.new app).view linear.new result }
+        ensures told { AppTold (λ look. IsSeenBy look (app_gist (side_of self.old app).view) (others_of self.old app)) (side_of self.old app).view (side_of self.new app).view }
+        ensures others { others_of self.new app ≡ others_of self.old app }
+        ensures layout { self.new.arrays.layout ≡ self.old.arrays.layout }
+    {
+        let Some(slot) = take_front(&mut self.notes, app as usize) else {
+            let ended = self.ended;
+            note_at::<Brand, bool>(&mut self.apps, app as usize, ended);
+            return if ended { Polled::Ended } else { Polled::Empty };
+        };
+        let note = slot.note;
+        if note.split {
+            note_at::<Brand, Note>(&mut self.apps, app as usize, note);
+            return Polled::Note(note, Held::new(note.place));
+        }
+        let bytes = slot.bytes;
+        *linear = bytes;
+        note_at::<Brand, (Note, [u8; 256])>(&mut self.apps, app as usize, (note, bytes));
+        Polled::Linear(note)
+    }
+}

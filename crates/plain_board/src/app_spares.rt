@@ -1,0 +1,92 @@
+ghost use Rattle.std.specs.Prelude.{◌≡◌, ◌<◌, ◌≤◌, length, IfSome, MatchOption};
+ghost use Rattle.board_face.specs.declared.views.app.AppLook.TheVariants.{NoSpare};
+ghost use Rattle.board_face.specs.Tokens.{filled_by};
+ghost use Rattle.board_face.specs.AppCalls.{IsHere, HasSpare, CanLend, MaySpare, IsFilled, AppOnlySaw, GotSpare};
+ghost use Rattle.board_face.specs.AppEvents.{app_gist, filled, own_bytes, begin_place, lent_own};
+ghost use Rattle.board_face.specs.Looks.{AppTold};
+ghost use Rattle.plain_board.specs.Board.{side_of, others_of, IsLowestFree};
+ghost use Rattle.plain_board.specs.Seen.{IsSeenBy};
+
+use crate::PlainBoard;
+use board_face::{Filling, Loan, Own};
+use plain_parts::{filled_up, filling_of, note_at, pick_spare, put, raise, store, user_index};
+use std::marker::Brand;
+use zr_kinds::Place;
+
+impl PlainBoard {
+    /// Takes a buffer to copy a short payload into: the lowest listed one, or else the reserve.
+    pub(crate) fn spare(&mut self, app: u32) -> Option<Own>
+        requires app { app < self.old.arrays.layout.reserves }
+        requires here { IsHere (side_of self.old app).view }
+        requires due { MaySpare (side_of self.old app).view }
+        ensures view { MatchOption result
+            (AppOnlySaw NoSpare (side_of self.old app).view (side_of self.new app).view)
+            (λ own. GotSpare (side_of self.old app).view (side_of self.new app).view own) }
+        ensures lowest { IfSome result (λ own. IsLowestFree self.old.arrays own.buffer) }
+        ensures told { AppTold (λ look. IsSeenBy look (app_gist (side_of self.old app).view) (others_of self.old app)) (side_of self.old app).view (side_of self.new app).view }
+        ensures others { others_of self.new app ≡ others_of self.old app }
+        ensures layout { self.new.arrays.layout ≡ self.old.arrays.layout }
+    {
+        let reserve = self.layout.buffers() + app;
+        let Some(buffer) = pick_spare(&mut self.listed, self.pool.as_slice(), reserve) else {
+            note_at::<Brand, ()>(&mut self.apps, app as usize, ());
+            return None;
+        };
+        raise(&mut self.pool, buffer as usize);
+        put(&mut self.filled, buffer as usize, 0);
+        note_at::<Brand, u32>(&mut self.apps, app as usize, buffer);
+        let size = self.layout.size_of(buffer);
+        Some(Own::new(buffer, 0, size))
+    }
+
+    /// Stores a short payload at the begin of a spare.
+    pub(crate) fn fill(&mut self, app: u32, own: &mut Own, bytes: &[u8])
+        requires app { app < self.old.arrays.layout.reserves }
+        requires here { IsHere (side_of self.old app).view }
+        requires out { HasSpare (side_of self.old app).view own.old }
+        requires empty { own.old.start ≡ 0 }
+        requires some { 0 < length bytes.now }
+        requires few { length bytes.now ≤ 256 }
+        ensures own { own.new ≡ filled_by own.old (length bytes.now) }
+        ensures view { (side_of self.new app).view ≡ filled (side_of self.old app).view own.old bytes.now }
+        ensures others { others_of self.new app ≡ others_of self.old app }
+        ensures layout { self.new.arrays.layout ≡ self.old.arrays.layout }
+    {
+        let filling = filling_of(own);
+        let place = Place {
+            buffer: filling.buffer,
+            offset: 0,
+            len: bytes.len() as u32,
+        };
+        let at = self.layout.off_of(&place) as usize;
+        store(&mut self.area, at, bytes);
+        put(&mut self.filled, place.buffer as usize, place.len);
+        note_at::<Brand, (Filling, &[u8])>(&mut self.apps, app as usize, (filling, bytes));
+        *own = filled_up(own, place.len);
+    }
+
+    /// Lends a filled spare.
+    pub(crate) fn lend_own(&mut self, app: u32, own: Own) -> Loan
+        requires app { app < self.old.arrays.layout.reserves }
+        requires here { IsHere (side_of self.old app).view }
+        requires out { HasSpare (side_of self.old app).view own }
+        requires can { CanLend (side_of self.old app).view }
+        requires filled { IsFilled (side_of self.old app).view own }
+        ensures place { result ≡ begin_place own.buffer (length (own_bytes (side_of self.old app).view own)) }
+        ensures view { (side_of self.new app).view ≡ lent_own (side_of self.old app).view own }
+        ensures others { others_of self.new app ≡ others_of self.old app }
+        ensures layout { self.new.arrays.layout ≡ self.old.arrays.layout }
+    {
+        let filling = filling_of(&own);
+        let len = self.filled[filling.buffer as usize];
+        let user = user_index(&self.layout, app, filling.buffer);
+        raise(&mut self.users, user);
+        raise(&mut self.loans, user);
+        note_at::<Brand, Filling>(&mut self.apps, app as usize, filling);
+        Loan::new(Place {
+            buffer: filling.buffer,
+            offset: 0,
+            len,
+        })
+    }
+}

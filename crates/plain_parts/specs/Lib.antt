@@ -1,0 +1,6 @@
+pub mod Blank
+pub mod Opened
+pub mod Counts
+pub mod Free
+pub mod Rings
+pub mod Area
