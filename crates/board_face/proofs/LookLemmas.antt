@@ -3,7 +3,7 @@ use Rattle.std.proofs.Common.{◌≡◌, ℕ, ◌≤◌, Bool, true, false, List
 use Rattle.std.specs.Prelude.{◌==◌, ◌&&◌, ◌⊎◌}
 use Rattle.std.proofs.lemmas.Bool.Decides.{eqb_tells}
 use Rattle.board_face.specs.declared.views.nic.NicLook.{NicLook}
-use Rattle.board_face.specs.declared.views.nic.NicLook.TheVariants.{RingEmpty, NoteInUse, Swept, NotLeft, NotOwed, Owed, LastHolder, StillHeld}
+use Rattle.board_face.specs.declared.views.nic.NicLook.TheVariants.{RingEmpty, NoteInUse, Swept, NotLeft, HasLeft, NotOwed, Owed, LastHolder, StillHeld}
 use Rattle.board_face.specs.declared.views.app.AppLook.{AppLook}
 use Rattle.board_face.specs.declared.views.app.AppLook.TheVariants.{NoNote, CardEnded, RefillInUse, RawOnItsWay, NoneListed, NoSpare, NotQuiet}
 use Rattle.board_face.specs.declared.views.nic.NicView.{NicView}
@@ -19,6 +19,7 @@ same_nic_look-refl (RingEmpty a) = eqb_same a
 same_nic_look-refl (NoteInUse a) = eqb_same a
 same_nic_look-refl (Swept a) = eqb_same a
 same_nic_look-refl (NotLeft a) = eqb_same a
+same_nic_look-refl (HasLeft a) = eqb_same a
 same_nic_look-refl (NotOwed a b) = rw (eqb_same a, eqb_same b) refl
 same_nic_look-refl (Owed a b) = rw (eqb_same a, eqb_same b) refl
 same_nic_look-refl (LastHolder a) = eqb_same a
@@ -92,6 +93,7 @@ same_nic_look-is (RingEmpty a) (RingEmpty b) e = ap RingEmpty (are-one a b e)
 same_nic_look-is (NoteInUse a) (NoteInUse b) e = ap NoteInUse (are-one a b e)
 same_nic_look-is (Swept a) (Swept b) e = ap Swept (are-one a b e)
 same_nic_look-is (NotLeft a) (NotLeft b) e = ap NotLeft (are-one a b e)
+same_nic_look-is (HasLeft a) (HasLeft b) e = ap HasLeft (are-one a b e)
 same_nic_look-is (NotOwed a i) (NotOwed b j) e = let both = both-are (a == b) (i == j) e in let app = are-one a b both.0 in let buffer = are-one i j both.1 in cc
 same_nic_look-is (Owed a i) (Owed b j) e = let both = both-are (a == b) (i == j) e in let app = are-one a b both.0 in let buffer = are-one i j both.1 in cc
 same_nic_look-is (LastHolder a) (LastHolder b) e = ap LastHolder (are-one a b e)

@@ -3,7 +3,7 @@
 -- saw the word so.
 use Rattle.std.specs.Prelude.{ℕ, ◌+◌, ◌<◌, ◌≤◌, Bool, true, false, if◌then◌else◌, List, [], ◌∷◌, ◌==◌, ◌&&◌}
 use Rattle.board_face.specs.declared.views.nic.NicLook.{NicLook}
-use Rattle.board_face.specs.declared.views.nic.NicLook.TheVariants.{RingEmpty, NoteInUse, Swept, NotLeft, NotOwed, Owed, LastHolder, StillHeld}
+use Rattle.board_face.specs.declared.views.nic.NicLook.TheVariants.{RingEmpty, NoteInUse, Swept, NotLeft, HasLeft, NotOwed, Owed, LastHolder, StillHeld}
 use Rattle.board_face.specs.declared.views.nic.NicView.{NicView}
 use Rattle.board_face.specs.declared.views.app.AppLook.{AppLook}
 use Rattle.board_face.specs.declared.views.app.AppLook.TheVariants.{NoNote, CardEnded, RefillInUse, RawOnItsWay, NoneListed, NoSpare, NotQuiet}
@@ -14,6 +14,7 @@ same_nic_look (RingEmpty a) (RingEmpty b) = a == b
 same_nic_look (NoteInUse a) (NoteInUse b) = a == b
 same_nic_look (Swept a) (Swept b) = a == b
 same_nic_look (NotLeft a) (NotLeft b) = a == b
+same_nic_look (HasLeft a) (HasLeft b) = a == b
 same_nic_look (NotOwed a x) (NotOwed b y) = (a == b) && (x == y)
 same_nic_look (Owed a x) (Owed b y) = (a == b) && (x == y)
 same_nic_look (LastHolder x) (LastHolder y) = x == y

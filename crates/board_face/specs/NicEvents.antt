@@ -9,7 +9,7 @@ use Rattle.board_face.specs.Tokens.{filling, filled_by, next_place, same_filling
 use Rattle.board_face.specs.declared.views.parts.Setting.{Setting}
 use Rattle.board_face.specs.declared.views.parts.Filling.{Filling}
 use Rattle.board_face.specs.declared.views.nic.NicLook.{NicLook}
-use Rattle.board_face.specs.declared.views.nic.NicLook.TheVariants.{Swept, NotOwed, Owed, LastHolder, StillHeld}
+use Rattle.board_face.specs.declared.views.nic.NicLook.TheVariants.{Swept, HasLeft, NotOwed, Owed, LastHolder, StillHeld}
 use Rattle.board_face.specs.declared.views.nic.Fate.{Fate}
 use Rattle.board_face.specs.declared.views.nic.Fate.TheVariants.{Honoured, Stray}
 use Rattle.board_face.specs.declared.views.nic.NicView.{NicView}
@@ -119,7 +119,7 @@ honoured v app entry buffer = nic_saw (dealt v app entry (Honoured buffer)) (Owe
 
 -- an application was seen to have left
 abbrev pub saw_leave : NicView → ℕ → NicView
-saw_leave v app = record v { gone = v.gone ++ app ∷ [] }
+saw_leave v app = record v { gone = v.gone ++ app ∷ []; looks = HasLeft app ∷ v.looks }
 
 -- the card ended
 abbrev pub nic_ended : NicView → NicView

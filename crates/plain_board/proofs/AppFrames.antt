@@ -25,7 +25,7 @@ use Rattle.plain_parts.specs.Blank.{blank_app}
 use Rattle.plain_board.specs.declared.others.Others.{Others}
 use Rattle.plain_board.specs.Board.{Arrays, Board, setting_of, side_in, side_of}
 use Rattle.plain_board.specs.Returns.{AreReturns, entries_on_way, loans_out, reach_of}
-use Rattle.plain_board.specs.Sound.{IsSound, IsSet, IsAtRest, AreCounted, AreRelayed, AreFlags, AreKept, AreDue, AreBooked, IsPhased, ArePhased, notes_of, refills_of, taken_of, times_picked}
+use Rattle.plain_board.specs.Sound.{IsSound, IsRing, IsSet, IsAtRest, AreCounted, AreRelayed, AreFlags, AreKept, AreDue, AreBooked, IsPhased, ArePhased, notes_of, refills_of, taken_of, times_picked}
 
 module _ (board : Board) (a : ℕ) (x now : AppSide) (sound : IsSound board) (here : IsApp board.apps a x) where
   -- each application is as before, but this one
@@ -100,7 +100,7 @@ module _ (board : Board) (a : ℕ) (x now : AppSide) (sound : IsSound board) (he
   pub AreRelayed-app : (arr : Arrays) → arr.places ≡ board.arrays.places
       → Relayed board.nic now (map taken_of (notes_of arr a)) (refills_of arr a)
       → ((k : ℕ) → k ≢ a → notes_of arr k ≡ notes_of board.arrays k) → ((k : ℕ) → k ≢ a → refills_of arr k ≡ refills_of board.arrays k)
-      → All (λ ring. ring.capacity ≡ arr.places) arr.notes → All (λ ring. ring.capacity ≡ arr.places) arr.refills
+      → All (IsRing arr.places) arr.notes → All (IsRing arr.places) arr.refills
       → AreRelayed arr board.nic (set board.apps a now)
   AreRelayed-app arr places mine notes refills note_rooms refill_rooms = record {
     relayed = λ k y it. ⊎_elim

@@ -2,7 +2,7 @@
 use Rattle.std.proofs.Common.{◌≡◌, ℕ, ◌-◌, ◌<◌, true, false, List, [], ◌∷◌, ◌++◌, length, map, set, get_or, refl, ap, sym, ◌∙◌, subst, arith, inl}
 use Rattle.std.specs.Prelude.{All, Some, count_by}
 use Rattle.std.proofs.lemmas.List.{length-set, get_or-set_same, get_or-set_other}
-use Rattle.std.proofs.lemmas.List.Elements.{All-set, All-push, All-get_or}
+use Rattle.std.proofs.lemmas.List.Elements.{All-set, All-push}
 use Rattle.circular_buffer.specs.Buffer.{Buffer, buffer}
 use Rattle.zr_kinds.specs.declared.place.Place.{Place}
 use Rattle.zr_kinds.specs.declared.ring.Rqe.{Rqe}
@@ -24,7 +24,8 @@ use Rattle.plain_parts.specs.Rings.{ring_in, pushed}
 use Rattle.plain_parts.specs.Counts.{user_at}
 use Rattle.plain_board.specs.Board.{Arrays, Board, byte_of}
 use Rattle.plain_board.specs.Returns.{AreReturns, entries_on_way, loans_out, reach_of, returns, IsClear, IsOfLoan, IsNamed}
-use Rattle.plain_board.specs.Sound.{IsSound, notes_of, refills_of, taken_of}
+use Rattle.plain_board.proofs.RingSlots.{IsRing-at, IsRing-pushed}
+use Rattle.plain_board.specs.Sound.{IsRing, IsSound, notes_of, refills_of, taken_of}
 use Rattle.plain_board.proofs.AppFrames.{IsSet-app, was-at_rest, has-setting, AreCounted-app, was-returned, AreRelayed-app, was-relayed, returns-app, was-returns, AreFlags-kept, AreFreeOnce-app, AreKept-app, AreDue-app, was-given, was-due, AreBooked-app, was-booked_filled, was-booked_raw, ArePhased-app, was-phased}
 use Rattle.plain_board.proofs.Users.{user-other}
 use Rattle.plain_board.proofs.Lying.{loan-none, loan-lies}
@@ -74,10 +75,10 @@ module _ (board : Board) (a : ℕ) (x : AppSide) (place : Place) (sound : IsSoun
   ring-then : (e : Rqe) (n : ℕ) → refills_of (arrays_then e n) a ≡ refills_of board.arrays a ++ e ∷ []
   ring-then e n = ap (λ r. r.items) (get_or-set_same board.arrays.refills a (pushed (ring_in board.arrays.refills a) e) (buffer [] 0) there)
 
-  rooms-then : (e : Rqe) → All (λ ring. ring.capacity ≡ board.arrays.places) (refills_then e)
-  rooms-then e =
-      All-set (λ ring. ring.capacity ≡ board.arrays.places) board.arrays.refills a (pushed (ring_in board.arrays.refills a) e)
-      (All-get_or (λ ring. ring.capacity ≡ board.arrays.places) board.arrays.refills a (buffer [] 0) there sound.relayed.refills) sound.relayed.refills
+  rooms-then : (e : Rqe) → length (ring_in board.arrays.refills a).items < (ring_in board.arrays.refills a).capacity → All (IsRing board.arrays.places) (refills_then e)
+  rooms-then e room =
+      All-set (IsRing board.arrays.places) board.arrays.refills a (pushed (ring_in board.arrays.refills a) e)
+      (IsRing-pushed board.arrays.places (ring_in board.arrays.refills a) e room (IsRing-at board.arrays.places board.arrays.refills a there sound.relayed.refills)) sound.relayed.refills
 
   way-then : entries_on_way board.nic now ≡ entries_on_way board.nic x ++ written ∷ []
   way-then = way-longer board.nic x _ _ written (was-relayed board a x now sound here)
@@ -106,8 +107,8 @@ module _ (board : Board) (a : ℕ) (x : AppSide) (place : Place) (sound : IsSoun
         strays = strays-written board.nic x _ _ written (was-relayed board a x now sound here) was.strays;
       }
 
-  pub IsSound-gave : (e : Rqe) (n : ℕ) → e ≡ entry → n ≡ get_or board.arrays.loans user 0 - 1 → IsSound (record { arrays = arrays_then e n; nic = board.nic; apps = set board.apps a now })
-  IsSound-gave e n same less =
+  pub IsSound-gave : (e : Rqe) (n : ℕ) → e ≡ entry → n ≡ get_or board.arrays.loans user 0 - 1 → length (ring_in board.arrays.refills a).items < (ring_in board.arrays.refills a).capacity → IsSound (record { arrays = arrays_then e n; nic = board.nic; apps = set board.apps a now })
+  IsSound-gave e n same less room =
       let arr = arrays_then e n in
       let phase = was-phased board a x now sound here in
       let ended = was-returned board a x now sound here in
@@ -142,7 +143,7 @@ module _ (board : Board) (a : ℕ) (x : AppSide) (place : Place) (sound : IsSoun
             (λ k ne. refl)
             (λ k ne. ap (λ r. r.items) (get_or-set_other board.arrays.refills a k (pushed (ring_in board.arrays.refills a) e) (buffer [] 0) ne))
             sound.relayed.notes
-            (rooms-then e);
+            (rooms-then e room);
         returns = returns-app board a x now sound here returns-then;
         flags = AreFlags-kept board a x now sound here arr refl refl refl;
         kept = AreKept-app board a x now sound here _ _ refl (λ b. omega arith) sound.kept;

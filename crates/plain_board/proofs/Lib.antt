@@ -42,3 +42,4 @@ pub mod Writing
 pub mod Giving
 pub mod Reading
 pub mod OwnLending
+pub mod RingSlots

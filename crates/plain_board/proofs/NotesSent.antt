@@ -29,7 +29,8 @@ use Rattle.plain_parts.specs.declared.slots.NoteSlot.{NoteSlot}
 use Rattle.plain_parts.specs.Free.{listed_in}
 use Rattle.plain_board.specs.Board.{Arrays, Board, byte_of}
 use Rattle.plain_parts.specs.Rings.{pushed}
-use Rattle.plain_board.specs.Sound.{IsSound, AreRelayed, IsProper, refills_of, notes_of, taken_of}
+use Rattle.plain_board.specs.Sound.{IsSound, IsRing, AreRelayed, IsProper, refills_of, notes_of, taken_of}
+use Rattle.plain_board.proofs.RingSlots.{IsRing-pushed}
 use Rattle.plain_board.proofs.Losing.{IsApp-at}
 use Rattle.plain_board.proofs.Card.{IsSet-nic, AreCounted-same, AreReturns-nic, AreBooked-nic, ArePhased-open}
 use Rattle.plain_board.proofs.Popping.{same-app, other-number}
@@ -45,7 +46,7 @@ pub record IsPosted (old new : NicView) (s : SentNote) : Type 0 where
   pub dealt : new.dealt ≡ old.dealt
   pub sent : new.sent ≡ old.sent ++ s ∷ []
 
-module _ (board : Board) (a : ℕ) (x : AppSide) (v : NicView) (s : SentNote) (slot : NoteSlot) (sound : IsSound board) (here : IsApp board.apps a x)
+module _ (board : Board) (a : ℕ) (x : AppSide) (v : NicView) (s : SentNote) (slot : NoteSlot) (sound : IsSound board) (here : IsApp board.apps a x) (room : length (get_or board.arrays.notes a (buffer [] 0)).items < (get_or board.arrays.notes a (buffer [] 0)).capacity)
     (posted : IsPosted board.nic.view v s) (target : s.app ≡ a) (text : taken_of slot ≡ as_taken s) (same : (b : ℕ) → pool_count b (nic_at board.nic v) board.apps ≡ pool_count b board.nic board.apps) where
   abbrev pub notes_then : Buffer NoteSlot
   notes_then = pushed (get_or board.arrays.notes a (buffer [] 0)) slot
@@ -72,7 +73,7 @@ module _ (board : Board) (a : ℕ) (x : AppSide) (v : NicView) (s : SentNote) (s
         let back : refills_of now k ≡ refills_of board.arrays k = rw refills refl in
         rw (rest, back) (Relayed-sent_other board.nic v y s _ _ posted.sent posted.dealt (λ e. other-number board.apps a k y it ne (sym e ∙ target)) (sound.relayed.relayed k y it)))
         (eqb_tells k a);
-    notes = rw (notes, places) (All-set (λ ring. ring.capacity ≡ board.arrays.places) board.arrays.notes a notes_then (sound.relayed.notes a (buffer [] 0) notes_there) sound.relayed.notes);
+    notes = rw (notes, places) (All-set (IsRing board.arrays.places) board.arrays.notes a notes_then (IsRing-pushed board.arrays.places (get_or board.arrays.notes a (buffer [] 0)) slot room (sound.relayed.notes a (buffer [] 0) notes_there)) sound.relayed.notes);
     refills = rw (refills, places) sound.relayed.refills;
   }
 
@@ -128,18 +129,18 @@ if-true true t u e = refl
 if-true false t u e = absurd (let none : ⊥ = cc in none)
 
 -- a split note with its piece
-pub IsSound-sent : (board : Board) (a : ℕ) (x : AppSide) (note : Note) (bytes : List ℕ) → IsSound board → IsApp board.apps a x → IsOpen board.nic.view → HasPiece board.nic.view note.place → IsSplitNote note → IsSound (record {
+pub IsSound-sent : (board : Board) (a : ℕ) (x : AppSide) (note : Note) (bytes : List ℕ) → IsSound board → IsApp board.apps a x → IsOpen board.nic.view → HasPiece board.nic.view note.place → IsSplitNote note → length (get_or board.arrays.notes a (buffer [] 0)).items < (get_or board.arrays.notes a (buffer [] 0)).capacity → IsSound (record {
   arrays = record board.arrays { notes = set board.arrays.notes a (pushed (get_or board.arrays.notes a (buffer [] 0)) (record { note = note; bytes = bytes })) };
   nic = nic_at board.nic (sent board.nic.view a note);
   apps = board.apps;
 })
-IsSound-sent board a x note bytes sound here running out fields =
+IsSound-sent board a x note bytes sound here running out fields room =
     let split = fields.split in
     let v = sent board.nic.view a note in
     let s : SentNote = record { app = a; note = note; bytes = text_at board.nic.view note.place } in
     let within : length x.view.taken ≤ length (sent_to a board.nic) =
     subst (λ n. length x.view.taken ≤ length (sent_to n board.nic)) here.number (taken-within board.nic x _ _ (sound.relayed.relayed a x here)) in
-    IsSound-posted board a x v s (record { note = note; bytes = bytes }) sound here
+    IsSound-posted board a x v s (record { note = note; bytes = bytes }) sound here room
     (record { setting = refl; ended = refl; cache = refl; swept = refl; used = refl; owns = refl; dealt = refl; sent = refl })
     refl
     (ap (λ t. record { note = note; bytes = t }) (if-true note.split (take note.total bytes) s.bytes split))
@@ -154,18 +155,18 @@ if-false true t u e same = absurd (let none : ⊥ = cc in none)
 if-false false t u e same = same
 
 -- a note in which its bytes travel
-pub IsSound-sent_linear : (board : Board) (a : ℕ) (x : AppSide) (note : Note) (room bytes : List ℕ) → IsSound board → IsApp board.apps a x → IsOpen board.nic.view → IsLinearNote note → note.total ≡ length bytes → take note.total room ≡ bytes → IsSound (record {
+pub IsSound-sent_linear : (board : Board) (a : ℕ) (x : AppSide) (note : Note) (room bytes : List ℕ) → IsSound board → IsApp board.apps a x → IsOpen board.nic.view → IsLinearNote note → note.total ≡ length bytes → take note.total room ≡ bytes → length (get_or board.arrays.notes a (buffer [] 0)).items < (get_or board.arrays.notes a (buffer [] 0)).capacity → IsSound (record {
   arrays = record board.arrays { notes = set board.arrays.notes a (pushed (get_or board.arrays.notes a (buffer [] 0)) (record { note = note; bytes = room })) };
   nic = nic_at board.nic (sent_linear board.nic.view a note bytes);
   apps = board.apps;
 })
-IsSound-sent_linear board a x note room bytes sound here running fields many travels =
+IsSound-sent_linear board a x note room bytes sound here running fields many travels free =
     let split = fields.split in
     let v = sent_linear board.nic.view a note bytes in
     let s : SentNote = record { app = a; note = note; bytes = bytes } in
     let within : length x.view.taken ≤ length (sent_to a board.nic) =
     subst (λ n. length x.view.taken ≤ length (sent_to n board.nic)) here.number (taken-within board.nic x _ _ (sound.relayed.relayed a x here)) in
-    IsSound-posted board a x v s (record { note = note; bytes = room }) sound here
+    IsSound-posted board a x v s (record { note = note; bytes = room }) sound here free
     (record { setting = refl; ended = refl; cache = refl; swept = refl; used = refl; owns = refl; dealt = refl; sent = refl })
     refl
     (ap (λ t. record { note = note; bytes = t }) (if-false note.split (take note.total room) bytes split travels))

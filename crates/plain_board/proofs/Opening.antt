@@ -25,7 +25,7 @@ use Rattle.plain_parts.specs.Opened.{new_apps}
 use Rattle.plain_parts.specs.Free.{listed_in}
 use Rattle.plain_parts.specs.Counts.{user_at}
 use Rattle.plain_board.specs.Board.{Board, new_board, byte_of}
-use Rattle.plain_board.specs.Sound.{IsSound, IsAtRest, IsProper, IsPhased}
+use Rattle.plain_board.specs.Sound.{IsRing, IsSound, IsAtRest, IsProper, IsPhased}
 
 pub length-new_apps : (s : Setting) (first n : ℕ) → length (new_apps s first n) ≡ n
 length-new_apps s first zero = refl
@@ -142,8 +142,8 @@ module _ (layout : Shape) (places : ℕ) (good : IsLayout layout) (some : 1 ≤ 
     };
     relayed = record {
       relayed = λ a app here. let within : a < layout.reserves = omega (arith, here.there, length-new_apps s 0 layout.reserves) in rw (slots-new a within, slots-new a within) (relayed-new a app here);
-      notes = All-replicate (λ (ring : Buffer NoteSlot). ring.capacity ≡ places) layout.reserves _ refl;
-      refills = All-replicate (λ (ring : Buffer Rqe). ring.capacity ≡ places) layout.reserves _ refl;
+      notes = All-replicate (IsRing {X = NoteSlot} places) layout.reserves _ (record { slots = refl; within = omega arith });
+      refills = All-replicate (IsRing {X = Rqe} places) layout.reserves _ (record { slots = refl; within = omega arith });
     };
     returns = λ a app here. subst (AreReturns (new_nic s)) here.is (All-new (AreReturns (new_nic s)) s 0 layout.reserves (λ n. record { owed = λ b. omega arith; clear = λ b. tt; named = All-nil _; settled = λ e. All-nil _; quiet = λ e. refl; strays = All-nil _ }) a app here.there);
     flags = record { ended = refl; left = left-new s 0 layout.reserves };

@@ -29,7 +29,8 @@ use Rattle.plain_parts.specs.declared.slots.NoteSlot.{NoteSlot}
 use Rattle.plain_parts.specs.Rings.{popped}
 use Rattle.plain_board.specs.Board.{Arrays, Board, others_of, byte_of}
 use Rattle.plain_board.specs.Seen.{IsSeenBy}
-use Rattle.plain_board.specs.Sound.{IsSound, IsAtRest, notes_of, refills_of, taken_of}
+use Rattle.plain_board.proofs.RingSlots.{IsRing-popped}
+use Rattle.plain_board.specs.Sound.{IsRing, IsSound, IsAtRest, notes_of, refills_of, taken_of}
 use Rattle.plain_board.proofs.AppFrames.{IsSet-app, was-at_rest, AreCounted-app, was-returned, AreRelayed-app, returns-app, was-returns, AreFlags-kept, AreFreeOnce-app, AreKept-app, AreDue-app, was-given, was-due, AreBooked-app, was-booked_loans, was-booked_filled, was-booked_raw, ArePhased-app, was-phased}
 use Rattle.plain_board.proofs.FirstNote.{split-next, linear-next, some-next, lies-next, new-next}
 use Rattle.plain_board.proofs.AppTold.{IsSound-told, IsSound-looked}
@@ -126,7 +127,7 @@ module _ (board : Board) (a : ℕ) (x : AppSide) (slot : NoteSlot) (rest : List 
             (rw rest-then (Relayed-took board.nic x now.view t _ _ refl refl refl refl (rw is at was)))
             (λ k ne. ap (λ (r : Buffer NoteSlot). r.items) (get_or-set_other board.arrays.notes a k ring_then (buffer [] 0) ne))
             (λ k ne. refl)
-            (All-set (λ ring. ring.capacity ≡ board.arrays.places) board.arrays.notes a ring_then (sound.relayed.notes a (buffer [] 0) there) sound.relayed.notes)
+            (All-set (IsRing board.arrays.places) board.arrays.notes a ring_then (IsRing-popped board.arrays.places (get_or board.arrays.notes a (buffer [] 0)) (sound.relayed.notes a (buffer [] 0) there)) sound.relayed.notes)
             sound.relayed.refills;
         returns = returns-app board a x now sound here (record { owed = back.owed; clear = back.clear; named = back.named; settled = back.settled; quiet = back.quiet; strays = back.strays });
         flags = AreFlags-kept board a x now sound here arrays_then refl refl refl;

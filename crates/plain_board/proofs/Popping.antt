@@ -15,7 +15,8 @@ use Rattle.board_face.proofs.RelayLemmas.{Relayed-dealt, Relayed-dealt_other}
 use Rattle.plain_board.specs.Board.{Arrays, Board}
 use Rattle.plain_parts.specs.Rings.{popped}
 use Rattle.plain_board.specs.Returns.{entries_on_way, reach_of}
-use Rattle.plain_board.specs.Sound.{IsSound, AreRelayed, AreBooked, refills_of, notes_of, taken_of}
+use Rattle.plain_board.proofs.RingSlots.{IsRing-popped}
+use Rattle.plain_board.specs.Sound.{IsRing, IsSound, AreRelayed, AreBooked, refills_of, notes_of, taken_of}
 use Rattle.plain_board.proofs.Dealing.{HasFront, dealt-same, way-after, reach-popped}
 
 pub same-app : (apps : List AppSide) (a : ℕ) (x y : AppSide) → IsApp apps a x → IsApp apps a y → y ≡ x
@@ -52,7 +53,7 @@ module _ (board : Board) (a : ℕ) (x : AppSide) (e : Rqe) (es : List Rqe) (soun
         rw (rest, slots) (Relayed-dealt_other board.nic v y d _ _ sents deals (λ same. other-number board.apps a k y it ne (sym same ∙ mine)) (sound.relayed.relayed k y it)))
         (eqb_tells k a);
     notes = rw (notes, places) sound.relayed.notes;
-    refills = rw (refills, places) (All-set (λ ring. ring.capacity ≡ board.arrays.places) board.arrays.refills a (ring_then board a) (sound.relayed.refills a (buffer [] 0) ring_there) sound.relayed.refills);
+    refills = rw (refills, places) (All-set (IsRing board.arrays.places) board.arrays.refills a (ring_then board a) (IsRing-popped board.arrays.places (get_or board.arrays.refills a (buffer [] 0)) (sound.relayed.refills a (buffer [] 0) ring_there)) sound.relayed.refills);
   }
 
   raw_there : a < length board.arrays.raw

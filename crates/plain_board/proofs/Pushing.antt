@@ -33,7 +33,8 @@ use Rattle.plain_parts.specs.Rings.{ring_in, pushed}
 use Rattle.plain_board.specs.Board.{Board, byte_of, others_of}
 use Rattle.plain_board.specs.Returns.{AreReturns, entries_on_way, names, is_some_of, returns, loans_out, reach_of, IsClear, IsNamed}
 use Rattle.plain_board.specs.Seen.{IsSeenBy}
-use Rattle.plain_board.specs.Sound.{IsSound, refills_of}
+use Rattle.plain_board.proofs.RingSlots.{IsRing-pushed}
+use Rattle.plain_board.specs.Sound.{IsRing, IsSound, refills_of}
 use Rattle.plain_board.proofs.AppFrames.{has-setting, IsSet-app, was-at_rest, AreCounted-app, was-returned, AreRelayed-app, was-relayed, returns-app, was-returns, AreFlags-kept, AreFreeOnce-app, AreKept-app, AreDue-app, was-given, was-due, AreBooked-app, was-booked_loans, was-booked_filled, ArePhased-app, was-phased}
 use Rattle.plain_board.proofs.Settling.{reach_with}
 
@@ -152,9 +153,9 @@ module _ (board : Board) (a : ℕ) (x : AppSide) (entry : Rqe) (sound : IsSound 
       )
       )
 
-  pub IsSound-pushed : NamesNoLoan x.view entry → (n : ℕ) → n ≡ length ring_then.items
+  pub IsSound-pushed : NamesNoLoan x.view entry → length (ring_in board.arrays.refills a).items < (ring_in board.arrays.refills a).capacity → (n : ℕ) → n ≡ length ring_then.items
       → IsSound (record { arrays = record board.arrays { refills = set board.arrays.refills a ring_then; raw = set board.arrays.raw a n }; nic = board.nic; apps = set board.apps a raw_then })
-  IsSound-pushed idle n many =
+  IsSound-pushed idle room n many =
       let v = pushed_raw x.view entry in
       let rest = was-at_rest board a x raw_then sound here in
       let phase = was-phased board a x raw_then sound here in
@@ -187,7 +188,7 @@ module _ (board : Board) (a : ℕ) (x : AppSide) (entry : Rqe) (sound : IsSound 
         relayed = AreRelayed-app board a x raw_then sound here _ refl
             (rw refills-mine (Relayed-wrote board.nic x v one _ _ refl refl refl refl (was-relayed board a x raw_then sound here)))
             (λ k ne. refl) refills-others sound.relayed.notes
-            (All-set (λ ring. ring.capacity ≡ board.arrays.places) board.arrays.refills a ring_then (sound.relayed.refills a (buffer [] 0) ring_there) sound.relayed.refills);
+            (All-set (IsRing board.arrays.places) board.arrays.refills a ring_then (IsRing-pushed board.arrays.places (ring_in board.arrays.refills a) entry room (sound.relayed.refills a (buffer [] 0) ring_there)) sound.relayed.refills);
         returns = returns-app board a x raw_then sound here (AreReturns-raw idle);
         flags = AreFlags-kept board a x raw_then sound here _ refl refl refl;
         kept = AreKept-app board a x raw_then sound here _ _ refl (λ b. omega arith) sound.kept;
@@ -221,7 +222,7 @@ module _ (board : Board) (a : ℕ) (x : AppSide) (entry : Rqe) (sound : IsSound 
       omega (
         arith,
         no_room,
-        sound.relayed.refills a (buffer [] 0) ring_there,
+        (sound.relayed.refills a (buffer [] 0) ring_there).slots,
         ap (λ s. s.places) (has-setting board a x x sound here),
         length-drop (length (dealt_entries x.view.app board.nic)) x.view.written,
         dealt-within board.nic x _ _ (was-relayed board a x x sound here),

@@ -1,17 +1,20 @@
 -- What the card sees of its board is so: a count that it reads is the number of holders, and a ring has what is on its way.
-use Rattle.std.proofs.Common.{◌≡◌, ℕ, ◌-◌, ◌<◌, ◌≤◌, Bool, true, false, List, [], ◌∷◌, length, map, get_or, refl, ap, sym, ◌∙◌, arith, ⊎_elim, Option, Some, None}
+use Rattle.std.proofs.Common.{◌≡◌, ℕ, ◌-◌, ◌<◌, ◌≤◌, Bool, true, false, List, [], ◌∷◌, ◌++◌, length, map, get_or, refl, ap, sym, ◌∙◌, arith, ⊎_elim, Option, Some, None}
 use Rattle.std.specs.Prelude.{◌≢◌, ◌==◌, IfSome}
 use Rattle.std.proofs.lemmas.List.{length-map}
-use Rattle.std.proofs.lemmas.Bool.{cases_lt}
+use Rattle.std.proofs.lemmas.Bool.{cases_lt, lt-ltb}
 use Rattle.std.proofs.lemmas.Bool.Decides.{eqb_tells}
 use Rattle.zr_kinds.specs.declared.ring.Rqe.{Rqe}
 use Rattle.circular_buffer.specs.Buffer.{buffer}
 use Rattle.area_layout.specs.Layout.{total, judged}
+use Rattle.board_face.specs.Judged.{fate_of}
+use Rattle.board_face.specs.Sides.{nic_at}
 use Rattle.board_face.specs.Looks.{NicTold}
 use Rattle.board_face.specs.NicEvents.{nic_gist, nic_saw, holder_look, shut, passed_over, looks_by_stray}
 use Rattle.board_face.specs.Opened.{new_nic}
 use Rattle.board_face.specs.Counts.{pool_count, user_count}
 use Rattle.board_face.specs.declared.views.parts.Filling.{Filling}
+use Rattle.board_face.specs.declared.views.nic.Fate.TheVariants.{Honoured, Stray}
 use Rattle.board_face.specs.declared.views.nic.NicLook.{NicLook}
 use Rattle.board_face.specs.declared.views.nic.NicLook.TheVariants.{RingEmpty, NoteInUse, NotOwed, Owed}
 use Rattle.board_face.specs.declared.views.nic.NicView.{NicView}
@@ -20,10 +23,10 @@ use Rattle.board_face.proofs.LookLemmas.{NicTold-none, NicTold-one, NicTold-two}
 use Rattle.board_face.proofs.RelayLemmas.{way-taken}
 use Rattle.plain_parts.specs.Blank.{blank_app}
 use Rattle.plain_parts.specs.Counts.{user_at}
-use Rattle.plain_board.specs.Board.{Board, side_in}
+use Rattle.plain_board.specs.Board.{Arrays, Board, side_in}
 use Rattle.plain_board.specs.Returns.{entries_on_way}
 use Rattle.plain_board.specs.Sound.{IsSound, notes_of, refills_of}
-use Rattle.plain_board.specs.Seen.{card_of, IsSeenByCard}
+use Rattle.plain_board.specs.Seen.{card_of, IsSeenByCard, IsJudged}
 use Rattle.plain_board.proofs.Freeing.{zero-test}
 use Rattle.plain_board.proofs.Losing.{IsApp-at}
 use Rattle.plain_board.proofs.Dealing.{entries-relayed}
@@ -101,6 +104,29 @@ module _ (board : Board) (sound : IsSound board) where
       let app = side_in board.apps a in
       let here = IsApp-at board.apps a blank_app sound.set.numbers there in
       let way = ap length (way-taken board.nic app _ _ (sound.relayed.relayed a app here)) in
-      let room = sound.relayed.notes a (buffer [] 0) (let many = sound.set.many in let size = sound.sizes.notes in omega arith) in
+      let room = (sound.relayed.notes a (buffer [] 0) (let many = sound.set.many in let size = sound.sizes.notes in omega arith)).slots in
       let places = ap (λ s. s.places) sound.set.card in
       NicTold-one IsSo board.nic.view (nic_saw board.nic.view (NoteInUse a)) (NoteInUse a) refl (omega (arith, full, room, places, simp length-map at way))
+
+  -- ---- how an entry is judged
+
+  fate-stray : (a : ℕ) (o : Option ℕ) (e : Rqe) → judged board.nic.view.setting.layout e ≡ o → a < length board.apps → IfSome o (λ i. get_or board.arrays.users (user_at board.arrays.layout a i) 0 ≡ 0)
+      → fate_of board.nic.view.setting.layout (λ b. user_count a b board.nic board.apps) e ≡ Stray
+  fate-stray a None e is there none = rw is refl
+  fate-stray a (Some i) e is there none =
+      let unowed_here : user_count a i board.nic board.apps ≡ 0 = omega (arith, unowed a i there none, seen-users a i) in
+      rw (is, unowed_here) refl
+
+  pub IsJudged-passed_over : (a : ℕ) (e : Rqe) (arr : Arrays) → a < length board.apps → IfSome (judged board.arrays.layout e) (λ i. get_or board.arrays.users (user_at board.arrays.layout a i) 0 ≡ 0)
+      → IsJudged board (record { arrays = arr; nic = nic_at board.nic (passed_over board.nic.view a e); apps = board.apps }) a
+  IsJudged-passed_over a e arr there none =
+      let is = ap (λ s. judged s.layout e) sound.set.card in
+      record { entry = e; dealt = ap (λ fate. board.nic.view.dealt ++ record { app = a; entry = e; fate = fate } ∷ []) (sym (fate-stray a (judged board.arrays.layout e) e is there none)) }
+
+  pub IsJudged-honoured : (a i : ℕ) (e : Rqe) (last : Bool) (arr : Arrays) → a < length board.apps → judged board.arrays.layout e ≡ Some i → i < total board.arrays.layout → 0 < get_or board.arrays.users (user_at board.arrays.layout a i) 0
+      → IsJudged board (record { arrays = arr; nic = nic_at board.nic (honoured_if board.nic.view a e i last); apps = board.apps }) a
+  IsJudged-honoured a i e last arr there named within owed =
+      let is : judged board.nic.view.setting.layout e ≡ Some i = ap (λ s. judged s.layout e) sound.set.card ∙ named in
+      let some : 0 < user_count a i board.nic board.apps = omega (arith, owed, sound.counted.users a i there within) in
+      let fate : fate_of board.nic.view.setting.layout (λ b. user_count a b board.nic board.apps) e ≡ Honoured i = rw (is, lt-ltb 0 (user_count a i board.nic board.apps) some) refl in
+      record { entry = e; dealt = ap (λ f. board.nic.view.dealt ++ record { app = a; entry = e; fate = f } ∷ []) (sym fate) }

@@ -3,7 +3,7 @@ use Rattle.std.proofs.Common.{◌≡◌, ℕ, Bool, true, false, List, [], ◌�
 use Rattle.std.specs.Prelude.{◌==◌, if◌then◌else◌}
 use Rattle.board_face.specs.NicEvents.{nic_ended, saw_leave, nic_saw}
 use Rattle.board_face.specs.declared.views.nic.NicLook.{NicLook}
-use Rattle.board_face.specs.declared.views.nic.NicLook.TheVariants.{NotLeft}
+use Rattle.board_face.specs.declared.views.nic.NicLook.TheVariants.{NotLeft, HasLeft}
 use Rattle.board_face.specs.Sides.{nic_at}
 use Rattle.board_face.specs.Counts.{pool_count}
 use Rattle.board_face.specs.NicCalls.{HasNoToken}
@@ -98,5 +98,5 @@ IsSound-saw board look sound = IsSound-seen board (nic_saw board.nic.view look) 
 
 pub IsSound-asked : (board : Board) (a : ℕ) (gone : Bool) → IsSound board
     → IsSound (record { arrays = board.arrays; nic = if gone then nic_at board.nic (saw_leave board.nic.view a) else nic_at board.nic (nic_saw board.nic.view (NotLeft a)); apps = board.apps })
-IsSound-asked board a true sound = IsSound-seen board (saw_leave board.nic.view a) sound (still board.nic.view board.nic.view.ended (board.nic.view.gone ++ a ∷ []) board.nic.view.looks) refl
+IsSound-asked board a true sound = IsSound-seen board (saw_leave board.nic.view a) sound (still board.nic.view board.nic.view.ended (board.nic.view.gone ++ a ∷ []) (HasLeft a ∷ board.nic.view.looks)) refl
 IsSound-asked board a false sound = IsSound-saw board (NotLeft a) sound

@@ -3,7 +3,6 @@ use Rattle.std.proofs.Common.{◌≡◌, ℕ, ◌+◌, ◌<◌, ◌≤◌, Bool,
 use Rattle.std.specs.Prelude.{◌==◌, count_by, filter, All, Some}
 use Rattle.std.specs.List.{zip}
 use Rattle.std.proofs.lemmas.List.{drop-append-le, drop-map, length-map}
-use Rattle.std.proofs.lemmas.List.Elements.{All-get_or}
 use Rattle.std.proofs.Math.Seq.{drop-append_seam}
 use Rattle.circular_buffer.specs.Buffer.{buffer}
 use Rattle.zr_kinds.specs.declared.ring.Rqe.{Rqe}
@@ -104,7 +103,7 @@ pub told-in_use : (board : Board) (a : ℕ) (x : AppSide) → IsSound board → 
     → AppTold (λ look. IsSeenBy look (app_gist x.view) (others_of board a)) x.view (app_saw x.view RefillInUse)
 told-in_use board a x sound here full =
     let there : a < length board.arrays.refills = let many = sound.set.many in let t = here.there in omega (arith, sound.sizes.refills) in
-    let room = All-get_or (λ ring. ring.capacity ≡ board.arrays.places) board.arrays.refills a (buffer [] 0) there sound.relayed.refills in
+    let room = (sound.relayed.refills a (buffer [] 0) there).slots in
     let places = ap (λ s. s.places) (has-setting board a x x sound here) in
     AppTold-one (λ look. IsSeenBy look (app_gist x.view) (others_of board a)) x.view (app_saw x.view RefillInUse) RefillInUse refl
     (omega (arith, full, room, places, way-many board.nic x _ _ (was-relayed board a x x sound here)))

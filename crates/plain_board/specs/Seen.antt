@@ -1,12 +1,14 @@
 -- A look is exact on this board: what a role saw is so. It is said of the board before the call that saw it.
-use Rattle.std.specs.Prelude.{◌≡◌, ℕ, ◌<◌, ◌≤◌, true, false, if◌then◌else◌, List, [], length, nat_eq, count_by, slice_set, ⊤}
+use Rattle.std.specs.Prelude.{◌≡◌, ℕ, ◌<◌, ◌≤◌, true, false, if◌then◌else◌, List, [], ◌∷◌, ◌++◌, length, nat_eq, count_by, slice_set, ⊤}
+use Rattle.zr_kinds.specs.declared.ring.Rqe.{Rqe}
 use Rattle.area_layout.specs.Layout.{pool_buffers}
 use Rattle.board_face.specs.Opened.{new_nic, new_app}
 use Rattle.board_face.specs.Holders.{on_way}
 use Rattle.board_face.specs.Counts.{pool_count, user_count}
+use Rattle.board_face.specs.Judged.{fate_of}
 use Rattle.board_face.specs.AppEvents.{reserve_of}
 use Rattle.board_face.specs.declared.views.nic.NicLook.{NicLook}
-use Rattle.board_face.specs.declared.views.nic.NicLook.TheVariants.{RingEmpty, NoteInUse, Swept, NotLeft, NotOwed, Owed, LastHolder, StillHeld}
+use Rattle.board_face.specs.declared.views.nic.NicLook.TheVariants.{RingEmpty, NoteInUse, Swept, NotLeft, HasLeft, NotOwed, Owed, LastHolder, StillHeld}
 use Rattle.board_face.specs.declared.views.nic.NicView.{NicView}
 use Rattle.board_face.specs.declared.views.nic.NicSide.{NicSide}
 use Rattle.board_face.specs.declared.views.app.AppLook.{AppLook}
@@ -14,7 +16,7 @@ use Rattle.board_face.specs.declared.views.app.AppLook.TheVariants.{NoNote, Card
 use Rattle.board_face.specs.declared.views.app.AppView.{AppView}
 use Rattle.board_face.specs.declared.views.app.AppSide.{AppSide}
 use Rattle.plain_board.specs.declared.others.Others.{Others}
-use Rattle.plain_board.specs.Board.{side_in}
+use Rattle.plain_board.specs.Board.{Board, side_in}
 use Rattle.plain_board.specs.Returns.{entries_on_way, is_raw}
 
 -- ---- the card
@@ -23,16 +25,23 @@ use Rattle.plain_board.specs.Returns.{entries_on_way, is_raw}
 abbrev pub card_of : NicView → NicSide
 card_of v = record { view = v; inside = (new_nic v.setting).inside }
 
--- What the card sees is so. (That it swept a word is no more than its own doing.)
+-- What the card sees is so. That it swept a word is no more than its own doing.
 abbrev pub IsSeenByCard : NicLook → NicView → List AppSide → Type 0
 IsSeenByCard (RingEmpty a) v apps = entries_on_way (card_of v) (side_in apps a) ≡ []
 IsSeenByCard (NoteInUse a) v apps = v.setting.places ≤ length (on_way (card_of v) (side_in apps a))
 IsSeenByCard (Swept word) v apps = ⊤
 IsSeenByCard (NotLeft a) v apps = (side_in apps a).view.left ≡ false
+IsSeenByCard (HasLeft a) v apps = (side_in apps a).view.left ≡ true
 IsSeenByCard (NotOwed a b) v apps = user_count a b (card_of v) apps ≡ 0
 IsSeenByCard (Owed a b) v apps = 0 < user_count a b (card_of v) apps
 IsSeenByCard (LastHolder b) v apps = pool_count b (card_of v) apps ≡ 1
 IsSeenByCard (StillHeld b) v apps = 2 ≤ pool_count b (card_of v) apps
+
+-- An entry of the application was dealt with, and its fate is that which the user counts of the board before give it.
+pub record IsJudged (old new : Board) (a : ℕ) : Type 0 where
+  pub entry : Rqe
+  pub dealt : new.nic.view.dealt
+      ≡ old.nic.view.dealt ++ record { app = a; entry = entry; fate = fate_of old.nic.view.setting.layout (λ b. user_count a b old.nic old.apps) entry } ∷ []
 
 -- ---- an application
 

@@ -1,6 +1,6 @@
 -- What holds of a board between any two calls: the arrays say what the roles did.
 use Rattle.std.specs.Prelude.{◌≡◌, ℕ, ◌+◌, ◌*◌, ◌/◌, ◌<◌, ◌≤◌, Bool, true, false, if◌then◌else◌, List, [], length, map, take, All, nat_eq, count_by, slice_index, slice_index_or}
-use Rattle.circular_buffer.specs.Buffer.{buffer}
+use Rattle.circular_buffer.specs.Buffer.{Buffer, buffer}
 use Rattle.zr_kinds.specs.declared.ring.Rqe.{Rqe}
 use Rattle.area_layout.specs.Layout.{IsLayout, pool_buffers, total}
 use Rattle.board_face.specs.NicEvents.{word_bits, cache_room}
@@ -75,11 +75,16 @@ notes_of arrays a = (slice_index_or arrays.notes a (buffer [] 0)).items
 abbrev pub refills_of : Arrays → ℕ → List Rqe
 refills_of arrays a = (slice_index_or arrays.refills a (buffer [] 0)).items
 
+-- a ring with so many slots
+pub record IsRing {X : Type 0} (places : ℕ) (ring : Buffer X) : Type 0 where
+  pub slots : ring.capacity ≡ places
+  pub within : length ring.items ≤ places
+
 -- What lies in the slots is what is on its way, and each ring has as many slots as the board's setting says.
 pub record AreRelayed (arrays : Arrays) (nic : NicSide) (apps : List AppSide) : Type 0 where
   pub relayed : (a : ℕ) (app : AppSide) → IsApp apps a app → Relayed nic app (map taken_of (notes_of arrays a)) (refills_of arrays a)
-  pub notes : All (λ ring. ring.capacity ≡ arrays.places) arrays.notes
-  pub refills : All (λ ring. ring.capacity ≡ arrays.places) arrays.refills
+  pub notes : All (IsRing arrays.places) arrays.notes
+  pub refills : All (IsRing arrays.places) arrays.refills
 
 -- What the flags say.
 pub record AreFlags (arrays : Arrays) (nic : NicSide) (apps : List AppSide) : Type 0 where

@@ -24,15 +24,22 @@ const CACHE_ROOM: usize = 128;
 pub struct PlainBoard {
     pub(crate) layout: Layout,
     pub(crate) places: u32,
+    /// The bytes of all buffers, one buffer after another.
     pub(crate) area: Vec<u8>,
+    /// How many holders each buffer has.
     pub(crate) pool: Vec<u64>,
+    /// How many of them are loans of an application, out or owed: those of one application after another.
     pub(crate) users: Vec<u64>,
+    /// How many loans of an application are out, in the same order.
     pub(crate) loans: Vec<u64>,
+    /// How many bytes the filled spare in a buffer has, where there is one.
     pub(crate) filled: Vec<u32>,
+    /// Whether a pool buffer is on the free list.
     pub(crate) listed: Vec<bool>,
     pub(crate) cache: HeapCircularBuffer<u32>,
     pub(crate) notes: Vec<HeapCircularBuffer<NoteSlot>>,
     pub(crate) refills: Vec<HeapCircularBuffer<Rqe>>,
+    /// How many refill entries on their way don't stand behind the last raw one, by application.
     pub(crate) raw: Vec<u32>,
     pub(crate) ended: bool,
     pub(crate) left: Vec<bool>,
@@ -133,8 +140,9 @@ impl PlainBoard {
         })
     }
 
-    /// What holds of every board, between any two calls: counts are holders, each pool buffer is free once or held, what
-    /// lies in the slots is what is on its way, and no entry of a loan was a stray. It does nothing: its contract says so.
+    /// What holds of every board, between any two calls: counts are holders, each pool buffer is free once or held, the
+    /// area has each text at its place, what lies in the slots is what is on its way, what was read is what was sent, and
+    /// no entry of a loan was a stray. It does nothing: its contract says so.
     pub fn sound(&self)
         ensures { IsSound self.now }
     {
@@ -149,7 +157,11 @@ impl PlainBoard {
             (λ own. TookBuffer self.old.nic.view self.new.nic.view own) }
         ensures apps { self.new.apps ≡ self.old.apps }
     {
-        let buffer = self.cache.pop_back()?;
+        let Some(buffer) = self.cache.pop_back() else {
+            let nic = &mut self.nic;
+            nic.note::<Brand, ()>(());
+            return None;
+        };
         raise(&mut self.pool, buffer as usize);
         let nic = &mut self.nic;
         nic.note::<Brand, u32>(buffer);

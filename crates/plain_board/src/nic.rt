@@ -1,11 +1,11 @@
-ghost use Rattle.std.specs.Prelude.{◌≡◌, ℕ, ◌/◌, ◌<◌, ◌≤◌, false, length};
+ghost use Rattle.std.specs.Prelude.{◌≡◌, ◌≢◌, ℕ, ◌/◌, ◌<◌, ◌≤◌, false, length};
 ghost use Rattle.board_face.specs.NicCalls.{apps_of, free_words_of, lost_of, sent_unsplit_bytes, SweptWord, DealtWith};
 ghost use Rattle.board_face.specs.NicEvents.{word_bits, nic_gist};
 ghost use Rattle.board_face.specs.Looks.{NicTold};
 ghost use Rattle.plain_parts.specs.Free.{listed_in};
 ghost use Rattle.plain_board.specs.Board.{IsUntouched};
 ghost use Rattle.plain_board.specs.Sound.{IsSound};
-ghost use Rattle.plain_board.specs.Seen.{IsSeenByCard};
+ghost use Rattle.plain_board.specs.Seen.{IsSeenByCard, IsJudged};
 
 use crate::PlainBoard;
 use board_face::{AppSide, Entry, NicFace, Own, Piece};
@@ -53,7 +53,7 @@ impl PlainBoard {
 }
 
 impl NicFace for PlainNic {
-    ghost use Rattle.plain_board.specs.Seen.{IsSeenByCard};
+    ghost use Rattle.plain_board.specs.Seen.{IsSeenByCard, IsJudged};
 
     type Beside = LinkedList<AppSide>;
 
@@ -100,13 +100,15 @@ impl NicFace for PlainNic {
         self.board.sweep(word)
     }
 
-    /// Beyond the face: a stray changes no count, no free place and no byte.
+    /// Beyond the face: an entry is judged by the user counts as they are, and a stray changes no count, no free place and
+    /// no byte.
     fn entry(&mut self, app: u32) -> Entry
         requires app { app < apps_of self.old.nic.view.setting }
         ensures view { DealtWith self.old.nic.view self.new.nic.view app result }
         ensures told { NicTold (λ look. IsSeenByCard look (nic_gist self.old.nic.view) self.old.apps) self.old.nic.view self.new.nic.view }
         ensures beside { self.new.apps ≡ self.old.apps }
         ensures stray { result ≡ Entry.Stray → IsUntouched self.old.arrays self.new.arrays }
+        ensures judged { result ≢ Entry.Empty → IsJudged self.old self.new app }
     {
         self.board.entry(app)
     }

@@ -40,7 +40,8 @@ impl PlainApp {
 
     /// What holds of the board, as `PlainBoard::sound` says it.
     pub fn sound(&self)
-        ensures { IsSound self.now.board }
+        ensures board { IsSound self.now.board }
+        ensures app { self.now.app < self.now.board.arrays.layout.reserves }
     {
         self.board.sound();
     }

@@ -1,9 +1,9 @@
-ghost use Rattle.std.specs.Prelude.{◌≡◌, ◌<◌};
+ghost use Rattle.std.specs.Prelude.{◌≡◌, ◌≢◌, ◌<◌};
 ghost use Rattle.board_face.specs.NicCalls.{apps_of, DealtWith};
 ghost use Rattle.board_face.specs.NicEvents.{nic_gist};
 ghost use Rattle.board_face.specs.Looks.{NicTold};
 ghost use Rattle.plain_board.specs.Board.{IsUntouched};
-ghost use Rattle.plain_board.specs.Seen.{IsSeenByCard};
+ghost use Rattle.plain_board.specs.Seen.{IsSeenByCard, IsJudged};
 
 use crate::PlainBoard;
 use board_face::Entry;
@@ -17,6 +17,7 @@ impl PlainBoard {
         requires { app < apps_of self.old.nic.view.setting }
         ensures view { DealtWith self.old.nic.view self.new.nic.view app result }
         ensures stray { result ≡ Entry.Stray → IsUntouched self.old.arrays self.new.arrays }
+        ensures judged { result ≢ Entry.Empty → IsJudged self.old self.new app }
         ensures told { NicTold (λ look. IsSeenByCard look (nic_gist self.old.nic.view) self.old.apps) self.old.nic.view self.new.nic.view }
         ensures apps { self.new.apps ≡ self.old.apps }
     {

@@ -25,11 +25,11 @@ impl Next<AppSide> for Brand {
 }
 
 /// Any state is allowed: a diary says what its one writer did.
-pub struct Free<V, B: Next<V>> {
+pub struct AnyState<V, B: Next<V>> {
     marker: PhantomData<(V, B)>,
 }
 
-impl<V, B: Next<V>> TableRule<(), V, ()> for Free<V, B> {
+impl<V, B: Next<V>> TableRule<(), V, ()> for AnyState<V, B> {
     ghost holds = { λ _ _. Unit {0} };
 
     ghost first = { λ _. B.next };
@@ -47,7 +47,7 @@ impl<V, N: Next<V>> Play<(), V> for Turn<V, N> {
 /// What one role has done and knows: the view of its seat at a table of one word. Contracts see it as that view.
 #[derive(Drop)]
 pub struct Diary<V, B: Next<V>> {
-    table: Table<(), V, (), Free<V, B>, Global>,
+    table: Table<(), V, (), AnyState<V, B>, Global>,
     seat: Seat<(), V>,
 }
 

@@ -2,6 +2,7 @@ ghost use Rattle.std.specs.Prelude.{◌≡◌, ℕ, ◌*◌, ◌<◌, length, sl
 ghost use Rattle.area_layout.specs.Layout.{total, judged};
 ghost use Rattle.plain_parts.specs.Counts.{user_at};
 
+use crate::counts::user_index;
 use area_layout::Layout;
 use zr_kinds::Rqe;
 
@@ -16,7 +17,7 @@ pub fn owed_buffer(layout: &Layout, users: &[u64], app: u32, entry: &Rqe) -> Opt
         × (0 < slice_index users.now (user_at layout.now app buffer))) }
 {
     let buffer = layout.judge(entry)?;
-    if users[app as usize * layout.total() as usize + buffer as usize] == 0 {
+    if users[user_index(layout, app, buffer)] == 0 {
         return None;
     }
     Some(buffer)

@@ -8,26 +8,26 @@ use area_layout::Layout;
 use circular_buffer::HeapCircularBuffer;
 
 /// Where a pool buffer came to be free, puts it into the cache, or onto the free list where the cache is full.
-pub fn free_if(last: bool, buffer: u32, cache: &mut HeapCircularBuffer<u32>, listed: &mut Vec<bool>)
-    requires there { IsTrue last → buffer < length listed.old.items }
+pub fn free_if(free: bool, buffer: u32, cache: &mut HeapCircularBuffer<u32>, listed: &mut Vec<bool>)
+    requires there { IsTrue free → buffer < length listed.old.items }
     requires room { cache.old.capacity ≡ cache_room }
     ensures cache { cache.new ≡ with_items
-        (if last then cached cache.old.items buffer else cache.old.items)
+        (if free then cached cache.old.items buffer else cache.old.items)
         cache.old.capacity }
     ensures listed { listed.new.items ≡
-        (if last then relisted cache.old.items listed.old.items buffer else listed.old.items) }
+        (if free then relisted cache.old.items listed.old.items buffer else listed.old.items) }
 {
-    if last && cache.try_push_back(buffer).is_err() {
+    if free && cache.try_push_back(buffer).is_err() {
         listed[buffer as usize] = true;
     }
 }
 
 /// Where a pool buffer came to be free, puts it onto the free list.
-pub fn list_if(last: bool, buffer: u32, listed: &mut Vec<bool>)
-    requires { IsTrue last → buffer < length listed.old.items }
-    ensures { listed.new.items ≡ (if last then slice_set listed.old.items buffer true else listed.old.items) }
+pub fn list_if(free: bool, buffer: u32, listed: &mut Vec<bool>)
+    requires { IsTrue free → buffer < length listed.old.items }
+    ensures { listed.new.items ≡ (if free then slice_set listed.old.items buffer true else listed.old.items) }
 {
-    if last {
+    if free {
         listed[buffer as usize] = true;
     }
 }

@@ -14,7 +14,7 @@ mod slots;
 
 pub use area::{load, store};
 pub use counts::{lower, lower_if_some, put, raise, user_index};
-pub use diary::{Diary, Free, Next, Turn, diaries, note_at};
+pub use diary::{AnyState, Diary, Next, Turn, diaries, note_at};
 pub use entries::owed_buffer;
 pub use filling::{filled_up, filling_of};
 pub use free::{all_free, came_free, free_if, list_if, move_word, pick_spare};

@@ -1,4 +1,4 @@
-ghost use Rattle.std.specs.Prelude.{◌≡◌, ◌<◌, ◌≤◌, [], length, replicate, slice_get, slice_set, IfOk, MatchBool};
+ghost use Rattle.std.specs.Prelude.{◌≡◌, ◌<◌, ◌≤◌, [], length, replicate, slice_get, slice_set, IfOk, IsTrue, MatchBool};
 ghost use Rattle.circular_buffer.specs.Buffer.{buffer};
 ghost use Rattle.plain_parts.specs.Rings.{ring_in, popped, pushed};
 
@@ -23,10 +23,11 @@ pub fn rings<T: Drop>(
 /// Puts one behind the others of one of these rings. `false` says that the ring was full.
 pub fn put_back<T: Drop>(rings: &mut Vec<HeapCircularBuffer<T>>, at: usize, slot: T) -> bool
     requires { at < length rings.old.items }
-    ensures { MatchBool result
+    ensures slots { MatchBool result
         (rings.new.items ≡ slice_set rings.old.items at (pushed (ring_in rings.old.items at) slot))
         ((rings.new.items ≡ rings.old.items)
         × ((ring_in rings.old.items at).capacity ≤ length (ring_in rings.old.items at).items)) }
+    ensures room { IsTrue result → length (ring_in rings.old.items at).items < (ring_in rings.old.items at).capacity }
 {
     let ring = &mut rings[at];
     ring.try_push_back(slot).is_ok()

@@ -9,7 +9,7 @@ pub struct NoteSlot {
     pub bytes: [u8; 256],
 }
 
-/// The bytes, and zeros behind them.
+/// The bytes, with room behind them.
 pub fn with_room(bytes: &[u8]) -> [u8; 256]
     requires { length bytes.now ≤ 256 }
     ensures { take (length bytes.now) result ≡ bytes.now }

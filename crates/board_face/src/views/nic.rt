@@ -46,6 +46,8 @@ pub enum NicLook {
     Swept(u32),
     /// This application hadn't left.
     NotLeft(u32),
+    /// It had.
+    HasLeft(u32),
     /// The user count of this application for this buffer was 0.
     NotOwed(u32, u32),
     /// It was above 0.

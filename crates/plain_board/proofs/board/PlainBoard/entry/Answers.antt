@@ -14,7 +14,7 @@ use Rattle.plain_board.proofs.Losing.{IsApp-at}
 use Rattle.plain_board.proofs.Popping.{front-some, front-none, rings-same}
 use Rattle.plain_board.proofs.Straying.{IsSound-passed_over, PassedOver-passed_over}
 use Rattle.plain_board.proofs.Honouring.{is_held, IsSound-honoured, came-zero, came-pool, came-code, FreedEntry-honoured, HonouredEntry-honoured}
-use Rattle.plain_board.proofs.Seeing.{NicTold-empty, NicTold-passed_over, NicTold-honoured}
+use Rattle.plain_board.proofs.Seeing.{IsJudged-passed_over, IsJudged-honoured, NicTold-empty, NicTold-passed_over, NicTold-honoured}
 use Rattle.plain_board.proofs.board.PlainBoard.entry.Goals as goal
 use Rattle.plain_board.proofs.board.PlainBoard.entry.Goals.{then-free, else-free}
 
@@ -64,6 +64,13 @@ returns-in_default-owed_buffer-clause-told c =
     let few = within-setting _ _ c.self.invariant.0 (rw (← c.self.view_is) at c.requires) in
     let none = rw c.as_slice.ensures.value at c.in_default-owed_buffer.ensures in
     rw (← c.self.view_is, c.note-in_default-owed_buffer.ensures) (NicTold-passed_over _ sound c.args.app c.in-Some.entry (let many = sound.set.many in omega arith) none)
+
+pub returns-in_default-owed_buffer-clause-judged : goal.returns-in_default-owed_buffer-clause-judged
+returns-in_default-owed_buffer-clause-judged c = λ some.
+    let sound = c.self.invariant.0 in
+    let few = within-setting _ _ c.self.invariant.0 (rw (← c.self.view_is) at c.requires) in
+    let none = rw c.as_slice.ensures.value at c.in_default-owed_buffer.ensures in
+    rw (← c.self.view_is, c.note-in_default-owed_buffer.ensures) (IsJudged-passed_over _ sound c.args.app c.in-Some.entry _ (let many = sound.set.many in omega arith) none)
 
 pub lower-left-requires-clause-some : goal.lower-left-requires-clause-some
 lower-left-requires-clause-some c =
@@ -117,3 +124,10 @@ returns-clause-told c =
     let i = c.in-Some-owed_buffer.buffer in
     let held = is_held _ c.args.app i _ c.in-Some.entry _ sound here found owed.0 owed.1 owed.2 in
     rw (← c.self.view_is, c.note-2.ensures) (NicTold-honoured _ sound c.args.app i c.lower-left.result c.in-Some.entry (let many = sound.set.many in omega arith) owed.1 owed.2 held c.lower-left.ensures.left)
+
+pub returns-clause-judged : goal.returns-clause-judged
+returns-clause-judged c = λ some.
+    let sound = c.self.invariant.0 in
+    let few = within-setting _ _ c.self.invariant.0 (rw (← c.self.view_is) at c.requires) in
+    let owed = rw c.as_slice.ensures.value at c.in-Some-owed_buffer.ensures in
+    rw (← c.self.view_is, c.note-2.ensures) (IsJudged-honoured _ sound c.args.app c.in-Some-owed_buffer.buffer c.in-Some.entry _ _ (let many = sound.set.many in omega arith) owed.0 owed.1 owed.2)
