@@ -18,12 +18,6 @@ use Rattle.plain_board.specs.Board.{Arrays, Board}
 use Rattle.plain_board.specs.Sound.{IsSound, IsSet, AreCounted, AreRelayed, AreBooked, IsPhased, ArePhased}
 use Rattle.plain_board.proofs.Lists.{counts-set}
 
--- the event touches neither what is on its way nor the setting
-pub record IsQuiet (old new : NicView) : Type 0 where
-  pub sent : new.sent ≡ old.sent
-  pub dealt : new.dealt ≡ old.dealt
-  pub setting : new.setting ≡ old.setting
-
 -- the board's setting is that of its arrays
 pub within-setting : (board : Board) (a : ℕ) → IsSound board → a < apps_of board.nic.view.setting → a < board.arrays.layout.reserves
 within-setting board a sound few = omega (arith, few, ap (λ s. s.layout.reserves) sound.set.card)

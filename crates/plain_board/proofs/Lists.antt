@@ -2,11 +2,10 @@
 use Rattle.std.proofs.Common.{◌≡◌, ℕ, zero, suc, ◌+◌, ◌-◌, ◌*◌, ◌<◌, ◌≤◌, Bool, true, false, List, [], ◌∷◌, ◌++◌, length, take, set, get_or, refl, ap, sym, ◌∙◌, arith, inl, inr, ⊎_elim, subst, Some}
 use Rattle.std.specs.Prelude.{◌≢◌, ◌⊎◌, ◌/◌, nat_eq, count_by, ◌==◌, slice_get, All, if◌then◌else◌}
 use Rattle.std.proofs.lemmas.List.{get_or-set_same, get_or-set_other}
-use Rattle.std.proofs.lemmas.List.Elements.{All-nil, All-cons, All-head, All-tail}
+use Rattle.std.proofs.lemmas.List.Elements.{All-nil, All-cons}
 use Rattle.std.proofs.lemmas.Nat.{div-mul-add}
 use Rattle.std.proofs.lemmas.Bool.Decides.{eqb_tells}
 use Rattle.circular_buffer.specs.Buffer.{last_item}
-use Rattle.board_face.specs.Lists.{without}
 use Rattle.board_face.proofs.ListLemmas.{eqb_same, not-eqb}
 use Rattle.board_face.proofs.Tallies.{weight, tally, total, tally-append, tally-push}
 use Rattle.board_face.proofs.Parts.{count-tally}
@@ -107,14 +106,6 @@ pub take-last : {A : Type 0} (xs : List A) (x : A) → last_item xs ≡ Some x �
 take-last xs x e = let some = some-last xs x e in take-at (length xs - 1) xs x e (omega arith)
 
 -- ---- what holds of each element
-
-pub All-case : {A : Type 0} (P : A → Type 0) (c : Bool) (x : A) (xs ys : List A) → P x → All P xs → All P ys → All P (if c then xs else (x ∷ ys))
-All-case P true x xs ys here all rest = all
-All-case P false x xs ys here all rest = All-cons P x ys here rest
-
-pub All-without : {A : Type 0} (P : A → Type 0) (m : A → Bool) (xs : List A) → All P xs → All P (without m xs)
-All-without P m [] all = all
-All-without P m (x ∷ xs) all = All-case P (m x) x xs (without m xs) (All-head P x xs all) (All-tail P x xs all) (All-without P m xs (All-tail P x xs all))
 
 pub weight-none : (c : Bool) → weight c ≡ 0 → c ≡ false
 weight-none true e = absurd (omega arith)

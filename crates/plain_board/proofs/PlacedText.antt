@@ -2,7 +2,7 @@
 use Rattle.std.proofs.Common.{◌≡◌, ℕ, ◌+◌, ◌^◌, ◌<◌, ◌≤◌, List, length, set, get_or, refl, ap, sym, ◌∙◌, subst, arith, ⊎_elim, inl, inr}
 use Rattle.std.specs.Prelude.{◌⊎◌, ◌==◌, if◌then◌else◌}
 use Rattle.std.proofs.lemmas.List.{length-set}
-use Rattle.area_layout.specs.Layout.{LiesIn, total, size_of, off_of}
+use Rattle.area_layout.specs.Layout.{total, size_of, off_of}
 use Rattle.board_face.specs.Tokens.{next_place}
 use Rattle.board_face.specs.NicEvents.{placed}
 use Rattle.board_face.specs.NicCalls.{IsOpen, HasOwn}
@@ -40,9 +40,6 @@ module _ (board : Board) (own : Filling) (bytes : List ℕ) (sound : IsSound boa
 
   lies : own.start + length bytes ≤ size_of board.arrays.layout own.buffer
   lies = let is = FillingsFit-own board.nic board.apps own out sound.filled in omega (arith, is.1, ap (λ s. size_of s.layout own.buffer) sound.set.card)
-
-  pub LiesIn-next : LiesIn board.arrays.layout (next_place own (length bytes))
-  LiesIn-next = record { buffer = inside; bytes = lies }
 
   pub in_area : off_of board.arrays.layout (next_place own (length bytes)) + length bytes ≤ length board.arrays.area
   in_area = stored-in_area board.arrays own.buffer own.start bytes sound.sizes inside lies

@@ -94,9 +94,6 @@ module _ (board : Board) (word : ℕ) (sound : IsSound board) (inside : word < f
   pools : pool_buffers board.nic.view.setting.layout ≡ pool_buffers board.arrays.layout
   pools = ap (λ s. pool_buffers s.layout) sound.set.card
 
-  pub starts : word_bits * word < length board.arrays.listed
-  starts = let p = pools in let l = sound.sizes.listed in omega arith
-
   -- how often each buffer was found
   pub found-times : (listed' : List Bool)
       → ((b : ℕ) → word_bits * word ≤ b → b < word_end board.arrays.listed word → listed_in listed' b ≡ false)

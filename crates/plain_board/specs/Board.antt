@@ -73,13 +73,16 @@ pub record IsLowestFree (arrays : Arrays) (buffer : ℕ) : Type 0 where
   pub is_listed : (b : ℕ) → listed_in arrays.listed b ≡ true → listed_in arrays.listed buffer ≡ true
   pub lowest : (b : ℕ) → listed_in arrays.listed b ≡ true → buffer ≤ b
 
--- No count, no free place and no byte changed.
+-- No count, no free place, no byte and no note changed.
 pub record IsUntouched (old new : Arrays) : Type 0 where
   pub area : new.area ≡ old.area
   pub pool : new.pool ≡ old.pool
   pub users : new.users ≡ old.users
+  pub loans : new.loans ≡ old.loans
+  pub filled : new.filled ≡ old.filled
   pub listed : new.listed ≡ old.listed
   pub cache : new.cache ≡ old.cache
+  pub notes : new.notes ≡ old.notes
 
 -- A board that was just opened: each pool buffer is on the free list, and all else is empty or 0.
 abbrev pub new_board : Shape → ℕ → Board

@@ -100,8 +100,8 @@ impl NicFace for PlainNic {
         self.board.sweep(word)
     }
 
-    /// Beyond the face: an entry is judged by the user counts as they are, and a stray changes no count, no free place and
-    /// no byte.
+    /// Beyond the face: an entry is judged by the user counts as they are, and a stray changes no count, no free place,
+    /// no byte and no note.
     fn entry(&mut self, app: u32) -> Entry
         requires app { app < apps_of self.old.nic.view.setting }
         ensures view { DealtWith self.old.nic.view self.new.nic.view app result }
