@@ -4,7 +4,8 @@ use Rattle.std.specs.Prelude.{◌≡◌, ℕ, ◌+◌, List, [], ◌∷◌, ◌+
 use Rattle.std.proofs.Common.{refl}
 use Rattle.frame_headers.specs.declared.segment.Addr.{Addr}
 use Rattle.frame_headers.specs.declared.segment.Addr.TheVariants.{V4, V6}
-use Rattle.frame_headers.specs.FrameClass.{FrameClass, Tcp, Other, Fragment, CutShort, Bad, class_of, packet_class, ipv4_class, ipv6_class, ipv6_from, tcp_class}
+use Rattle.frame_headers.specs.FrameClass.{FrameClass, Tcp, Other, Fragment, CutShort, Bad, class_of, packet_class, ipv4_class, ipv6_class, ipv6_from}
+use Rattle.frame_headers.specs.FrameClass.{tcp_class}
 
 -- Ethernet's two addresses
 abbrev stations : List ℕ
@@ -24,7 +25,8 @@ ipv6 payload next = (0x60 ∷ 0 ∷ 0 ∷ 0 ∷ 0 ∷ payload ∷ next ∷ 0x40 
 
 -- a TCP header without options, from port 40000 to 9000, and its payload
 abbrev tcp : List ℕ
-tcp = (0x9c ∷ 0x40 ∷ 0x23 ∷ 0x28 ∷ 0 ∷ 0 ∷ 0x03 ∷ 0xe9 ∷ 0 ∷ 0 ∷ 0 ∷ 0 ∷ 0x50 ∷ 0x18 ∷ 0xff ∷ 0xff ∷ 0 ∷ 0 ∷ 0 ∷ 0 ∷ []) ++ codes "hello"
+tcp = (0x9c ∷ 0x40 ∷ 0x23 ∷ 0x28 ∷ 0 ∷ 0 ∷ 0x03 ∷ 0xe9 ∷ 0 ∷ 0 ∷ 0 ∷ 0 ∷ 0x50 ∷ 0x18 ∷ 0xff ∷ 0xff ∷ 0 ∷ 0 ∷ 0 ∷ 0 ∷ [])
+    ++ codes "hello"
 
 abbrev base : List ℕ
 base = stations ++ 0x08 ∷ 0 ∷ ipv4 ++ tcp

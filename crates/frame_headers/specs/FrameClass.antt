@@ -1,6 +1,7 @@
 -- The class of a frame: Ethernet with at most one VLAN tag, then IPv4 or IPv6, then TCP. In each definition
 -- the first rule that applies decides. Numbers in headers are big-endian.
-use Rattle.std.specs.Prelude.{ℕ, zero, suc, ◌+◌, ◌*◌, ◌/◌, ◌%◌, List, length, drop, slice_index, slice_range, nat_lt, ◌==◌, if◌then◌else◌, Bool, ◌||◌, not}
+use Rattle.std.specs.Prelude.{ℕ, zero, suc, ◌+◌, ◌*◌, ◌/◌, ◌%◌, List, length, drop, slice_index, slice_range, nat_lt, ◌==◌}
+use Rattle.std.specs.Prelude.{if◌then◌else◌, Bool, ◌||◌, not}
 use Rattle.byteorder.specs.Endian.{big_number}
 use Rattle.frame_headers.specs.declared.segment.Addr.{Addr}
 use Rattle.frame_headers.specs.declared.segment.Addr.TheVariants.{V4, V6}
@@ -87,7 +88,8 @@ ipv6_class frame o =
     let payload = half_at frame (o + 4) in
     if nat_lt (length frame) (o + 40) then CutShort
     else if not (byte_at frame o / 16 == 6) then Bad
-    else ipv6_from (suc (payload / 8)) frame (V6 (slice_range frame (o + 8) (o + 24))) (V6 (slice_range frame (o + 24) (o + 40))) (byte_at frame (o + 6)) (o + 40) (o + 40 + payload)
+    else ipv6_from (suc (payload / 8)) frame (V6 (slice_range frame (o + 8) (o + 24))) (V6 (slice_range frame (o + 24) (o + 40))) (byte_at frame (o + 6))
+    (o + 40) (o + 40 + payload)
 
 -- the packet at o, by its Ethernet type
 unfoldable pub packet_class : List ℕ → ℕ → ℕ → FrameClass

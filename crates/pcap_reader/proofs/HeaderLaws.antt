@@ -1,13 +1,16 @@
 -- Laws of the file header.
-use Rattle.std.proofs.Common.{◌≡◌, ◌≢◌, ℕ, ◌+◌, ◌%◌, ◌<◌, ◌≤◌, nat_lt, nat_eq, ◌==◌, not, Bool, true, false, List, [], ◌∷◌, ◌++◌, length, take, drop, Option, Some, None, refl, sym, ap, ◌∙◌, arith, length-append, lt-ltb, le-ltb, eq-eqb, ne_eqb, if◌then◌else◌}
+use Rattle.std.proofs.Common.{◌≡◌, ◌≢◌, ℕ, ◌+◌, ◌%◌, ◌<◌, ◌≤◌, nat_lt, nat_eq, ◌==◌, not, Bool, true, false, List, []}
+use Rattle.std.proofs.Common.{◌∷◌, ◌++◌, length, take, drop, Option, Some, None, refl, sym, ap, ◌∙◌, arith, length-append, lt-ltb, le-ltb}
+use Rattle.std.proofs.Common.{eq-eqb, ne_eqb, if◌then◌else◌}
 use Rattle.std.proofs.lemmas.List.{take-append-le, drop_at}
 use Rattle.std.proofs.lemmas.Bool.{cond-true, cond-false}
 use Rattle.std.specs.List.{starts_with}
 use Rattle.zr_kinds.specs.declared.fault.Fault.{Fault}
 use Rattle.zr_kinds.specs.declared.fault.Fault.TheVariants.{NotPcap, Version, LinkType, Cut}
 use Rattle.pcap_reader.specs.declared.order.ByteOrder.TheVariants.{Little, Big}
-use Rattle.pcap_reader.specs.Records.{ByteOrder, number, no_record, records_in, order_of, fields_fault, after_header, behind_magic, records_of}
-use Rattle.pcap_reader.specs.Steps.{IsMagicOf, magic_in, behind_magic_in}
+use Rattle.pcap_reader.specs.Records.{ByteOrder, number, no_record, records_in, order_of}
+use Rattle.pcap_reader.specs.Records.{fields_fault, fault_behind, header_fault, after_header, behind_magic, records_of}
+use Rattle.pcap_reader.specs.Steps.{IsMagicOf, magic_in, fault_of_fields, behind_magic_in}
 use Rattle.pcap_reader.proofs.RecordLaws.{number-append, number_at-append}
 
 abbrev starts : List ℕ → List ℕ → Bool
@@ -28,7 +31,8 @@ order-same a b c d e f g h p q r s = rw (p, q, r, s) refl
 
 order_of-append : (magic rest : List ℕ) → length magic ≡ 4 → order_of (magic ++ rest) ≡ order_of magic
 order_of-append magic rest whole =
-    order-same _ _ _ _ _ _ _ _ (starts-append magic rest (0xd4 ∷ 0xc3 ∷ 0xb2 ∷ 0xa1 ∷ []) whole) (starts-append magic rest (0xa1 ∷ 0xb2 ∷ 0xc3 ∷ 0xd4 ∷ []) whole)
+    order-same _ _ _ _ _ _ _ _ (starts-append magic rest (0xd4 ∷ 0xc3 ∷ 0xb2 ∷ 0xa1 ∷ []) whole)
+    (starts-append magic rest (0xa1 ∷ 0xb2 ∷ 0xc3 ∷ 0xd4 ∷ []) whole)
     (starts-append magic rest (0x4d ∷ 0x3c ∷ 0xb2 ∷ 0xa1 ∷ []) whole) (starts-append magic rest (0xa1 ∷ 0xb2 ∷ 0x3c ∷ 0x4d ∷ []) whole)
 
 by_order : (bytes : List ℕ) (order : Option ByteOrder) → 4 ≤ length bytes → order_of bytes ≡ order → records_of bytes ≡ behind_magic order bytes
@@ -36,24 +40,48 @@ unfolding records_of
 by_order bytes order whole e =
     cond-false (nat_lt (length bytes) 4) _ _ (le-ltb (length bytes) 4 whole) ∙ ap (λ (o : Option ByteOrder). behind_magic o bytes) e
 
+by_told : (bytes : List ℕ) (order : Option ByteOrder) → 4 ≤ length bytes → order_of bytes ≡ order → header_fault bytes ≡ fault_behind order bytes
+by_told bytes order whole e =
+    cond-false (nat_lt (length bytes) 4) _ _ (le-ltb (length bytes) 4 whole) ∙ ap (λ (o : Option ByteOrder). fault_behind o bytes) e
+
 -- fewer bytes than a magic
-pub records_of-cut : (bytes : List ℕ) → length bytes < 4 → records_of bytes ≡ no_record (Some Cut)
-unfolding records_of
-records_of-cut bytes short = cond-true (nat_lt (length bytes) 4) _ _ (lt-ltb (length bytes) 4 short)
+pub header_fault-cut : (bytes : List ℕ) → length bytes < 4 → header_fault bytes ≡ Some Cut
+header_fault-cut bytes short = cond-true (nat_lt (length bytes) 4) _ _ (lt-ltb (length bytes) 4 short)
 
 -- no magic
-pub records_of-other : (magic rest : List ℕ) → length magic ≡ 4 → order_of magic ≡ None → records_of (magic ++ rest) ≡ no_record (Some NotPcap)
-records_of-other magic rest whole none = by_order (magic ++ rest) None (omega (arith, length-append magic rest)) (order_of-append magic rest whole ∙ none)
+pub header_fault-other : (magic rest : List ℕ) → length magic ≡ 4 → order_of magic ≡ None → header_fault (magic ++ rest) ≡ Some NotPcap
+header_fault-other magic rest whole none = by_told (magic ++ rest) None (omega (arith, length-append magic rest)) (order_of-append magic rest whole ∙ none)
 
-after_header-same : (fault : Option Fault) (order : ByteOrder) (xs ys : List ℕ) → drop 24 xs ≡ drop 24 ys → after_header fault order xs ≡ after_header fault order ys
+-- the fault of a file header is the capture's
+fault_shown : (short : Bool) (told : Option ByteOrder) (bytes : List ℕ) (fault : Fault)
+    → (if short then Some Cut else fault_behind told bytes) ≡ Some fault
+    → (if short then no_record (Some Cut) else behind_magic told bytes) ≡ no_record (Some fault)
+fault_shown true told bytes fault is = ap no_record is
+fault_shown false None bytes fault is = ap no_record is
+fault_shown false (Some order) bytes fault is = ap (λ (found : Option Fault). after_header found order bytes) is
+
+pub records_of-fault : (bytes : List ℕ) (fault : Fault) → header_fault bytes ≡ Some fault → records_of bytes ≡ no_record (Some fault)
+unfolding records_of
+records_of-fault bytes fault is = fault_shown (nat_lt (length bytes) 4) (order_of bytes) bytes fault is
+
+after_header-same : (fault : Option Fault) (order : ByteOrder) (xs ys : List ℕ) → drop 24 xs ≡ drop 24 ys
+    → after_header fault order xs ≡ after_header fault order ys
 after_header-same (Some fault) order xs ys e = refl
 after_header-same None order xs ys e = ap (records_in order) e
 
 -- what stands in a magic of a known order counts for nothing
-any_magic : (order : ByteOrder) (magic rest : List ℕ) → length magic ≡ 4 → behind_magic (Some order) (magic ++ rest) ≡ behind_magic (Some order) (magic_in order ++ rest)
-any_magic Little (a ∷ b ∷ c ∷ d ∷ []) rest whole = after_header-same (fields_fault Little (a ∷ b ∷ c ∷ d ∷ rest)) Little (a ∷ b ∷ c ∷ d ∷ rest) (magic_in Little ++ rest) refl
-any_magic Big (a ∷ b ∷ c ∷ d ∷ []) rest whole = after_header-same (fields_fault Big (a ∷ b ∷ c ∷ d ∷ rest)) Big (a ∷ b ∷ c ∷ d ∷ rest) (magic_in Big ++ rest) refl
+any_magic : (order : ByteOrder) (magic rest : List ℕ) → length magic ≡ 4
+    → behind_magic (Some order) (magic ++ rest) ≡ behind_magic (Some order) (magic_in order ++ rest)
+any_magic Little (a ∷ b ∷ c ∷ d ∷ []) rest whole = after_header-same (fields_fault Little (a ∷ b ∷ c ∷ d ∷ rest)) Little
+    (a ∷ b ∷ c ∷ d ∷ rest) (magic_in Little ++ rest) refl
+any_magic Big (a ∷ b ∷ c ∷ d ∷ []) rest whole = after_header-same (fields_fault Big (a ∷ b ∷ c ∷ d ∷ rest)) Big (a ∷ b ∷ c ∷ d ∷ rest)
+    (magic_in Big ++ rest) refl
 any_magic order _ rest whole = absurd (omega arith)
+
+fields_alike : (order : ByteOrder) (magic rest : List ℕ) → length magic ≡ 4 → fields_fault order (magic ++ rest) ≡ fault_of_fields order rest
+fields_alike Little (a ∷ b ∷ c ∷ d ∷ []) rest whole = refl
+fields_alike Big (a ∷ b ∷ c ∷ d ∷ []) rest whole = refl
+fields_alike order _ rest whole = absurd (omega arith)
 
 by_form : (order : ByteOrder) (bytes : List ℕ) → behind_magic_in order bytes ≡ behind_magic (Some order) (magic_in order ++ bytes)
 by_form Little bytes = by_order (magic_in Little ++ bytes) (Some Little) (omega arith) refl
@@ -65,6 +93,12 @@ records_of-told order magic rest is =
     let whole = is.whole in
     by_order (magic ++ rest) (Some order) (omega (arith, length-append magic rest)) (order_of-append magic rest whole ∙ is.tells)
     ∙ any_magic order magic rest whole ∙ sym (by_form order rest)
+
+pub header_fault-told : (order : ByteOrder) (magic rest : List ℕ) → IsMagicOf order magic → header_fault (magic ++ rest) ≡ fault_of_fields order rest
+header_fault-told order magic rest is =
+    let whole = is.whole in
+    by_told (magic ++ rest) (Some order) (omega (arith, length-append magic rest)) (order_of-append magic rest whole ∙ is.tells)
+    ∙ fields_alike order magic rest whole
 
 -- ---- the fields behind the magic
 
@@ -89,14 +123,16 @@ by_fields : (order : ByteOrder) (bytes : List ℕ) (fault : Option Fault) → fi
 by_fields order bytes fault e = by_form order bytes ∙ ap (λ (f : Option Fault). after_header f order (magic_in order ++ bytes)) e
 
 -- fewer bytes than the fields
-pub behind_magic-cut : (order : ByteOrder) (bytes : List ℕ) → length bytes < 20 → behind_magic_in order bytes ≡ no_record (Some Cut)
-behind_magic-cut order bytes short =
-    by_fields order bytes (Some Cut) (cond-true (nat_lt (length (magic_in order ++ bytes)) 24) _ _ (lt-ltb (length (magic_in order ++ bytes)) 24 (omega (arith, with_magic order bytes))))
+pub fault_of_fields-cut : (order : ByteOrder) (bytes : List ℕ) → length bytes < 20 → fault_of_fields order bytes ≡ Some Cut
+fault_of_fields-cut order bytes short =
+    cond-true (nat_lt (length (magic_in order ++ bytes)) 24) _ _ (lt-ltb (length (magic_in order ++ bytes)) 24 (omega (arith, with_magic order bytes)))
 
-version-append : (order : ByteOrder) (fields rest : List ℕ) → length fields ≡ 20 → number order 2 (drop 4 (magic_in order ++ (fields ++ rest))) ≡ number order 2 fields
+version-append : (order : ByteOrder) (fields rest : List ℕ) → length fields ≡ 20
+    → number order 2 (drop 4 (magic_in order ++ (fields ++ rest))) ≡ number order 2 fields
 version-append order fields rest whole = ap (number order 2) (fields_at order (fields ++ rest)) ∙ number-append order 2 fields rest (omega arith)
 
-link-append : (order : ByteOrder) (fields rest : List ℕ) → length fields ≡ 20 → number order 4 (drop 20 (magic_in order ++ (fields ++ rest))) ≡ number order 4 (drop 16 fields)
+link-append : (order : ByteOrder) (fields rest : List ℕ) → length fields ≡ 20
+    → number order 4 (drop 20 (magic_in order ++ (fields ++ rest))) ≡ number order 4 (drop 16 fields)
 link-append order fields rest whole = ap (number order 4) (link_at order (fields ++ rest)) ∙ number_at-append order 16 4 fields rest (omega arith)
 
 -- the fault of fields, by their tests
@@ -117,21 +153,24 @@ long_enough order fields rest whole =
     le-ltb (length (magic_in order ++ (fields ++ rest))) 24 (omega (arith, with_magic order (fields ++ rest), length-append fields rest))
 
 -- another version
-pub behind_magic-version : (order : ByteOrder) (fields rest : List ℕ) → length fields ≡ 20 → number order 2 fields ≢ 2 → behind_magic_in order (fields ++ rest) ≡ no_record (Some Version)
-behind_magic-version order fields rest whole other =
+pub fault_of_fields-version : (order : ByteOrder) (fields rest : List ℕ) → length fields ≡ 20 → number order 2 fields ≢ 2
+    → fault_of_fields order (fields ++ rest) ≡ Some Version
+fault_of_fields-version order fields rest whole other =
     let version = ap (λ (n : ℕ). n == 2) (version-append order fields rest whole) ∙ ne_eqb (number order 2 fields) 2 other in
-    by_fields order (fields ++ rest) (Some Version) (version_wrong _ _ _ (long_enough order fields rest whole) version)
+    version_wrong _ _ _ (long_enough order fields rest whole) version
 
 -- another link type
-pub behind_magic-link : (order : ByteOrder) (fields rest : List ℕ) → length fields ≡ 20 → number order 2 fields ≡ 2 → number order 4 (drop 16 fields) % 65536 ≢ 1
-    → behind_magic_in order (fields ++ rest) ≡ no_record (Some LinkType)
-behind_magic-link order fields rest whole two other =
+pub fault_of_fields-link : (order : ByteOrder) (fields rest : List ℕ) → length fields ≡ 20 → number order 2 fields ≡ 2
+    → number order 4 (drop 16 fields) % 65536 ≢ 1
+    → fault_of_fields order (fields ++ rest) ≡ Some LinkType
+fault_of_fields-link order fields rest whole two other =
     let version = ap (λ (n : ℕ). n == 2) (version-append order fields rest whole) ∙ eq-eqb (number order 2 fields) 2 two in
     let link = ap (λ (n : ℕ). n % 65536 == 1) (link-append order fields rest whole) ∙ ne_eqb (number order 4 (drop 16 fields) % 65536) 1 other in
-    by_fields order (fields ++ rest) (Some LinkType) (link_wrong _ _ _ (long_enough order fields rest whole) version link)
+    link_wrong _ _ _ (long_enough order fields rest whole) version link
 
 -- a good header
-pub behind_magic-good : (order : ByteOrder) (fields rest : List ℕ) → length fields ≡ 20 → number order 2 fields ≡ 2 → number order 4 (drop 16 fields) % 65536 ≡ 1
+pub behind_magic-good : (order : ByteOrder) (fields rest : List ℕ) → length fields ≡ 20 → number order 2 fields ≡ 2
+    → number order 4 (drop 16 fields) % 65536 ≡ 1
     → behind_magic_in order (fields ++ rest) ≡ records_in order rest
 behind_magic-good order fields rest whole two ethernet =
     let version = ap (λ (n : ℕ). n == 2) (version-append order fields rest whole) ∙ eq-eqb (number order 2 fields) 2 two in

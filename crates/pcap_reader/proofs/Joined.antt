@@ -1,14 +1,16 @@
 -- How the steps of a reading go together.
-use Rattle.std.proofs.Common.{◌≡◌, ℕ, ◌<◌, ◌≤◌, List, [], ◌∷◌, ◌++◌, inl, inr, length, take, Option, Some, None, IfSome, refl, sym, ap, ◌∙◌, subst, arith, append-nil, length-take-le, take_all}
+use Rattle.std.proofs.Common.{◌≡◌, ℕ, ◌<◌, ◌≤◌, List, [], ◌∷◌, ◌++◌, inl, inr, length, take, Option, Some, None, IfSome, refl, sym}
+use Rattle.std.proofs.Common.{ap, ◌∙◌, subst, arith, append-nil, length-take-le, take_all}
 use Rattle.std.specs.Io.KnownBytes.{IsAtEnd, Consumes}
 use Rattle.zr_kinds.specs.declared.fault.Fault.{Fault}
-use Rattle.zr_kinds.specs.declared.fault.Fault.TheVariants.{Memory, Cut, LongRecord, Read}
+use Rattle.zr_kinds.specs.declared.fault.Fault.TheVariants.{Memory, NotPcap, Version, LinkType, Cut, LongRecord, Read}
 use Rattle.zr_io.specs.Moved.{Took}
 use Rattle.zr_io.proofs.Moved.{Took-nothing, Took-consumed, Took-then, Took-weaker}
-use Rattle.pcap_reader.specs.Records.{ByteOrder, Records, no_record, with_record, captured_len, records_in}
-use Rattle.pcap_reader.specs.Capture.{ShowsFault, BrokeOff, TakenShows, IsRecordFault, WantsMemory}
-use Rattle.pcap_reader.specs.Steps.{Stops, BreaksOff, IsHeaderOf, BodyStops}
+use Rattle.pcap_reader.specs.Records.{ByteOrder, Records, no_record, with_record, captured_len, header_fault, records_in, records_of}
+use Rattle.pcap_reader.specs.Capture.{ShowsFault, BrokeOff, TakenShows, HeaderShows, TakenHeaderShows, IsOpeningFault, IsRecordFault, WantsMemory}
+use Rattle.pcap_reader.specs.Steps.{Stops, HeaderStops, BreaksOff, IsHeaderOf, BodyStops}
 use Rattle.pcap_reader.specs.declared.capture.Record.{Record}
+use Rattle.pcap_reader.proofs.HeaderLaws.{records_of-fault}
 use Rattle.pcap_reader.proofs.RecordLaws.{records_in-whole, records_in-headless, records_in-none, records_in-long, records_in-bodiless}
 
 -- ---- facts of all the bytes that were left
@@ -22,13 +24,15 @@ all_weaker None P Q weaken p = tt
 all_weaker (Some xs) P Q weaken p = weaken xs p
 
 -- by what was taken and what was left behind it
-all_then : (a b : Option (List ℕ)) (P Q R : List ℕ → Type 0) → ((xs ys : List ℕ) → P xs → Q ys → R (xs ++ ys)) → Took a b P → IfSome b Q → IfSome a R
+all_then : (a b : Option (List ℕ)) (P Q R : List ℕ → Type 0) → ((xs ys : List ℕ) → P xs → Q ys → R (xs ++ ys)) → Took a b P → IfSome b Q
+    → IfSome a R
 all_then None b P Q R join took q = tt
 all_then (Some xs) None P Q R join took q = absurd took
 all_then (Some xs) (Some ys) P Q R join (bs, e, p) q = subst R (sym e) (join bs ys p q)
 
 -- by the front that was taken, whatever is left behind it
-all_by_front : (a b : Option (List ℕ)) (front : List ℕ) (P : List ℕ → Type 0) → ((rest : List ℕ) → P (front ++ rest)) → Consumes a b front → IfSome a P
+all_by_front : (a b : Option (List ℕ)) (front : List ℕ) (P : List ℕ → Type 0) → ((rest : List ℕ) → P (front ++ rest)) → Consumes a b front
+    → IfSome a P
 all_by_front None b front P holds consumed = tt
 all_by_front (Some xs) None front P holds consumed = absurd consumed
 all_by_front (Some xs) (Some ys) front P holds consumed = subst P (sym consumed) (holds ys)
@@ -41,29 +45,11 @@ all_by_end (Some xs) (Some ys) bytes P p consumed end = subst P (sym (consumed �
 
 -- ---- steps that break off
 
--- the first step of a reading broke off
-pub Stops-broken : (Comes : Fault → Type 0) (reading : List ℕ → Records) (a b : Option (List ℕ)) (P : List ℕ → Type 0) (fault : Fault) → Comes Read → Comes Cut
-    → ((xs : List ℕ) → P xs → reading xs ≡ no_record (Some Cut)) → BreaksOff a b P fault → Stops Comes reading a b fault
-Stops-broken Comes reading a b P Read read cut shows broke =
-    (read, always a, Took-weaker a b P _ (λ xs p. inr (shows xs p)) broke)
-Stops-broken Comes reading a b P Cut read cut shows broke =
-    (cut, all_weaker a P _ shows broke.0, Took-weaker a b P _ shows broke.1)
-Stops-broken Comes reading a b P _ read cut shows broke = absurd broke
-
--- a later step stopped, whose bytes alone read as they do behind those of the first
-pub Stops-behind : (Comes : Fault → Type 0) (reading later : List ℕ → Records) (a b c : Option (List ℕ)) (P : List ℕ → Type 0) (fault : Fault)
-    → ((xs ys : List ℕ) → P xs → reading (xs ++ ys) ≡ later ys) → Took a b P → Stops Comes later b c fault → Stops Comes reading a c fault
-Stops-behind Comes reading later a b c P fault same took stops = (
-  stops.0,
-  all_then a b P (λ ys. ShowsFault (later ys) fault) (λ all. ShowsFault (reading all) fault)
-      (λ xs ys p shows. subst (λ (r : Records). ShowsFault r fault) (sym (same xs ys p)) shows) took stops.1,
-  Took-then a b c P (λ ys. TakenShows (later ys) fault) (λ taken. TakenShows (reading taken) fault)
-      (λ xs ys p shows. subst (λ (r : Records). TakenShows r fault) (sym (same xs ys p)) shows) took stops.2,
-)
-
 -- a later step broke off
-pub Stops-then : (Comes : Fault → Type 0) (reading : List ℕ → Records) (a b c : Option (List ℕ)) (P Q : List ℕ → Type 0) (fault : Fault) → Comes Read → Comes Cut
-    → ((xs ys : List ℕ) → P xs → Q ys → reading (xs ++ ys) ≡ no_record (Some Cut)) → Took a b P → BreaksOff b c Q fault → Stops Comes reading a c fault
+pub Stops-then : (Comes : Fault → Type 0) (reading : List ℕ → Records) (a b c : Option (List ℕ)) (P Q : List ℕ → Type 0) (fault : Fault)
+    → Comes Read → Comes Cut
+    → ((xs ys : List ℕ) → P xs → Q ys → reading (xs ++ ys) ≡ no_record (Some Cut)) → Took a b P → BreaksOff b c Q fault
+    → Stops Comes reading a c fault
 Stops-then Comes reading a b c P Q Read read cut shows took broke =
     (read, always a, Took-then a b c P Q _ (λ xs ys p q. inr (shows xs ys p q)) took broke)
 Stops-then Comes reading a b c P Q Cut read cut shows took broke = (
@@ -76,13 +62,71 @@ Stops-then Comes reading a b c P Q _ read cut shows took broke = absurd broke
 -- a front that was taken shows a fault, whatever follows it
 pub Stops-front : (Comes : Fault → Type 0) (reading : List ℕ → Records) (a b : Option (List ℕ)) (front : List ℕ) (fault : Fault) → Comes fault
     → ((rest : List ℕ) → reading (front ++ rest) ≡ no_record (Some fault))
-    → ((records : Records) → records ≡ no_record (Some fault) → ShowsFault records fault) → ((records : Records) → records ≡ no_record (Some fault) → TakenShows records fault) → Consumes a b front → Stops Comes reading a b fault
+    → ((records : Records) → records ≡ no_record (Some fault) → ShowsFault records fault)
+    → ((records : Records) → records ≡ no_record (Some fault) → TakenShows records fault) → Consumes a b front → Stops Comes reading a b fault
 Stops-front Comes reading a b front fault comes shows fits taken consumed =
     let alone : reading front ≡ no_record (Some fault) = ap reading (sym (append-nil front)) ∙ shows [] in (
       comes,
       all_by_front a b front _ (λ rest. fits (reading (front ++ rest)) (shows rest)) consumed,
       Took-consumed a b front _ consumed (taken (reading front) alone),
     )
+
+-- ---- the file header
+
+-- what is wanted of the header broke off
+pub HeaderStops-broken : (fault_in : List ℕ → Option Fault) (a b : Option (List ℕ)) (P : List ℕ → Type 0) (fault : Fault)
+    → ((xs : List ℕ) → P xs → fault_in xs ≡ Some Cut) → BreaksOff a b P fault → HeaderStops fault_in a b fault
+HeaderStops-broken fault_in a b P Read shows broke = (tt, always a, Took-weaker a b P _ shows broke)
+HeaderStops-broken fault_in a b P Cut shows broke = (tt, all_weaker a P _ shows broke.0, Took-weaker a b P _ shows broke.1)
+HeaderStops-broken fault_in a b P _ shows broke = absurd broke
+
+-- the later part of the header stopped, which has the header's fault behind the first part
+pub HeaderStops-behind : (fault_in later : List ℕ → Option Fault) (a b c : Option (List ℕ)) (P : List ℕ → Type 0) (fault : Fault)
+    → ((xs ys : List ℕ) → P xs → fault_in (xs ++ ys) ≡ later ys) → Took a b P → HeaderStops later b c fault → HeaderStops fault_in a c fault
+HeaderStops-behind fault_in later a b c P fault same took stops = (
+  stops.0,
+  all_then a b P (λ ys. HeaderShows (later ys) fault) (λ all. HeaderShows (fault_in all) fault)
+      (λ xs ys p shows. subst (λ (found : Option Fault). HeaderShows found fault) (sym (same xs ys p)) shows) took stops.1,
+  Took-then a b c P (λ ys. TakenHeaderShows (later ys) fault) (λ taken. TakenHeaderShows (fault_in taken) fault)
+      (λ xs ys p shows. subst (λ (found : Option Fault). TakenHeaderShows found fault) (sym (same xs ys p)) shows) took stops.2,
+)
+
+-- a front that was taken has a fault, whatever follows it
+pub HeaderStops-front : (fault_in : List ℕ → Option Fault) (a b : Option (List ℕ)) (front : List ℕ) (fault : Fault) → IsOpeningFault fault
+    → ((rest : List ℕ) → fault_in (front ++ rest) ≡ Some fault)
+    → ((found : Option Fault) → found ≡ Some fault → HeaderShows found fault)
+    → ((found : Option Fault) → found ≡ Some fault → TakenHeaderShows found fault) → Consumes a b front → HeaderStops fault_in a b fault
+HeaderStops-front fault_in a b front fault comes shows fits taken consumed =
+    let alone : fault_in front ≡ Some fault = ap fault_in (sym (append-nil front)) ∙ shows [] in (
+      comes,
+      all_by_front a b front _ (λ rest. fits (fault_in (front ++ rest)) (shows rest)) consumed,
+      Took-consumed a b front _ consumed (taken (fault_in front) alone),
+    )
+
+-- what the header shows, all the bytes show
+shown_by : (all : List ℕ) (fault : Fault) → IsOpeningFault fault → HeaderShows (header_fault all) fault → ShowsFault (records_of all) fault
+shown_by all NotPcap is shows = records_of-fault all NotPcap shows
+shown_by all Version is shows = records_of-fault all Version shows
+shown_by all LinkType is shows = records_of-fault all LinkType shows
+shown_by all Cut is shows = records_of-fault all Cut shows
+shown_by all Read is shows = tt
+shown_by all _ is shows = absurd is
+
+taken_by : (taken : List ℕ) (fault : Fault) → IsOpeningFault fault → TakenHeaderShows (header_fault taken) fault → TakenShows (records_of taken) fault
+taken_by taken NotPcap is shows = records_of-fault taken NotPcap shows
+taken_by taken Version is shows = records_of-fault taken Version shows
+taken_by taken LinkType is shows = records_of-fault taken LinkType shows
+taken_by taken Cut is shows = records_of-fault taken Cut shows
+taken_by taken Read is shows = inr (records_of-fault taken Cut shows)
+taken_by taken _ is shows = absurd is
+
+-- a fault of the file header ends the capture before its first record
+pub Stops-opening : (a b : Option (List ℕ)) (fault : Fault) → HeaderStops header_fault a b fault → Stops IsOpeningFault records_of a b fault
+Stops-opening a b fault stops = (
+  stops.0,
+  all_weaker a _ _ (λ all shows. shown_by all fault stops.0 shows) stops.1,
+  Took-weaker a b _ _ (λ taken shows. taken_by taken fault stops.0 shows) stops.2,
+)
 
 -- ---- records
 
@@ -91,14 +135,16 @@ headless order [] short = inl (records_in-none order)
 headless order (byte ∷ bytes) short = inr (records_in-headless order (byte ∷ bytes) (omega arith) short)
 
 -- the source failed within a header
-pub Stops-headless : (order : ByteOrder) (a b : Option (List ℕ)) (room : ℕ) (fault : Fault) → room ≡ 16 → fault ≡ Read → Took a b (λ taken. length taken < room)
+pub Stops-headless : (order : ByteOrder) (a b : Option (List ℕ)) (room : ℕ) (fault : Fault) → room ≡ 16 → fault ≡ Read
+    → Took a b (λ taken. length taken < room)
     → Stops IsRecordFault (records_in order) a b fault
 Stops-headless order a b room fault size read took =
     subst (Stops IsRecordFault (records_in order) a b) (sym read)
     (tt, always a, Took-weaker a b _ _ (λ xs short. headless order xs (omega arith)) took)
 
 -- the bytes end within a header
-pub Stops-cut : (order : ByteOrder) (a b : Option (List ℕ)) (header : List ℕ) (n : ℕ) → 0 < n → n < 16 → n ≤ length header → Consumes a b (take n header) → IsAtEnd b
+pub Stops-cut : (order : ByteOrder) (a b : Option (List ℕ)) (header : List ℕ) (n : ℕ) → 0 < n → n < 16 → n ≤ length header
+    → Consumes a b (take n header) → IsAtEnd b
     → Stops IsRecordFault (records_in order) a b Cut
 Stops-cut order a b header n some short within consumed end =
     let size = length-take-le n header within in
@@ -106,20 +152,24 @@ Stops-cut order a b header n some short within consumed end =
     (tt, all_by_end a b (take n header) _ shows consumed end, Took-consumed a b (take n header) _ consumed shows)
 
 -- a header that states too many bytes
-pub Stops-long : (order : ByteOrder) (a b : Option (List ℕ)) (header : List ℕ) (n : ℕ) → length header ≡ 16 → 16 ≤ n → 262144 < captured_len order header → Consumes a b (take n header)
+pub Stops-long : (order : ByteOrder) (a b : Option (List ℕ)) (header : List ℕ) (n : ℕ) → length header ≡ 16 → 16 ≤ n
+    → 262144 < captured_len order header → Consumes a b (take n header)
     → Stops IsRecordFault (records_in order) a b LongRecord
 Stops-long order a b header n whole all long consumed =
-    Stops-front IsRecordFault (records_in order) a b header LongRecord tt (λ rest. records_in-long order header rest whole long) (λ records e. e) (λ records e. e)
+    Stops-front IsRecordFault (records_in order) a b header LongRecord tt (λ rest. records_in-long order header rest whole long) (λ records e. e)
+    (λ records e. e)
     (subst (Consumes a b) (take_all n header (omega arith)) consumed)
 
-bodiless : (order : ByteOrder) (found : Record) (header body : List ℕ) → IsHeaderOf order found header → length body < found.captured → records_in order (header ++ body) ≡ no_record (Some Cut)
+bodiless : (order : ByteOrder) (found : Record) (header body : List ℕ) → IsHeaderOf order found header → length body < found.captured
+    → records_in order (header ++ body) ≡ no_record (Some Cut)
 bodiless order found header body h short =
     let stated = h.captured in
     let fits = h.short in
     records_in-bodiless order header body h.whole (omega arith) (omega arith)
 
 -- the captured bytes weren't taken whole
-pub Stops-bodiless : (order : ByteOrder) (a b c : Option (List ℕ)) (found : Record) (fault : Fault) → Took a b (IsHeaderOf order found) → BodyStops found.captured b c fault
+pub Stops-bodiless : (order : ByteOrder) (a b c : Option (List ℕ)) (found : Record) (fault : Fault) → Took a b (IsHeaderOf order found)
+    → BodyStops found.captured b c fault
     → Stops IsRecordFault (records_in order) a c fault
 Stops-bodiless order a b c found Memory took stops =
     let none : Took b c (λ ys. length ys < found.captured) = Took-nothing b c _ stops.1 stops.0 in
@@ -130,7 +180,8 @@ Stops-bodiless order a b c found Cut took stops =
     Stops-then IsRecordFault (records_in order) a b c (IsHeaderOf order found) (λ ys. length ys < found.captured) Cut tt tt (bodiless order found) took stops
 Stops-bodiless order a b c found _ took stops = absurd stops
 
-wanting : (order : ByteOrder) (found : Record) → 0 < found.captured → (header body : List ℕ) → IsHeaderOf order found header → body ≡ [] → WantsMemory order (header ++ body)
+wanting : (order : ByteOrder) (found : Record) → 0 < found.captured → (header body : List ℕ) → IsHeaderOf order found header → body ≡ []
+    → WantsMemory order (header ++ body)
 wanting order found some header body h none =
     let stated = h.captured in
     let fits = h.short in
@@ -138,11 +189,13 @@ wanting order found some header body h none =
     (subst (WantsMemory order) (sym (append-nil header)) (h.whole, omega arith, omega arith))
 
 -- memory was wanted and refused
-pub Took-wanting : (order : ByteOrder) (a b c : Option (List ℕ)) (found : Record) → Took a b (IsHeaderOf order found) → BodyStops found.captured b c Memory → Took a c (WantsMemory order)
+pub Took-wanting : (order : ByteOrder) (a b c : Option (List ℕ)) (found : Record) → Took a b (IsHeaderOf order found)
+    → BodyStops found.captured b c Memory → Took a c (WantsMemory order)
 Took-wanting order a b c found took stops =
     Took-then a b c (IsHeaderOf order found) (λ ys. ys ≡ []) _ (wanting order found stops.0) took (Took-nothing b c _ stops.1 refl)
 
-whole_record : (order : ByteOrder) (found : Record) (frame : List ℕ) → length frame ≡ found.captured → (header body : List ℕ) → IsHeaderOf order found header → body ≡ frame
+whole_record : (order : ByteOrder) (found : Record) (frame : List ℕ) → length frame ≡ found.captured → (header body : List ℕ)
+    → IsHeaderOf order found header → body ≡ frame
     → (rest : List ℕ) → records_in order ((header ++ body) ++ rest) ≡ with_record frame found.original (records_in order rest)
 whole_record order found frame size header body h same rest =
     let stated = h.captured in
@@ -151,7 +204,8 @@ whole_record order found frame size header body h same rest =
     ∙ ap (λ (n : ℕ). with_record frame n (records_in order rest)) h.original
 
 -- a whole record was taken
-pub Took-record : (order : ByteOrder) (a b c : Option (List ℕ)) (found : Record) (frame : List ℕ) → Took a b (IsHeaderOf order found) → length frame ≡ found.captured → Consumes b c frame
+pub Took-record : (order : ByteOrder) (a b c : Option (List ℕ)) (found : Record) (frame : List ℕ) → Took a b (IsHeaderOf order found)
+    → length frame ≡ found.captured → Consumes b c frame
     → Took a c (λ taken. (rest : List ℕ) → records_in order (taken ++ rest) ≡ with_record frame found.original (records_in order rest))
 Took-record order a b c found frame took size consumed =
     Took-then a b c (IsHeaderOf order found) (λ ys. ys ≡ frame) _ (whole_record order found frame size) took (Took-consumed b c frame _ consumed refl)

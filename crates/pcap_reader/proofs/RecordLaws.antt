@@ -1,11 +1,13 @@
 -- Laws of records: a whole record at the front is the first, and one that is cut or too long is none.
-use Rattle.std.proofs.Common.{◌≡◌, ℕ, ◌+◌, ◌<◌, ◌≤◌, List, [], ◌∷◌, ◌++◌, length, take, drop, Option, Some, None, refl, sym, ap, ◌∙◌, arith, append_assoc, length-append, length-drop, lt-ltb, le-ltb}
+use Rattle.std.proofs.Common.{◌≡◌, ℕ, ◌+◌, ◌<◌, ◌≤◌, List, [], ◌∷◌, ◌++◌, length, take, drop, Option, Some, None, refl, sym, ap}
+use Rattle.std.proofs.Common.{◌∙◌, arith, append_assoc, length-append, length-drop, lt-ltb, le-ltb}
 use Rattle.std.proofs.lemmas.List.{drop-append-le, take_all, take_at, drop_at}
 use Rattle.byteorder.specs.Numbers.{little_from-append, big_from-append}
 use Rattle.zr_kinds.specs.declared.fault.Fault.{Fault}
 use Rattle.zr_kinds.specs.declared.fault.Fault.TheVariants.{Cut, LongRecord}
 use Rattle.pcap_reader.specs.declared.order.ByteOrder.TheVariants.{Little, Big}
-use Rattle.pcap_reader.specs.Records.{ByteOrder, Records, number, no_record, with_record, captured_len, original_len, record_fault, after_record, records_behind, records_in}
+use Rattle.pcap_reader.specs.Records.{ByteOrder, Records, number, no_record, with_record, captured_len, original_len, record_fault, after_record}
+use Rattle.pcap_reader.specs.Records.{records_behind, records_in}
 
 -- ---- a record's numbers stand in its header
 
@@ -13,18 +15,22 @@ pub number-append : (order : ByteOrder) (n : ℕ) (xs ys : List ℕ) → n ≤ l
 number-append Little n xs ys h = little_from-append n xs ys h
 number-append Big n xs ys h = big_from-append n xs ys h
 
-pub number_at-append : (order : ByteOrder) (at n : ℕ) (xs ys : List ℕ) → at + n ≤ length xs → number order n (drop at (xs ++ ys)) ≡ number order n (drop at xs)
+pub number_at-append : (order : ByteOrder) (at n : ℕ) (xs ys : List ℕ) → at + n ≤ length xs
+    → number order n (drop at (xs ++ ys)) ≡ number order n (drop at xs)
 number_at-append order at n xs ys h =
     ap (number order n) (drop-append-le at xs ys (omega arith)) ∙ number-append order n (drop at xs) ys (omega (arith, length-drop at xs))
 
 -- the number in the last bytes of some, as it is read of a part that ends with them
-pub number_in : (order : ByteOrder) (at width : ℕ) (bytes : List ℕ) (n : ℕ) → length bytes ≡ at + width → n ≡ number order 4 (take width (drop at bytes)) → number order 4 (drop at bytes) ≡ n
+pub number_in : (order : ByteOrder) (at width : ℕ) (bytes : List ℕ) (n : ℕ) → length bytes ≡ at + width
+    → n ≡ number order 4 (take width (drop at bytes)) → number order 4 (drop at bytes) ≡ n
 number_in order at width bytes n size e = ap (number order 4) (sym (take_all width (drop at bytes) (omega (arith, length-drop at bytes)))) ∙ sym e
 
-pub captured_len-append : (order : ByteOrder) (header rest : List ℕ) → length header ≡ 16 → captured_len order (header ++ rest) ≡ captured_len order header
+pub captured_len-append : (order : ByteOrder) (header rest : List ℕ) → length header ≡ 16
+    → captured_len order (header ++ rest) ≡ captured_len order header
 captured_len-append order header rest whole = number_at-append order 8 4 header rest (omega arith)
 
-pub original_len-append : (order : ByteOrder) (header rest : List ℕ) → length header ≡ 16 → original_len order (header ++ rest) ≡ original_len order header
+pub original_len-append : (order : ByteOrder) (header rest : List ℕ) → length header ≡ 16
+    → original_len order (header ++ rest) ≡ original_len order header
 original_len-append order header rest whole = number_at-append order 12 4 header rest (omega arith)
 
 -- ---- what is wrong with a record
@@ -32,14 +38,17 @@ original_len-append order header rest whole = number_at-append order 12 4 header
 fault-headless : (order : ByteOrder) (bytes : List ℕ) → length bytes < 16 → record_fault order bytes ≡ Some Cut
 fault-headless order bytes short = rw (lt-ltb (length bytes) 16 short) refl
 
-fault-long : (order : ByteOrder) (bytes : List ℕ) → 16 ≤ length bytes → 262144 < captured_len order bytes → record_fault order bytes ≡ Some LongRecord
+fault-long : (order : ByteOrder) (bytes : List ℕ) → 16 ≤ length bytes → 262144 < captured_len order bytes
+    → record_fault order bytes ≡ Some LongRecord
 fault-long order bytes header long = rw (le-ltb (length bytes) 16 header, lt-ltb 262144 (captured_len order bytes) long) refl
 
-fault-bodiless : (order : ByteOrder) (bytes : List ℕ) → 16 ≤ length bytes → captured_len order bytes ≤ 262144 → length bytes < 16 + captured_len order bytes → record_fault order bytes ≡ Some Cut
+fault-bodiless : (order : ByteOrder) (bytes : List ℕ) → 16 ≤ length bytes → captured_len order bytes ≤ 262144
+    → length bytes < 16 + captured_len order bytes → record_fault order bytes ≡ Some Cut
 fault-bodiless order bytes header short cut =
     rw (le-ltb (length bytes) 16 header, le-ltb 262144 (captured_len order bytes) short, lt-ltb (length bytes) (16 + captured_len order bytes) cut) refl
 
-fault-none : (order : ByteOrder) (bytes : List ℕ) → 16 ≤ length bytes → captured_len order bytes ≤ 262144 → 16 + captured_len order bytes ≤ length bytes → record_fault order bytes ≡ None
+fault-none : (order : ByteOrder) (bytes : List ℕ) → 16 ≤ length bytes → captured_len order bytes ≤ 262144
+    → 16 + captured_len order bytes ≤ length bytes → record_fault order bytes ≡ None
 fault-none order bytes header short whole =
     rw (le-ltb (length bytes) 16 header, le-ltb 262144 (captured_len order bytes) short, le-ltb (length bytes) (16 + captured_len order bytes) whole) refl
 
@@ -54,23 +63,27 @@ pub records_in-none : (order : ByteOrder) → records_in order [] ≡ no_record 
 unfolding records_in records_behind
 records_in-none order = refl
 
-records_in-fault : (order : ByteOrder) (bytes : List ℕ) (fault : Fault) → 0 < length bytes → record_fault order bytes ≡ Some fault → records_in order bytes ≡ no_record (Some fault)
+records_in-fault : (order : ByteOrder) (bytes : List ℕ) (fault : Fault) → 0 < length bytes → record_fault order bytes ≡ Some fault
+    → records_in order bytes ≡ no_record (Some fault)
 unfolding records_in records_behind
 records_in-fault order [] fault some e = absurd (omega arith)
 records_in-fault order (byte ∷ bytes) fault some e =
     ap (λ (f : Option Fault). after_record f order (byte ∷ bytes) (records_behind order (15 + captured_len order (byte ∷ bytes)) bytes)) e
 
 records_in-record : (order : ByteOrder) (byte : ℕ) (bytes : List ℕ) → record_fault order (byte ∷ bytes) ≡ None
-    → records_in order (byte ∷ bytes) ≡ with_record (take (captured_len order (byte ∷ bytes)) (drop 15 bytes)) (original_len order (byte ∷ bytes)) (records_behind order (15 + captured_len order (byte ∷ bytes)) bytes)
+    → records_in order (byte ∷ bytes) ≡ with_record (take (captured_len order (byte ∷ bytes)) (drop 15 bytes)) (original_len order (byte ∷ bytes))
+    (records_behind order (15 + captured_len order (byte ∷ bytes)) bytes)
 unfolding records_in records_behind
 records_in-record order byte bytes e =
     ap (λ (f : Option Fault). after_record f order (byte ∷ bytes) (records_behind order (15 + captured_len order (byte ∷ bytes)) bytes)) e
 
-with_record-same : (xs ys : List ℕ) (m n : ℕ) (others these : Records) → xs ≡ ys → m ≡ n → others ≡ these → with_record xs m others ≡ with_record ys n these
+with_record-same : (xs ys : List ℕ) (m n : ℕ) (others these : Records) → xs ≡ ys → m ≡ n → others ≡ these
+    → with_record xs m others ≡ with_record ys n these
 with_record-same xs ys m n others these e f g = rw (e, f, g) refl
 
 -- a whole record at the front is the first
-pub records_in-whole : (order : ByteOrder) (header frame rest : List ℕ) → length header ≡ 16 → captured_len order header ≡ length frame → length frame ≤ 262144
+pub records_in-whole : (order : ByteOrder) (header frame rest : List ℕ) → length header ≡ 16 → captured_len order header ≡ length frame
+    → length frame ≤ 262144
     → records_in order ((header ++ frame) ++ rest) ≡ with_record frame (original_len order header) (records_in order rest)
 records_in-whole order [] frame rest whole captured short = absurd (omega arith)
 records_in-whole order (byte ∷ header) frame rest whole captured short =
@@ -97,16 +110,19 @@ pub records_in-headless : (order : ByteOrder) (bytes : List ℕ) → 0 < length 
 records_in-headless order bytes some short = records_in-fault order bytes Cut some (fault-headless order bytes short)
 
 -- a header that states too many bytes
-pub records_in-long : (order : ByteOrder) (header rest : List ℕ) → length header ≡ 16 → 262144 < captured_len order header → records_in order (header ++ rest) ≡ no_record (Some LongRecord)
+pub records_in-long : (order : ByteOrder) (header rest : List ℕ) → length header ≡ 16 → 262144 < captured_len order header
+    → records_in order (header ++ rest) ≡ no_record (Some LongRecord)
 records_in-long order header rest whole long =
     let size = length-append header rest in
     let stated = captured_len-append order header rest whole in
     records_in-fault order (header ++ rest) LongRecord (omega (arith, size)) (fault-long order (header ++ rest) (omega (arith, size)) (omega (arith, stated)))
 
 -- a header with fewer bytes behind it than it states
-pub records_in-bodiless : (order : ByteOrder) (header body : List ℕ) → length header ≡ 16 → captured_len order header ≤ 262144 → length body < captured_len order header
+pub records_in-bodiless : (order : ByteOrder) (header body : List ℕ) → length header ≡ 16 → captured_len order header ≤ 262144
+    → length body < captured_len order header
     → records_in order (header ++ body) ≡ no_record (Some Cut)
 records_in-bodiless order header body whole short cut =
     let size = length-append header body in
     let stated = captured_len-append order header body whole in
-    records_in-fault order (header ++ body) Cut (omega (arith, size)) (fault-bodiless order (header ++ body) (omega (arith, size)) (omega (arith, stated)) (omega (arith, size, stated)))
+    records_in-fault order (header ++ body) Cut (omega (arith, size))
+    (fault-bodiless order (header ++ body) (omega (arith, size)) (omega (arith, stated)) (omega (arith, size, stated)))

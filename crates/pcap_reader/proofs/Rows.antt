@@ -42,7 +42,8 @@ upper_half = refl
 
 -- what stands behind a big-endian magic, with one record
 abbrev big_rest : List ℕ
-big_rest = (0 ∷ 2 ∷ 0 ∷ 4 ∷ []) ++ zeros ++ (0 ∷ 4 ∷ 0 ∷ 0 ∷ 0 ∷ 0 ∷ 0 ∷ 1 ∷ []) ++ zeros ++ (0 ∷ 0 ∷ 0 ∷ 2 ∷ 0 ∷ 0 ∷ 0 ∷ 60 ∷ 7 ∷ 9 ∷ [])
+big_rest = (0 ∷ 2 ∷ 0 ∷ 4 ∷ []) ++ zeros ++ (0 ∷ 4 ∷ 0 ∷ 0 ∷ 0 ∷ 0 ∷ 0 ∷ 1 ∷ []) ++ zeros
+    ++ (0 ∷ 0 ∷ 0 ∷ 2 ∷ 0 ∷ 0 ∷ 0 ∷ 60 ∷ 7 ∷ 9 ∷ [])
 
 big_endian : records_of (0xa1 ∷ 0xb2 ∷ 0xc3 ∷ 0xd4 ∷ big_rest) ≡ with_record (7 ∷ 9 ∷ []) 60 (no_record None)
 unfolding records_of records_in records_behind
@@ -52,7 +53,8 @@ big_nanoseconds : records_of (0xa1 ∷ 0xb2 ∷ 0x3c ∷ 0x4d ∷ big_rest) ≡ 
 unfolding records_of records_in records_behind
 big_nanoseconds = refl
 
-little_nanoseconds : records_of ((0x4d ∷ 0x3c ∷ 0xb2 ∷ 0xa1 ∷ []) ++ drop 4 (header 2 1 0) ++ stating 2 0 60 ++ 7 ∷ 9 ∷ []) ≡ with_record (7 ∷ 9 ∷ []) 60 (no_record None)
+little_nanoseconds : records_of ((0x4d ∷ 0x3c ∷ 0xb2 ∷ 0xa1 ∷ []) ++ drop 4 (header 2 1 0) ++ stating 2 0 60 ++ 7 ∷ 9 ∷ [])
+    ≡ with_record (7 ∷ 9 ∷ []) 60 (no_record None)
 unfolding records_of records_in records_behind
 little_nanoseconds = refl
 

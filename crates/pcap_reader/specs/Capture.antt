@@ -4,7 +4,7 @@ use Rattle.std.specs.Io.KnownBytes.{Keeps, IsAtEnd}
 use Rattle.zr_kinds.specs.declared.fault.Fault.{Fault}
 use Rattle.zr_kinds.specs.declared.fault.Fault.TheVariants.{Memory, NotPcap, Version, LinkType, Cut, LongRecord, Read}
 use Rattle.zr_io.specs.Moved.{Rose, Took}
-use Rattle.pcap_reader.specs.Records.{ByteOrder, Records, no_record, with_record, captured_len, records_in, records_of}
+use Rattle.pcap_reader.specs.Records.{ByteOrder, Records, no_record, with_record, captured_len, header_fault, records_in, records_of}
 use Rattle.pcap_reader.specs.declared.capture.Record.{Record}
 
 -- a capture as its callers see it: the order of its numbers, and the fault that ended its reading
@@ -12,7 +12,7 @@ pub record Reading : Type 0 where
   pub order : ByteOrder
   pub fault : Option Fault
 
--- The bytes show this fault where a record or the header is wanted. Want of memory and a failed read show in no byte.
+-- The bytes show this fault where a record is wanted. Want of memory and a failed read show in no byte.
 abbrev pub ShowsFault : Records → Fault → Type 0
 ShowsFault records Memory = Unit {0}
 ShowsFault records Read = Unit {0}
@@ -28,10 +28,11 @@ TakenShows taken Memory = BrokeOff taken
 TakenShows taken Read = BrokeOff taken
 TakenShows taken fault = taken ≡ no_record (Some fault)
 
--- `Read` comes only where the source's count of faults rose
+-- At `Read` the source's count of faults rose. In every other outcome it stood still: no read failed.
 pub record HasReadCause {T : Type 0} (before now : ℕ) (result : Result T Fault) : Type 0 where
   pub later : before ≤ now
   pub read : IsErrOf result Read → Rose before now
+  pub still : (IsErrOf result Read → ⊥) → now ≡ before
 
 -- the faults that opening a capture answers
 abbrev pub IsOpeningFault : Fault → Type 0
@@ -54,19 +55,31 @@ IsRecordFault fault = ⊥
 abbrev pub WantsMemory : ByteOrder → List ℕ → Type 0
 WantsMemory order header = (length header ≡ 16) × (0 < captured_len order header) × (captured_len order header ≤ 262144)
 
+-- The file header has this fault. A failed read shows in no byte.
+abbrev pub HeaderShows : Option Fault → Fault → Type 0
+HeaderShows found Read = Unit {0}
+HeaderShows found fault = found ≡ Some fault
+
+-- What was taken of the file header shows the fault by itself. At a failed read it is cut.
+abbrev pub TakenHeaderShows : Option Fault → Fault → Type 0
+TakenHeaderShows found Read = found ≡ Some Cut
+TakenHeaderShows found fault = found ≡ Some fault
+
 -- `Ok` took a file header: whatever follows it, the capture's records are the records of what follows. A fault is
--- that of all the bytes, and those that were taken show it.
+-- that of the file header, in all the bytes and in those that were taken.
 abbrev pub Opens : Option (List ℕ) → Option (List ℕ) → Result Reading Fault → Type 0
 Opens old new (Ok capture) =
     (capture.fault ≡ None) × Took old new (λ taken. (rest : List ℕ) → records_of (taken ++ rest) ≡ records_in capture.order rest)
 Opens old new (Err fault) =
-    IsOpeningFault fault × IfSome old (λ all. ShowsFault (records_of all) fault) × Took old new (λ taken. TakenShows (records_of taken) fault)
+    IsOpeningFault fault × IfSome old (λ all. HeaderShows (header_fault all) fault)
+    × Took old new (λ taken. TakenHeaderShows (header_fault taken) fault)
 
 -- `Ok(Some(_))` took one record and no more: whatever follows it, the first record is this frame, and the others are
 -- those of what follows. `Ok(None)` is the end. A fault is that of all the bytes, and those that were taken show it.
 abbrev pub Gives : ByteOrder → Option (List ℕ) → Option (List ℕ) → List ℕ → Result (Option Record) Fault → Type 0
 Gives order old new frame (Ok (Some found)) =
-    (found.captured ≡ length frame) × Took old new (λ taken. (rest : List ℕ) → records_in order (taken ++ rest) ≡ with_record frame found.original (records_in order rest))
+    (found.captured ≡ length frame) × Took old new
+    (λ taken. (rest : List ℕ) → records_in order (taken ++ rest) ≡ with_record frame found.original (records_in order rest))
 Gives order old new frame (Ok None) = IsAtEnd old × Keeps old new
 Gives order old new frame (Err fault) =
     IsRecordFault fault × IfSome old (λ all. ShowsFault (records_in order all) fault) × Took old new (λ taken. TakenShows (records_in order taken) fault)

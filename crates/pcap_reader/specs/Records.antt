@@ -1,6 +1,7 @@
 -- The records of a classic pcap capture, and the first fault of its bytes. A file header of 24 bytes is followed by
 -- records, each of a header of 16 bytes (seconds, fraction, captured length, original length) and the captured bytes.
-use Rattle.std.specs.Prelude.{ℕ, zero, suc, ◌+◌, ◌%◌, List, [], ◌∷◌, length, take, drop, nat_eq, nat_lt, ◌==◌, if◌then◌else◌, not, Option, Some, None}
+use Rattle.std.specs.Prelude.{ℕ, zero, suc, ◌+◌, ◌%◌, List, [], ◌∷◌, length, take, drop, nat_eq, nat_lt, ◌==◌, if◌then◌else◌, not}
+use Rattle.std.specs.Prelude.{Option, Some, None}
 use Rattle.std.specs.List.{starts_with}
 use Rattle.byteorder.specs.Endian.{little_number, big_number}
 pub use Rattle.pcap_reader.specs.declared.order.ByteOrder.{ByteOrder}
@@ -81,6 +82,14 @@ fields_fault order bytes =
     else if not (number order 2 (drop 4 bytes) == 2) then Some Version
     else if not (number order 4 (drop 20 bytes) % 65536 == 1) then Some LinkType
     else None
+
+abbrev pub fault_behind : Option ByteOrder → List ℕ → Option Fault
+fault_behind None bytes = Some NotPcap
+fault_behind (Some order) bytes = fields_fault order bytes
+
+-- what is wrong with the file header at the begin of these bytes; no byte behind it counts
+abbrev pub header_fault : List ℕ → Option Fault
+header_fault bytes = if nat_lt (length bytes) 4 then Some Cut else fault_behind (order_of bytes) bytes
 
 -- the fault, or else the records
 abbrev pub after_header : Option Fault → ByteOrder → List ℕ → Records

@@ -5,8 +5,8 @@ use Rattle.zr_kinds.specs.declared.fault.Fault.{Fault}
 use Rattle.zr_kinds.specs.declared.fault.Fault.TheVariants.{Memory, Cut, Read}
 use Rattle.zr_io.specs.Moved.{Took}
 use Rattle.pcap_reader.specs.declared.order.ByteOrder.TheVariants.{Little, Big}
-use Rattle.pcap_reader.specs.Records.{ByteOrder, Records, captured_len, original_len, order_of, records_in, records_of}
-use Rattle.pcap_reader.specs.Capture.{ShowsFault, TakenShows, IsOpeningFault, IsRecordFault}
+use Rattle.pcap_reader.specs.Records.{ByteOrder, Records, captured_len, original_len, order_of, fields_fault, header_fault, records_in, records_of}
+use Rattle.pcap_reader.specs.Capture.{ShowsFault, TakenShows, HeaderShows, TakenHeaderShows, IsOpeningFault, IsRecordFault}
 use Rattle.pcap_reader.specs.declared.capture.Record.{Record}
 
 -- a fault is that of all the bytes, by what they read as, and those that were taken show it
@@ -42,18 +42,27 @@ abbrev pub magic_in : ByteOrder → List ℕ
 magic_in Little = 0xd4 ∷ 0xc3 ∷ 0xb2 ∷ 0xa1 ∷ []
 magic_in Big = 0xa1 ∷ 0xb2 ∷ 0xc3 ∷ 0xd4 ∷ []
 
+-- a fault of the file header, in all the bytes and in those that were taken
+abbrev pub HeaderStops : (List ℕ → Option Fault) → Option (List ℕ) → Option (List ℕ) → Fault → Type 0
+HeaderStops fault_in old new fault =
+    IsOpeningFault fault × IfSome old (λ all. HeaderShows (fault_in all) fault) × Took old new (λ taken. TakenHeaderShows (fault_in taken) fault)
+
+-- what is wrong with the fields behind a magic
+abbrev pub fault_of_fields : ByteOrder → List ℕ → Option Fault
+fault_of_fields order bytes = fields_fault order (magic_in order ++ bytes)
+
 -- what the bytes behind a magic hold
 abbrev pub behind_magic_in : ByteOrder → List ℕ → Records
 behind_magic_in order bytes = records_of (magic_in order ++ bytes)
 
 abbrev pub TakesMagic : Option (List ℕ) → Option (List ℕ) → Result ByteOrder Fault → Type 0
 TakesMagic old new (Ok order) = Took old new (IsMagicOf order)
-TakesMagic old new (Err fault) = Stops IsOpeningFault records_of old new fault
+TakesMagic old new (Err fault) = HeaderStops header_fault old new fault
 
 -- the fields behind the magic
 abbrev pub TakesFields : ByteOrder → Option (List ℕ) → Option (List ℕ) → Result (Unit {0}) Fault → Type 0
 TakesFields order old new (Ok _) = Took old new (λ taken. (rest : List ℕ) → behind_magic_in order (taken ++ rest) ≡ records_in order rest)
-TakesFields order old new (Err fault) = Stops IsOpeningFault (behind_magic_in order) old new fault
+TakesFields order old new (Err fault) = HeaderStops (fault_of_fields order) old new fault
 
 -- ---- a record
 

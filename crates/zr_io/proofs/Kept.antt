@@ -1,5 +1,7 @@
 -- How a shelf over memory keeps the bytes of its flows.
-use Rattle.std.proofs.Common.{◌≡◌, ℕ, ◌+◌, ◌-◌, ◌<◌, ◌≤◌, ◌↔◌, ◌⊎◌, nat_lt, List, [], ◌∷◌, ◌++◌, length, get_or, set, take, Option, None, Some, Result, Ok, Err, MatchResult, IsErr, IsSome, if◌then◌else◌, refl, sym, ap, ◌∙◌, inl, arith, rules}
+use Rattle.std.proofs.Common.{◌≡◌, ℕ, ◌+◌, ◌-◌, ◌<◌, ◌≤◌, ◌↔◌, ◌⊎◌, nat_lt, List, [], ◌∷◌, ◌++◌, length, get_or}
+use Rattle.std.proofs.Common.{set, take, Option, None, Some, Result, Ok, Err, MatchResult, IsErr, IsSome, if◌then◌else◌, refl, sym, ap, ◌∙◌, inl}
+use Rattle.std.proofs.Common.{arith, rules}
 use Rattle.std.proofs.lemmas.List.{get_or-map, get_or-set_same, get_or_past, map-set, set_past, length-map, nil_from_length, take_all}
 use Rattle.std.proofs.lemmas.Grind.{common_steps}
 use Rattle.std.specs.Global.{Vec}
@@ -7,7 +9,8 @@ use Rattle.zr_io.specs.Moved.{AddsPiece}
 use Rattle.zr_io.specs.Memory.{front_out}
 use Rattle.zr_io.specs.Reserved.{bytes_of}
 
-held_at : (flows : List (Vec ℕ)) (flow : ℕ) (old : Vec ℕ) → old ≡ get_or flows flow old → flow < length flows → get_or (bytes_of flows) flow [] ≡ old.items
+held_at : (flows : List (Vec ℕ)) (flow : ℕ) (old : Vec ℕ) → old ≡ get_or flows flow old → flow < length flows
+    → get_or (bytes_of flows) flow [] ≡ old.items
 held_at flows flow old at below = get_or-map (λ v. v.items) flows flow old [] below ∙ ap (λ v. v.items) (sym at)
 
 has_room : (flows : List (Vec ℕ)) (flow room : ℕ) → flow < length flows → (if nat_lt flow (length (bytes_of flows)) then room else 0) ≡ room
@@ -55,10 +58,15 @@ pub adds_piece : (A E : Type 0) (before after : List (List ℕ)) (flow room : �
     → (IsErr result ↔ ((if nat_lt flow (length before) then room else 0) < length (get_or before flow []) + length piece) ⊎ IsSome entry)
     → MatchResult result
     (λ _. after ≡ set before flow (get_or before flow [] ++ piece))
-    (λ _. after ≡ set before flow (get_or before flow [] ++ front_out ((if nat_lt flow (length before) then room else 0) - length (get_or before flow [])) entry piece))
+    (λ _. after ≡ set before flow
+    (get_or before flow [] ++ front_out ((if nat_lt flow (length before) then room else 0) - length (get_or before flow [])) entry piece))
     → AddsPiece (Some (get_or before flow [])) (Some (get_or after flow [])) result piece
-adds_piece A E before after flow room entry piece (Ok x) fails moved = kept_after before after flow piece moved (λ past. fits_none before flow room piece past (λ h. no_error A E x (fails.1 (inl h))))
+adds_piece A E before after flow room entry piece (Ok x) fails moved = kept_after before after flow piece moved
+    (λ past. fits_none before flow room piece past (λ h. no_error A E x (fails.1 (inl h))))
 adds_piece A E before after flow room None piece (Err _) fails moved = (0, kept_after before after flow (take 0 piece) moved (λ past. refl))
 adds_piece A E before after flow room (Some count) piece (Err _) fails moved =
-    let free = (if nat_lt flow (length before) then room else 0) - length (get_or before flow []) in
-    (if nat_lt free (length piece) then 0 else count, kept_after before after flow (front_out free (Some count) piece) moved (λ past. front_none before flow room count piece past))
+    let free = (if nat_lt flow (length before) then room else 0) - length (get_or before flow []) in (
+      if nat_lt free (length piece) then 0 else count,
+      kept_after before after flow (front_out free (Some count) piece) moved
+          (λ past. front_none before flow room count piece past),
+    )

@@ -1,5 +1,6 @@
 -- What a read from a list gives.
-use Rattle.std.proofs.Common.{◌≡◌, ℕ, ◌+◌, ◌-◌, ◌<◌, ◌≤◌, min, List, [], ◌++◌, length, take, drop, sym, ap, ◌∙◌, arith, length-take, length-drop, take-append-drop}
+use Rattle.std.proofs.Common.{◌≡◌, ℕ, ◌+◌, ◌-◌, ◌<◌, ◌≤◌, min, List, [], ◌++◌, length, take, drop, sym, ap, ◌∙◌, arith}
+use Rattle.std.proofs.Common.{length-take, length-drop, take-append-drop}
 use Rattle.std.proofs.lemmas.List.{drop-drop, drop_all, take_rest, take_at}
 
 -- the bytes that were copied and the bytes after them are all that was left
@@ -9,7 +10,8 @@ pub read_front : (left bytes copied more : List ℕ) (taken n : ℕ) → drop ta
 read_front left bytes copied more taken n here front fits =
     let count : length copied ≡ n = omega (arith, ap length front, length-take n left) in
     let rest : drop (taken + n) bytes ≡ drop n left = sym (drop-drop n taken bytes) ∙ ap (drop n) here in
-    sym (take-append-drop n left) ∙ ap (λ l. l ++ drop n left) (sym front ∙ sym (take_at copied more n count)) ∙ ap (λ l. take n (copied ++ more) ++ l) (sym rest)
+    sym (take-append-drop n left) ∙ ap (λ l. l ++ drop n left) (sym front ∙ sym (take_at copied more n count))
+    ∙ ap (λ l. take n (copied ++ more) ++ l) (sym rest)
 
 -- A read took the bytes that it copied, and came to the end if there were none, where it has room for one.
 pub read_took : (left bytes slice copied more : List ℕ) (taken n room : ℕ) → slice ≡ bytes → drop taken bytes ≡ left

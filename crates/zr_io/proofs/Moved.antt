@@ -16,7 +16,8 @@ Took-consumed (Some xs) None bytes P consumed p = absurd consumed
 Took-consumed (Some xs) (Some ys) bytes P consumed p = (bytes, consumed, p)
 
 -- what is taken by two calls, one after the other
-pub Took-then : (a b c : Option (List ℕ)) (P Q R : List ℕ → Type 0) → ((xs ys : List ℕ) → P xs → Q ys → R (xs ++ ys)) → Took a b P → Took b c Q → Took a c R
+pub Took-then : (a b c : Option (List ℕ)) (P Q R : List ℕ → Type 0) → ((xs ys : List ℕ) → P xs → Q ys → R (xs ++ ys)) → Took a b P
+    → Took b c Q → Took a c R
 Took-then None b c P Q R join first second = tt
 Took-then (Some xs) None c P Q R join first second = absurd first
 Took-then (Some xs) (Some ys) None P Q R join first second = absurd second
@@ -42,7 +43,8 @@ Gained-added (Some xs) None bytes P added p = absurd added
 Gained-added (Some xs) (Some ys) bytes P added p = (bytes, added, p)
 
 -- what is gained by two calls, one after the other
-pub Gained-then : (a b c : Option (List ℕ)) (P Q R : List ℕ → Type 0) → ((xs ys : List ℕ) → P xs → Q ys → R (xs ++ ys)) → Gained a b P → Gained b c Q → Gained a c R
+pub Gained-then : (a b c : Option (List ℕ)) (P Q R : List ℕ → Type 0) → ((xs ys : List ℕ) → P xs → Q ys → R (xs ++ ys)) → Gained a b P
+    → Gained b c Q → Gained a c R
 Gained-then None b c P Q R join first second = tt
 Gained-then (Some xs) None c P Q R join first second = absurd first
 Gained-then (Some xs) (Some ys) None P Q R join first second = absurd second

@@ -1,5 +1,6 @@
 -- How far a loop has sent a piece.
-use Rattle.std.proofs.Common.{◌≡◌, ℕ, ◌+◌, ◌-◌, ◌≤◌, List, ◌++◌, length, take, drop, Option, sym, ap, subst, ◌∙◌, arith, length-drop, length-take-le, take-append-drop}
+use Rattle.std.proofs.Common.{◌≡◌, ℕ, ◌+◌, ◌-◌, ◌≤◌, List, ◌++◌, length, take, drop, Option, sym, ap, subst, ◌∙◌, arith}
+use Rattle.std.proofs.Common.{length-drop, length-take-le, take-append-drop}
 use Rattle.std.proofs.lemmas.List.{drop-drop, take_rest}
 use Rattle.std.proofs.Math.Seq.{take-append-add}
 use Rattle.std.proofs.KnownBytes.{Appends-trans}
@@ -15,7 +16,8 @@ pub record IsSending (old new : Option (List ℕ)) (piece rest : List ℕ) : Typ
 take_then : (k n : ℕ) (piece : List ℕ) → k ≤ length piece → take k piece ++ take n (drop k piece) ≡ take (k + n) piece
 take_then k n piece within =
     let size : length (take k piece) ≡ k = length-take-le k piece within in
-    sym (take-append-add (take k piece) (drop k piece) n) ∙ ap (λ m. take (m + n) (take k piece ++ drop k piece)) size ∙ ap (take (k + n)) (take-append-drop k piece)
+    sym (take-append-add (take k piece) (drop k piece) n) ∙ ap (λ m. take (m + n) (take k piece ++ drop k piece)) size
+    ∙ ap (take (k + n)) (take-append-drop k piece)
 
 -- after a write of n bytes
 pub goes_on : (a b c : Option (List ℕ)) (piece rest : List ℕ) (n : ℕ) → IsSending a b piece rest → n ≤ length rest → Appends b c (take n rest)
@@ -26,7 +28,8 @@ goes_on a b c piece rest n sending fits more =
     let size : length (drop n rest) ≡ length rest - n = length-drop n rest in
     let gone : length piece - length (drop n rest) ≡ k + n = omega (arith, sending.within) in
     let rest_now : drop n rest ≡ drop (k + n) piece = ap (drop n) sending.rest_is ∙ drop-drop n k piece in
-    let front : take k piece ++ take n rest ≡ take (k + n) piece = ap (λ l. take k piece ++ take n l) sending.rest_is ∙ take_then k n piece (omega arith) in
+    let front : take k piece ++ take n rest ≡ take (k + n) piece = ap (λ l. take k piece ++ take n l) sending.rest_is
+    ∙ take_then k n piece (omega arith) in
     rw left record {
       within = omega (arith, sending.within);
       rest_is = rest_now ∙ ap (λ m. drop m piece) (sym gone);

@@ -1,14 +1,16 @@
 -- What moved through a source, a sink or a shelf, where it tells its bytes, and why a call may fail.
-use Rattle.std.specs.Prelude.{◌≡◌, ℕ, ◌+◌, ◌-◌, ◌^◌, ◌≤◌, min, List, ◌++◌, take, Option, None, Some, Result, OnErr, MatchResult}
+use Rattle.std.specs.Prelude.{◌≡◌, ℕ, ◌+◌, ◌-◌, ◌^◌, ◌≤◌, min, List, ◌++◌, take, Option, None, Some, Result, OnOk, OnErr}
+use Rattle.std.specs.Prelude.{MatchResult}
 use Rattle.std.specs.Io.KnownBytes.{Appends}
 
 -- A count of faults rose; it stands still at the end of its type.
 abbrev pub Rose : ℕ → ℕ → Type 0
 Rose before now = min (before + 1) (2 ^ 64 - 1) ≤ now
 
--- A count of faults never falls, and `Failed` comes only where it rose.
+-- A count of faults never falls. At `Ok` it stood still, so nothing failed in the call; at `Err` it rose.
 pub record HasCause {T E : Type 0} (before now : ℕ) (result : Result T E) : Type 0 where
   pub later : before ≤ now
+  pub still : OnOk result (now ≡ before)
   pub failed : OnErr result (Rose before now)
 
 -- What was told before went on by the whole piece at `Ok`, and by a front of it at `Err`.

@@ -21,14 +21,23 @@ const FLOWS: usize = 65_536;
 const OPEN_FILES: usize = 64;
 
 /// Keeps flow n in the file `flow-n.bin` of the current folder, for n up to 65,535. The file is made anew at
-/// the flow's first append. It tells no bytes, and counts the errors of the system and of memory; an append to a
-/// flow from 65,536 on counts as one.
+/// the flow's first append. Where the system opens no more files the one that was used longest ago is closed; a
+/// shelf holds a descriptor from the start, so that it has one to give back. It tells no bytes, and counts the errors
+/// of the system and of memory; an append to a flow from 65,536 on counts as one.
 #[derive(Drop)]
 pub struct FileShelf<R: Files + AllocGlobal> {
     rt: R,
     made: Vec<u8>,
-    open: LruCache<u32, R::File>,
+    open: OpenFiles<R::File>,
     faults: u64,
+}
+
+/// The files that stay open, by their flows.
+#[derive(Drop)]
+struct OpenFiles<F: Drop> {
+    files: LruCache<u32, F>,
+    /// The current folder, held open until its descriptor is needed.
+    spare: Option<F>,
 }
 
 impl<R: Files + AllocGlobal> Model for FileShelf<R> {
@@ -45,11 +54,12 @@ impl<R: Files + AllocGlobal + Drop> FileShelf<R> {
         ensures { IfOk result (λ s. s ≡ 0) }
     {
         let made = vec![in rt.alloc(); 0u8; FLOWS / 8]?;
-        let open = LruCache::new(rt.alloc(), NonZeroUsize::new(OPEN_FILES).unwrap())?;
+        let files = LruCache::new(rt.alloc(), NonZeroUsize::new(OPEN_FILES).unwrap())?;
+        let spare = OpenOptions::new().read(true).open(&rt, ".").ok();
         Ok(FileShelf {
             rt,
             made,
-            open,
+            open: OpenFiles { files, spare },
             faults: 0,
         })
     }
@@ -75,19 +85,28 @@ impl<R: Files + AllocGlobal> Shelf for FileShelf<R> {
     }
 }
 
+impl<F: Drop> OpenFiles<F> {
+    /// Closes the file that was used longest ago, or the folder where none is open.
+    fn close_oldest(&mut self) {
+        if self.files.pop_lru().is_none() {
+            self.spare = None;
+        }
+    }
+}
+
 /// Adds a piece to a flow's file, which is among the open ones from then on.
 fn add<R: Files + AllocGlobal>(
     rt: &R,
     made: &mut [u8],
-    open: &mut LruCache<u32, R::File>,
+    open: &mut OpenFiles<R::File>,
     flow: u32,
     piece: &[u8],
 ) -> Result<(), Failed> {
-    if !open.contains(&flow) {
-        let file = open_flow(rt, made, flow)?;
-        open.put(flow, file).map_err(|_| Failed)?;
+    if !open.files.contains(&flow) {
+        let file = open_flow(rt, made, open, flow)?;
+        open.files.put(flow, file).map_err(|_| Failed)?;
     }
-    match open.get_mut(&flow) {
+    match open.files.get_mut(&flow) {
         Some(file) => send(file, piece),
         None => Err(Failed),
     }
@@ -97,6 +116,7 @@ fn add<R: Files + AllocGlobal>(
 fn open_flow<R: Files + AllocGlobal>(
     rt: &R,
     made: &mut [u8],
+    open: &mut OpenFiles<R::File>,
     flow: u32,
 ) -> Result<R::File, Failed> {
     let byte = made.get_mut(flow as usize / 8).ok_or(Failed)?;
@@ -108,7 +128,14 @@ fn open_flow<R: Files + AllocGlobal>(
         options.append(true);
     }
     let name = format!(in rt.alloc(); "flow-{flow}.bin").map_err(|_| Failed)?;
-    let file = options.open(rt, name.as_str()).map_err(|_| Failed)?;
+    let file = match options.open(rt, name.as_str()) {
+        Ok(file) => file,
+        // There may be no descriptor left, of the process or of the system.
+        Err(_) => {
+            open.close_oldest();
+            options.open(rt, name.as_str()).map_err(|_| Failed)?
+        }
+    };
     *byte |= bit;
     Ok(file)
 }

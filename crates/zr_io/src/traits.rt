@@ -12,7 +12,7 @@ pub trait Source {
     /// What is still to come, where the source tells it.
     ghost left: { Self → Option (List ℕ) };
 
-    /// How often it has failed. It never falls.
+    /// How often it has failed. It rises in a call that fails, and stands still in one that succeeds.
     ghost faults: { Self → ℕ };
 
     /// Moves the next bytes to the front of `into`, and answers how many. `Ok(0)` is the end.
@@ -29,7 +29,7 @@ pub trait Sink {
     /// What went out so far, where the sink tells it.
     ghost sent: { Self → Option (List ℕ) };
 
-    /// How often it has failed. It never falls.
+    /// How often it has failed. It rises in a call that fails, and stands still in one that succeeds.
     ghost faults: { Self → ℕ };
 
     /// Sends the whole piece, or at `Failed` a front of it.
@@ -43,7 +43,7 @@ pub trait Shelf {
     /// What is kept of a flow, where the shelf tells it.
     ghost kept: { Self → ℕ → Option (List ℕ) };
 
-    /// How often it has failed. It never falls.
+    /// How often it has failed. It rises in a call that fails, and stands still in one that succeeds.
     ghost faults: { Self → ℕ };
 
     /// Adds the whole piece to the flow's end, or at `Failed` a front of it. Other flows stay as they were.

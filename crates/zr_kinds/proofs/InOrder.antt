@@ -1,9 +1,12 @@
 -- The copying receiver where everything comes in order: the placed values are then a list, and what comes at its end
 -- is appended. And what holds in any order: the values at its front never change.
-use Rattle.std.proofs.Common.{◌≡◌, ℕ, zero, suc, ◌+◌, ◌-◌, ◌%◌, ◌^◌, ◌<◌, ◌≤◌, List, [], ◌∷◌, ◌++◌, length, nat_lt, if◌then◌else◌, Bool, true, false, Option, Some, None, refl, sym, ap, ◌∙◌, ◌⊎◌, ⊎_elim, inl, inr, arith, length-append, append-nil, add-zero}
+use Rattle.std.proofs.Common.{◌≡◌, ℕ, zero, suc, ◌+◌, ◌-◌, ◌%◌, ◌^◌, ◌<◌, ◌≤◌, List, [], ◌∷◌, ◌++◌, length, nat_lt}
+use Rattle.std.proofs.Common.{if◌then◌else◌, Bool, true, false, Option, Some, None, refl, sym, ap, ◌∙◌, ◌⊎◌, ⊎_elim, inl, inr, arith}
+use Rattle.std.proofs.Common.{length-append, append-nil, add-zero}
 use Rattle.std.proofs.lemmas.Bool.{le-leb, le-ltb, and_from, cond_both}
 use Rattle.std.proofs.lemmas.Bool.Decides.{nat_tests}
-use Rattle.zr_kinds.specs.CopyingReceiver.{Placed, nothing_placed, missing_within, next_missing, lead, accepts, value_at, brought, first_of, filled, received, values_from, front_of}
+use Rattle.zr_kinds.specs.CopyingReceiver.{Placed, nothing_placed, missing_within, next_missing, lead, accepts, value_at, brought, first_of, filled, received}
+use Rattle.zr_kinds.specs.CopyingReceiver.{values_from, front_of}
 
 -- the placed values are those of the list, and no other
 pub record IsInOrder {A : Type 0} (placed : Placed A) (out : List A) : Type 0 where
@@ -12,17 +15,20 @@ pub record IsInOrder {A : Type 0} (placed : Placed A) (out : List A) : Type 0 wh
 
 -- ---- the least position where none stands, and the front
 
-missing_within-list : {A : Type 0} (at : ℕ → Option A) (steps p : ℕ) (xs : List A) → ((q : ℕ) → at (p + q) ≡ value_at xs q) → length xs ≤ steps → missing_within at steps p ≡ p + length xs
+missing_within-list : {A : Type 0} (at : ℕ → Option A) (steps p : ℕ) (xs : List A) → ((q : ℕ) → at (p + q) ≡ value_at xs q)
+    → length xs ≤ steps → missing_within at steps p ≡ p + length xs
 missing_within-list at zero p [] same enough = sym (add-zero p)
 missing_within-list at zero p (x ∷ xs) same enough = absurd (omega arith)
 missing_within-list at (suc steps) p [] same enough =
     let here : at p ≡ None = ap at (sym (add-zero p)) ∙ same 0 in rw here (sym (add-zero p))
 missing_within-list at (suc steps) p (x ∷ xs) same enough =
     let here : at p ≡ Some x = ap at (sym (add-zero p)) ∙ same 0 in
-    let later : missing_within at steps (suc p) ≡ suc p + length xs = missing_within-list at steps (suc p) xs (λ q. ap at (omega arith) ∙ same (suc q)) (omega arith) in
+    let later : missing_within at steps (suc p) ≡ suc p + length xs = missing_within-list at steps (suc p) xs (λ q. ap at (omega arith) ∙ same (suc q))
+    (omega arith) in
     rw here (later ∙ omega arith)
 
-values_from-list : {A : Type 0} (at : ℕ → Option A) (p : ℕ) (xs : List A) → ((q : ℕ) → at (p + q) ≡ value_at xs q) → values_from at (length xs) p ≡ xs
+values_from-list : {A : Type 0} (at : ℕ → Option A) (p : ℕ) (xs : List A) → ((q : ℕ) → at (p + q) ≡ value_at xs q)
+    → values_from at (length xs) p ≡ xs
 values_from-list at p [] same = refl
 values_from-list at p (x ∷ xs) same =
     let here : at p ≡ Some x = ap at (sym (add-zero p)) ∙ same 0 in
@@ -57,7 +63,8 @@ nat_lt-suc a b = grind (arith, nat_tests)
 sub-suc : (a b : ℕ) → suc a - suc b ≡ a - b
 sub-suc a b = omega arith
 
-value_at-append : {A : Type 0} (xs ys : List A) (p : ℕ) → value_at (xs ++ ys) p ≡ first_of (value_at xs p) (if nat_lt p (length xs) then None else value_at ys (p - length xs))
+value_at-append : {A : Type 0} (xs ys : List A) (p : ℕ) → value_at (xs ++ ys) p ≡ first_of (value_at xs p)
+    (if nat_lt p (length xs) then None else value_at ys (p - length xs))
 value_at-append [] ys p = let test : nat_lt p 0 ≡ false = le-ltb p 0 (omega arith) in rw test (ap (value_at ys) (omega arith))
 value_at-append (x ∷ xs) ys zero = refl
 value_at-append (x ∷ xs) ys (suc p) = rw (nat_lt-suc p (length xs), sub-suc p (length xs)) (value_at-append xs ys p)
@@ -77,7 +84,7 @@ brought-nothing from p = by_test (nat_lt (p + 2 ^ 31) from)
     by_test true = refl
     by_test false = refl
 
-first_of-nothing : {A : Type 0} (value : Option A) → first_of value None ≡ value
+pub first_of-nothing : {A : Type 0} (value : Option A) → first_of value None ≡ value
 first_of-nothing None = refl
 first_of-nothing (Some value) = refl
 
@@ -85,13 +92,16 @@ accepts-next : (base n s len : ℕ) → lead base n s ≡ 2 ^ 31 → len ≤ 2 ^
 accepts-next base n s len here small below =
     rw here (and_from _ _ (le-leb (2 ^ 31 + len) (2 ^ 30 + 2 ^ 31) (omega arith)) (le-leb (n + 2 ^ 31 + len) (2 ^ 62 + 2 ^ 31) (omega arith)))
 
-filled-next : {A : Type 0} {placed : Placed A} {out : List A} (values : List A) → IsInOrder placed out → IsInOrder (filled placed (length out + 2 ^ 31) values) (out ++ values)
+filled-next : {A : Type 0} {placed : Placed A} {out : List A} (values : List A) → IsInOrder placed out
+    → IsInOrder (filled placed (length out + 2 ^ 31) values) (out ++ values)
 filled-next {placed = placed} {out = out} values in_order = record {
   at = λ p. rw (in_order.at p, brought-next values (length out) p) (sym (value_at-append out values p));
   top = (let top : length out ≤ placed.top = in_order.top in omega (arith, length-append out values));
 }
 
-pub received-next : {A : Type 0} {placed : Placed A} {out : List A} (base s : ℕ) (values : List A) → IsInOrder placed out → lead base (length out) s ≡ 2 ^ 31 → length values ≤ 2 ^ 30 → length out + length values ≤ 2 ^ 62 → IsInOrder (received base placed s values) (out ++ values)
+pub received-next : {A : Type 0} {placed : Placed A} {out : List A} (base s : ℕ) (values : List A) → IsInOrder placed out
+    → lead base (length out) s ≡ 2 ^ 31 → length values ≤ 2 ^ 30 → length out + length values ≤ 2 ^ 62
+    → IsInOrder (received base placed s values) (out ++ values)
 unfolding received
 received-next {out = out} base s values in_order here small below =
     rw (next_missing-in_order in_order, accepts-next base (length out) s (length values) here small below, here) (filled-next values in_order)
@@ -124,7 +134,8 @@ missing_within-above at (suc steps) p =
 sub-self : (n : ℕ) → n - n ≡ 0
 sub-self n = omega arith
 
-missing_none : {A : Type 0} (at : ℕ → Option A) (steps p : ℕ) → at p ≡ None → values_from at (missing_within at (suc steps) p - p) p ≡ values_from at (suc steps) p
+missing_none : {A : Type 0} (at : ℕ → Option A) (steps p : ℕ) → at p ≡ None
+    → values_from at (missing_within at (suc steps) p - p) p ≡ values_from at (suc steps) p
 missing_none at steps p here =
     let here_missing : missing_within at (suc steps) p ≡ p = rw here refl in
     let no_values : values_from at (suc steps) p ≡ [] = rw here refl in
@@ -145,7 +156,8 @@ values_from-missing at (suc steps) p =
 record Keeps {A : Type 0} (at later : ℕ → Option A) : Type 0 where
   still : (p : ℕ) (value : A) → at p ≡ Some value → later p ≡ Some value
 
-values_from-more : {A : Type 0} {at later : ℕ → Option A} → Keeps at later → (steps more p : ℕ) → (rest : List A) × (values_from later (steps + more) p ≡ values_from at steps p ++ rest)
+values_from-more : {A : Type 0} {at later : ℕ → Option A} → Keeps at later → (steps more p : ℕ)
+    → (rest : List A) × (values_from later (steps + more) p ≡ values_from at steps p ++ rest)
 values_from-more {later = later} keeps zero more p = (values_from later (0 + more) p, refl)
 values_from-more {at = at} {later = later} keeps (suc steps) more p =
     let next : suc steps + more ≡ suc (steps + more) = omega arith in
@@ -159,7 +171,8 @@ pub front_of-steps : {A : Type 0} (placed : Placed A) → front_of placed ≡ va
 unfolding front_of next_missing
 front_of-steps placed = ap (λ n. values_from placed.at n 0) (omega arith) ∙ values_from-missing placed.at placed.top 0
 
-front_of-later : {A : Type 0} (placed later : Placed A) → Keeps placed.at later.at → placed.top ≤ later.top → (rest : List A) × (front_of later ≡ front_of placed ++ rest)
+front_of-later : {A : Type 0} (placed later : Placed A) → Keeps placed.at later.at → placed.top ≤ later.top
+    → (rest : List A) × (front_of later ≡ front_of placed ++ rest)
 front_of-later placed later keeps top =
     let more = values_from-more keeps placed.top (later.top - placed.top) 0 in
     let steps : later.top ≡ placed.top + (later.top - placed.top) = omega arith in
@@ -169,7 +182,8 @@ Keeps-filled : {A : Type 0} (placed : Placed A) (from : ℕ) (values : List A) �
 Keeps-filled placed from values = record { still = λ p value there. rw there refl }
 
 -- the values at the front stay there
-pub front_of-received : {A : Type 0} (base : ℕ) (placed : Placed A) (s : ℕ) (values : List A) → (rest : List A) × (front_of (received base placed s values) ≡ front_of placed ++ rest)
+pub front_of-received : {A : Type 0} (base : ℕ) (placed : Placed A) (s : ℕ) (values : List A)
+    → (rest : List A) × (front_of (received base placed s values) ≡ front_of placed ++ rest)
 unfolding received
 front_of-received {A = A} base placed s values =
     let from : ℕ = next_missing placed + lead base (next_missing placed) s in

@@ -1,4 +1,6 @@
 mod SignedDistance
 pub mod InOrder
 mod Rows
-mod LeastMissing
+pub mod LeastMissing
+pub mod Mapped
+pub mod ValuesFrom

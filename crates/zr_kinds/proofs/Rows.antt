@@ -3,12 +3,14 @@ use Rattle.std.proofs.Common.{◌≡◌, ℕ, [], ◌∷◌, true, false, refl}
 use Rattle.zr_kinds.specs.CopyingReceiver.{nothing_placed, next_missing, lead, accepts, received, front_of}
 
 -- the sequence numbers wrap between "ab" and "cd"
-across_the_wrap : front_of {A = ℕ} (received 4294967294 (received 4294967294 nothing_placed 0 (99 ∷ 100 ∷ [])) 4294967294 (97 ∷ 98 ∷ [])) ≡ 97 ∷ 98 ∷ 99 ∷ 100 ∷ []
+across_the_wrap : front_of {A = ℕ} (received 4294967294 (received 4294967294 nothing_placed 0 (99 ∷ 100 ∷ [])) 4294967294 (97 ∷ 98 ∷ []))
+    ≡ 97 ∷ 98 ∷ 99 ∷ 100 ∷ []
 unfolding lead received front_of next_missing
 across_the_wrap = refl
 
 -- "XYcd" doesn't take the places of "bc"
-first_counts : front_of {A = ℕ} (received 1000 (received 1000 nothing_placed 1000 (97 ∷ 98 ∷ 99 ∷ [])) 1001 (88 ∷ 89 ∷ 99 ∷ 100 ∷ [])) ≡ 97 ∷ 98 ∷ 99 ∷ 99 ∷ 100 ∷ []
+first_counts : front_of {A = ℕ} (received 1000 (received 1000 nothing_placed 1000 (97 ∷ 98 ∷ 99 ∷ [])) 1001 (88 ∷ 89 ∷ 99 ∷ 100 ∷ []))
+    ≡ 97 ∷ 98 ∷ 99 ∷ 99 ∷ 100 ∷ []
 unfolding lead received front_of next_missing
 first_counts = refl
 

@@ -1,5 +1,6 @@
 -- The proof that `lead` less 2^31 is the signed distance.
-use Rattle.std.proofs.Common.{◌≡◌, ℕ, ◌+◌, ◌-◌, ◌%◌, ◌^◌, ◌<◌, ◌≤◌, pos, ◌+ℤ◌, arith, w32, ap, ◌∙◌, ⊎_elim, ltb, false}
+use Rattle.std.proofs.Common.{◌≡◌, ℕ, ◌+◌, ◌-◌, ◌%◌, ◌^◌, ◌<◌, ◌≤◌, pos, ◌+ℤ◌, arith, w32, ap, ◌∙◌, ⊎_elim, ltb}
+use Rattle.std.proofs.Common.{false}
 use Rattle.std.specs.Int.{cast_signed}
 use Rattle.std.proofs.lemmas.Int.{ints}
 use Rattle.std.proofs.lemmas.Bool.{cases_lt, le-ltb}
@@ -14,7 +15,8 @@ behind : (d : ℕ) → 2 ^ 31 ≤ d → d < 2 ^ 32 → pos (d - 2 ^ 31) ≡ cast
 behind d h below = let test : ltb d (2 ^ 31) ≡ false = le-ltb d (2 ^ 31) h in rw test (omega (arith, ints))
 
 -- with the remainder as a number of its own
-at_remainder : (s r : ℕ) → s < 2 ^ 32 → r < 2 ^ 32 → pos ((s + 2 ^ 32 + 2 ^ 31 - r) % 2 ^ 32) ≡ cast_signed w32 ((s + 2 ^ 32 - r) % 2 ^ 32) +ℤ pos (2 ^ 31)
+at_remainder : (s r : ℕ) → s < 2 ^ 32 → r < 2 ^ 32 → pos ((s + 2 ^ 32 + 2 ^ 31 - r) % 2 ^ 32) ≡ cast_signed w32 ((s + 2 ^ 32 - r) % 2 ^ 32) +ℤ pos
+    (2 ^ 31)
 at_remainder s r below small =
     let d : ℕ = (s + 2 ^ 32 - r) % 2 ^ 32 in
     ⊎_elim

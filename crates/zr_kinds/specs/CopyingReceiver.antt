@@ -1,7 +1,8 @@
 -- The copying receiver, the measure of all streams: a base, values at positions, and the least position n where none
 -- stands. Sequence numbers are those of RFC 9293, 3.4: they count modulo 2^32, and the distance from the base's n-th
 -- place is read as a signed 32-bit number. What is received first counts at each position.
-use Rattle.std.specs.Prelude.{ℕ, zero, suc, ◌+◌, ◌-◌, ◌%◌, ◌^◌, max, List, [], ◌∷◌, length, nat_lt, nat_le, if◌then◌else◌, Bool, ◌&&◌, Option, Some, None}
+use Rattle.std.specs.Prelude.{ℕ, zero, suc, ◌+◌, ◌-◌, ◌%◌, ◌^◌, max, List, [], ◌∷◌, length, nat_lt, nat_le, if◌then◌else◌, Bool}
+use Rattle.std.specs.Prelude.{◌&&◌, Option, Some, None}
 
 -- values at positions; from top on none stands
 pub record Placed (A : Type 0) : Type 0 where
@@ -47,13 +48,25 @@ first_of None later = later
 first_of (Some value) later = Some value
 
 abbrev pub filled : {A : Type 0} → Placed A → ℕ → List A → Placed A
-filled placed from values = record { at = λ position. first_of (placed.at position) (brought values from position); top = max placed.top (from + length values - 2 ^ 31) }
+filled placed from values = record {
+  at = λ position. first_of (placed.at position) (brought values from position);
+  top = max placed.top
+      (from + length values - 2 ^ 31);
+}
 
 -- what stands after values from the sequence number s on were received
 unfoldable pub received : {A : Type 0} → ℕ → Placed A → ℕ → List A → Placed A
 received base placed s values =
     if accepts base (next_missing placed) s (length values)
     then filled placed (next_missing placed + lead base (next_missing placed) s) values
+    else placed
+
+-- What stands after a part of a frame was received: the frame has `total` values from the sequence number s on, and the
+-- part's values are those behind its first `at`. The frame is judged as a whole, also where only some parts of it come.
+unfoldable pub received_part : {A : Type 0} → ℕ → Placed A → ℕ → ℕ → ℕ → List A → Placed A
+received_part base placed s total at values =
+    if accepts base (next_missing placed) s total
+    then filled placed (next_missing placed + lead base (next_missing placed) s + at) values
     else placed
 
 -- the values from a position on, so many of them, up to the first that is missing

@@ -53,6 +53,37 @@ impl Write for Worn {
     }
 }
 
+/// Fails at its first call, and gives one byte at each later one.
+#[derive(Drop)]
+struct Late {
+    error: Option<ErrorKind>,
+}
+
+impl Read for Late {
+    fn read(&mut self, into: &mut [u8]) -> io::Result<usize> {
+        if let Some(kind) = self.error.take() {
+            return Err(io::Error::from(kind));
+        }
+        let count = into.len().min(1);
+        into[..count].fill(b'l');
+        Ok(count)
+    }
+}
+
+/// Takes all bytes, and loses them when it is flushed.
+#[derive(Drop)]
+struct Lossy;
+
+impl Write for Lossy {
+    fn write(&mut self, from: &[u8]) -> io::Result<usize> {
+        Ok(from.len())
+    }
+
+    fn flush(&mut self) -> io::Result<()> {
+        Err(io::Error::from(ErrorKind::StorageFull))
+    }
+}
+
 #[test]
 fn a_source_reads_a_slice(rt: HostRuntime) {
     let mut source = StdSource::new(&b"hello"[..]);
@@ -70,6 +101,17 @@ fn a_source_fails_with_its_reader(rt: HostRuntime) {
     let mut room = [0; 8];
     assert_eq!(rt; next(&mut source, &mut room), Ok(&b"w"[..]));
     assert_eq!(rt; next(&mut source, &mut room), Err(Failed));
+}
+
+/// The reader would give bytes at a second try.
+#[test]
+fn a_source_tries_no_failed_read_again(rt: HostRuntime) {
+    for kind in [ErrorKind::Interrupted, ErrorKind::BrokenPipe] {
+        let mut source = StdSource::new(Late { error: Some(kind) });
+        let mut room = [0; 8];
+        assert_eq!(rt; next(&mut source, &mut room), Err(Failed));
+        assert_eq!(rt; next(&mut source, &mut room), Ok(&b"l"[..]));
+    }
 }
 
 #[test]
@@ -100,6 +142,13 @@ fn a_sink_fails_where_nothing_is_taken(rt: HostRuntime) {
     });
     assert_eq!(rt; sink.write_all(b""), Ok(()));
     assert_eq!(rt; sink.write_all(b"hello"), Err(Failed));
+}
+
+#[test]
+fn a_sink_fails_where_its_writer_cannot_be_flushed(rt: HostRuntime) {
+    let mut sink = StdSink::new(Lossy);
+    assert_eq!(rt; sink.write_all(b"hello"), Err(Failed));
+    assert_eq!(rt; sink.write_all(b""), Err(Failed));
 }
 
 /// Writes to flow 7, then to so many others that its file is closed, and to flow 7 again.

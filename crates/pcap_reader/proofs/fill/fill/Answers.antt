@@ -12,7 +12,8 @@ take_over : (a k n : ℕ) (xs ys : List ℕ) → a ≤ length xs → n ≤ lengt
 take_over a k n xs ys within fits =
     let size : length (take a xs) ≡ a = length-take-le a xs within in
     let after = post_of a k xs in
-    ap (λ (m : ℕ). take (m + n) (put_mid a k xs ys)) (sym size) ∙ take-append-add (take a xs) (ys ++ after) n ∙ ap (λ (l : List ℕ). take a xs ++ l) (take-append-le n ys after fits)
+    ap (λ (m : ℕ). take (m + n) (put_mid a k xs ys)) (sym size) ∙ take-append-add (take a xs) (ys ++ after) n
+    ∙ ap (λ (l : List ℕ). take a xs ++ l) (take-append-le n ys after fits)
 
 pub loop-filled-preserved : goal.loop-filled-preserved
 loop-filled-preserved g c =
@@ -21,6 +22,7 @@ loop-filled-preserved g c =
     record {
       same_room = search rules;
       within = search rules;
-      taken = subst (Consumes _ _) (sym (take_over from _ c.in-Ok.count c.loop-filled.into c.read.new.into within c.in-Ok.ensures.bound.0)) (Consumes-trans _ _ _ _ _ c.loop-filled.invariant.taken c.in-Ok.ensures.bytes.0);
-      later = search rules;
+      taken = subst (Consumes _ _) (sym (take_over from _ c.in-Ok.count c.loop-filled.into c.read.new.into within c.in-Ok.ensures.bound.0))
+          (Consumes-trans _ _ _ _ _ c.loop-filled.invariant.taken c.in-Ok.ensures.bytes.0);
+      still = c.in-Ok.ensures.cause.still ∙ c.loop-filled.invariant.still;
     }

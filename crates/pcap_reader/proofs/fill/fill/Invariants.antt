@@ -8,7 +8,7 @@ invariant-loop-filled g l = record {
   same_room : length l.into ≡ length l.initial.into;
   within : l.filled ≤ length l.into;
   taken : Consumes (g.S.Source.left l.initial.source) (g.S.Source.left l.source) (take l.filled l.into);
-  later : g.S.Source.faults l.initial.source ≤ g.S.Source.faults l.source;
+  still : g.S.Source.faults l.source ≡ g.S.Source.faults l.initial.source;
 }
 
 abbrev pub decreases-loop-filled : goal.decreases-loop-filled

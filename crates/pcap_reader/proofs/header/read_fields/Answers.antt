@@ -3,11 +3,10 @@ use Rattle.std.proofs.Common.{◌≡◌, ℕ, ◌%◌, ◌∙◌, length, drop, 
 use Rattle.std.proofs.lemmas.Result.{err_from_is_err_and}
 use Rattle.zr_kinds.specs.declared.fault.Fault.TheVariants.{Version, LinkType}
 use Rattle.zr_io.proofs.Moved.{Took-consumed}
-use Rattle.pcap_reader.specs.Capture.{IsOpeningFault}
 use Rattle.pcap_reader.specs.Records.{number}
-use Rattle.pcap_reader.specs.Steps.{behind_magic_in}
-use Rattle.pcap_reader.proofs.HeaderLaws.{behind_magic-cut, behind_magic-version, behind_magic-link, behind_magic-good}
-use Rattle.pcap_reader.proofs.Joined.{Stops-broken, Stops-front}
+use Rattle.pcap_reader.specs.Steps.{fault_of_fields}
+use Rattle.pcap_reader.proofs.HeaderLaws.{fault_of_fields-cut, fault_of_fields-version, fault_of_fields-link, behind_magic-good}
+use Rattle.pcap_reader.proofs.Joined.{HeaderStops-broken, HeaderStops-front}
 use Rattle.pcap_reader.proofs.RecordLaws.{number_in}
 use Rattle.pcap_reader.proofs.header.read_fields.Goals as goal
 
@@ -15,7 +14,8 @@ pub returns-in_err-fill_whole-clause-takes : goal.returns-in_err-fill_whole-clau
 returns-in_err-fill_whole-clause-takes g c =
     let p = err_from_is_err_and c.from_residual.result c.from_residual.ensures.1 in
     let order = c.args.order in
-    rw (p.1, p.2) (Stops-broken IsOpeningFault (behind_magic_in order) _ _ _ _ tt tt (λ xs short. behind_magic-cut order xs (omega arith)) c.in_err-fill_whole.ensures.fills)
+    rw (p.1, p.2)
+    (HeaderStops-broken (fault_of_fields order) _ _ _ _ (λ xs short. fault_of_fields-cut order xs (omega arith)) c.in_err-fill_whole.ensures.fills)
 
 pub returns-then-number16-ne-MAJOR_VERSION-clause-takes :
     goal.returns-then-number16-ne-MAJOR_VERSION-clause-takes
@@ -24,7 +24,8 @@ returns-then-number16-ne-MAJOR_VERSION-clause-takes g c =
     let fields = c.fill_whole.new.into in
     let whole : length fields ≡ 20 = omega arith in
     let other = λ (e : number order 2 fields ≡ 2). c.if-number16-ne-MAJOR_VERSION.true (c.number16.ensures ∙ e) in
-    Stops-front IsOpeningFault (behind_magic_in order) _ _ fields Version tt (λ rest. behind_magic-version order fields rest whole other) (λ records e. e) (λ records e. e)
+    HeaderStops-front (fault_of_fields order) _ _ fields Version tt (λ rest. fault_of_fields-version order fields rest whole other)
+    (λ found e. e) (λ found e. e)
     c.in_ok-fill_whole.ensures.fills
 
 pub returns-then-number32-ne-ETHERNET-clause-takes :
@@ -36,7 +37,8 @@ returns-then-number32-ne-ETHERNET-clause-takes g c =
     let link = number_in order 16 4 fields c.number32.result whole c.number32.ensures in
     let two = sym c.number16.ensures ∙ c.if-number16-ne-MAJOR_VERSION.false in
     let other = λ (e : number order 4 (drop 16 fields) % 65536 ≡ 1). c.if-number32-ne-ETHERNET.true (ap (λ (n : ℕ). n % 65536) (sym link) ∙ e) in
-    Stops-front IsOpeningFault (behind_magic_in order) _ _ fields LinkType tt (λ rest. behind_magic-link order fields rest whole two other) (λ records e. e) (λ records e. e)
+    HeaderStops-front (fault_of_fields order) _ _ fields LinkType tt (λ rest. fault_of_fields-link order fields rest whole two other)
+    (λ found e. e) (λ found e. e)
     c.in_ok-fill_whole.ensures.fills
 
 pub returns-clause-takes : goal.returns-clause-takes

@@ -2,14 +2,14 @@
 use Rattle.std.proofs.Common.{◌≡◌, ℕ, List, ◌++◌, ◌∙◌, refl, ap, append_assoc}
 use Rattle.std.proofs.lemmas.Result.{err_from_is_err_and}
 use Rattle.zr_io.proofs.Moved.{Took-then}
-use Rattle.pcap_reader.specs.Capture.{IsOpeningFault}
-use Rattle.pcap_reader.specs.Records.{ByteOrder, records_of, records_in}
-use Rattle.pcap_reader.specs.Steps.{IsMagicOf, behind_magic_in}
-use Rattle.pcap_reader.proofs.HeaderLaws.{records_of-told}
-use Rattle.pcap_reader.proofs.Joined.{Stops-behind}
+use Rattle.pcap_reader.specs.Records.{ByteOrder, header_fault, records_of, records_in}
+use Rattle.pcap_reader.specs.Steps.{IsMagicOf, fault_of_fields, behind_magic_in}
+use Rattle.pcap_reader.proofs.HeaderLaws.{records_of-told, header_fault-told}
+use Rattle.pcap_reader.proofs.Joined.{HeaderStops-behind}
 use Rattle.pcap_reader.proofs.capture.Capture.open.Goals as goal
 
-opened : (order : ByteOrder) (magic fields : List ℕ) → IsMagicOf order magic → ((rest : List ℕ) → behind_magic_in order (fields ++ rest) ≡ records_in order rest)
+opened : (order : ByteOrder) (magic fields : List ℕ) → IsMagicOf order magic
+    → ((rest : List ℕ) → behind_magic_in order (fields ++ rest) ≡ records_in order rest)
     → (rest : List ℕ) → records_of ((magic ++ fields) ++ rest) ≡ records_in order rest
 opened order magic fields is good rest = ap records_of (append_assoc magic fields rest) ∙ records_of-told order magic (fields ++ rest) is ∙ good rest
 
@@ -21,4 +21,6 @@ pub returns-in_err-read_fields-clause-opens : goal.returns-in_err-read_fields-cl
 returns-in_err-read_fields-clause-opens g c =
     let order = c.in_ok-order.order in
     let p = err_from_is_err_and c.from_residual-in_err-read_fields.result c.from_residual-in_err-read_fields.ensures.1 in
-    rw (p.1, p.2) (Stops-behind IsOpeningFault records_of (behind_magic_in order) _ _ _ (IsMagicOf order) _ (records_of-told order) c.in_ok-order.ensures.takes c.in_err-read_fields.ensures.takes)
+    rw (p.1, p.2)
+    (HeaderStops-behind header_fault (fault_of_fields order) _ _ _ (IsMagicOf order) _
+    (header_fault-told order) c.in_ok-order.ensures.takes c.in_err-read_fields.ensures.takes)
