@@ -1,5 +1,6 @@
 -- What the definitions say of a list of segments that goes on: each part goes on from where the one before ended.
-use Rattle.std.proofs.Common.{◌≡◌, ℕ, suc, ◌+◌, List, [], ◌∷◌, ◌++◌, length, Option, refl, sym, ap, ◌∙◌, arith, append_assoc, option_to_list, if◌then◌else◌, ◌==◌}
+use Rattle.std.proofs.Common.{◌≡◌, ℕ, suc, ◌+◌, List, [], ◌∷◌, ◌++◌, length, Option, refl, sym, ap, ◌∙◌, arith, append_assoc}
+use Rattle.std.proofs.Common.{option_to_list, if◌then◌else◌, ◌==◌}
 use Rattle.std.specs.List.{list_any}
 use Rattle.frame_headers.specs.FrameClass.{TcpSegment}
 use Rattle.zr_kinds.specs.CopyingReceiver.{Placed, received}
@@ -7,7 +8,8 @@ use Rattle.flow_table.specs.Steered.{Steered, steer, steered_from, first_byte}
 use Rattle.flow_table.specs.Flows.{Flow, number_of_flow, flows_with, flows_after, of_flow_after}
 use Rattle.flow_table.specs.Stream.{received_all}
 
-pub steered_from-append : (ports : List ℕ) (k : ℕ) (xs ys : List (Option TcpSegment)) → steered_from ports k (xs ++ ys) ≡ steered_from ports k xs ++ steered_from ports (k + length xs) ys
+pub steered_from-append : (ports : List ℕ) (k : ℕ) (xs ys : List (Option TcpSegment))
+    → steered_from ports k (xs ++ ys) ≡ steered_from ports k xs ++ steered_from ports (k + length xs) ys
 steered_from-append ports k [] ys = ap (λ n. steered_from ports n ys) (omega arith)
 steered_from-append ports k (x ∷ xs) ys =
     let here : List Steered = option_to_list (steer ports k x) in
@@ -19,14 +21,17 @@ pub flows_after-append : (flows : List Flow) (xs ys : List Steered) → flows_af
 flows_after-append flows [] ys = refl
 flows_after-append flows (x ∷ xs) ys = flows_after-append (flows_with flows x) xs ys
 
-pub of_flow_after-append : (n : ℕ) (flows : List Flow) (xs ys : List Steered) → of_flow_after n flows (xs ++ ys) ≡ of_flow_after n flows xs ++ of_flow_after n (flows_after flows xs) ys
+pub of_flow_after-append : (n : ℕ) (flows : List Flow) (xs ys : List Steered)
+    → of_flow_after n flows (xs ++ ys) ≡ of_flow_after n flows xs ++ of_flow_after n (flows_after flows xs) ys
 of_flow_after-append n flows [] ys = refl
 of_flow_after-append n flows (x ∷ xs) ys =
     let here : List Steered = if number_of_flow flows x == n then x ∷ [] else [] in
     let after : List Flow = flows_with flows x in
-    ap (λ others. here ++ others) (of_flow_after-append n after xs ys) ∙ sym (append_assoc here (of_flow_after n after xs) (of_flow_after n (flows_after after xs) ys))
+    ap (λ others. here ++ others) (of_flow_after-append n after xs ys)
+    ∙ sym (append_assoc here (of_flow_after n after xs) (of_flow_after n (flows_after after xs) ys))
 
-pub received_all-append : (base : ℕ) (left_out : List ℕ) (placed : Placed ℕ) (xs ys : List Steered) → received_all base left_out placed (xs ++ ys) ≡ received_all base left_out (received_all base left_out placed xs) ys
+pub received_all-append : (base : ℕ) (left_out : List ℕ) (placed : Placed ℕ) (xs ys : List Steered)
+    → received_all base left_out placed (xs ++ ys) ≡ received_all base left_out (received_all base left_out placed xs) ys
 received_all-append base left_out placed [] ys = refl
 received_all-append base left_out placed (x ∷ xs) ys =
     received_all-append base left_out

@@ -1,5 +1,6 @@
 -- What a table of flows says of a segment, whichever record it comes in.
-use Rattle.std.proofs.Common.{◌≡◌, ℕ, ◌+◌, ◌↔◌, List, length, Some, Bool, sym, ap, subst, ◌∙◌, option_map, if◌then◌else◌, ◌==◌, Result, Ok, Err}
+use Rattle.std.proofs.Common.{◌≡◌, ℕ, ◌≢◌, ◌+◌, ◌↔◌, List, length, Some, Bool, sym, ap, subst, ◌∙◌, option_map}
+use Rattle.std.proofs.Common.{if◌then◌else◌, ◌==◌, Result, Ok, Err}
 use Rattle.std.specs.List.{slice_get}
 use Rattle.frame_headers.specs.FrameClass.{TcpSegment}
 use Rattle.flow_table.specs.Steered.{app_of, has_fin, first_byte}
@@ -7,20 +8,50 @@ use Rattle.flow_table.specs.Flows.{Flow, key_of, newest, number_among, number_of
 use Rattle.flow_table.specs.KnownFlows.{KnownFlows}
 use Rattle.flow_table.specs.Placing.{steered_to, number_for, IsPlaced}
 
-module _ (known : KnownFlows) (ports : List ℕ) (flows : List Flow) (segment : TcpSegment) (app : ℕ) (view : record { ports = ports; flows = flows } ≡ known) (place : Some app ≡ app_of ports segment.dport) where
-  number_for-is : (record_number : ℕ) → number_for (record { ports = ports; flows = flows }) segment record_number ≡ Some (number_among (length flows) segment (newest (key_of segment) flows))
+module _ (known : KnownFlows) (ports : List ℕ) (flows : List Flow) (segment : TcpSegment) (app : ℕ)
+    (view : record { ports = ports; flows = flows } ≡ known) (place : Some app ≡ app_of ports segment.dport) where
+  number_for-is : (record_number : ℕ)
+      → number_for (record { ports = ports; flows = flows }) segment record_number ≡ Some
+      (number_among (length flows) segment (newest (key_of segment) flows))
   unfolding number_of_flow
   number_for-is record_number = ap (option_map (λ app. number_of_flow flows (steered_to app segment record_number))) (sym place)
 
-  pub too_many-for : (Told : Type 0) → (Told ↔ (number_among (length flows) segment (newest (key_of segment) flows) ≡ 65535)) → (record_number : ℕ) → Told ↔ (number_for known segment record_number ≡ Some 65535)
+  pub too_many-for : (Told : Type 0) → (Told ↔ (number_among (length flows) segment (newest (key_of segment) flows) ≡ 65535)) → (record_number : ℕ)
+      → Told ↔ (number_for known segment record_number ≡ Some 65535)
   too_many-for Told too_many record_number =
       subst (λ (k : KnownFlows). Told ↔ (number_for k segment record_number ≡ Some 65535)) view (
         (λ told. number_for-is record_number ∙ ap Some (too_many.0 told)),
-        (λ number. let same : Some (number_among (length flows) segment (newest (key_of segment) flows)) ≡ Some 65535 = sym (number_for-is record_number) ∙ number in too_many.1 cc),
+        (λ number. let same : Some (number_among (length flows) segment (newest (key_of segment) flows)) ≡ Some 65535 = sym (number_for-is record_number)
+            ∙ number in too_many.1 cc),
       )
 
-  placed_in : (after : List Flow) (number base seq : ℕ) (fin : Bool) (flow : Flow) → number ≡ number_among (length flows) segment (newest (key_of segment) flows) → ((k : ℕ) → after ≡ with_segment flows number (steered_to app segment k)) → length after ≡ length flows + (if number == length flows then 1 else 0)
-      → slice_get after number ≡ Some flow → flow.base ≡ base → seq ≡ first_byte segment → fin ≡ has_fin segment → IsPlaced (record { ports = ports; flows = flows }) (record { ports = ports; flows = after }) segment number app base seq fin
+  -- a flow begins with the segment
+  pub begins-for : number_among (length flows) segment (newest (key_of segment) flows) ≡ length flows → (record_number : ℕ)
+      → number_for known segment record_number ≡ Some (length known.flows)
+  begins-for next record_number =
+      subst (λ (k : KnownFlows). number_for k segment record_number ≡ Some (length k.flows)) view (number_for-is record_number ∙ ap Some next)
+
+  pub begins-among : (record_number : ℕ) → number_for known segment record_number ≡ Some (length known.flows)
+      → number_among (length flows) segment (newest (key_of segment) flows) ≡ length flows
+  begins-among record_number begins =
+      let here : number_for (record { ports = ports; flows = flows }) segment record_number ≡ Some (length flows) =
+      subst (λ (k : KnownFlows). number_for k segment record_number ≡ Some (length k.flows)) (sym view) begins in
+      let same : Some (number_among (length flows) segment (newest (key_of segment) flows)) ≡ Some (length flows) = sym (number_for-is record_number)
+      ∙ here in
+      cc
+
+  pub few-for : length flows ≢ 65535 → length known.flows ≢ 65535
+  few-for few = subst (λ (k : KnownFlows). length k.flows ≢ 65535) view few
+
+  pub few-among : length known.flows ≢ 65535 → length flows ≢ 65535
+  few-among few = subst (λ (k : KnownFlows). length k.flows ≢ 65535) (sym view) few
+
+  placed_in : (after : List Flow) (number base seq : ℕ) (fin : Bool) (flow : Flow)
+      → number ≡ number_among (length flows) segment (newest (key_of segment) flows)
+      → ((k : ℕ) → after ≡ with_segment flows number (steered_to app segment k))
+      → length after ≡ length flows + (if number == length flows then 1 else 0)
+      → slice_get after number ≡ Some flow → flow.base ≡ base → seq ≡ first_byte segment → fin ≡ has_fin segment
+      → IsPlaced (record { ports = ports; flows = flows }) (record { ports = ports; flows = after }) segment number app base seq fin
   unfolding number_of_flow flows_with
   placed_in after number base seq fin flow number_is after_is count at base_is seq_is fin_is = record {
     app_is = sym place;
@@ -32,21 +63,32 @@ module _ (known : KnownFlows) (ports : List ℕ) (flows : List Flow) (segment : 
     count_is = count;
   }
 
-  pub is_placed : (after : List Flow) (number base seq : ℕ) (fin : Bool) (flow : Flow) → number ≡ number_among (length flows) segment (newest (key_of segment) flows) → ((k : ℕ) → after ≡ with_segment flows number (steered_to app segment k)) → length after ≡ length flows + (if number == length flows then 1 else 0)
-      → slice_get after number ≡ Some flow → flow.base ≡ base → seq ≡ first_byte segment → fin ≡ has_fin segment → IsPlaced known (record { ports = ports; flows = after }) segment number app base seq fin
+  pub is_placed : (after : List Flow) (number base seq : ℕ) (fin : Bool) (flow : Flow)
+      → number ≡ number_among (length flows) segment (newest (key_of segment) flows)
+      → ((k : ℕ) → after ≡ with_segment flows number (steered_to app segment k))
+      → length after ≡ length flows + (if number == length flows then 1 else 0)
+      → slice_get after number ≡ Some flow → flow.base ≡ base → seq ≡ first_byte segment → fin ≡ has_fin segment
+      → IsPlaced known (record { ports = ports; flows = after }) segment number app base seq fin
   is_placed after number base seq fin flow number_is after_is count at base_is seq_is fin_is =
       subst (λ (k : KnownFlows). IsPlaced k (record { ports = ports; flows = after }) segment number app base seq fin) view
       (placed_in after number base seq fin flow number_is after_is count at base_is seq_is fin_is)
 
 -- ---- a fault that is handed on
 
-pub handed_on : {S T F N : Type 0} (r : Result T F) (fault told wanted : F) → r ≡ Err fault → fault ≡ told → (◌≡◌ {A = Result S F} (Err told) (Err wanted) ↔ N) → (r ≡ Err wanted) ↔ N
+-- what a fault was told by holds where it is handed on
+pub told_by : {S T F : Type 0} {N : Type 0} (r : Result T F) (fault told wanted : F) → r ≡ Err fault → fault ≡ told
+    → (◌≡◌ {A = Result S F} (Err told) (Err wanted) → N) → r ≡ Err wanted → N
+told_by {S} {T} {F} {N} r fault told wanted is same leads by = let there : told ≡ wanted = cc in leads (ap Err there)
+
+pub handed_on : {S T F N : Type 0} (r : Result T F) (fault told wanted : F) → r ≡ Err fault → fault ≡ told
+    → (◌≡◌ {A = Result S F} (Err told) (Err wanted) ↔ N) → (r ≡ Err wanted) ↔ N
 handed_on {S} {T} {F} {N} r fault told wanted is same both = (
   (λ e. let there : told ≡ wanted = cc in both.0 (ap Err there)),
   (λ n. let there : ◌≡◌ {A = Result S F} (Err told) (Err wanted) = both.1 n in cc),
 )
 
-pub no_fault : {S T F N : Type 0} (x : S) (y : T) (wanted : F) → (◌≡◌ {A = Result S F} (Ok x) (Err wanted) ↔ N) → ◌≡◌ {A = Result T F} (Ok y) (Err wanted) ↔ N
+pub no_fault : {S T F N : Type 0} (x : S) (y : T) (wanted : F) → (◌≡◌ {A = Result S F} (Ok x) (Err wanted) ↔ N)
+    → ◌≡◌ {A = Result T F} (Ok y) (Err wanted) ↔ N
 no_fault {S} {T} {F} {N} x y wanted both = (
   (λ e. cc),
   (λ n. let there : ◌≡◌ {A = Result S F} (Ok x) (Err wanted) = both.1 n in cc),

@@ -1,6 +1,7 @@
 -- Flows: they are numbered from 0 in the order of their first steered segment, and known by the IP version, both
 -- addresses and both ports. A SYN whose first byte isn't at the base of the newest flow of its key begins a new flow.
-use Rattle.std.specs.Prelude.{ℕ, zero, suc, List, [], ◌∷◌, ◌++◌, length, ◌==◌, if◌then◌else◌, Bool, false, ◌&&◌, ◌||◌, not, Option, Some, None}
+use Rattle.std.specs.Prelude.{ℕ, zero, suc, List, [], ◌∷◌, ◌++◌, length, ◌==◌, if◌then◌else◌, Bool, false, ◌&&◌, ◌||◌, not}
+use Rattle.std.specs.Prelude.{Option, Some, None}
 use Rattle.std.specs.Str.{bytes_eq}
 use Rattle.frame_headers.specs.FrameClass.{TcpSegment}
 use Rattle.frame_headers.specs.declared.segment.Addr.{Addr}

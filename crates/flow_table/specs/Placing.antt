@@ -16,7 +16,8 @@ steered_to app segment record_number = record { record_number = record_number; a
 
 -- the number of the flow that a segment to an application belongs to, or of the one that it would begin
 abbrev pub number_for : KnownFlows → TcpSegment → ℕ → Option ℕ
-number_for known segment record_number = option_map (λ app. number_of_flow known.flows (steered_to app segment record_number)) (app_of known.ports segment.dport)
+number_for known segment record_number =
+    option_map (λ app. number_of_flow known.flows (steered_to app segment record_number)) (app_of known.ports segment.dport)
 
 -- a segment was placed in the flow of a number
 pub record IsPlaced (old new : KnownFlows) (segment : TcpSegment) (flow app base seq : ℕ) (fin : Bool) : Type 0 where

@@ -11,7 +11,8 @@ abbrev pub received_all : ℕ → List ℕ → Placed ℕ → List Steered → P
 received_all base left_out placed [] = placed
 received_all base left_out placed (steered ∷ others) =
     received_all base left_out
-    (if list_any (λ number. number == steered.record_number) left_out then placed else received base placed (first_byte steered.segment) steered.segment.payload)
+    (if list_any (λ number. number == steered.record_number) left_out then
+    placed else received base placed (first_byte steered.segment) steered.segment.payload)
     others
 
 abbrev pub stream_from : Option Flow → List ℕ → List Steered → List ℕ

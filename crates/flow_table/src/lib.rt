@@ -4,12 +4,11 @@
 mod entry;
 mod list;
 mod placed;
-mod plain;
+pub mod plain;
 mod segment;
 mod table;
 
 pub use placed::{FlowFault, FlowInfo, Steered};
-pub use plain::{PlainFlow, plain_flows, plain_stream};
 pub use table::FlowTable;
 
 #[cfg(test)]

@@ -1,6 +1,7 @@
 //! The flows so far, found by their keys.
 
-ghost use Rattle.std.specs.Prelude.{◌≡◌, ℕ, ◌+◌, ◌<◌, ◌≤◌, ◌↔◌, [], ◌∷◌, ◌++◌, ◌==◌, if◌then◌else◌, length, Some, slice_get, option_map, Ok, Err, IfOk, OnOk, OnErr};
+ghost use Rattle.std.specs.Prelude.{◌≡◌, ◌≢◌, ℕ, ◌+◌, ◌<◌, ◌≤◌, ◌↔◌, [], ◌∷◌, ◌++◌, ◌==◌, if◌then◌else◌};
+ghost use Rattle.std.specs.Prelude.{length, Some, slice_get, option_map, Ok, Err, IfOk, OnOk, OnErr, IsTrue};
 ghost use Rattle.frame_headers.specs.Seen.{shown};
 ghost use Rattle.flow_table.specs.Flows.{Numbered, key_of, newest, number_among, with_segment};
 ghost use Rattle.flow_table.specs.Placing.{steered_to};
@@ -84,6 +85,16 @@ impl FlowList {
         }
     }
 
+    /// Whether a flow begins with the segment, and isn't one too many.
+    pub(crate) fn begins(&self, segment: &Segment<'_>) -> bool
+        ensures { IsTrue result ↔
+            ((number_among (length self.now) (shown segment.now) (newest (key_of (shown segment.now)) self.now) ≡ length self.now)
+            × (length self.now ≢ 65535)) }
+    {
+        let count = self.count();
+        self.number_of_flow(segment) == count && count != MOST_FLOWS
+    }
+
     // The flow of this number sees the segment.
     fn go_on(&mut self, number: u32, segment: &Segment<'_>)
         requires { number < length self.old }
@@ -114,9 +125,14 @@ impl FlowList {
     /// The flow of the segment sees it, or begins with it.
     pub(crate) fn see(&mut self, app: u32, segment: &Segment<'_>) -> Result<u32, FlowFault>
         ensures number { IfOk result (λ number. number ≡ number_among (length self.old) (shown segment.now) (newest (key_of (shown segment.now)) self.old)) }
-        ensures flows { IfOk result (λ number. (record_number : ℕ) → self.new ≡ with_segment self.old number (steered_to app (shown segment.now) record_number)) }
-        ensures count { IfOk result (λ number. (number < length self.new) × (length self.new ≡ length self.old + (if number == length self.old then 1 else 0))) }
-        ensures too_many { (result ≡ Err FlowFault.TooManyFlows) ↔ (number_among (length self.old) (shown segment.now) (newest (key_of (shown segment.now)) self.old) ≡ 65535) }
+        ensures flows { IfOk result
+            (λ number. (record_number : ℕ) → self.new ≡ with_segment self.old number (steered_to app (shown segment.now) record_number)) }
+        ensures count { IfOk result
+            (λ number. (number < length self.new) × (length self.new ≡ length self.old + (if number == length self.old then 1 else 0))) }
+        ensures too_many { (result ≡ Err FlowFault.TooManyFlows) ↔
+            (number_among (length self.old) (shown segment.now) (newest (key_of (shown segment.now)) self.old) ≡ 65535) }
+        ensures memory { result ≡ Err FlowFault.Memory
+            → number_among (length self.old) (shown segment.now) (newest (key_of (shown segment.now)) self.old) ≡ length self.old }
         ensures refused { OnErr result (self.new ≡ self.old) }
     {
         let number = self.number_of_flow(segment);

@@ -1,5 +1,5 @@
-//! The flows and their streams worked out by the book: slowly, and with no thought of memory. Other programs are
-//! measured by this one.
+//! The flows and their streams worked out by the book, for tests: slowly, and with no thought of memory. No program calls
+//! these; others are measured by them.
 
 ghost use Rattle.std.specs.Prelude.{◌≡◌, ◌<◌, ◌^◌, length, map, IfOk};
 ghost use Rattle.frame_headers.specs.Seen.{segment_seen};

@@ -1,6 +1,7 @@
 //! The table of flows.
 
-ghost use Rattle.std.specs.Prelude.{◌≡◌, ℕ, ◌<◌, ◌≤◌, ◌↔◌, [], length, Ok, Err, Some, None, slice_get, option_map, nat_eq, IfOk, OnErr};
+ghost use Rattle.std.specs.Prelude.{◌≡◌, ◌≢◌, ℕ, ◌<◌, ◌≤◌, ◌↔◌, [], length, Ok, Err, Some, None, slice_get, option_map, nat_eq};
+ghost use Rattle.std.specs.Prelude.{IfOk, OnErr, IsTrue};
 ghost use Rattle.std.specs.List.{IsDistinct};
 ghost use Rattle.frame_headers.specs.Seen.{shown};
 ghost use Rattle.flow_table.specs.Steered.{app_of};
@@ -57,7 +58,11 @@ impl FlowTable {
     pub fn place(&mut self, segment: &Segment<'_>) -> Result<Steered, FlowFault>
         ensures placed { IfOk result (Places self.old self.new (shown segment.now)) }
         ensures elsewhere { (result ≡ Ok Steered.Elsewhere) ↔ (app_of self.old.ports segment.now.dport ≡ None) }
-        ensures too_many { (record_number : ℕ) → (result ≡ Err FlowFault.TooManyFlows) ↔ (number_for self.old (shown segment.now) record_number ≡ Some 65535) }
+        ensures too_many { (record_number : ℕ)
+            → (result ≡ Err FlowFault.TooManyFlows) ↔ (number_for self.old (shown segment.now) record_number ≡ Some 65535) }
+        // Memory is asked for only where the segment would begin a flow.
+        ensures memory { (record_number : ℕ) → result ≡ Err FlowFault.Memory
+            → number_for self.old (shown segment.now) record_number ≡ Some (length self.old.flows) }
         ensures refused { OnErr result (self.new ≡ self.old) }
         ensures ports { self.new.ports ≡ self.old.ports }
     {
@@ -73,6 +78,18 @@ impl FlowTable {
             seq: first_byte(segment),
             fin: has_fin(segment),
         })
+    }
+
+    /// Whether a flow begins with a segment, which `place` does where it finds memory. The key is looked up.
+    pub fn begins(&self, segment: &Segment<'_>) -> bool
+        ensures { (record_number : ℕ)
+            → IsTrue result ↔
+            ((number_for self.now (shown segment.now) record_number ≡ Some (length self.now.flows)) × (length self.now.flows ≢ 65535)) }
+    {
+        match app_of(&self.ports, segment.dport) {
+            Some(_) => self.flows.begins(segment),
+            None => false,
+        }
     }
 
     /// How many flows there are. Their numbers are those below it.

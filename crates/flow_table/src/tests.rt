@@ -1,4 +1,5 @@
-use super::{FlowFault, FlowInfo, FlowTable, Steered, plain_flows, plain_stream};
+use super::plain::{plain_flows, plain_stream};
+use super::{FlowFault, FlowInfo, FlowTable, Steered};
 use frame_headers::{Addr, Seen, Segment, read_frame};
 use std::alloc::Global;
 use std::collections::hash_map::RandomState;
@@ -193,16 +194,17 @@ fn table(rt: &HostRuntime) -> Result<FlowTable, Fail> {
 fn each_base_is_a_flow(rt: HostRuntime) -> Result<(), Fail> {
     let mut table = table(&rt)?;
     let rows = [
-        (from(HOST, 4000, 999, SYN), in_flow(0, 1000, 1000)),
-        (from(HOST, 4000, 1000, ACK), in_flow(0, 1000, 1000)),
-        (from(HOST, 4000, 999, SYN), in_flow(0, 1000, 1000)),
-        (from(HOST, 4000, 4294967295, SYN), in_flow(1, 0, 0)),
-        (from(HOST, 4000, 1002, ACK), in_flow(1, 0, 1002)),
-        (from(HOST, 4000, 999, SYN), in_flow(2, 1000, 1000)),
-        (from(HOST, 4001, 7, ACK), in_flow(3, 7, 7)),
-        (from(HOST, 4000, 1003, ACK), in_flow(2, 1000, 1003)),
+        (from(HOST, 4000, 999, SYN), true, in_flow(0, 1000, 1000)),
+        (from(HOST, 4000, 1000, ACK), false, in_flow(0, 1000, 1000)),
+        (from(HOST, 4000, 999, SYN), false, in_flow(0, 1000, 1000)),
+        (from(HOST, 4000, 4294967295, SYN), true, in_flow(1, 0, 0)),
+        (from(HOST, 4000, 1002, ACK), false, in_flow(1, 0, 1002)),
+        (from(HOST, 4000, 999, SYN), true, in_flow(2, 1000, 1000)),
+        (from(HOST, 4001, 7, ACK), true, in_flow(3, 7, 7)),
+        (from(HOST, 4000, 1003, ACK), false, in_flow(2, 1000, 1003)),
     ];
-    for (segment, want) in &rows {
+    for (segment, begins, want) in &rows {
+        assert_eq!(rt; table.begins(segment), *begins);
         assert_eq!(rt; table.place(segment)?, *want);
     }
     Ok(())

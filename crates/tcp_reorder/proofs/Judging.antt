@@ -6,10 +6,12 @@ use Rattle.tcp_reorder.specs.Laws.{AreJudgedAlike, PartsAreAccepted, GoesOn}
 use Rattle.tcp_reorder.proofs.Positions.{EndWithin-with_kept}
 use Rattle.tcp_reorder.proofs.Least.{next_of-with_kept, next_of-within}
 
-pub accepted : (base n seq total : ℕ) → accepts base n seq total ≡ true → (lead base n seq + total ≤ 2 ^ 30 + 2 ^ 31) × (n + lead base n seq + total ≤ 2 ^ 62 + 2 ^ 31)
+pub accepted : (base n seq total : ℕ) → accepts base n seq total ≡ true → (lead base n seq + total ≤ 2 ^ 30 + 2 ^ 31)
+    × (n + lead base n seq + total ≤ 2 ^ 62 + 2 ^ 31)
 accepted base n seq total agreed = let parts = and_parts _ _ agreed in (leb-true _ _ parts.0, leb-true _ _ parts.1)
 
-pub accepts-from : (base n seq total : ℕ) → lead base n seq + total ≤ 2 ^ 30 + 2 ^ 31 → n + lead base n seq + total ≤ 2 ^ 62 + 2 ^ 31 → accepts base n seq total ≡ true
+pub accepts-from : (base n seq total : ℕ) → lead base n seq + total ≤ 2 ^ 30 + 2 ^ 31 → n + lead base n seq + total ≤ 2 ^ 62 + 2 ^ 31
+    → accepts base n seq total ≡ true
 accepts-from base n seq total near low = and_from _ _ (le-leb _ _ near) (le-leb _ _ low)
 
 lead-later : (base n later seq : ℕ) → n ≤ later → later ≤ n + lead base n seq → later + lead base later seq ≡ n + lead base n seq

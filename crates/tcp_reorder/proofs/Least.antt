@@ -1,57 +1,11 @@
 -- The first missing position.
-use Rattle.std.proofs.Common.{◌≡◌, ℕ, zero, suc, ◌+◌, ◌<◌, ◌≤◌, nat_lt, Bool, true, false, Option, None, Some, IsSome, is_some, refl, sym, ap, ◌∙◌, ⊎_elim, arith, add-zero}
-use Rattle.std.proofs.lemmas.Bool.{or_from, or_left, or_right, or_cases, or_parts, le-ltb, ltb-false, cases_lt, cases_eq, cases_order, both_ways}
-use Rattle.zr_kinds.specs.CopyingReceiver.{Placed, missing_within, next_missing}
-use Rattle.zr_kinds.proofs.InOrder.{cases_Option}
+use Rattle.std.proofs.Common.{◌≡◌, ℕ, ◌<◌, ◌≤◌, nat_lt, Bool, true, false, None, IsSome, is_some, refl}
+use Rattle.std.proofs.Common.{ap, ◌∙◌, ⊎_elim, arith}
+use Rattle.std.proofs.lemmas.Bool.{or_from, or_left, or_right, or_cases, or_parts, le-ltb, ltb-false, cases_lt, cases_order, both_ways}
+use Rattle.zr_kinds.specs.ReceiverLaws.{IsLeastMissing}
+use Rattle.zr_kinds.proofs.LeastMissing.{next_missing-least}
 use Rattle.tcp_reorder.specs.Queue.{Kept, Queue, covers, is_kept, present, has, top_of, positions_of, next_of, with_kept, EndWithin}
 use Rattle.tcp_reorder.proofs.Positions.{top_of-above, is_kept-past, is_kept-behind, is_kept-with_kept}
-
--- from p on, `found` is the first position where none stands
-record IsFirstMissing {A : Type 0} (at : ℕ → Option A) (p found : ℕ) : Type 0 where
-  missing : at found ≡ None
-  before : (q : ℕ) → p ≤ q → q < found → IsSome (at q)
-
-first_here : {A : Type 0} (at : ℕ → Option A) (p : ℕ) → at p ≡ None → IsFirstMissing at p p
-first_here at p here = record { missing = here; before = λ q from until. absurd (omega arith) }
-
-first_later : {A : Type 0} (at : ℕ → Option A) (p : ℕ) (value : A) (found : ℕ) → at p ≡ Some value → IsFirstMissing at (suc p) found → IsFirstMissing at p found
-first_later at p value found here later = record {
-  missing = later.missing;
-  before = λ q from until. ⊎_elim
-      (λ (e : q ≡ p). let there : at q ≡ Some value = ap at e ∙ here in rw there refl)
-      (λ (other : q ≡ p → ⊥). later.before q (omega arith) until)
-      (cases_eq q p);
-}
-
-missing_within-first : {A : Type 0} (at : ℕ → Option A) (steps p : ℕ) → at (p + steps) ≡ None → IsFirstMissing at p (missing_within at steps p)
-missing_within-first at zero p past = first_here at p (ap at (sym (add-zero p)) ∙ past)
-missing_within-first at (suc steps) p past =
-    let later = missing_within-first at steps (suc p) (ap at (omega arith) ∙ past) in
-    ⊎_elim (λ here. rw here (first_here at p here)) (λ (value, here). rw here (first_later at p value _ here later)) (cases_Option (at p))
-
--- none stands at n, and one stands at each position before it
-pub record IsLeast {A : Type 0} (placed : Placed A) (n : ℕ) : Type 0 where
-  pub missing : placed.at n ≡ None
-  pub before : (p : ℕ) → p < n → IsSome (placed.at p)
-
-pub next_missing-least : {A : Type 0} (placed : Placed A) → ((p : ℕ) → placed.top ≤ p → placed.at p ≡ None) → IsLeast placed (next_missing placed)
-unfolding next_missing
-next_missing-least placed past =
-    let first : IsFirstMissing placed.at 0 (missing_within placed.at placed.top 0) = missing_within-first placed.at placed.top 0 (past (0 + placed.top) (omega arith)) in
-    record { missing = first.missing; before = λ p below. first.before p (omega arith) below }
-
-none_and_some : {A : Type 0} (value : Option A) → value ≡ None → IsSome value → ⊥
-none_and_some value none some = both_ways (is_some value) (ap is_some none) some
-
--- two that have something at the same positions have their least missing positions in common
-pub same_least : {A B : Type 0} (placed : Placed A) (other : Placed B) (m n : ℕ) → IsLeast placed m → IsLeast other n → ((p : ℕ) → is_some (placed.at p) ≡ is_some (other.at p)) → m ≡ n
-same_least placed other m n first second same = ⊎_elim
-    (λ equal. equal)
-    (λ unequal. ⊎_elim
-    (λ (below : m < n). absurd (none_and_some (placed.at m) first.missing (same m ∙ second.before m below)))
-    (λ (above : n < m). absurd (none_and_some (other.at n) second.missing (sym (same n) ∙ first.before n above)))
-    unequal)
-    (cases_order m n)
 
 there_if : (b : Bool) → IsSome (present b) → b ≡ true
 there_if true there = refl
@@ -74,8 +28,8 @@ module _ {H : Type 0} (queue : Queue H) where
   positions-past : (p : ℕ) → top_of queue.popped queue.kept ≤ p → (positions_of queue).at p ≡ None
   positions-past p past = ap present (has-past p past)
 
-  pub next_of-least : IsLeast (positions_of queue) (next_of queue)
-  next_of-least = next_missing-least (positions_of queue) positions-past
+  pub next_of-least : IsLeastMissing (positions_of queue) (next_of queue)
+  next_of-least = next_missing-least (positions_of queue) (record { past = positions-past })
 
   -- everything before the first missing position is there, and it isn't
   pub has-next : has queue (next_of queue) ≡ false
@@ -98,20 +52,23 @@ module _ {H : Type 0} (queue : Queue H) where
 
   pub next_of-within : (limit : ℕ) → queue.popped ≤ limit → EndWithin limit queue.kept → next_of queue ≤ limit
   next_of-within limit popped within = ⊎_elim
-      (λ (above : limit < next_of queue). absurd (both_ways _ (or_from _ _ (le-ltb limit queue.popped popped) (is_kept-behind limit queue.kept limit within (omega arith))) (has-before limit above)))
+      (λ (above : limit < next_of queue). absurd
+      (both_ways _ (or_from _ _ (le-ltb limit queue.popped popped) (is_kept-behind limit queue.kept limit within (omega arith))) (has-before limit above)))
       (λ below. below)
       (cases_lt limit (next_of queue))
 
   pub has-with_kept : (one : Kept H) (p : ℕ) → has queue p ≡ true → has (record queue { kept = with_kept queue.kept one }) p ≡ true
   has-with_kept one p there = ⊎_elim
       (λ popped. or_left (nat_lt p queue.popped) (is_kept (with_kept queue.kept one) p) popped)
-      (λ kept. or_right (nat_lt p queue.popped) (is_kept (with_kept queue.kept one) p) (is_kept-with_kept queue.kept one p ∙ or_right (covers one p) (is_kept queue.kept p) kept))
+      (λ kept. or_right (nat_lt p queue.popped) (is_kept (with_kept queue.kept one) p)
+      (is_kept-with_kept queue.kept one p ∙ or_right (covers one p) (is_kept queue.kept p) kept))
       (or_cases (nat_lt p queue.popped) (is_kept queue.kept p) there)
 
 pub next_of-with_kept : {H : Type 0} (queue : Queue H) (one : Kept H) → next_of queue ≤ next_of (record queue { kept = with_kept queue.kept one })
 next_of-with_kept queue one =
     let more : Queue _ = record queue { kept = with_kept queue.kept one } in
     ⊎_elim
-    (λ (below : next_of more < next_of queue). absurd (both_ways _ (has-next more) (has-with_kept queue one (next_of more) (has-before queue (next_of more) below))))
+    (λ (below : next_of more < next_of queue). absurd
+    (both_ways _ (has-next more) (has-with_kept queue one (next_of more) (has-before queue (next_of more) below))))
     (λ above. above)
     (cases_lt (next_of more) (next_of queue))

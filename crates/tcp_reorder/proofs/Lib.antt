@@ -7,3 +7,7 @@ mod Lookups
 pub mod Sound
 pub mod Gapping
 pub mod Taking
+mod GapByGap
+pub mod Entering
+mod OwnFrame
+pub mod InParts

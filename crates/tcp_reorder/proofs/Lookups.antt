@@ -1,5 +1,6 @@
 -- What a look-up by position finds among the entries of the map.
-use Rattle.std.proofs.Common.{◌≡◌, ℕ, ◌+◌, ◌<◌, ◌≤◌, List, [], ◌∷◌, ◌++◌, nat_le, filter, Bool, true, false, ◌⊎◌, refl, sym, ◌∙◌, subst, ⊎_elim, inl, inr, arith}
+use Rattle.std.proofs.Common.{◌≡◌, ℕ, ◌+◌, ◌<◌, ◌≤◌, List, [], ◌∷◌, ◌++◌, nat_le, filter, Bool, true, false, ◌⊎◌, refl}
+use Rattle.std.proofs.Common.{sym, ◌∙◌, subst, ⊎_elim, inl, inr, arith}
 use Rattle.std.specs.Ordering.{nat_cmp}
 use Rattle.std.specs.BTreeMap.Range.{range_contains}
 use Rattle.std.specs.declared.ops.Bound.TheVariants.{Included, Unbounded}
@@ -15,7 +16,8 @@ not_nil [] last e = cc
 not_nil (x ∷ before) last e = cc
 
 -- the last of a list that isn't empty is its first, or the last of the others
-cases_front : {A : Type 0} (x : A) (xs before : List A) (last : A) → x ∷ xs ≡ before ++ last ∷ [] → ((x ≡ last) × (xs ≡ [])) ⊎ ((rest : List A) × (xs ≡ rest ++ last ∷ []))
+cases_front : {A : Type 0} (x : A) (xs before : List A) (last : A) → x ∷ xs ≡ before ++ last ∷ [] → ((x ≡ last) × (xs ≡ []))
+    ⊎ ((rest : List A) × (xs ≡ rest ++ last ∷ []))
 cases_front x xs [] last e = let first : x ≡ last = cc in let rest : xs ≡ [] = cc in inl (first, rest)
 cases_front x xs (y ∷ before) last e = let rest : xs ≡ before ++ last ∷ [] = cc in inr (before, rest)
 
@@ -37,17 +39,20 @@ module _ {H : Type 0} (p : ℕ) (until : ℕ → Bool) (says : (q : ℕ) → unt
   none_begun [] none = refl
   none_begun (e ∷ es) none = ⊎_elim
       (λ (test : until e.0 ≡ true). let some : e ∷ begun es ≡ [] = rw test at none in cc)
-      (λ (test : until e.0 ≡ false). let rest : begun es ≡ [] = rw test at none in or_from _ _ (covers-before (kept_of e) p (until_false p until says e.0 test)) (none_begun es rest))
+      (λ (test : until e.0 ≡ false). let rest : begun es ≡ [] = rw test at none in
+      or_from _ _ (covers-before (kept_of e) p (until_false p until says e.0 test)) (none_begun es rest))
       (cases_Bool (until e.0))
 
-  last_from : (from : ℕ) (es before : List (ℕ × Piece H)) (last : ℕ × Piece H) → AreApart from (all_kept es) → begun es ≡ before ++ last ∷ [] → from ≤ last.0
+  last_from : (from : ℕ) (es before : List (ℕ × Piece H)) (last : ℕ × Piece H) → AreApart from (all_kept es) → begun es ≡ before ++ last ∷ []
+      → from ≤ last.0
   last_from from [] before last apart found = absurd (not_nil before last found)
   last_from from (e ∷ es) before last apart found = ⊎_elim
       (λ (test : until e.0 ≡ true). ⊎_elim
       (λ (one, none). subst (λ (x : ℕ × Piece H). from ≤ x.0) one apart.0)
       (λ (rest, same). let later : end_of (kept_of e) ≤ last.0 = last_from (end_of (kept_of e)) es rest last apart.3 same in omega arith)
       (cases_front e (begun es) before last (rw test at found)))
-      (λ (test : until e.0 ≡ false). let later : end_of (kept_of e) ≤ last.0 = last_from (end_of (kept_of e)) es before last apart.3 (rw test at found) in omega arith)
+      (λ (test : until e.0 ≡ false). let later : end_of (kept_of e) ≤ last.0 = last_from (end_of (kept_of e)) es before last apart.3 (rw test at found) in
+      omega arith)
       (cases_Bool (until e.0))
 
   -- the entry is the last that begins at p or before it
@@ -73,7 +78,8 @@ module _ {H : Type 0} (p : ℕ) (until : ℕ → Bool) (says : (q : ℕ) → unt
     ends = λ limit within. later.ends limit within.1;
   }
 
-  pub last_begun : (from : ℕ) (es before : List (ℕ × Piece H)) (last : ℕ × Piece H) → AreApart from (all_kept es) → begun es ≡ before ++ last ∷ [] → IsLast es last
+  pub last_begun : (from : ℕ) (es before : List (ℕ × Piece H)) (last : ℕ × Piece H) → AreApart from (all_kept es)
+      → begun es ≡ before ++ last ∷ [] → IsLast es last
   last_begun from [] before last apart found = absurd (not_nil before last found)
   last_begun from (e ∷ es) before last apart found = ⊎_elim
       (λ (test : until e.0 ≡ true). ⊎_elim
@@ -84,7 +90,8 @@ module _ {H : Type 0} (p : ℕ) (until : ℕ → Bool) (says : (q : ℕ) → unt
       let begins : last.0 ≤ p = later.begins in
       last_is_later e last es (covers-behind (kept_of e) p (omega arith)) later)
       (cases_front e (begun es) before last (rw test at found)))
-      (λ (test : until e.0 ≡ false). last_is_later e last es (covers-before (kept_of e) p (until_false p until says e.0 test)) (last_begun (end_of (kept_of e)) es before last apart.3 (rw test at found)))
+      (λ (test : until e.0 ≡ false). last_is_later e last es (covers-before (kept_of e) p (until_false p until says e.0 test))
+      (last_begun (end_of (kept_of e)) es before last apart.3 (rw test at found)))
       (cases_Bool (until e.0))
 
 -- ---- the first entry behind a free position
@@ -96,11 +103,13 @@ module _ {H : Type 0} (free : ℕ) (from : ℕ → Bool) (says : (q : ℕ) → f
 
   passed_by : (e : ℕ × Piece H) → from e.0 ≡ false → covers (kept_of e) free ≡ false → end_of (kept_of e) ≤ free
   passed_by e test apart = ⊎_elim
-      (λ (early : free < end_of (kept_of e)). let begun : e.0 < free = leb-false free e.0 (sym (says e.0) ∙ test) in absurd (both_ways _ apart (covers-within (kept_of e) free (omega arith) early)))
+      (λ (early : free < end_of (kept_of e)). let begun : e.0 < free = leb-false free e.0 (sym (says e.0) ∙ test) in
+      absurd (both_ways _ apart (covers-within (kept_of e) free (omega arith) early)))
       (λ behind. behind)
       (cases_lt free (end_of (kept_of e)))
 
-  pub none_coming : (es : List (ℕ × Piece H)) → coming es ≡ [] → is_kept (all_kept es) free ≡ false → (q : ℕ) → free ≤ q → is_kept (all_kept es) q ≡ false
+  pub none_coming : (es : List (ℕ × Piece H)) → coming es ≡ [] → is_kept (all_kept es) free ≡ false → (q : ℕ) → free ≤ q
+      → is_kept (all_kept es) q ≡ false
   none_coming [] none apart q above = refl
   none_coming (e ∷ es) none apart q above = ⊎_elim
       (λ (test : from e.0 ≡ true). let some : e ∷ coming es ≡ [] = rw test at none in cc)
@@ -117,7 +126,8 @@ module _ {H : Type 0} (free : ℕ) (from : ℕ → Bool) (says : (q : ℕ) → f
     pub kept : is_kept (all_kept es) next ≡ true
     pub before : (q : ℕ) → free ≤ q → q < next → is_kept (all_kept es) q ≡ false
 
-  pub next_coming : (low : ℕ) (es rest : List (ℕ × Piece H)) (next : ℕ × Piece H) → AreApart low (all_kept es) → coming es ≡ next ∷ rest → is_kept (all_kept es) free ≡ false → IsNext es next.0
+  pub next_coming : (low : ℕ) (es rest : List (ℕ × Piece H)) (next : ℕ × Piece H) → AreApart low (all_kept es) → coming es ≡ next ∷ rest
+      → is_kept (all_kept es) free ≡ false → IsNext es next.0
   next_coming low [] rest next apart found missing = cc
   next_coming low (e ∷ es) rest next apart found missing =
       let parts = or_parts (covers (kept_of e) free) (is_kept (all_kept es) free) missing in
@@ -126,11 +136,13 @@ module _ {H : Type 0} (free : ℕ) (from : ℕ → Bool) (says : (q : ℕ) → f
       let here : e ∷ coming es ≡ next ∷ rest = rw test at found in
       let one : e ≡ next = cc in
       let begins : free ≤ e.0 = leb-true free e.0 (sym (says e.0) ∙ test) in
-      let above : free < e.0 = ⊎_elim (λ h. h) (λ (h : e.0 ≤ free). absurd (both_ways _ parts.0 (covers-within (kept_of e) free h (omega arith)))) (cases_lt free e.0) in
+      let above : free < e.0 =
+      ⊎_elim (λ h. h) (λ (h : e.0 ≤ free). absurd (both_ways _ parts.0 (covers-within (kept_of e) free h (omega arith)))) (cases_lt free e.0) in
       subst (λ (x : ℕ × Piece H). IsNext (e ∷ es) x.0) one (record {
         above = above;
         kept = or_left (covers (kept_of e) e.0) (is_kept (all_kept es) e.0) (covers-within (kept_of e) e.0 (omega arith) (omega arith));
-        before = λ q late early. or_from (covers (kept_of e) q) (is_kept (all_kept es) q) (covers-before (kept_of e) q early) (is_kept-below (end_of (kept_of e)) (all_kept es) q apart.3 (omega arith));
+        before = λ q late early. or_from (covers (kept_of e) q) (is_kept (all_kept es) q) (covers-before (kept_of e) q early)
+            (is_kept-below (end_of (kept_of e)) (all_kept es) q apart.3 (omega arith));
       }))
       (λ (test : from e.0 ≡ false).
       let passed : end_of (kept_of e) ≤ free = passed_by e test parts.0 in
@@ -138,7 +150,8 @@ module _ {H : Type 0} (free : ℕ) (from : ℕ → Bool) (says : (q : ℕ) → f
       record {
         above = later.above;
         kept = or_right (covers (kept_of e) next.0) (is_kept (all_kept es) next.0) later.kept;
-        before = λ q late early. or_from (covers (kept_of e) q) (is_kept (all_kept es) q) (covers-behind (kept_of e) q (omega arith)) (later.before q late early);
+        before = λ q late early. or_from (covers (kept_of e) q) (is_kept (all_kept es) q) (covers-behind (kept_of e) q (omega arith))
+            (later.before q late early);
       })
       (cases_Bool (from e.0))
 
@@ -152,15 +165,22 @@ begins_from free q = grind (arith, nat_tests)
 
 module _ {H : Type 0} where
   -- what `range(..=p).next_back()` finds
-  pub none_until : (p : ℕ) (es : List (ℕ × Piece H)) → filter (λ e. range_contains nat_cmp Unbounded (Included p) e.0) es ≡ [] → is_kept (all_kept es) p ≡ false
+  pub none_until : (p : ℕ) (es : List (ℕ × Piece H)) → filter (λ e. range_contains nat_cmp Unbounded (Included p) e.0) es ≡ []
+      → is_kept (all_kept es) p ≡ false
   none_until p es none = none_begun p (range_contains nat_cmp Unbounded (Included p)) (begins_until p) es none
 
-  pub last_until : (p : ℕ) (es before : List (ℕ × Piece H)) (last : ℕ × Piece H) → AreApart 0 (all_kept es) → filter (λ e. range_contains nat_cmp Unbounded (Included p) e.0) es ≡ before ++ last ∷ [] → IsLast p (range_contains nat_cmp Unbounded (Included p)) (begins_until p) es last
+  pub last_until : (p : ℕ) (es before : List (ℕ × Piece H)) (last : ℕ × Piece H) → AreApart 0 (all_kept es)
+      → filter (λ e. range_contains nat_cmp Unbounded (Included p) e.0) es ≡ before ++ last ∷ []
+      → IsLast p (range_contains nat_cmp Unbounded (Included p)) (begins_until p) es last
   last_until p es before last apart found = last_begun p (range_contains nat_cmp Unbounded (Included p)) (begins_until p) 0 es before last apart found
 
   -- what `range(free..).next()` finds
-  pub none_from : (free : ℕ) (es : List (ℕ × Piece H)) → filter (λ e. range_contains nat_cmp (Included free) Unbounded e.0) es ≡ [] → is_kept (all_kept es) free ≡ false → (q : ℕ) → free ≤ q → is_kept (all_kept es) q ≡ false
+  pub none_from : (free : ℕ) (es : List (ℕ × Piece H)) → filter (λ e. range_contains nat_cmp (Included free) Unbounded e.0) es ≡ []
+      → is_kept (all_kept es) free ≡ false → (q : ℕ) → free ≤ q → is_kept (all_kept es) q ≡ false
   none_from free es none missing = none_coming free (range_contains nat_cmp (Included free) Unbounded) (begins_from free) es none missing
 
-  pub next_from : (free : ℕ) (es rest : List (ℕ × Piece H)) (next : ℕ × Piece H) → AreApart 0 (all_kept es) → filter (λ e. range_contains nat_cmp (Included free) Unbounded e.0) es ≡ next ∷ rest → is_kept (all_kept es) free ≡ false → IsNext free (range_contains nat_cmp (Included free) Unbounded) (begins_from free) es next.0
-  next_from free es rest next apart found missing = next_coming free (range_contains nat_cmp (Included free) Unbounded) (begins_from free) 0 es rest next apart found missing
+  pub next_from : (free : ℕ) (es rest : List (ℕ × Piece H)) (next : ℕ × Piece H) → AreApart 0 (all_kept es)
+      → filter (λ e. range_contains nat_cmp (Included free) Unbounded e.0) es ≡ next ∷ rest → is_kept (all_kept es) free ≡ false
+      → IsNext free (range_contains nat_cmp (Included free) Unbounded) (begins_from free) es next.0
+  next_from free es rest next apart found missing =
+      next_coming free (range_contains nat_cmp (Included free) Unbounded) (begins_from free) 0 es rest next apart found missing

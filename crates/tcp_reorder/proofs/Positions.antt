@@ -1,6 +1,8 @@
 -- Which positions the kept pieces have.
-use Rattle.std.proofs.Common.{◌≡◌, ℕ, ◌^◌, ◌<◌, ◌≤◌, List, [], ◌∷◌, nat_lt, Bool, true, false, ◌||◌, ◌⊎◌, refl, ap, ◌∙◌, ⊎_elim, inl, inr, arith}
-use Rattle.std.proofs.lemmas.Bool.{and_from, and_left, and_right, and_parts, or_from, or_left, le-leb, lt-leb, lt-ltb, le-ltb, leb-true, ltb-true, ltb-false, cases_lt, cond_both, both_ways}
+use Rattle.std.proofs.Common.{◌≡◌, ℕ, ◌^◌, ◌<◌, ◌≤◌, List, [], ◌∷◌, nat_lt, Bool, true, false, ◌||◌, ◌⊎◌, refl, ap}
+use Rattle.std.proofs.Common.{◌∙◌, ⊎_elim, inl, inr, arith}
+use Rattle.std.proofs.lemmas.Bool.{and_from, and_left, and_right, and_parts, or_from, or_left, le-leb, lt-leb, lt-ltb, le-ltb, leb-true, ltb-true, ltb-false}
+use Rattle.std.proofs.lemmas.Bool.{cases_lt, cond_both, both_ways}
 use Rattle.tcp_reorder.specs.Queue.{Kept, end_of, covers, is_kept, top_of, with_kept, AreApart, EndWithin}
 
 pub either_order : (a b c : Bool) → (a || (b || c)) ≡ (b || (a || c))
@@ -35,7 +37,8 @@ module _ {H : Type 0} where
 
   pub is_kept-below : (from : ℕ) (kept : List (Kept H)) (p : ℕ) → AreApart from kept → p < from → is_kept kept p ≡ false
   is_kept-below from [] p apart below = refl
-  is_kept-below from (one ∷ others) p apart below = or_from _ _ (covers-before one p (omega arith)) (is_kept-below (end_of one) others p apart.3 (omega arith))
+  is_kept-below from (one ∷ others) p apart below =
+      or_from _ _ (covers-before one p (omega arith)) (is_kept-below (end_of one) others p apart.3 (omega arith))
 
   pub top_of-above : (top : ℕ) (kept : List (Kept H)) → top ≤ top_of top kept
   top_of-above top [] = omega arith
@@ -63,7 +66,8 @@ module _ {H : Type 0} where
       (λ _. refl)
       (λ _. ap (λ b. covers first p || b) (is_kept-with_kept others one p) ∙ either_order (covers first p) (covers one p) (is_kept others p))
 
-  pub EndWithin-with_kept : (limit : ℕ) (kept : List (Kept H)) (one : Kept H) → EndWithin limit kept → end_of one ≤ limit → EndWithin limit (with_kept kept one)
+  pub EndWithin-with_kept : (limit : ℕ) (kept : List (Kept H)) (one : Kept H) → EndWithin limit kept → end_of one ≤ limit
+      → EndWithin limit (with_kept kept one)
   EndWithin-with_kept limit [] one within end = (end, tt)
   EndWithin-with_kept limit (first ∷ others) one within end =
       cond_both (nat_lt one.position first.position) (one ∷ first ∷ others) (first ∷ with_kept others one)
@@ -83,13 +87,16 @@ module _ {H : Type 0} where
       or_false false b h = h
 
   -- neither begins within the other
-  IsFree-apart : (first : Kept H) (others : List (Kept H)) (one : Kept H) → IsFree (first ∷ others) one → 0 < first.len → 0 < one.len → (end_of one ≤ first.position) ⊎ (end_of first ≤ one.position)
+  IsFree-apart : (first : Kept H) (others : List (Kept H)) (one : Kept H) → IsFree (first ∷ others) one → 0 < first.len → 0 < one.len
+      → (end_of one ≤ first.position) ⊎ (end_of first ≤ one.position)
   IsFree-apart first others one free some more = ⊎_elim
       (λ before. inl before)
       (λ late. ⊎_elim
       (λ early. absurd (⊎_elim
-      (λ (lower : one.position < first.position). both_ways _ (free.free first.position (omega arith) late) (or_left _ _ (covers-within first first.position (omega arith) (omega arith))))
-      (λ (upper : first.position ≤ one.position). both_ways _ (free.free one.position (omega arith) (omega arith)) (or_left _ _ (covers-within first one.position upper early)))
+      (λ (lower : one.position < first.position). both_ways _ (free.free first.position (omega arith) late)
+      (or_left _ _ (covers-within first first.position (omega arith) (omega arith))))
+      (λ (upper : first.position ≤ one.position). both_ways _ (free.free one.position (omega arith) (omega arith))
+      (or_left _ _ (covers-within first one.position upper early)))
       (cases_lt one.position first.position)))
       (λ behind. inr behind)
       (cases_lt one.position (end_of first)))
@@ -99,7 +106,8 @@ module _ {H : Type 0} where
       flip (inl a) = inr a
       flip (inr b) = inl b
 
-  pub AreApart-with_kept : (from : ℕ) (kept : List (Kept H)) (one : Kept H) → AreApart from kept → from ≤ one.position → 0 < one.len → one.len < 2 ^ 32 → IsFree kept one → AreApart from (with_kept kept one)
+  pub AreApart-with_kept : (from : ℕ) (kept : List (Kept H)) (one : Kept H) → AreApart from kept → from ≤ one.position → 0 < one.len
+      → one.len < 2 ^ 32 → IsFree kept one → AreApart from (with_kept kept one)
   AreApart-with_kept from [] one apart above some small free = (above, some, small, tt)
   AreApart-with_kept from (first ∷ others) one apart above some small free =
       cond_both (nat_lt one.position first.position) (one ∷ first ∷ others) (first ∷ with_kept others one)

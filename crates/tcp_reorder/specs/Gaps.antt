@@ -3,7 +3,7 @@ use Rattle.std.specs.Prelude.{◌≡◌, ℕ, ◌+◌, ◌-◌, ◌^◌, ◌<◌
 use Rattle.zr_kinds.specs.CopyingReceiver.{lead}
 use Rattle.tcp_reorder.specs.declared.places.Gap.{Gap}
 use Rattle.tcp_reorder.specs.declared.places.Span.{Span}
-use Rattle.tcp_reorder.specs.Queue.{Kept, Queue, has, next_of}
+use Rattle.tcp_reorder.specs.Queue.{Kept, Queue, has, next_of, with_kept}
 
 module _ {H : Type 0} where
   -- the position of the byte with this sequence number, and 2^31 more: so it is no less than 0
@@ -21,6 +21,18 @@ module _ {H : Type 0} where
     pub before : (place : ℕ) → place < gap.skip → wants queue seq place ≡ false
     pub wanted : (place : ℕ) → gap.skip ≤ place → place < gap.skip + gap.len → wants queue seq place ≡ true
     pub whole : gap.skip + gap.len < len → wants queue seq (gap.skip + gap.len) ≡ false
+
+  -- all of so many bytes from the one with this sequence number on are wanted
+  abbrev pub AreWanted : Queue H → ℕ → ℕ → Type 0
+  AreWanted queue seq len = (place : ℕ) → place < len → wants queue seq place ≡ true
+
+  -- none of them is
+  abbrev pub AreUnwanted : Queue H → ℕ → ℕ → Type 0
+  AreUnwanted queue seq len = (place : ℕ) → place < len → wants queue seq place ≡ false
+
+  -- the queue with a piece more, which has so many bytes from the one with this sequence number on
+  abbrev pub with_taken : Queue H → ℕ → ℕ → H → Queue H
+  with_taken queue seq len piece = record queue { kept = with_kept queue.kept (record { position = origin queue seq - 2 ^ 31; len = len; piece = piece }) }
 
   -- where a kept piece stands
   abbrev pub span_of : Kept H → Span

@@ -3,3 +3,5 @@ pub mod Gaps
 pub mod Pieces
 pub mod Laws
 pub mod Values
+pub mod Entering
+pub mod Parts

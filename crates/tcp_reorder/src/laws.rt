@@ -1,4 +1,6 @@
 ghost use Rattle.tcp_reorder.specs.Laws.{AreJudgedAlike, PartsAreAccepted, GoesOn};
+ghost use Rattle.tcp_reorder.specs.Entering.{HoldsWhatCame, StaysAccepted};
+ghost use Rattle.tcp_reorder.specs.Parts.{PartsMakeTheFrame};
 
 /// A frame of at most 2^30 bytes that was accepted, and of which a byte is wanted, stays accepted at the same positions
 /// while the first missing position grows by at most 2^30. It does nothing: its contract is the law.
@@ -16,4 +18,23 @@ pub fn parts_are_accepted()
 /// n + 2^30 at most. It does nothing: its contract is the law.
 pub fn first_missing_goes_on<H>()
     ensures { GoesOn H }
+{}
+
+/// A queue holds the copying receiver's map, for values `A` that its pieces have: a new one the empty map; while the gaps
+/// of a part of a frame are taken and pieces are popped it keeps it; and with no gap left it is what the part gives. It
+/// does nothing: its contract is the law.
+pub fn queue_holds_what_came<A, H>()
+    ensures { HoldsWhatCame A H }
+{}
+
+/// A frame of at most 2^30 bytes that was accepted stays accepted at the same positions after any of its own bytes were
+/// taken and anything was popped, so that its parts are judged alike. It does nothing: its contract is the law.
+pub fn own_frame_stays_accepted<H>()
+    ensures { StaysAccepted H }
+{}
+
+/// The copying receiver that judges each part of a frame anew, by the frame's own length, has in the end what it has of
+/// the frame, as far as parts of it came. It does nothing: its contract is the law.
+pub fn parts_make_the_frame<A>()
+    ensures { PartsMakeTheFrame A }
 {}

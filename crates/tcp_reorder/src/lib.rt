@@ -7,7 +7,10 @@ mod piece;
 mod places;
 mod queue;
 
-pub use laws::{first_missing_goes_on, frames_are_judged_alike, parts_are_accepted};
+pub use laws::{
+    first_missing_goes_on, frames_are_judged_alike, own_frame_stays_accepted, parts_are_accepted,
+    parts_make_the_frame, queue_holds_what_came,
+};
 pub use places::{Gap, Span};
 pub use queue::RecvQueue;
 

@@ -51,7 +51,8 @@ pub fn next_kept<H>(pieces: &BTreeMap<u64, Piece<H>>, free: u64) -> Option<u64>
     requires is_free { is_kept (all_kept pieces.now.entries) free ≡ false }
     ensures { MatchOption result
         ((p : ℕ) → free ≤ p → is_kept (all_kept pieces.now.entries) p ≡ false)
-        (λ next. (free < next) × (is_kept (all_kept pieces.now.entries) next ≡ true) × ((p : ℕ) → free ≤ p → p < next → is_kept (all_kept pieces.now.entries) p ≡ false)) }
+        (λ next. (free < next) × (is_kept (all_kept pieces.now.entries) next ≡ true)
+        × ((p : ℕ) → free ≤ p → p < next → is_kept (all_kept pieces.now.entries) p ≡ false)) }
 {
     let (begin, _) = pieces.range(free..).next()?;
     Some(*begin)

@@ -1,8 +1,8 @@
-ghost use Rattle.std.specs.Prelude.{◌≡◌, ℕ, ◌+◌, ◌-◌, ◌^◌, ◌<◌, ◌≤◌, ◌↔◌, [], true, false, IsNone, IfSome, IfNone, OnOk, IfErr, OnErr, Some};
+ghost use Rattle.std.specs.Prelude.{◌≡◌, ◌<◌, ◌↔◌, [], true, IsNone, IfSome, IfNone, OnOk, IfErr, OnErr};
 ghost use Rattle.std.specs.Option.{option_map};
 ghost use Rattle.zr_kinds.specs.CopyingReceiver.{accepts};
-ghost use Rattle.tcp_reorder.specs.Queue.{next_of, with_kept, IsSound, front_of};
-ghost use Rattle.tcp_reorder.specs.Gaps.{origin, wants, IsFirstGap, span_of, kept_at, LosesFirst};
+ghost use Rattle.tcp_reorder.specs.Queue.{next_of, IsSound, front_of};
+ghost use Rattle.tcp_reorder.specs.Gaps.{IsFirstGap, AreWanted, AreUnwanted, with_taken, span_of, LosesFirst};
 
 use crate::distance::lead;
 use crate::piece::{Piece, first_free, next_kept};
@@ -83,7 +83,7 @@ impl<H> RecvQueue<H> {
     pub fn gap(&self, seq: u32, len: u32) -> Option<Gap>
         requires { accepts self.now.base (next_of self.now) seq len ≡ true }
         // None exactly where no byte is wanted.
-        ensures none { IsNone result ↔ ((place : ℕ) → place < len → wants self.now seq place ≡ false) }
+        ensures none { IsNone result ↔ AreUnwanted self.now seq len }
         ensures first { IfSome result (IsFirstGap self.now seq len) }
         ensures sound { IsSound self.now }
     {
@@ -111,10 +111,8 @@ impl<H> RecvQueue<H> {
     pub fn take(&mut self, seq: u32, len: u32, piece: H) -> Result<(), H>
         requires accepted { accepts self.old.base (next_of self.old) seq len ≡ true }
         requires some { 0 < len }
-        requires wanted { (place : ℕ) → place < len → wants self.old seq place ≡ true }
-        ensures ok { OnOk result (self.new ≡ record self.old {
-          kept = with_kept self.old.kept (record { position = origin self.old seq - 2 ^ 31; len = len; piece = piece });
-        }) }
+        requires wanted { AreWanted self.old seq len }
+        ensures ok { OnOk result (self.new ≡ with_taken self.old seq len piece) }
         ensures given_back { IfErr result (λ back. back ≡ piece) }
         ensures err { OnErr result (self.new ≡ self.old) }
     {
@@ -153,6 +151,8 @@ impl<H> RecvQueue<H> {
         ensures kept { IfNone result (self.new ≡ self.old) }
         ensures popped { IfSome result (λ (piece, span). LosesFirst self.old self.new piece span) }
         ensures in_order { IfSome result (λ (piece, span). span.position ≡ self.old.popped) }
+        // The first missing position stays.
+        ensures next { next_of self.new ≡ next_of self.old }
         ensures sound { IsSound self.new }
     {
         if self.front().is_none() {

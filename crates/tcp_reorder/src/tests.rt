@@ -69,6 +69,15 @@ fn later_bytes_take_no_place(rt: HostRuntime) -> Result<(), Fail> {
 }
 
 #[test]
+fn what_is_there_is_skipped(rt: HostRuntime) -> Result<(), Fail> {
+    let mut queue = RecvQueue::new(rt.alloc(), 1000);
+    // "abc" is there, and "XYcd" comes from the place of "b" on: only "cd" is still wanted.
+    offer(&mut queue, 1000, 3, b'a')?;
+    expect_gap(&rt, &queue, 1001, 4, Some(Gap { skip: 2, len: 2 }));
+    Ok(())
+}
+
+#[test]
 fn teardown_takes_every_piece(rt: HostRuntime) -> Result<(), Fail> {
     let mut queue = RecvQueue::new(rt.alloc(), 0);
     offer(&mut queue, 7, 2, b'h')?;
@@ -85,6 +94,7 @@ fn teardown_takes_every_piece(rt: HostRuntime) -> Result<(), Fail> {
     };
     assert_eq!(rt; queue.pull(), Some((b'h', second)));
     assert_eq!(rt; queue.pull(), None);
+    queue.destroy_empty();
     Ok(())
 }
 

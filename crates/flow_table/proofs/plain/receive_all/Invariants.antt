@@ -5,4 +5,6 @@ use Rattle.flow_table.specs.Plain.{placed_shown, steered_shown}
 use Rattle.flow_table.proofs.plain.receive_all.Given as goal
 
 abbrev pub invariant-loop-one : goal.invariant-loop-one
-invariant-loop-one l = received_all l.base l.left_out (placed_shown l.placed) (map steered_shown (drop l.one-index l.steered)) ≡ received_all l.base l.left_out nothing_placed (map steered_shown l.steered)
+invariant-loop-one l =
+    received_all l.base l.left_out (placed_shown l.placed) (map steered_shown (drop l.one-index l.steered)) ≡ received_all l.base l.left_out nothing_placed
+    (map steered_shown l.steered)

@@ -15,11 +15,13 @@ at-requires c =
 pub returns-then-ends_before-clause-number : goal.returns-then-ends_before-clause-number
 returns-then-ends_before-clause-number c =
     c.count-then-ends_before.ensures.count
-    ∙ sym (number_among-newest c.args.self.now (shown c.args.segment.now) c.in-Some.number (entry_shown c.at.result) c.in-Some.ensures c.at.ensures ∙ cond-true _ _ _ (sym c.if-ends_before.ensures))
+    ∙ sym (number_among-newest c.args.self.now (shown c.args.segment.now) c.in-Some.number (entry_shown c.at.result) c.in-Some.ensures c.at.ensures
+    ∙ cond-true _ _ _ (sym c.if-ends_before.ensures))
 
 pub returns-else-ends_before-clause-number : goal.returns-else-ends_before-clause-number
 returns-else-ends_before-clause-number c =
-    sym (number_among-newest c.args.self.now (shown c.args.segment.now) c.in-Some.number (entry_shown c.at.result) c.in-Some.ensures c.at.ensures ∙ cond-false _ _ _ (sym c.if-ends_before.ensures))
+    sym (number_among-newest c.args.self.now (shown c.args.segment.now) c.in-Some.number (entry_shown c.at.result) c.in-Some.ensures c.at.ensures
+    ∙ cond-false _ _ _ (sym c.if-ends_before.ensures))
 
 pub returns-else-ends_before-clause-within : goal.returns-else-ends_before-clause-within
 returns-else-ends_before-clause-within c = omega (arith, slice_get_within c.args.self.now c.in-Some.number (entry_shown c.at.result) c.at.ensures)

@@ -10,5 +10,6 @@ returns-then-has_key_of c = newest_found _ _ _ _ (omega arith) (omega arith) c.l
 pub loop-number-preserved : goal.loop-number-preserved
 loop-number-preserved c = record {
   within = omega arith;
-  earlier = newest_passed (key_of (shown c.args.segment.now)) c.args.flows.now c.loop-number.number _ (omega arith) (omega arith) c.loop-number.invariant.earlier c.if-has_key_of.ensures;
+  earlier = newest_passed (key_of (shown c.args.segment.now)) c.args.flows.now c.loop-number.number _ (omega arith)
+      (omega arith) c.loop-number.invariant.earlier c.if-has_key_of.ensures;
 }

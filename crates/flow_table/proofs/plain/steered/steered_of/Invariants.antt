@@ -9,5 +9,6 @@ abbrev pub invariant-loop-one : goal.invariant-loop-one
 invariant-loop-one l = record {
   counted : l.record_number ≡ l.one-index;
   within : l.one-index ≤ length l.seen;
-  whole : map steered_shown l.steered.items ++ steered_from l.ports (l.one-index + 1) (map segment_seen (drop l.one-index l.seen)) ≡ steered_of l.ports (map segment_seen l.seen);
+  whole : map steered_shown l.steered.items ++ steered_from l.ports (l.one-index + 1) (map segment_seen (drop l.one-index l.seen)) ≡ steered_of l.ports
+      (map segment_seen l.seen);
 }

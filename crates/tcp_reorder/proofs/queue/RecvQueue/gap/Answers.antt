@@ -17,21 +17,27 @@ pub first_free-start-requires-clause-low : goal.first_free-start-requires-clause
 first_free-start-requires-clause-low g c =
     let queue = queue_of c.self.inside.base c.self.inside.popped c.self.inside.pieces.entries in
     let low : next_of queue ≤ 2 ^ 62 = next_of-low queue c.self.invariant.0 in
-    let first : c.self.inside.next + c.lead.result ≡ origin queue c.args.seq = origin-is queue c.args.seq c.self.inside.next c.lead.result c.self.invariant.1 c.lead.ensures.exact in
+    let first : c.self.inside.next + c.lead.result ≡ origin queue c.args.seq =
+    origin-is queue c.args.seq c.self.inside.next c.lead.result c.self.invariant.1 c.lead.ensures.exact in
     let within = accepted queue.base (next_of queue) c.args.seq c.args.len (rw (← c.self.view_is) at c.requires) in
     omega (arith, within.1)
 
 pub returns-then-start-limit-clause-none : goal.returns-then-start-limit-clause-none
 returns-then-start-limit-clause-none g c =
     let queue = queue_of c.self.inside.base c.self.inside.popped c.self.inside.pieces.entries in
-    let first : c.self.inside.next + c.lead.result ≡ origin queue c.args.seq = origin-is queue c.args.seq c.self.inside.next c.lead.result c.self.invariant.1 c.lead.ensures.exact in
-    let there : IsThereUntil queue c.args.seq c.first_free-start.result = there_until queue c.args.seq c.self.inside.next (c.self.inside.next + c.lead.result) c.max-from.result c.first_free-start.result c.self.invariant.1 first (omega arith) c.first_free-start.ensures.above c.first_free-start.ensures.kept in
+    let first : c.self.inside.next + c.lead.result ≡ origin queue c.args.seq =
+    origin-is queue c.args.seq c.self.inside.next c.lead.result c.self.invariant.1 c.lead.ensures.exact in
+    let there : IsThereUntil queue c.args.seq c.first_free-start.result =
+    there_until queue c.args.seq c.self.inside.next
+    (c.self.inside.next + c.lead.result) c.max-from.result c.first_free-start.result c.self.invariant.1 first
+    (omega arith) c.first_free-start.ensures.above c.first_free-start.ensures.kept in
     rw (← c.self.view_is) ((λ none place below. unwanted_until queue c.args.seq c.first_free-start.result place there (omega arith)), λ all. refl)
 
 pub next_kept-requires-clause-apart : goal.next_kept-requires-clause-apart
 next_kept-requires-clause-apart g c = apart_from_0 (queue_of c.self.inside.base c.self.inside.popped c.self.inside.pieces.entries) c.self.invariant.0
 
-some_wanted : {H : Type 0} (queue : Queue H) (seq len : ℕ) (gap : Gap) → IsFirstGap queue seq len gap → ((place : ℕ) → place < len → wants queue seq place ≡ false) → ⊥
+some_wanted : {H : Type 0} (queue : Queue H) (seq len : ℕ) (gap : Gap) → IsFirstGap queue seq len gap
+    → ((place : ℕ) → place < len → wants queue seq place ≡ false) → ⊥
 some_wanted queue seq len gap first none =
     let some : 0 < gap.len = first.some in
     let within : gap.skip + gap.len ≤ len = first.within in
@@ -40,13 +46,19 @@ some_wanted queue seq len gap first none =
 pub returns-clause-first : goal.returns-clause-first
 returns-clause-first g c =
     let queue = queue_of c.self.inside.base c.self.inside.popped c.self.inside.pieces.entries in
-    let first : c.self.inside.next + c.lead.result ≡ origin queue c.args.seq = origin-is queue c.args.seq c.self.inside.next c.lead.result c.self.invariant.1 c.lead.ensures.exact in
-    let there : IsThereUntil queue c.args.seq c.first_free-start.result = there_until queue c.args.seq c.self.inside.next (c.self.inside.next + c.lead.result) c.max-from.result c.first_free-start.result c.self.invariant.1 first (omega arith) c.first_free-start.ensures.above c.first_free-start.ensures.kept in
-    let missing : IsMissingUntil queue c.args.seq c.first_free-start.result c.match-next_kept.end c.saturating_sub-limit.result = elim c.match-next_kept.branch [
+    let first : c.self.inside.next + c.lead.result ≡ origin queue c.args.seq =
+    origin-is queue c.args.seq c.self.inside.next c.lead.result c.self.invariant.1 c.lead.ensures.exact in
+    let there : IsThereUntil queue c.args.seq c.first_free-start.result =
+    there_until queue c.args.seq c.self.inside.next
+    (c.self.inside.next + c.lead.result) c.max-from.result c.first_free-start.result c.self.invariant.1 first
+    (omega arith) c.first_free-start.ensures.above c.first_free-start.ensures.kept in
+    let missing : IsMissingUntil queue c.args.seq c.first_free-start.result c.match-next_kept.end c.saturating_sub-limit.result =
+    elim c.match-next_kept.branch [
       | in-Some w ↦
           let same : min w.in-Some.kept c.saturating_sub-limit.result ≡ c.match-next_kept.end = omega arith in
           subst (λ (e : ℕ). IsMissingUntil queue c.args.seq c.first_free-start.result e c.saturating_sub-limit.result) same
-          (missing_to_next queue c.args.seq c.first_free-start.result c.saturating_sub-limit.result w.in-Some.kept (omega arith) w.in-Some.ensures.0 w.in-Some.ensures.1 w.in-Some.ensures.2)
+          (missing_to_next queue c.args.seq c.first_free-start.result c.saturating_sub-limit.result w.in-Some.kept
+          (omega arith) w.in-Some.ensures.0 w.in-Some.ensures.1 w.in-Some.ensures.2)
       | in-None w ↦
           subst (λ (e : ℕ). IsMissingUntil queue c.args.seq c.first_free-start.result e c.saturating_sub-limit.result) (sym w.end-is)
           (missing_to_limit queue c.args.seq c.first_free-start.result c.saturating_sub-limit.result (omega arith) w.in-None.ensures)

@@ -1,20 +1,26 @@
-use Rattle.std.proofs.Common.{◌≡◌, ap, ◌∙◌}
+use Rattle.std.proofs.Common.{◌≡◌, ◌+◌, sym, ap, ◌∙◌}
 use Rattle.std.proofs.lemmas.Bool.{both_ways}
 use Rattle.tcp_reorder.specs.Queue.{next_of}
 use Rattle.tcp_reorder.specs.Pieces.{kept_of, all_kept, queue_of}
-use Rattle.tcp_reorder.proofs.Sound.{front_is_popped}
+use Rattle.tcp_reorder.proofs.Sound.{IsAt, front_is_popped}
+use Rattle.tcp_reorder.proofs.queue.RecvQueue.pop_front.Given as given
 use Rattle.tcp_reorder.proofs.queue.RecvQueue.pop_front.Goals as goal
 
-pub invariant_of-self-2 : goal.invariant_of-self-2
-invariant_of-self-2 g c =
+-- the queue without its first piece: the first missing position stays
+popped_at : (g : given.Over) (c : goal.After-self-1 g)
+    → IsAt (queue_of c.self.inside.base (c.in_ok-position.position + c.in_ok-position.piece.len) c.pop_first.new.self.entries)
+    (next_of (queue_of c.self.inside.base c.self.inside.popped c.self.inside.pieces.entries))
+popped_at g c =
     let queue = queue_of c.self.inside.base c.self.inside.popped c.self.inside.pieces.entries in
     let there = λ (missing : queue.popped ≡ next_of queue). both_ways _ (c.front.ensures.none.1 (rw (← c.self.view_is) missing)) c.if-is_none.ensures in
-    let at = front_is_popped queue (kept_of (c.in_ok-position.position, c.in_ok-position.piece)) (all_kept c.pop_first.new.self.entries) c.self.invariant.0 (ap all_kept c.in_ok-position.ensures.removal) there in
-    rw c.from.ensures (at.sound, c.self.invariant.1 ∙ at.next)
+    front_is_popped queue (kept_of (c.in_ok-position.position, c.in_ok-position.piece)) (all_kept c.pop_first.new.self.entries) c.self.invariant.0
+    (ap all_kept c.in_ok-position.ensures.removal) there
+
+pub invariant_of-self-2 : goal.invariant_of-self-2
+invariant_of-self-2 g c = rw c.from.ensures ((popped_at g c).sound, c.self.invariant.1 ∙ (popped_at g c).next)
 
 pub returns-clause-sound : goal.returns-clause-sound
-returns-clause-sound g c =
-    let queue = queue_of c.self.inside.base c.self.inside.popped c.self.inside.pieces.entries in
-    let there = λ (missing : queue.popped ≡ next_of queue). both_ways _ (c.front.ensures.none.1 (rw (← c.self.view_is) missing)) c.if-is_none.ensures in
-    let at = front_is_popped queue (kept_of (c.in_ok-position.position, c.in_ok-position.piece)) (all_kept c.pop_first.new.self.entries) c.self.invariant.0 (ap all_kept c.in_ok-position.ensures.removal) there in
-    rw c.from.ensures at.sound
+returns-clause-sound g c = rw c.from.ensures (popped_at g c).sound
+
+pub returns-clause-next : goal.returns-clause-next
+returns-clause-next g c = rw (← c.self.view_is, c.from.ensures) (sym (popped_at g c).next)

@@ -13,12 +13,14 @@ loop-i-preserved c = elim c.if-place-ge-BIAS.branch [
     placed = λ p.
         ap (λ (s : PlainPlaced). byte_in s.bytes.items p) w.self-is
         ∙ ap (λ (items : List PlacedByte). byte_in items p) w.in_ok-push.ensures.items
-        ∙ placed_more (byte_in c.args.self.now.bytes.items) c.loop-i.self.bytes.items c.args.values.now c.args.from c.loop-i.i 0 c.loop-i-test.true c.loop-i.invariant.placed w.if-place-ge-BIAS.true p;
+        ∙ placed_more (byte_in c.args.self.now.bytes.items) c.loop-i.self.bytes.items c.args.values.now c.args.from c.loop-i.i 0 c.loop-i-test.true
+        c.loop-i.invariant.placed w.if-place-ge-BIAS.true p;
   }
   | else-place-ge-BIAS w ↦ record {
     same = ap (λ (s : PlainPlaced). s.top) w.self-is ∙ c.loop-i.invariant.same;
     placed = λ p.
         ap (λ (s : PlainPlaced). byte_in s.bytes.items p) w.self-is
-        ∙ passed_over (byte_in c.args.self.now.bytes.items) c.loop-i.self.bytes.items c.args.values.now c.args.from c.loop-i.i 0 c.loop-i-test.true c.loop-i.invariant.placed w.if-place-ge-BIAS.false p;
+        ∙ passed_over (byte_in c.args.self.now.bytes.items) c.loop-i.self.bytes.items c.args.values.now c.args.from c.loop-i.i 0 c.loop-i-test.true
+        c.loop-i.invariant.placed w.if-place-ge-BIAS.false p;
   }
 ]

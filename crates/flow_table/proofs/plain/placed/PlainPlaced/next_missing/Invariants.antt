@@ -4,4 +4,5 @@ use Rattle.flow_table.specs.Plain.{byte_in}
 use Rattle.flow_table.proofs.plain.placed.PlainPlaced.next_missing.Given as goal
 
 abbrev pub invariant-loop-position : goal.invariant-loop-position
-invariant-loop-position l = missing_within (byte_in l.self.bytes.items) (l.self.top - l.position) l.position ≡ missing_within (byte_in l.self.bytes.items) l.self.top 0
+invariant-loop-position l =
+    missing_within (byte_in l.self.bytes.items) (l.self.top - l.position) l.position ≡ missing_within (byte_in l.self.bytes.items) l.self.top 0
