@@ -2,10 +2,9 @@
 
 .PHONY: build demo test bench
 
-# Proves the program and leaves it as crates/zcrx_cli/out/zcrx_cli. `rt run` also runs it: here on a capture without
-# records (a file header alone), which writes no stream.
+# Proves the program, crate by crate, and leaves it as crates/zcrx_cli/out/zcrx_cli.
 build:
-	head -c 24 demo-data/hello.pcap | (cd crates/zcrx_cli && rt run -- replay 9000) >/dev/null
+	tools/prove_program.sh
 
 # The demo capture, as it is committed.
 demo-data/hello.pcap: tools/demo_capture.py tools/frames.py

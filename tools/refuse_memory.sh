@@ -9,7 +9,7 @@
 # since a file that finds no memory fails; and the whole run's report, where there is no such allocation or the replay
 # does without it. Anything else, a fault and a run without an end too, is `WRONG`. The status is 0 where nothing is.
 #
-# Found: 30, 45, 52, 60, 70 and 80 give status 1 with no report, 100 gives status 9 with the first application stopped.
+# Found: 31 gives status 1 with no report, 101 gives status 9 with the first application stopped.
 #
 # The tests do the same by `rt try --test --fail-alloc N` in crates/zcrx_cli: a test whose replay answers 1 then fails.
 set -u
@@ -20,12 +20,7 @@ cd "$(dirname "$0")/../crates/zcrx_cli" || exit 1
 }
 
 # What the replay prints with all its memory: README.md shows it too.
-whole="capture records 8 tcp 8 steered 8 other 0 fragment 0 cut 0 bad 0
-app 0 port 9000 written 12 loans 0 copied 0 stopped no
-app 1 port 9001 written 15 loans 0 copied 0 stopped no
-flow 0 port 9000 base 1001 bytes 12 fin yes
-flow 1 port 9001 base 4294967289 bytes 15 fin no
-status 0"
+whole=$(cat ../../demo-data/hello.report)
 
 wrong=0
 for number in "$@"; do

@@ -1,5 +1,6 @@
 -- What clap answers, by what the words say.
-use Rattle.std.proofs.Common.{◌≡◌, ◌∙◌, true, false, refl, ap, subst, arith, inl, inr, List, [], ◌∷◌, drop, Option, Some, None, option_map, All, suc}
+use Rattle.std.proofs.Common.{◌≡◌, ◌∙◌, true, false, refl, ap, subst, arith, inl, inr, List, [], ◌∷◌, drop, Option, Some, None, option_map}
+use Rattle.std.proofs.Common.{All, suc}
 use Rattle.std.specs.Prelude.{option_and_then, slice_get}
 use Rattle.std.specs.Borrow.{Bor}
 use Rattle.std.specs.Str.{IsUtf8}
@@ -41,7 +42,8 @@ module _ (names : List Text) (other : is_among names port_id ≡ false) (rows : 
   taken m (Some said) none same ends = record {
     options = λ name among.
         first_value-rows (found_of m) name ∙ first_of-all_of name (rows_of (found_of m))
-        ∙ ap (option_and_then (λ vs. slice_get vs 0)) (ap (Rattle.clap.specs.Walk.all_of name) same ∙ ends.1.each name ∙ rw (no_port names other name among) refl)
+        ∙ ap (option_and_then (λ vs. slice_get vs 0)) (ap (Rattle.clap.specs.Walk.all_of name) same ∙ ends.1.each name
+        ∙ rw (no_port names other name among) refl)
         ∙ first_of_one (value_said name said.options);
     words = raw_values-rows (found_of m) port_id ∙ ap (Rattle.clap.specs.Walk.all_of port_id) same ∙ ends.1.each port_id;
   }
@@ -52,20 +54,25 @@ module _ (names : List Text) (other : is_among names port_id ≡ false) (rows : 
   refused kind (Some said) among ends = let bad : IsAmong kind [] = subst (IsAmong kind) ends.0 among in absurd bad
 
 -- the answers to a command with these options
-module _ (names : List Text) (other : is_among names port_id ≡ false) (app : App) (is : app ≡ app_for names) (words : List Text) (text : AllText (drop 1 words)) where
+module _ (names : List Text) (other : is_among names port_id ≡ false) (app : App) (is : app ≡ app_for names) (words : List Text)
+    (text : AllText (drop 1 words)) where
   simple : is_simple_and_free app ≡ true
   simple = ap is_simple_and_free is ∙ simple_app names
 
-  pub accepted : (m : ArgMatches) → (is_simple_and_free app ≡ true → fault_of app words ≡ []) → HasMatchesOf app words m → Answers names (Some m) (sorted names (drop 1 words))
+  pub accepted : (m : ArgMatches) → (is_simple_and_free app ≡ true → fault_of app words ≡ []) → HasMatchesOf app words m
+      → Answers names (Some m) (sorted names (drop 1 words))
   accepted m kinds matches =
       let none : fault_of (app_for names) words ≡ [] = subst (λ (a : App). fault_of a words ≡ []) is (kinds simple) in
-      let same : rows_of (found_of m) ≡ matches_of (app_for names) words = (matches (and_parts _ _ simple).0).0 ∙ ap (λ (a : App). matches_of a words) is in
+      let same : rows_of (found_of m) ≡ matches_of (app_for names) words = (matches (and_parts _ _ simple).0).0
+      ∙ ap (λ (a : App). matches_of a words) is in
       taken names other (matches_of (app_for names) words) (fault_of (app_for names) words) m _ none same (parsed names other words text)
 
-  pub rejected : (e : Error) → (is_simple_and_free app ≡ true → HasKind (fault_of app words) e) → (kind_of e ≡ OutOfMemory → ⊥) → Answers names None (sorted names (drop 1 words))
+  pub rejected : (e : Error) → (is_simple_and_free app ≡ true → HasKind (fault_of app words) e) → (kind_of e ≡ OutOfMemory → ⊥)
+      → Answers names None (sorted names (drop 1 words))
   rejected e kinds memory =
       let has : HasKind (fault_of (app_for names) words) e = subst (λ (a : App). HasKind (fault_of a words) e) is (kinds simple) in
       elim has [
         | inl out ↦ absurd (memory out)
-        | inr among ↦ refused names other (matches_of (app_for names) words) (fault_of (app_for names) words) (kind_of e) _ among (parsed names other words text)
+        | inr among ↦ refused names other (matches_of (app_for names) words) (fault_of (app_for names) words) (kind_of e) _ among
+            (parsed names other words text)
       ]

@@ -23,22 +23,31 @@ joined_first (Some said) = refl
 module _ (names : List Text) (other : is_among names port_id ≡ false) where
   -- the level's fault is that of its walk and of what is held at its end
   level_is : (words : List Text) → level_fault (shape_for names) [] nothing_held words false []
-      ≡ or_else (walk_fault (shape_for names) [] (walk_from nothing_held) words) (settle_fault (rules names) false (walk (rules names) [] nothing_held words).held)
+      ≡ or_else (walk_fault (shape_for names) [] (walk_from nothing_held) words)
+      (settle_fault (rules names) false (walk (rules names) [] nothing_held words).held)
   level_is words =
       let end = (walk (rules names) [] nothing_held words).held in
-      rw (default_faults names (settled (rules names) end).rows, no_defaults names (settled (rules names) end).rows, none_required names (settled (rules names) end).rows)
+      rw (
+        default_faults names (settled (rules names) end).rows,
+        no_defaults names (settled (rules names) end).rows,
+        none_required names (settled (rules names) end).rows,
+      )
       (ap (or_else (walk_fault (shape_for names) [] (walk_from nothing_held) words)) (or_nothing (settle_fault (rules names) false end)))
 
-  level : (words : List Text) → AllText words → Ends (level_fault (shape_for names) [] nothing_held words false []) (settled (rules names) (walk (rules names) [] nothing_held words).held).rows (sorted names words)
+  level : (words : List Text) → AllText words → Ends (level_fault (shape_for names) [] nothing_held words false [])
+      (settled (rules names) (walk (rules names) [] nothing_held words).held).rows (sorted names words)
   level words text =
-      let run = (both names other words text).0 nothing_held false nothing_said refl (inl (record { passed = refl; shows = shows_nothing; once = once_nothing })) in
+      let run = (both names other words text).0 nothing_held false nothing_said refl
+      (inl (record { passed = refl; shows = shows_nothing; once = once_nothing })) in
       rw (level_is words) (rw joined_first at run)
 
   faults : (words : List Text) → fault_of (app_for names) words ≡ level_fault (shape_for names) [] nothing_held (drop 1 words) false []
-  faults words = ap (λ (a : App). built_fault a nothing_held (drop 1 words)) (built_app names) ∙ leaf_fault (record { top = shape_for names; subs = [] }) nothing_held (drop 1 words) refl
+  faults words = ap (λ (a : App). built_fault a nothing_held (drop 1 words)) (built_app names)
+      ∙ leaf_fault (record { top = shape_for names; subs = [] }) nothing_held (drop 1 words) refl
 
   rows : (words : List Text) → matches_of (app_for names) words ≡ (settled (rules names) (walk (rules names) [] nothing_held (drop 1 words)).held).rows
   rows words = ap (λ (a : App). rows_after a.top.rules (names_of a) (drop 1 words)) (built_app names) ∙ no_defaults names _
 
-  pub parsed : (words : List Text) → AllText (drop 1 words) → Ends (fault_of (app_for names) words) (matches_of (app_for names) words) (sorted names (drop 1 words))
+  pub parsed : (words : List Text) → AllText (drop 1 words)
+      → Ends (fault_of (app_for names) words) (matches_of (app_for names) words) (sorted names (drop 1 words))
   parsed words text = rw (faults words, rows words) (level (drop 1 words) text)

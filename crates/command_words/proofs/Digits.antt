@@ -1,5 +1,6 @@
 -- A word of digits is parsed to its value.
-use Rattle.std.proofs.Common.{◌≡◌, ℕ, ◌<◌, ◌≤◌, ◌^◌, List, [], ◌∷◌, length, Bool, true, false, refl, ap, subst, sym, Result, Ok, arith}
+use Rattle.std.proofs.Common.{◌≡◌, ℕ, ◌<◌, ◌≤◌, ◌^◌, List, [], ◌∷◌, length, Bool, true, false, refl, ap, subst, sym, Result, Ok}
+use Rattle.std.proofs.Common.{arith}
 use Rattle.std.specs.Char.{is_ascii_digit}
 use Rattle.std.specs.List.{list_all}
 use Rattle.std.specs.Str.{all_ascii_digits}
@@ -17,7 +18,8 @@ digits_alike (c ∷ cs) = ap (λ b. is_ascii_digit c && b) (digits_alike cs)
 own : IsNumeralModel (λ word. all_ascii_digits word ≡ true) (digits_value 10)
 own = numerals_by_value _ tells_all_ascii_digits
 
-parsed : {E : Type 0} (word : List ℕ) (result : Result ℕ E) → ParsesUnsigned 64 10 word result → list_all is_ascii_digit word ≡ true → 1 ≤ length word → length word ≤ 18 → result ≡ Ok (digits_value 10 word)
+parsed : {E : Type 0} (word : List ℕ) (result : Result ℕ E) → ParsesUnsigned 64 10 word result → list_all is_ascii_digit word ≡ true
+    → 1 ≤ length word → length word ≤ 18 → result ≡ Ok (digits_value 10 word)
 parsed word result parses digits some short =
     let all : all_ascii_digits word ≡ true = subst (λ b. b ≡ true) (sym (digits_alike word)) digits in
     let below : digits_value 10 word < 10 ^ 18 = digits_value_short own word 18 all short in
@@ -27,7 +29,8 @@ both_true : (a b : Bool) → (a && b) ≡ true → (a ≡ true) × (b ≡ true)
 both_true true b h = (refl, h)
 both_true false b h = absurd (false≢true h)
 
-pub read : {E : Type 0} (word : List ℕ) (result : Result ℕ E) → ParsesUnsigned 64 10 word result → is_number word ≡ true → result ≡ Ok (digits_value 10 word)
+pub read : {E : Type 0} (word : List ℕ) (result : Result ℕ E) → ParsesUnsigned 64 10 word result → is_number word ≡ true
+    → result ≡ Ok (digits_value 10 word)
 read word result parses number =
     let digits = both_true (nat_le 1 (length word) && nat_le (length word) 18) (list_all is_ascii_digit word) number in
     let sizes = both_true (nat_le 1 (length word)) (nat_le (length word) 18) digits.0 in

@@ -1,5 +1,6 @@
 -- What clap sees of a word, by how the word looks.
-use Rattle.std.proofs.Common.{◌≡◌, ◌∙◌, ◌<◌, ℕ, Bool, true, false, refl, sym, ap, subst, arith, List, [], ◌∷◌, length, Some, None, ◌==◌}
+use Rattle.std.proofs.Common.{◌≡◌, ◌∙◌, ◌<◌, ℕ, Bool, true, false, refl, sym, ap, subst, arith, List, [], ◌∷◌, length, Some, None}
+use Rattle.std.proofs.Common.{◌==◌}
 use Rattle.std.specs.Prelude.{slice_get}
 use Rattle.std.specs.Char.{encode_utf8}
 use Rattle.std.specs.Str.{bytes_eq, chars, IsUtf8, encode_utf8_all}
@@ -38,7 +39,8 @@ first_flag f rest text = go (chars (f ∷ rest)) refl
   where
     go : (cs : List ℕ) → chars (f ∷ rest) ≡ cs → (c : ℕ) × (slice_get (chars (f ∷ rest)) 0 ≡ Some c)
     go [] e =
-        let all : encode_utf8_all (45 ∷ []) ≡ 45 ∷ f ∷ rest = ap encode_utf8_all (sym (chars_after_dash (f ∷ rest) ∙ ap (λ cs. 45 ∷ cs) e)) ∙ encodes-chars (45 ∷ f ∷ rest) text in
+        let all : encode_utf8_all (45 ∷ []) ≡ 45 ∷ f ∷ rest = ap encode_utf8_all (sym (chars_after_dash (f ∷ rest) ∙ ap (λ cs. 45 ∷ cs) e))
+        ∙ encodes-chars (45 ∷ f ∷ rest) text in
         let bad : 45 ∷ [] ≡ 45 ∷ f ∷ rest = sym one_dash ∙ all in
         cc
     go (c ∷ cs) e = (c, rw e refl)
@@ -52,7 +54,8 @@ seen_dash [] = (refl, refl, refl)
 seen_dash (s ∷ rest) = go (s == 45) refl
   where
     go : (b : Bool) → (s == 45) ≡ b → IsSeen (after_dash (s ∷ rest)) (45 ∷ s ∷ rest)
-    go true e = let is : 45 ≡ s = sym ((Decides-eqb s 45).0 e) in subst (λ (x : ℕ). IsSeen (after_dash (x ∷ rest)) (45 ∷ x ∷ rest)) is (seen_dashes rest)
+    go true e = let is : 45 ≡ s = sym ((Decides-eqb s 45).0 e) in subst (λ (x : ℕ). IsSeen (after_dash (x ∷ rest)) (45 ∷ x ∷ rest)) is
+        (seen_dashes rest)
     go false e = rw e (
       rw e refl,
       rw e refl,

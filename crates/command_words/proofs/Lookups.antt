@@ -1,5 +1,6 @@
 -- The command that clap is given for a list of option names, as clap sees it: its rules, and what looking one up finds.
-use Rattle.std.proofs.Common.{◌≡◌, ◌∙◌, ℕ, Bool, true, false, not, ◌&&◌, ◌||◌, cond, refl, ap, List, [], ◌∷◌, Some, None, codes, is_some}
+use Rattle.std.proofs.Common.{◌≡◌, ◌∙◌, ℕ, Bool, true, false, not, ◌&&◌, ◌||◌, cond, refl, ap, List, [], ◌∷◌, Some, None, codes}
+use Rattle.std.proofs.Common.{is_some}
 use Rattle.std.specs.Prelude.{fold, count_by}
 use Rattle.std.specs.List.{list_all, list_any}
 use Rattle.std.specs.Str.{bytes_eq}
@@ -88,7 +89,8 @@ by_long [] name = refl
 by_long (known ∷ names) name = go (by_long names name) (bytes_eq known name) refl
   where
     go : arg_by_long (rules names) name ≡ cond (is_among names name) (Some (option_rule name)) None
-        → (b : Bool) → bytes_eq known name ≡ b → arg_by_long (rules (known ∷ names)) name ≡ cond (is_among (known ∷ names) name) (Some (option_rule name)) None
+        → (b : Bool) → bytes_eq known name ≡ b → arg_by_long (rules (known ∷ names)) name
+        ≡ cond (is_among (known ∷ names) name) (Some (option_rule name)) None
     go below true e = rw (e, same_text known name e) refl
     go below false e = rw e below
 
@@ -96,7 +98,8 @@ pub by_id : (names : List Text) (name : Text) → is_among names name ≡ true �
 by_id [] name h = cc
 by_id (known ∷ names) name h = go (by_id names name) (bytes_eq known name) refl
   where
-    go : (is_among names name ≡ true → arg_by_id (rules names) name ≡ Some (option_rule name)) → (b : Bool) → bytes_eq known name ≡ b → arg_by_id (rules (known ∷ names)) name ≡ Some (option_rule name)
+    go : (is_among names name ≡ true → arg_by_id (rules names) name ≡ Some (option_rule name)) → (b : Bool) → bytes_eq known name ≡ b
+        → arg_by_id (rules (known ∷ names)) name ≡ Some (option_rule name)
     go below true e = rw (e, same_text known name e) refl
     go below false e = rw e (below (rw e at h))
 
@@ -104,7 +107,8 @@ pub by_port_id : (names : List Text) → is_among names port_id ≡ false → ar
 by_port_id [] h = refl
 by_port_id (known ∷ names) h = go (by_port_id names) (bytes_eq known port_id) refl
   where
-    go : (is_among names port_id ≡ false → arg_by_id (rules names) port_id ≡ Some port_rule) → (b : Bool) → bytes_eq known port_id ≡ b → arg_by_id (rules (known ∷ names)) port_id ≡ Some port_rule
+    go : (is_among names port_id ≡ false → arg_by_id (rules names) port_id ≡ Some port_rule) → (b : Bool) → bytes_eq known port_id ≡ b
+        → arg_by_id (rules (known ∷ names)) port_id ≡ Some port_rule
     go below true e = let bad : true ≡ false = rw e at h in cc
     go below false e = rw e (below (rw e at h))
 

@@ -1,5 +1,6 @@
 -- What clap's rows show of what was said, and how one more option or word changes both.
-use Rattle.std.proofs.Common.{◌≡◌, ◌∙◌, Bool, true, false, not, ◌&&◌, ◌||◌, cond, refl, sym, ap, ap₂, List, [], ◌∷◌, ◌++◌, map, Option, Some, None, is_some, append-nil, append_assoc}
+use Rattle.std.proofs.Common.{◌≡◌, ◌∙◌, Bool, true, false, not, ◌&&◌, ◌||◌, cond, refl, sym, ap, ap₂, List, [], ◌∷◌, ◌++◌, map}
+use Rattle.std.proofs.Common.{Option, Some, None, is_some, append-nil, append_assoc}
 use Rattle.std.specs.Prelude.{find, option_map, option_and_then, slice_get, unwrap_or}
 use Rattle.std.specs.List.{list_any}
 use Rattle.std.specs.Str.{bytes_eq}
@@ -22,7 +23,8 @@ abbrev after_values : Text → Text → List Text → List Row → Option (List 
 after_values q id vs rows = cond (bytes_eq id q) (Some (unwrap_or (all_of id rows) [] ++ vs)) (all_of q rows)
 
 -- what an id has once an id got more values
-pub all_of-with_values : (q id : Text) (how : Reading) (s : ValueSource) (vs : List Text) (rows : List Row) → all_of q (with_values id how s vs rows) ≡ after_values q id vs rows
+pub all_of-with_values : (q id : Text) (how : Reading) (s : ValueSource) (vs : List Text) (rows : List Row)
+    → all_of q (with_values id how s vs rows) ≡ after_values q id vs rows
 all_of-with_values q id how s vs [] = go (bytes_eq id q) refl
   where
     go : (b : Bool) → bytes_eq id q ≡ b → all_of q (with_values id how s vs []) ≡ after_values q id vs []
@@ -31,7 +33,8 @@ all_of-with_values q id how s vs [] = go (bytes_eq id q) refl
 all_of-with_values q id how s vs (r ∷ rows) = go (all_of-with_values q id how s vs rows) (bytes_eq r.id id) (bytes_eq r.id q) refl refl
   where
     go : all_of q (with_values id how s vs rows) ≡ after_values q id vs rows
-        → (is here : Bool) → bytes_eq r.id id ≡ is → bytes_eq r.id q ≡ here → all_of q (with_values id how s vs (r ∷ rows)) ≡ after_values q id vs (r ∷ rows)
+        → (is here : Bool) → bytes_eq r.id id ≡ is → bytes_eq r.id q ≡ here
+        → all_of q (with_values id how s vs (r ∷ rows)) ≡ after_values q id vs (r ∷ rows)
     go below true true e f = let same : bytes_eq id q ≡ true = sym (change_id r.id id q (same_text r.id id e)) ∙ f in rw (e, f, same) refl
     go below true false e f = let same : bytes_eq id q ≡ false = sym (change_id r.id id q (same_text r.id id e)) ∙ f in rw (e, f, same) refl
     go below false true e f = other (bytes_eq id q) refl
@@ -60,7 +63,8 @@ has_row-all_of id (r ∷ rows) = go (has_row-all_of id rows) (bytes_eq r.id id) 
 pub first_of-all_of : (id : Text) (rows : List Row) → first_of id rows ≡ option_and_then (λ vs. slice_get vs 0) (all_of id rows)
 first_of-all_of id rows = go (find (λ (r : Row). bytes_eq r.id id) rows)
   where
-    go : (o : Option Row) → option_and_then (λ (r : Row). slice_get r.values 0) o ≡ option_and_then (λ vs. slice_get vs 0) (option_map (λ (r : Row). r.values) o)
+    go : (o : Option Row) → option_and_then (λ (r : Row). slice_get r.values 0) o
+        ≡ option_and_then (λ vs. slice_get vs 0) (option_map (λ (r : Row). r.values) o)
     go None = refl
     go (Some r) = refl
 
@@ -76,11 +80,13 @@ abbrev pub and_word : Text → Said → Said
 and_word word said = record said { words = said.words ++ word ∷ [] }
 
 pub joined_nothing : (said : Said) → joined said nothing_said ≡ said
-joined_nothing said = ap₂ (λ (os : List (Text × Text)) (ws : List Text). record { options = os; words = ws }) (append-nil said.options) (append-nil said.words)
+joined_nothing said = ap₂ (λ (os : List (Text × Text)) (ws : List Text). record { options = os; words = ws }) (append-nil said.options)
+    (append-nil said.words)
 
 pub joined_option : (name value : Text) (said after : Said) → joined said (with_option name value after) ≡ joined (and_option name value said) after
 joined_option name value said after =
-    ap (λ (os : List (Text × Text)). record { options = os; words = said.words ++ after.words }) (sym (append_assoc said.options ((name, value) ∷ []) after.options))
+    ap (λ (os : List (Text × Text)). record { options = os; words = said.words ++ after.words })
+    (sym (append_assoc said.options ((name, value) ∷ []) after.options))
 
 pub joined_word : (word : Text) (said after : Said) → joined said (with_word word after) ≡ joined (and_word word said) after
 joined_word word said after =
@@ -112,18 +118,21 @@ twice : (name : Text) (xs ys : List Text) → has_name name xs ≡ true → is_d
 twice name [] ys h = let bad : false ≡ true = h in cc
 twice name (x ∷ xs) ys h = go (twice name xs ys) (bytes_eq x name) refl
   where
-    go : (has_name name xs ≡ true → is_distinct bytes_eq (xs ++ name ∷ ys) ≡ false) → (b : Bool) → bytes_eq x name ≡ b → is_distinct bytes_eq ((x ∷ xs) ++ name ∷ ys) ≡ false
+    go : (has_name name xs ≡ true → is_distinct bytes_eq (xs ++ name ∷ ys) ≡ false) → (b : Bool) → bytes_eq x name ≡ b
+        → is_distinct bytes_eq ((x ∷ xs) ++ name ∷ ys) ≡ false
     go below true e = rw (list_any-append (bytes_eq x) xs (name ∷ ys), e, or_true (list_any (bytes_eq x) xs)) refl
     go below false e = rw (below (rw e at h)) (false_and (not (list_any (bytes_eq x) (xs ++ name ∷ ys))))
 
 -- a new name after others
-once_more : (name : Text) (xs : List Text) → is_distinct bytes_eq xs ≡ true → has_name name xs ≡ false → is_distinct bytes_eq (xs ++ name ∷ []) ≡ true
+once_more : (name : Text) (xs : List Text) → is_distinct bytes_eq xs ≡ true → has_name name xs ≡ false
+    → is_distinct bytes_eq (xs ++ name ∷ []) ≡ true
 once_more name [] d h = refl
 once_more name (x ∷ xs) d h =
     let parts = and_parts (not (list_any (bytes_eq x) xs)) (is_distinct bytes_eq xs) d in
     let others = or_parts (bytes_eq x name) (has_name name xs) h in
     let rest = once_more name xs parts.1 others.1 in
-    let fresh : list_any (bytes_eq x) xs ≡ false = elim (list_any (bytes_eq x) xs) as (λ b. not b ≡ true → b ≡ false) [ true ↦ λ (e : false ≡ true). cc | false ↦ λ e. refl ] parts.0 in
+    let fresh : list_any (bytes_eq x) xs ≡ false = elim (list_any (bytes_eq x) xs) as
+    (λ b. not b ≡ true → b ≡ false) [ true ↦ λ (e : false ≡ true). cc | false ↦ λ e. refl ] parts.0 in
     rw (list_any-append (bytes_eq x) xs (name ∷ []), others.0, fresh, rest) refl
 
 value_said-is_some : (name : Text) (options : List (Text × Text)) → is_some (value_said name options) ≡ has_name name (map (λ o. o.0) options)
@@ -143,7 +152,8 @@ once_nothing = refl
 
 pub once_option : (name value : Text) (said : Said) → IsOnce said → is_some (value_said name said.options) ≡ false → IsOnce (and_option name value said)
 once_option name value said once new =
-    rw (map-append (λ (o : Text × Text). o.0) said.options ((name, value) ∷ [])) (once_more name (names_said said) once (sym (value_said-is_some name said.options) ∙ new))
+    rw (map-append (λ (o : Text × Text). o.0) said.options ((name, value) ∷ []))
+    (once_more name (names_said said) once (sym (value_said-is_some name said.options) ∙ new))
 
 -- an option that was said before is said twice, whatever follows
 pub IsTwice : Said → Type 0
@@ -153,7 +163,8 @@ pub said_twice : (name value : Text) (said : Said) → is_some (value_said name 
 unfolding IsTwice
 said_twice name value said old after =
     ap (is_distinct bytes_eq) (map-append (λ (o : Text × Text). o.0) (said.options ++ (name, value) ∷ []) after.options
-    ∙ ap (λ ks. ks ++ names_said after) (map-append (λ (o : Text × Text). o.0) said.options ((name, value) ∷ [])) ∙ append_assoc (names_said said) (name ∷ []) (names_said after))
+    ∙ ap (λ ks. ks ++ names_said after) (map-append (λ (o : Text × Text). o.0) said.options ((name, value) ∷ []))
+    ∙ append_assoc (names_said said) (name ∷ []) (names_said after))
     ∙ twice name (names_said said) (names_said after) (sym (value_said-is_some name said.options) ∙ old)
 
 pub twice_none : (said : Said) (o : Option Said) → IsTwice said → each_once (option_map (joined said) o) ≡ None
@@ -179,7 +190,8 @@ mapped_some : (o : Option Text) → is_some (option_map (λ v. v ∷ []) o) ≡ 
 mapped_some None = refl
 mapped_some (Some v) = refl
 
-pub has_row_said : (name : Text) (rows : List Row) (said : Said) → Shows rows said → bytes_eq port_id name ≡ false → has_row name rows ≡ is_some (value_said name said.options)
+pub has_row_said : (name : Text) (rows : List Row) (said : Said) → Shows rows said → bytes_eq port_id name ≡ false
+    → has_row name rows ≡ is_some (value_said name said.options)
 has_row_said name rows said shows other =
     has_row-all_of name rows ∙ ap is_some (shows.each name) ∙ rw other (mapped_some (value_said name said.options))
 
@@ -207,7 +219,8 @@ none_of None h = refl
 none_of (Some v) h = let bad : true ≡ false = h in cc
 
 -- one more option
-pub shows_option : (name value : Text) (rows : List Row) (said : Said) → Shows rows said → bytes_eq port_id name ≡ false → is_some (value_said name said.options) ≡ false
+pub shows_option : (name value : Text) (rows : List Row) (said : Said) → Shows rows said → bytes_eq port_id name ≡ false
+    → is_some (value_said name said.options) ≡ false
     → Shows (used (option_rule name) (value ∷ []) rows) (and_option name value said)
 shows_option name value rows said shows other new = record { each = each }
   where

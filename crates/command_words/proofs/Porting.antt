@@ -1,5 +1,7 @@
 -- The ports of words, one after another; and what a list of ports that is read is.
-use Rattle.std.proofs.Common.{◌≡◌, ◌∙◌, ◌<◌, ◌≤◌, ◌+◌, ◌++◌, ◌&&◌, ℕ, Bool, true, false, not, refl, sym, ap, subst, arith, add-one, zero, suc, List, [], ◌∷◌, drop, length, get_or, Option, Some, None, option_map, append_assoc, append-nil, nat_eq, All}
+use Rattle.std.proofs.Common.{◌≡◌, ◌∙◌, ◌<◌, ◌≤◌, ◌+◌, ◌++◌, ◌&&◌, ℕ, Bool, true, false, not, refl, sym, ap, subst, arith}
+use Rattle.std.proofs.Common.{add-one, zero, suc, List, [], ◌∷◌, drop, length, get_or, Option, Some, None, option_map, append_assoc, append-nil, nat_eq}
+use Rattle.std.proofs.Common.{All}
 use Rattle.std.proofs.Math.Seq.{drop-cons}
 use Rattle.std.proofs.lemmas.List.{drop_all}
 use Rattle.std.specs.Prelude.{IfSome, option_and_then, nat_le}
@@ -23,7 +25,8 @@ ports_from words i = all_ports (texts (drop i words))
 abbrev first_then : Option ℕ → Option (List ℕ) → Option (List ℕ)
 first_then port rest = option_and_then (λ p. option_map (λ ports. p ∷ ports) rest) port
 
-next_port : (words : List (Bor (List ℕ))) (i : ℕ) (d : Bor (List ℕ)) → i < length words → ports_from words i ≡ first_then (port_of (get_or words i d).now) (ports_from words (i + 1))
+next_port : (words : List (Bor (List ℕ))) (i : ℕ) (d : Bor (List ℕ)) → i < length words
+    → ports_from words i ≡ first_then (port_of (get_or words i d).now) (ports_from words (i + 1))
 next_port words i d lt = rw (add-one, drop-cons words i d lt) refl
 
 onto_next : (ports : List ℕ) (p : ℕ) (rest : Option (List ℕ)) → onto ports (first_then (Some p) rest) ≡ onto (ports ++ p ∷ []) rest
@@ -31,17 +34,22 @@ onto_next ports p None = refl
 onto_next ports p (Some rest) = ap Some (sym (append_assoc ports (p ∷ []) rest))
 
 -- one more port
-pub port_read : (words : List (Bor (List ℕ))) (i : ℕ) (d : Bor (List ℕ)) (ports : List ℕ) (p : ℕ) → i < length words → Some p ≡ port_of (get_or words i d).now
+pub port_read : (words : List (Bor (List ℕ))) (i : ℕ) (d : Bor (List ℕ)) (ports : List ℕ) (p : ℕ) → i < length words
+    → Some p ≡ port_of (get_or words i d).now
     → all_ports (texts words) ≡ onto ports (ports_from words i) → all_ports (texts words) ≡ onto (ports ++ p ∷ []) (ports_from words (i + 1))
 port_read words i d ports p lt is before =
-    before ∙ ap (onto ports) (next_port words i d lt ∙ ap (λ o. first_then o (ports_from words (i + 1))) (sym is)) ∙ onto_next ports p (ports_from words (i + 1))
+    before ∙ ap (onto ports) (next_port words i d lt ∙ ap (λ o. first_then o (ports_from words (i + 1))) (sym is))
+    ∙ onto_next ports p (ports_from words (i + 1))
 
 -- no port
-pub port_missing : (words : List (Bor (List ℕ))) (i : ℕ) (d : Bor (List ℕ)) (ports : List ℕ) → i < length words → None ≡ port_of (get_or words i d).now
+pub port_missing : (words : List (Bor (List ℕ))) (i : ℕ) (d : Bor (List ℕ)) (ports : List ℕ) → i < length words
+    → None ≡ port_of (get_or words i d).now
     → all_ports (texts words) ≡ onto ports (ports_from words i) → None ≡ all_ports (texts words)
-port_missing words i d ports lt is before = sym (before ∙ ap (onto ports) (next_port words i d lt ∙ ap (λ o. first_then o (ports_from words (i + 1))) (sym is)))
+port_missing words i d ports lt is before = sym (before ∙ ap (onto ports)
+    (next_port words i d lt ∙ ap (λ o. first_then o (ports_from words (i + 1))) (sym is)))
 
-pub all_read : (words : List (Bor (List ℕ))) (i : ℕ) (ports : List ℕ) → length words ≤ i → all_ports (texts words) ≡ onto ports (ports_from words i) → Some ports ≡ all_ports (texts words)
+pub all_read : (words : List (Bor (List ℕ))) (i : ℕ) (ports : List ℕ) → length words ≤ i
+    → all_ports (texts words) ≡ onto ports (ports_from words i) → Some ports ≡ all_ports (texts words)
 all_read words i ports past before = sym (before ∙ rw (drop_all i words past) (ap Some (append-nil ports)))
 
 -- ---- what a list of ports that is read is
@@ -54,7 +62,8 @@ none_same : (x : ℕ) (xs : List ℕ) → not (list_any (nat_eq x) xs) ≡ true 
 none_same x [] h = tt
 none_same x (y ∷ ys) h = go (nat_eq x y) refl (none_same x ys)
   where
-    go : (b : Bool) → nat_eq x y ≡ b → (not (list_any (nat_eq x) ys) ≡ true → AllByRecursion (λ y. nat_eq x y ≡ false) ys) → AllByRecursion (λ y. nat_eq x y ≡ false) (y ∷ ys)
+    go : (b : Bool) → nat_eq x y ≡ b → (not (list_any (nat_eq x) ys) ≡ true → AllByRecursion (λ y. nat_eq x y ≡ false) ys)
+        → AllByRecursion (λ y. nat_eq x y ≡ false) (y ∷ ys)
     go true e below = let bad : false ≡ true = rw e at h in cc
     go false e below = (e, below (rw e at h))
 
@@ -133,7 +142,8 @@ ports_shown None = []
 ports_shown (Some (replay told)) = told.ports
 
 -- a replay that is read has a list of ports
-pub replay_read : (said : Option Said) (command : Option Command) → option_map command_shown command ≡ option_and_then replay_of said → IfSome command HasPorts
+pub replay_read : (said : Option Said) (command : Option Command) → option_map command_shown command ≡ option_and_then replay_of said
+    → IfSome command HasPorts
 replay_read said None is = tt
 replay_read None (Some (Replay told)) is = cc
 replay_read (Some said) (Some (Replay told)) is = go (ports_of said.words) refl

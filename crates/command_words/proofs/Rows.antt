@@ -87,7 +87,8 @@ unfolding assigned
 both_forms = refl
 
 -- a lone dash is a plain word
-lone_dash : sorted names (codes "--size" ∷ codes "-" ∷ codes "-" ∷ []) ≡ Some (record { options = (codes "size", codes "-") ∷ []; words = codes "-" ∷ [] })
+lone_dash : sorted names (codes "--size" ∷ codes "-" ∷ codes "-" ∷ [])
+    ≡ Some (record { options = (codes "size", codes "-") ∷ []; words = codes "-" ∷ [] })
 unfolding assigned
 lone_dash = refl
 

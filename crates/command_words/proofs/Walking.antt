@@ -1,17 +1,21 @@
 -- clap's walk over the words gives what the words say: it refuses them exactly where they say nothing, and else its rows
 -- show what they say.
-use Rattle.std.proofs.Common.{◌≡◌, ◌∙◌, ◌⊎◌, ◌<◌, ℕ, Bool, true, false, ◌||◌, cond, refl, sym, ap, subst, arith, inl, inr, List, [], ◌∷◌, length, Option, Some, None, is_some, zero, suc}
+use Rattle.std.proofs.Common.{◌≡◌, ◌∙◌, ◌⊎◌, ◌<◌, ℕ, Bool, true, false, ◌||◌, cond, refl, sym, ap, subst, arith, inl, inr, List, []}
+use Rattle.std.proofs.Common.{◌∷◌, length, Option, Some, None, is_some, zero, suc}
 use Rattle.std.specs.Prelude.{fold, option_map, slice_get}
 use Rattle.std.specs.Str.{bytes_eq, chars, IsUtf8}
-use Rattle.clap.specs.Walk.{Held, Row, Walk, Waiting, subcommand_met, has_row, idle, option, positional, value, settled_rows, used, walked, word_met, is_pending}
+use Rattle.clap.specs.Walk.{Held, Row, Walk, Waiting, subcommand_met, has_row, idle, option, positional, value, settled_rows, used, walked, word_met}
+use Rattle.clap.specs.Walk.{is_pending}
 use Rattle.clap.specs.Kinds.{Kinds, or_else}
 use Rattle.clap.specs.declared.error.kind.ErrorKind.{ErrorKind}
 use Rattle.clap.specs.Faults.{settle_fault, turn_fault, walk_fault, word_fault, flags_fault}
-use Rattle.command_words.specs.Assigned.{Text, Look, closing, named, dashed, plain, Said, assigned, each_once, is_among, look_of, nothing_said, said_by, value_said, with_option, with_word}
+use Rattle.command_words.specs.Assigned.{Text, Look, closing, named, dashed, plain, Said, assigned, each_once, is_among, look_of, nothing_said, said_by}
+use Rattle.command_words.specs.Assigned.{value_said, with_option, with_word}
 use Rattle.command_words.specs.Asking.{port_id}
 use Rattle.command_words.proofs.Lookups.{by_id, by_index, by_long, by_port_id, by_short, same_text, text_is_itself, option_rule, port_rule, rules, shape_for}
 use Rattle.command_words.proofs.Looks.{Dashes, IsSeen, seen}
-use Rattle.command_words.proofs.Matching.{IsOnce, IsTwice, Shows, and_option, and_word, false_and, has_row_said, joined, joined_nothing, joined_option, joined_word, once_option, once_some, said_twice, shows_option, shows_word, twice_none}
+use Rattle.command_words.proofs.Matching.{IsOnce, IsTwice, Shows, and_option, and_word, false_and, has_row_said, joined, joined_nothing, joined_option}
+use Rattle.command_words.proofs.Matching.{joined_word, once_option, once_some, said_twice, shows_option, shows_word, twice_none}
 
 -- ---- faults
 
@@ -56,7 +60,8 @@ module _ (names : List Text) (other : is_among names port_id ≡ false) where
   abbrev turn : Walk → Text → Kinds
   turn w word = turn_fault (shape_for names) [] w word
 
-  step : (w w' : Walk) (word : Text) (words : List Text) (said : Option Said) → turn w word ≡ [] → walked (rules names) [] w word ≡ w' → Runs w' words said → Runs w (word ∷ words) said
+  step : (w w' : Walk) (word : Text) (words : List Text) (said : Option Said) → turn w word ≡ [] → walked (rules names) [] w word ≡ w'
+      → Runs w' words said → Runs w (word ∷ words) said
   unfolding walk_fault
   step w w' word words said passed moved h =
       let after : Runs (walked (rules names) [] w word) words said = subst (λ (v : Walk). Runs v words said) (sym moved) h in
@@ -103,7 +108,8 @@ module _ (names : List Text) (other : is_among names port_id ≡ false) where
     once = s.once;
   }
 
-  trailing_end : (h : Held) (waiting : Waiting) (is_trailing : Bool) (said : Said) → Holds h said → Runs (at h waiting is_trailing) [] (each_once (Some (joined said nothing_said)))
+  trailing_end : (h : Held) (waiting : Waiting) (is_trailing : Bool) (said : Said) → Holds h said
+      → Runs (at h waiting is_trailing) [] (each_once (Some (joined said nothing_said)))
   unfolding walk_fault
   trailing_end h waiting is_trailing said (inl s) =
       subst (λ (all : Said). Ends (settle h) (rows_of h) (each_once (Some all))) (sym (joined_nothing said)) (rw (once_some said s.once) (s.passed, s.shows))
@@ -114,16 +120,19 @@ module _ (names : List Text) (other : is_among names port_id ≡ false) where
   after_closing [] h waiting said holds = trailing_end h waiting true said holds
   after_closing (word ∷ words) h waiting said (inl s) =
       step _ _ word words _ (port_turn h waiting true word refl refl ∙ s.passed) (port_moved h waiting true word refl)
-      (subst (λ (all : Said). Runs (at (with_port h word) positional true) words (each_once (Some all))) (sym (joined_word word said (record { options = []; words = words })))
+      (subst (λ (all : Said). Runs (at (with_port h word) positional true) words (each_once (Some all)))
+      (sym (joined_word word said (record { options = []; words = words })))
       (after_closing words (with_port h word) positional (and_word word said) (inl (port_holds h word said s))))
   after_closing (word ∷ words) h waiting said (inr c) =
-      refuse _ word words _ (subst IsRefused (sym (port_turn h waiting true word refl refl)) c.refused) (twice_none said (Some (record { options = []; words = word ∷ words })) c.twice)
+      refuse _ word words _ (subst IsRefused (sym (port_turn h waiting true word refl refl)) c.refused)
+      (twice_none said (Some (record { options = []; words = word ∷ words })) c.twice)
 
   -- after `--` nothing mends a fault
   trailing_refused : (words : List Text) (h : Held) (waiting : Waiting) → IsRefused (settle h) → Runs (at h waiting true) words None
   unfolding walk_fault
   trailing_refused [] h waiting refused = refused
-  trailing_refused (word ∷ words) h waiting refused = refuse (at h waiting true) word words None (subst IsRefused (sym (port_turn h waiting true word refl refl)) refused) refl
+  trailing_refused (word ∷ words) h waiting refused = refuse (at h waiting true) word words None
+      (subst IsRefused (sym (port_turn h waiting true word refl refl)) refused) refl
 
   -- ---- the words before `--`
 
@@ -149,11 +158,13 @@ module _ (names : List Text) (other : is_among names port_id ≡ false) where
       go true e = let bad : false ≡ true = sym other ∙ (ap (is_among names) (same_text port_id name e) ∙ among) in cc
       go false e = e
 
-  regroup_option : (name text : Text) (said : Said) (o : Option Said) → option_map (joined said) (option_map (with_option name text) o) ≡ option_map (joined (and_option name text said)) o
+  regroup_option : (name text : Text) (said : Said) (o : Option Said)
+      → option_map (joined said) (option_map (with_option name text) o) ≡ option_map (joined (and_option name text said)) o
   regroup_option name text said None = refl
   regroup_option name text said (Some after) = ap Some (joined_option name text said after)
 
-  regroup_word : (word : Text) (said : Said) (o : Option Said) → option_map (joined said) (option_map (with_word word) o) ≡ option_map (joined (and_word word said)) o
+  regroup_word : (word : Text) (said : Said) (o : Option Said)
+      → option_map (joined said) (option_map (with_word word) o) ≡ option_map (joined (and_word word said)) o
   regroup_word word said None = refl
   regroup_word word said (Some after) = ap Some (joined_word word said after)
 
@@ -184,16 +195,19 @@ module _ (names : List Text) (other : is_among names port_id ≡ false) where
           })
 
   -- a word of flags
-  flags_refused : (k : ℕ) (flags : Text) (skip : ℕ) (h : Held) (c : ℕ) → 0 < k → skip ≡ 0 → slice_get (chars flags) 0 ≡ Some c → IsRefused (flags_fault (rules names) false k flags skip h)
+  flags_refused : (k : ℕ) (flags : Text) (skip : ℕ) (h : Held) (c : ℕ) → 0 < k → skip ≡ 0 → slice_get (chars flags) 0 ≡ Some c
+      → IsRefused (flags_fault (rules names) false k flags skip h)
   unfolding flags_fault
   flags_refused zero flags skip h c some none first = absurd (omega arith)
   flags_refused (suc k) flags skip h c some none first = rw (none, first, by_short names c) (some_refused _ _)
 
-  dashed_refused : (h : Held) (waiting : Waiting) (word : Text) → subcommand_met [] waiting word ≡ None → h.skip ≡ 0 → IsUtf8 word → IsSeen dashed word → IsRefused (turn (at h waiting false) word)
+  dashed_refused : (h : Held) (waiting : Waiting) (word : Text) → subcommand_met [] waiting word ≡ None → h.skip ≡ 0 → IsUtf8 word
+      → IsSeen dashed word → IsRefused (turn (at h waiting false) word)
   dashed_refused h waiting word alone none text is =
       let flags = is.2 in
       let c = flags.first text in
-      rw (alone, is.0, is.1, flags.short) (first_refused _ _ (flags_refused (length flags.flags) flags.flags h.skip (record h { skip = 0 }) c.0 flags.some none c.1))
+      rw (alone, is.0, is.1, flags.short) (first_refused _ _
+      (flags_refused (length flags.flags) flags.flags h.skip (record h { skip = 0 }) c.0 flags.some none c.1))
 
   -- no subcommand is met
   calm_alone : (is_positional : Bool) (word : Text) → subcommand_met [] (calm is_positional) word ≡ None
@@ -205,35 +219,42 @@ module _ (names : List Text) (other : is_among names port_id ≡ false) where
   closing_turn : (h : Held) (waiting : Waiting) → subcommand_met [] waiting Dashes ≡ None → turn (at h waiting false) Dashes ≡ []
   closing_turn h waiting alone = rw alone refl
 
-  closing_moved : (h : Held) (waiting : Waiting) → subcommand_met [] waiting Dashes ≡ None → walked (rules names) [] (at h waiting false) Dashes ≡ at h waiting true
+  closing_moved : (h : Held) (waiting : Waiting) → subcommand_met [] waiting Dashes ≡ None
+      → walked (rules names) [] (at h waiting false) Dashes ≡ at h waiting true
   unfolding walked
   closing_moved h waiting alone = rw alone refl
 
   -- a named option that none knows
-  unknown_refused : (h : Held) (waiting : Waiting) (word name : Text) (v : Option Text) → subcommand_met [] waiting word ≡ None → IsSeen (named name v) word → is_among names name ≡ false
+  unknown_refused : (h : Held) (waiting : Waiting) (word name : Text) (v : Option Text) → subcommand_met [] waiting word ≡ None
+      → IsSeen (named name v) word → is_among names name ≡ false
       → IsRefused (turn (at h waiting false) word)
   unknown_refused h waiting word name v alone is among = rw (alone, is.0, is.1, by_long names name, among) (some_refused _ _)
 
   -- a named option where what is held can't settle
-  clash_refused : (h : Held) (waiting : Waiting) (word name : Text) (v : Option Text) → subcommand_met [] waiting word ≡ None → IsSeen (named name v) word → is_among names name ≡ true
+  clash_refused : (h : Held) (waiting : Waiting) (word name : Text) (v : Option Text) → subcommand_met [] waiting word ≡ None → IsSeen (named name v) word
+      → is_among names name ≡ true
       → IsRefused (settle h) → IsRefused (turn (at h waiting false) word)
   clash_refused h waiting word name None alone is among refused = rw (alone, is.0, is.1, by_long names name, among) (first_refused _ _ refused)
-  clash_refused h waiting word name (Some text) alone is among refused = rw (alone, is.0, is.1, by_long names name, among) (first_refused _ _ (first_refused _ _ refused))
+  clash_refused h waiting word name (Some text) alone is among refused = rw (alone, is.0, is.1, by_long names name, among)
+      (first_refused _ _ (first_refused _ _ refused))
 
   abbrev with_attached : Held → Text → Text → Held
   with_attached h name text = record { rows = used (option_rule name) (text ∷ []) (rows_of h); pending = None; skip = h.skip }
 
-  attached_moved : (h : Held) (waiting : Waiting) (word name text : Text) → subcommand_met [] waiting word ≡ None → IsSeen (named name (Some text)) word → is_among names name ≡ true
+  attached_moved : (h : Held) (waiting : Waiting) (word name text : Text) → subcommand_met [] waiting word ≡ None → IsSeen (named name (Some text)) word
+      → is_among names name ≡ true
       → walked (rules names) [] (at h waiting false) word ≡ at (with_attached h name text) idle false
   unfolding walked
   attached_moved h waiting word name text alone is among = rw (alone, is.0, is.1, by_long names name, among) refl
 
-  opened_moved : (h : Held) (waiting : Waiting) (word name : Text) → subcommand_met [] waiting word ≡ None → IsSeen (named name None) word → is_among names name ≡ true
+  opened_moved : (h : Held) (waiting : Waiting) (word name : Text) → subcommand_met [] waiting word ≡ None → IsSeen (named name None) word
+      → is_among names name ≡ true
       → walked (rules names) [] (at h waiting false) word ≡ at (open_option (rows_of h) h.skip name) (option name) false
   unfolding walked
   opened_moved h waiting word name alone is among = rw (alone, is.0, is.1, by_long names name, among) refl
 
-  attached : (h : Held) (waiting : Waiting) (word name text : Text) (words : List Text) (said : Said) → subcommand_met [] waiting word ≡ None → IsSeen (named name (Some text)) word
+  attached : (h : Held) (waiting : Waiting) (word name text : Text) (words : List Text) (said : Said) → subcommand_met [] waiting word ≡ None
+      → IsSeen (named name (Some text)) word
       → is_among names name ≡ true → h.skip ≡ 0 → Settles h said → Free words
       → Runs (at h waiting false) (word ∷ words) (each_once (option_map (joined said) (option_map (with_option name text) (assigned names None words))))
   attached h waiting word name text words said alone is among none s free = go (is_some (value_said name said.options)) refl
@@ -257,49 +278,61 @@ module _ (names : List Text) (other : is_among names port_id ≡ false) where
           let present = row ∙ old in
           let refused : IsRefused (turn (at h waiting false) word) = rw (alone, is.0, is.1, by_long names name, among, s.passed, present) (some_refused _ _) in
           refuse (at h waiting false) word words _ refused
-          (ap each_once (regroup_option name text said (assigned names None words)) ∙ twice_none (and_option name text said) (assigned names None words) (said_twice name text said old))
+          (ap each_once (regroup_option name text said (assigned names None words))
+          ∙ twice_none (and_option name text said) (assigned names None words) (said_twice name text said old))
 
-  plain_turn : (h : Held) (is_positional : Bool) (word : Text) → IsSeen plain word → word_met (rules names) [] false (calm is_positional) 1 word h ≡ (h, value)
+  plain_turn : (h : Held) (is_positional : Bool) (word : Text) → IsSeen plain word
+      → word_met (rules names) [] false (calm is_positional) 1 word h ≡ (h, value)
   plain_turn h true word is = rw (is.0, is.1, is.2) refl
   plain_turn h false word is = rw (is.0, is.1, is.2) refl
 
-  plain_passed : (h : Held) (waiting : Waiting) (word : Text) → subcommand_met [] waiting word ≡ None → IsSeen plain word → word_fault (shape_for names) [] false waiting word h ≡ []
+  plain_passed : (h : Held) (waiting : Waiting) (word : Text) → subcommand_met [] waiting word ≡ None → IsSeen plain word
+      → word_fault (shape_for names) [] false waiting word h ≡ []
   plain_passed h waiting word alone is = rw (alone, is.0, is.1, is.2) refl
 
   abbrev Says : Option Text → Look → Text → List Text → Said → Option Said
   Says waits look word words said = each_once (option_map (joined said) (said_by names waits look word words (λ w. assigned names w words)))
 
-  free_step : (look : Look) (word : Text) (words : List Text) → IsSeen look word → IsUtf8 word → Free words → Awaits words → (h : Held) (p : Bool) (said : Said) → h.skip ≡ 0 → Holds h said
+  free_step : (look : Look) (word : Text) (words : List Text) → IsSeen look word → IsUtf8 word → Free words → Awaits words
+      → (h : Held) (p : Bool) (said : Said) → h.skip ≡ 0 → Holds h said
       → Runs (at h (calm p) false) (word ∷ words) (Says None look word words said)
   free_step closing word words is text free awaits h p said none holds =
       subst (λ (t : Text). Runs (at h (calm p) false) (t ∷ words) (each_once (Some (joined said (record { options = []; words = words }))))) (sym is)
-      (step (at h (calm p) false) _ Dashes words _ (closing_turn h (calm p) (calm_alone p Dashes)) (closing_moved h (calm p) (calm_alone p Dashes)) (after_closing words h (calm p) said holds))
+      (step (at h (calm p) false) _ Dashes words _ (closing_turn h (calm p) (calm_alone p Dashes)) (closing_moved h (calm p) (calm_alone p Dashes))
+      (after_closing words h (calm p) said holds))
   free_step (named name (Some v)) word words is text free awaits h p said none holds = go (is_among names name) refl holds
     where
-      go : (b : Bool) → is_among names name ≡ b → Holds h said → Runs (at h (calm p) false) (word ∷ words) (Says None (named name (Some v)) word words said)
-      go false among any = refuse (at h (calm p) false) word words _ (unknown_refused h (calm p) word name (Some v) (calm_alone p word) is among) (rw among refl)
+      go : (b : Bool) → is_among names name ≡ b → Holds h said
+          → Runs (at h (calm p) false) (word ∷ words) (Says None (named name (Some v)) word words said)
+      go false among any = refuse (at h (calm p) false) word words _ (unknown_refused h (calm p) word name (Some v) (calm_alone p word) is among)
+          (rw among refl)
       go true among (inl s) = rw among (attached h (calm p) word name v words said (calm_alone p word) is among none s free)
       go true among (inr c) =
-          refuse (at h (calm p) false) word words _ (clash_refused h (calm p) word name (Some v) (calm_alone p word) is among c.refused) (twice_none said _ c.twice)
+          refuse (at h (calm p) false) word words _ (clash_refused h (calm p) word name (Some v) (calm_alone p word) is among c.refused)
+          (twice_none said _ c.twice)
   free_step (named name None) word words is text free awaits h p said none holds = go (is_among names name) refl holds
     where
-      go : (b : Bool) → is_among names name ≡ b → Holds h said → Runs (at h (calm p) false) (word ∷ words) (Says None (named name None) word words said)
+      go : (b : Bool) → is_among names name ≡ b → Holds h said
+          → Runs (at h (calm p) false) (word ∷ words) (Says None (named name None) word words said)
       go false among any = refuse (at h (calm p) false) word words _ (unknown_refused h (calm p) word name None (calm_alone p word) is among) (rw among refl)
       go true among (inl s) =
           let alone = calm_alone p word in
           let passed : turn (at h (calm p) false) word ≡ [] = rw (alone, is.0, is.1, by_long names name, among, s.passed) refl in
-          rw among (step (at h (calm p) false) _ word words _ passed (opened_moved h (calm p) word name alone is among) (awaits (rows_of h) h.skip name said none among s.shows s.once))
+          rw among (step (at h (calm p) false) _ word words _ passed (opened_moved h (calm p) word name alone is among)
+          (awaits (rows_of h) h.skip name said none among s.shows s.once))
       go true among (inr c) =
           refuse (at h (calm p) false) word words _ (clash_refused h (calm p) word name None (calm_alone p word) is among c.refused) (twice_none said _ c.twice)
   free_step dashed word words is text free awaits h p said none holds =
       refuse (at h (calm p) false) word words _ (dashed_refused h (calm p) word (calm_alone p word) none text is) refl
   free_step plain word words is text free awaits h p said none (inl s) =
       let met = plain_turn h p word is in
-      step (at h (calm p) false) _ word words _ (port_turn h (calm p) false word (plain_passed h (calm p) word (calm_alone p word) is) met ∙ s.passed) (port_moved h (calm p) false word met)
+      step (at h (calm p) false) _ word words _ (port_turn h (calm p) false word (plain_passed h (calm p) word (calm_alone p word) is) met ∙ s.passed)
+      (port_moved h (calm p) false word met)
       (rw (regroup_word word said (assigned names None words)) (free (with_port h word) true (and_word word said) none (inl (port_holds h word said s))))
   free_step plain word words is text free awaits h p said none (inr c) =
       let met = plain_turn h p word is in
-      refuse (at h (calm p) false) word words _ (subst IsRefused (sym (port_turn h (calm p) false word (plain_passed h (calm p) word (calm_alone p word) is) met)) c.refused)
+      refuse (at h (calm p) false) word words _ (subst IsRefused
+      (sym (port_turn h (calm p) false word (plain_passed h (calm p) word (calm_alone p word) is) met)) c.refused)
       (twice_none said _ c.twice)
 
   -- ---- a word where an option waits for its value
@@ -307,7 +340,8 @@ module _ (names : List Text) (other : is_among names port_id ≡ false) where
   open_refused : (rows : List Row) (skip : ℕ) (name : Text) → is_among names name ≡ true → IsRefused (settle (open_option rows skip name))
   open_refused rows skip name among = rw (by_id names name among) (some_refused _ _)
 
-  value_turn : (rows : List Row) (skip : ℕ) (name word : Text) → is_among names name ≡ true → IsSeen plain word → turn (at (open_option rows skip name) (option name) false) word ≡ []
+  value_turn : (rows : List Row) (skip : ℕ) (name word : Text) → is_among names name ≡ true → IsSeen plain word
+      → turn (at (open_option rows skip name) (option name) false) word ≡ []
   value_turn rows skip name word among is = rw (is.0, is.1, is.2) refl
 
   value_moved : (rows : List Row) (skip : ℕ) (name word : Text) → is_among names name ≡ true → IsSeen plain word
@@ -315,7 +349,8 @@ module _ (names : List Text) (other : is_among names port_id ≡ false) where
   unfolding walked
   value_moved rows skip name word among is = rw (is.0, is.1, is.2, by_id names name among, text_is_itself name) refl
 
-  named_refused : (rows : List Row) (skip : ℕ) (name word other_name : Text) (v : Option Text) → is_among names name ≡ true → IsSeen (named other_name v) word
+  named_refused : (rows : List Row) (skip : ℕ) (name word other_name : Text) (v : Option Text) → is_among names name ≡ true
+      → IsSeen (named other_name v) word
       → IsRefused (turn (at (open_option rows skip name) (option name) false) word)
   named_refused rows skip name word other_name v among is = go (is_among names other_name) refl
     where
@@ -323,19 +358,25 @@ module _ (names : List Text) (other : is_among names port_id ≡ false) where
       go false e = unknown_refused (open_option rows skip name) (option name) word other_name v refl is e
       go true e = clash_refused (open_option rows skip name) (option name) word other_name v refl is e (open_refused rows skip name among)
 
-  awaits_step : (look : Look) (word : Text) (words : List Text) → IsSeen look word → IsUtf8 word → Free words → (rows : List Row) (skip : ℕ) (name : Text) (said : Said) → skip ≡ 0
-      → is_among names name ≡ true → Shows rows said → IsOnce said → Runs (at (open_option rows skip name) (option name) false) (word ∷ words) (Says (Some name) look word words said)
+  awaits_step : (look : Look) (word : Text) (words : List Text) → IsSeen look word → IsUtf8 word → Free words
+      → (rows : List Row) (skip : ℕ) (name : Text) (said : Said) → skip ≡ 0
+      → is_among names name ≡ true → Shows rows said → IsOnce said
+      → Runs (at (open_option rows skip name) (option name) false) (word ∷ words) (Says (Some name) look word words said)
   awaits_step closing word words is text free rows skip name said none among shows once =
       let h = open_option rows skip name in
       subst (λ (t : Text). Runs (at h (option name) false) (t ∷ words) None) (sym is)
-      (step (at h (option name) false) _ Dashes words None (closing_turn h (option name) refl) (closing_moved h (option name) refl) (trailing_refused words h (option name) (open_refused rows skip name among)))
+      (step (at h (option name) false) _ Dashes words None (closing_turn h (option name) refl) (closing_moved h (option name) refl)
+      (trailing_refused words h (option name) (open_refused rows skip name among)))
   awaits_step (named other_name v) word words is text free rows skip name said none among shows once =
       refuse (at (open_option rows skip name) (option name) false) word words None (named_refused rows skip name word other_name v among is) refl
   awaits_step dashed word words is text free rows skip name said none among shows once =
-      refuse (at (open_option rows skip name) (option name) false) word words None (dashed_refused (open_option rows skip name) (option name) word refl none text is) refl
+      refuse (at (open_option rows skip name) (option name) false) word words None
+      (dashed_refused (open_option rows skip name) (option name) word refl none text is) refl
   awaits_step plain word words is text free rows skip name said none among shows once =
-      step (at (open_option rows skip name) (option name) false) _ word words _ (value_turn rows skip name word among is) (value_moved rows skip name word among is)
-      (rw (regroup_option name word said (assigned names None words)) (free (with_value rows skip name word) false (and_option name word said) none (option_holds rows skip name word said among shows once)))
+      step (at (open_option rows skip name) (option name) false) _ word words _ (value_turn rows skip name word among is)
+      (value_moved rows skip name word among is)
+      (rw (regroup_option name word said (assigned names None words))
+      (free (with_value rows skip name word) false (and_option name word said) none (option_holds rows skip name word said among shows once)))
 
   -- ---- all words
 
@@ -348,5 +389,6 @@ module _ (names : List Text) (other : is_among names port_id ≡ false) where
   both (word ∷ words) text =
       let after = both words text.1 in (
         (λ h p said none holds. free_step (look_of word) word words (seen word) text.0 after.0 after.1 h p said none holds),
-        (λ rows skip name said none among shows once. awaits_step (look_of word) word words (seen word) text.0 after.0 rows skip name said none among shows once),
+        (λ rows skip name said none among shows once. awaits_step (look_of word) word words
+            (seen word) text.0 after.0 rows skip name said none among shows once),
       )

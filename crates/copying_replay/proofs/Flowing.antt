@@ -1,5 +1,6 @@
 -- How the flows and the shelves stand after a flow received a segment.
-use Rattle.std.proofs.Common.{◌≡◌, ◌≢◌, ℕ, ◌+◌, ◌≤◌, ◌<◌, List, [], ◌∷◌, ◌++◌, length, set, Vec, Option, Some, None, option_map, refl, sym, ap, subst, ◌∙◌, ◌⊎◌, ⊎_elim, inl, inr, append_assoc, length-append, arith}
+use Rattle.std.proofs.Common.{◌≡◌, ◌≢◌, ℕ, ◌+◌, ◌≤◌, ◌<◌, List, [], ◌∷◌, ◌++◌, length, set, Vec, Option, Some, None}
+use Rattle.std.proofs.Common.{option_map, refl, sym, ap, subst, ◌∙◌, ◌⊎◌, ⊎_elim, inl, inr, append_assoc, length-append, arith}
 use Rattle.std.specs.List.{slice_get}
 use Rattle.std.specs.Io.KnownBytes.{Keeps}
 use Rattle.std.specs.declared.alloc.Global.{Global}
@@ -64,7 +65,8 @@ followed-stopped {a = a} {b = b} followed stops = record {
 }
 
 -- its application was stopped: what the flow receives goes nowhere
-pub followed-received : {stopped : Stopped} {a b : Option (List ℕ)} {base : ℕ} {placed : Placed ℕ} {count : ℕ} {queue : Queue (Vec ℕ Global)} (s : ℕ) (values : List ℕ)
+pub followed-received : {stopped : Stopped} {a b : Option (List ℕ)} {base : ℕ} {placed : Placed ℕ} {count : ℕ} {queue : Queue (Vec ℕ Global)}
+    (s : ℕ) (values : List ℕ)
     → IsFollowed stopped a b base placed count queue → stopped ≢ stop.No → IsFollowed stopped a b base (received base placed s values) count queue
 followed-received {stopped = stopped} {a = a} {b = b} {base = base} {placed = placed} s values followed stops =
     let (more, is) = front_of-received base placed s values in
@@ -80,7 +82,8 @@ followed-received {stopped = stopped} {a = a} {b = b} {base = base} {placed = pl
     }
 
 -- where its application is stopped, its queue doesn't matter
-followed-any : {stopped : Stopped} {a b : Option (List ℕ)} {base : ℕ} {placed : Placed ℕ} {count : ℕ} {queue : Queue (Vec ℕ Global)} (other : Queue (Vec ℕ Global))
+followed-any : {stopped : Stopped} {a b : Option (List ℕ)} {base : ℕ} {placed : Placed ℕ} {count : ℕ} {queue : Queue (Vec ℕ Global)}
+    (other : Queue (Vec ℕ Global))
     → IsFollowed stopped a b base placed count queue → stopped ≢ stop.No → IsFollowed stopped a b base placed count other
 followed-any other followed stops = record { gained = followed.gained; follows = λ no. absurd (stops no) }
 
@@ -92,21 +95,26 @@ cases_stopped stop.Memory = inr (λ is. cc)
 
 -- ---- the shelves
 
-kept_in-here : {T : Type 0} (kept : T → ℕ → Option (List ℕ)) (shelves : List T) (app number : ℕ) (shelf : T) → slice_get shelves app ≡ Some shelf → kept_in kept shelves app number ≡ kept shelf number
+kept_in-here : {T : Type 0} (kept : T → ℕ → Option (List ℕ)) (shelves : List T) (app number : ℕ) (shelf : T) → slice_get shelves app ≡ Some shelf
+    → kept_in kept shelves app number ≡ kept shelf number
 kept_in-here kept shelves app number shelf is = rw is refl
 
-kept_in-same : {T : Type 0} (kept : T → ℕ → Option (List ℕ)) (shelves later : List T) (app number : ℕ) → slice_get later app ≡ slice_get shelves app → kept_in kept later app number ≡ kept_in kept shelves app number
+kept_in-same : {T : Type 0} (kept : T → ℕ → Option (List ℕ)) (shelves later : List T) (app number : ℕ)
+    → slice_get later app ≡ slice_get shelves app → kept_in kept later app number ≡ kept_in kept shelves app number
 kept_in-same kept shelves later app number is = rw is refl
 
-losses_in-here : {T : Type 0} (losses : T → ℕ) (shelves : List T) (app : ℕ) (shelf : T) → slice_get shelves app ≡ Some shelf → losses_in losses shelves app ≡ losses shelf
+losses_in-here : {T : Type 0} (losses : T → ℕ) (shelves : List T) (app : ℕ) (shelf : T) → slice_get shelves app ≡ Some shelf
+    → losses_in losses shelves app ≡ losses shelf
 losses_in-here losses shelves app shelf is = rw is refl
 
-losses_in-same : {T : Type 0} (losses : T → ℕ) (shelves later : List T) (app : ℕ) → slice_get later app ≡ slice_get shelves app → losses_in losses later app ≡ losses_in losses shelves app
+losses_in-same : {T : Type 0} (losses : T → ℕ) (shelves later : List T) (app : ℕ) → slice_get later app ≡ slice_get shelves app
+    → losses_in losses later app ≡ losses_in losses shelves app
 losses_in-same losses shelves later app is = rw is refl
 
 -- ---- the parts of one flow
 
-pub record Parts (lines : List FlowLine) (queues : List (Queue (Vec ℕ Global))) (apps : List AppLine) (number : ℕ) (flow : Flow) (P : FlowLine → Queue (Vec ℕ Global) → AppLine → Type 0) : Type 0 where
+pub record Parts (lines : List FlowLine) (queues : List (Queue (Vec ℕ Global))) (apps : List AppLine) (number : ℕ) (flow : Flow)
+    (P : FlowLine → Queue (Vec ℕ Global) → AppLine → Type 0) : Type 0 where
   pub line : FlowLine
   pub queue : Queue (Vec ℕ Global)
   pub app : AppLine
@@ -115,20 +123,27 @@ pub record Parts (lines : List FlowLine) (queues : List (Queue (Vec ℕ Global))
   pub app_is : slice_get apps flow.app ≡ Some app
   pub holds : P line queue app
 
-ThereParts : List FlowLine → List (Queue (Vec ℕ Global)) → List AppLine → ℕ → Flow → (FlowLine → Queue (Vec ℕ Global) → AppLine → Type 0) → Type 0
-ThereParts lines queues apps number flow P = There (slice_get lines number) (λ line. There (slice_get queues number) (λ queue. There (slice_get apps flow.app) (λ app. P line queue app)))
+ThereParts : List FlowLine → List (Queue (Vec ℕ Global)) → List AppLine → ℕ → Flow → (FlowLine → Queue (Vec ℕ Global) → AppLine → Type 0)
+    → Type 0
+ThereParts lines queues apps number flow P =
+    There (slice_get lines number) (λ line. There (slice_get queues number) (λ queue. There (slice_get apps flow.app) (λ app. P line queue app)))
 
-module _ (lines : List FlowLine) (queues : List (Queue (Vec ℕ Global))) (apps : List AppLine) (number : ℕ) (flow : Flow) (P : FlowLine → Queue (Vec ℕ Global) → AppLine → Type 0) where
-  pub parts_of : There (slice_get lines number) (λ line. There (slice_get queues number) (λ queue. There (slice_get apps flow.app) (λ app. P line queue app))) → Parts lines queues apps number flow P
+module _ (lines : List FlowLine) (queues : List (Queue (Vec ℕ Global))) (apps : List AppLine) (number : ℕ) (flow : Flow)
+    (P : FlowLine → Queue (Vec ℕ Global) → AppLine → Type 0) where
+  pub parts_of : There (slice_get lines number)
+      (λ line. There (slice_get queues number) (λ queue. There (slice_get apps flow.app) (λ app. P line queue app)))
+      → Parts lines queues apps number flow P
   parts_of found =
       let (line, line_is, in_line) = there (slice_get lines number) _ found in
       let (queue, queue_is, in_queue) = there (slice_get queues number) _ in_line in
       let (app, app_is, in_app) = there (slice_get apps flow.app) _ in_queue in
       record { line = line; queue = queue; app = app; line_is = line_is; queue_is = queue_is; app_is = app_is; holds = in_app }
 
-  pub from_parts : Parts lines queues apps number flow P → There (slice_get lines number) (λ line. There (slice_get queues number) (λ queue. There (slice_get apps flow.app) (λ app. P line queue app)))
+  pub from_parts : Parts lines queues apps number flow P
+      → There (slice_get lines number) (λ line. There (slice_get queues number) (λ queue. There (slice_get apps flow.app) (λ app. P line queue app)))
   from_parts parts =
-      it_is_there (slice_get lines number) (λ line. There (slice_get queues number) (λ queue. There (slice_get apps flow.app) (λ app. P line queue app))) parts.line parts.line_is
+      it_is_there (slice_get lines number)
+      (λ line. There (slice_get queues number) (λ queue. There (slice_get apps flow.app) (λ app. P line queue app))) parts.line parts.line_is
       (it_is_there (slice_get queues number) (λ queue. There (slice_get apps flow.app) (λ app. P parts.line queue app)) parts.queue parts.queue_is
       (it_is_there (slice_get apps flow.app) (λ app. P parts.line parts.queue app) parts.app parts.app_is parts.holds))
 
@@ -137,13 +152,15 @@ module _ (lines : List FlowLine) (queues : List (Queue (Vec ℕ Global))) (apps 
 same_some : {A : Type 0} (x y : A) (found : Option A) → found ≡ Some x → found ≡ Some y → x ≡ y
 same_some x y found is_x is_y = cc
 
-module _ {T : Type 0} {kept : T → ℕ → Option (List ℕ)} {losses : T → ℕ} {first now : List T} {ports : List ℕ} {flows : List Flow} {placed after : ℕ → Placed ℕ}
+module _ {T : Type 0} {kept : T → ℕ → Option (List ℕ)} {losses : T
+    → ℕ} {first now : List T} {ports : List ℕ} {flows : List Flow} {placed after : ℕ → Placed ℕ}
     {lines : List FlowLine} {queues : List (Queue (Vec ℕ Global))} {apps : List AppLine}
     (stands : Stands kept losses first now ports flows placed lines queues apps)
     (n : ℕ) (own : Flow) (own_is : slice_get flows n ≡ Some own) (same : (f : ℕ) → f ≢ n → after f ≡ placed f)
     (app : AppLine) (app_is : slice_get apps own.app ≡ Some app) where
   -- by a flow whose application was stopped before
-  pub stands-passed : (s : ℕ) (values : List ℕ) → app.stopped ≢ stop.No → after n ≡ received own.base (placed n) s values → Stands kept losses first now ports flows after lines queues apps
+  pub stands-passed : (s : ℕ) (values : List ℕ) → app.stopped ≢ stop.No → after n ≡ received own.base (placed n) s values
+      → Stands kept losses first now ports flows after lines queues apps
   stands-passed s values stops received_is = record {
     many_lines = stands.many_lines;
     many_queues = stands.many_queues;
@@ -165,10 +182,12 @@ module _ {T : Type 0} {kept : T → ℕ → Option (List ℕ)} {losses : T → �
                 let same_flow : flow ≡ own = cc in
                 let at : slice_get apps flow.app ≡ Some app = ap (λ fl. slice_get apps fl.app) same_flow ∙ app_is in
                 let same_app : parts.app ≡ app = same_some parts.app app (slice_get apps flow.app) parts.app_is at in
-                let is_received : received flow.base (placed f) s values ≡ after f = ap (λ fl. received fl.base (placed f) s values) same_flow ∙ ap (λ m. received own.base (placed m) s values) e ∙ sym received_is ∙ ap after (sym e) in
+                let is_received : received flow.base (placed f) s values ≡ after f = ap (λ fl. received fl.base (placed f) s values) same_flow
+                ∙ ap (λ m. received own.base (placed m) s values) e ∙ sym received_is ∙ ap after (sym e) in
                 subst (λ p. IsFollowed parts.app.stopped old new flow.base p parts.line.bytes parts.queue) is_received
                 (followed-received s values parts.holds.1 (λ no. stops (ap (λ a. a.stopped) (sym same_app) ∙ no))))
-                (λ (other : f ≢ n). subst (λ p. IsFollowed parts.app.stopped old new flow.base p parts.line.bytes parts.queue) (sym (same f other)) parts.holds.1)
+                (λ (other : f ≢ n). subst (λ p. IsFollowed parts.app.stopped old new flow.base p parts.line.bytes parts.queue)
+                (sym (same f other)) parts.holds.1)
                 (cases_eq f n),
             parts.holds.2,
           );
@@ -185,12 +204,17 @@ module _ {T : Type 0} {kept : T → ℕ → Option (List ℕ)} {losses : T → �
       (line later_line : FlowLine) (line_is : slice_get lines n ≡ Some line) (same_line : IsLineOf own line → IsLineOf own later_line)
       (queue later_queue : Queue (Vec ℕ Global)) (queue_is : slice_get queues n ≡ Some queue)
       (stopped : Stopped) (quits_not : stopped ≢ stop.Quit)
-      (later_queues : List (Queue (Vec ℕ Global))) (many_queues : length later_queues ≡ length queues) (here : stopped ≡ stop.No → slice_get later_queues n ≡ Some later_queue)
-      (elsewhere : (f : ℕ) (flow : Flow) → slice_get flows f ≡ Some flow → f ≢ n → (stopped ≡ stop.No) ⊎ (flow.app ≢ own.app) → slice_get later_queues f ≡ slice_get queues f)
-      (emptied : stopped ≢ stop.No → (f : ℕ) (flow : Flow) → slice_get flows f ≡ Some flow → flow.app ≡ own.app → There (slice_get later_queues f) (λ q. q.kept ≡ []))
-      (later_apps : List AppLine) (many_apps : length later_apps ≡ length apps) (own_app : slice_get later_apps own.app ≡ Some (record app { stopped = stopped }))
+      (later_queues : List (Queue (Vec ℕ Global))) (many_queues : length later_queues ≡ length queues)
+      (here : stopped ≡ stop.No → slice_get later_queues n ≡ Some later_queue)
+      (elsewhere : (f : ℕ) (flow : Flow) → slice_get flows f ≡ Some flow → f ≢ n → (stopped ≡ stop.No) ⊎ (flow.app ≢ own.app)
+      → slice_get later_queues f ≡ slice_get queues f)
+      (emptied : stopped ≢ stop.No → (f : ℕ) (flow : Flow) → slice_get flows f ≡ Some flow → flow.app ≡ own.app
+      → There (slice_get later_queues f) (λ q. q.kept ≡ []))
+      (later_apps : List AppLine) (many_apps : length later_apps ≡ length apps)
+      (own_app : slice_get later_apps own.app ≡ Some (record app { stopped = stopped }))
       (other_apps : (a : ℕ) → a ≢ own.app → slice_get later_apps a ≡ slice_get apps a)
-      (received_is : (old : Option (List ℕ)) → IsFollowed stop.No old (kept shelf n) own.base (placed n) line.bytes queue → IsFollowed stopped old (kept later_shelf n) own.base (after n) later_line.bytes later_queue)
+      (received_is : (old : Option (List ℕ)) → IsFollowed stop.No old (kept shelf n) own.base (placed n) line.bytes queue
+      → IsFollowed stopped old (kept later_shelf n) own.base (after n) later_line.bytes later_queue)
       (others : (f : ℕ) → f ≢ n → Keeps (kept shelf f) (kept later_shelf f))
       (later : losses shelf ≤ losses later_shelf) (cause : stopped ≡ stop.Write → Rose (losses shelf) (losses later_shelf)) where
     later_shelves : List T
@@ -210,12 +234,14 @@ module _ {T : Type 0} {kept : T → ℕ → Option (List ℕ)} {losses : T → �
         (λ (e : a ≡ own.app). subst (λ b. Keeps (kept_in kept now b f) (kept_in kept later_shelves b f)) (sym e)
         (subst (λ k. Keeps k (kept_in kept later_shelves own.app f)) (sym (kept_in-here kept now own.app f shelf shelf_is))
         (subst (λ k. Keeps (kept shelf f) k) (sym (kept_in-here kept later_shelves own.app f later_shelf shelf_here)) (others f other))))
-        (λ (away : a ≢ own.app). subst (λ k. Keeps (kept_in kept now a f) k) (sym (kept_in-same kept now later_shelves a f (shelf_there a away))) (Keeps-refl (kept_in kept now a f)))
+        (λ (away : a ≢ own.app). subst (λ k. Keeps (kept_in kept now a f) k) (sym (kept_in-same kept now later_shelves a f (shelf_there a away)))
+        (Keeps-refl (kept_in kept now a f)))
         (cases_eq a own.app)
 
     -- how each flow stands now
     LaterParts : (f : ℕ) (flow : Flow) → Type 0
-    LaterParts f flow = Parts (set lines n later_line) later_queues later_apps f flow (λ line queue app. FlowStands (kept_in kept first flow.app f) (kept_in kept later_shelves flow.app f) flow (after f) line queue app)
+    LaterParts f flow = Parts (set lines n later_line) later_queues later_apps f flow
+        (λ line queue app. FlowStands (kept_in kept first flow.app f) (kept_in kept later_shelves flow.app f) flow (after f) line queue app)
 
     -- this flow
     this : LaterParts n own
@@ -230,16 +256,34 @@ module _ {T : Type 0} {kept : T → ℕ → Option (List ℕ)} {losses : T → �
         subst (λ k. IsFollowed stop.No old k own.base (placed n) line.bytes queue) (kept_in-here kept now own.app n shelf shelf_is)
         (subst (λ q. IsFollowed stop.No old (kept_in kept now own.app n) own.base (placed n) line.bytes q) same_queue
         (subst (λ l. IsFollowed stop.No old (kept_in kept now own.app n) own.base (placed n) l.bytes parts.queue) same_line_is
-        (subst (λ s. IsFollowed s old (kept_in kept now own.app n) own.base (placed n) parts.line.bytes parts.queue) (ap (λ a. a.stopped) same_app ∙ goes) parts.holds.1))) in
+        (subst (λ s. IsFollowed s old (kept_in kept now own.app n) own.base (placed n) parts.line.bytes parts.queue)
+        (ap (λ a. a.stopped) same_app ∙ goes) parts.holds.1))) in
         let is : IsFollowed stopped old (kept_in kept later_shelves own.app n) own.base (after n) later_line.bytes later_queue =
-        subst (λ k. IsFollowed stopped old k own.base (after n) later_line.bytes later_queue) (sym (kept_in-here kept later_shelves own.app n later_shelf shelf_here)) (received_is old was) in
+        subst (λ k. IsFollowed stopped old k own.base (after n) later_line.bytes later_queue)
+        (sym (kept_in-here kept later_shelves own.app n later_shelf shelf_here)) (received_is old was) in
         let its_line : IsLineOf own later_line = same_line (subst (IsLineOf own) same_line_is parts.holds.0) in
         let line_now : slice_get (set lines n later_line) n ≡ Some later_line = get-set_same lines n later_line (get-within lines n line line_is) in
         ⊎_elim
-        (λ no. record { line = later_line; queue = later_queue; app = record app { stopped = stopped }; line_is = line_now; queue_is = here no; app_is = own_app; holds = (its_line, is, λ stops. absurd (stops no)) })
+        (λ no. record {
+          line = later_line;
+          queue = later_queue;
+          app = record app { stopped = stopped };
+          line_is = line_now;
+          queue_is = here no;
+          app_is = own_app;
+          holds = (its_line, is, λ stops. absurd (stops no));
+        })
         (λ stops.
         let (some, some_is, none) = there (slice_get later_queues n) _ (emptied stops n own own_is refl) in
-        record { line = later_line; queue = some; app = record app { stopped = stopped }; line_is = line_now; queue_is = some_is; app_is = own_app; holds = (its_line, followed-any some is stops, λ _. none) })
+        record {
+          line = later_line;
+          queue = some;
+          app = record app { stopped = stopped };
+          line_is = line_now;
+          queue_is = some_is;
+          app_is = own_app;
+          holds = (its_line, followed-any some is stops, λ _. none);
+        })
         (cases_stopped stopped)
 
     -- a flow of the same application
@@ -253,7 +297,8 @@ module _ {T : Type 0} {kept : T → ℕ → Option (List ℕ)} {losses : T → �
         let new : Option (List ℕ) = kept_in kept later_shelves flow.app f in
         let kept_now : IsFollowed stop.No old new flow.base (after f) parts.line.bytes parts.queue =
         subst (λ p. IsFollowed stop.No old new flow.base p parts.line.bytes parts.queue) (sym (same f other))
-        (followed-kept (subst (λ s. IsFollowed s old (kept_in kept now flow.app f) flow.base (placed f) parts.line.bytes parts.queue) (ap (λ a. a.stopped) same_app ∙ goes) parts.holds.1) (keeps flow.app f other)) in
+        (followed-kept (subst (λ s. IsFollowed s old (kept_in kept now flow.app f) flow.base (placed f) parts.line.bytes parts.queue)
+        (ap (λ a. a.stopped) same_app ∙ goes) parts.holds.1) (keeps flow.app f other)) in
         let line_now : slice_get (set lines n later_line) f ≡ Some parts.line = get-set_other lines n f later_line other ∙ parts.line_is in
         let app_now : slice_get later_apps flow.app ≡ Some (record app { stopped = stopped }) = ap (slice_get later_apps) same_number ∙ own_app in
         ⊎_elim
@@ -264,11 +309,23 @@ module _ {T : Type 0} {kept : T → ℕ → Option (List ℕ)} {losses : T → �
           line_is = line_now;
           queue_is = elsewhere f flow is other (inl no) ∙ parts.queue_is;
           app_is = app_now;
-          holds = (parts.holds.0, subst (λ s. IsFollowed s old new flow.base (after f) parts.line.bytes parts.queue) (sym no) kept_now, λ stops. absurd (stops no));
+          holds = (
+            parts.holds.0,
+            subst (λ s. IsFollowed s old new flow.base (after f) parts.line.bytes parts.queue) (sym no) kept_now,
+            λ stops. absurd (stops no),
+          );
         })
         (λ stops.
         let (some, some_is, none) = there (slice_get later_queues f) _ (emptied stops f flow is same_number) in
-        record { line = parts.line; queue = some; app = record app { stopped = stopped }; line_is = line_now; queue_is = some_is; app_is = app_now; holds = (parts.holds.0, followed-stopped kept_now stops, λ _. none) })
+        record {
+          line = parts.line;
+          queue = some;
+          app = record app { stopped = stopped };
+          line_is = line_now;
+          queue_is = some_is;
+          app_is = app_now;
+          holds = (parts.holds.0, followed-stopped kept_now stops, λ _. none);
+        })
         (cases_stopped stopped)
 
     -- a flow of another application
@@ -285,16 +342,23 @@ module _ {T : Type 0} {kept : T → ℕ → Option (List ℕ)} {losses : T → �
           line_is = get-set_other lines n f later_line other ∙ parts.line_is;
           queue_is = elsewhere f flow is other (inr other_app) ∙ parts.queue_is;
           app_is = other_apps flow.app other_app ∙ parts.app_is;
-          holds = (parts.holds.0, subst (λ p. IsFollowed parts.app.stopped old new flow.base p parts.line.bytes parts.queue) (sym (same f other)) (followed-kept parts.holds.1 (keeps flow.app f other)), parts.holds.2);
+          holds = (
+            parts.holds.0,
+            subst (λ p. IsFollowed parts.app.stopped old new flow.base p parts.line.bytes parts.queue) (sym (same f other))
+                (followed-kept parts.holds.1 (keeps flow.app f other)),
+            parts.holds.2,
+          );
         }
 
     later_flow : (f : ℕ) (flow : Flow) → slice_get flows f ≡ Some flow → LaterParts f flow
     later_flow f flow is = ⊎_elim
         (λ (e : f ≡ n). let same_flow : flow ≡ own = cc in subst (λ g. LaterParts g flow) (sym e) (subst (LaterParts n) (sym same_flow) this))
-        (λ (other : f ≢ n). ⊎_elim (λ (e : flow.app ≡ own.app). beside f flow is other e) (λ (other_app : flow.app ≢ own.app). away f flow is other other_app) (cases_eq flow.app own.app))
+        (λ (other : f ≢ n). ⊎_elim (λ (e : flow.app ≡ own.app). beside f flow is other e)
+        (λ (other_app : flow.app ≢ own.app). away f flow is other other_app) (cases_eq flow.app own.app))
         (cases_eq f n)
 
-    later_app : (a port : ℕ) → slice_get ports a ≡ Some port → There (slice_get later_apps a) (IsAppOf port (losses_in losses first a) (losses_in losses later_shelves a))
+    later_app : (a port : ℕ) → slice_get ports a ≡ Some port
+        → There (slice_get later_apps a) (IsAppOf port (losses_in losses first a) (losses_in losses later_shelves a))
     later_app a port is =
         let (one, one_is, was) = there (slice_get apps a) _ (stands.app a port is) in
         ⊎_elim
@@ -302,18 +366,25 @@ module _ {T : Type 0} {kept : T → ℕ → Option (List ℕ)} {losses : T → �
         let at : slice_get apps a ≡ Some app = ap (slice_get apps) e ∙ app_is in
         let same_app : one ≡ app = same_some one app (slice_get apps a) one_is at in
         let before : losses_in losses now a ≡ losses shelf = ap (losses_in losses now) e ∙ losses_in-here losses now own.app shelf shelf_is in
-        let behind : losses_in losses later_shelves a ≡ losses later_shelf = ap (losses_in losses later_shelves) e ∙ losses_in-here losses later_shelves own.app later_shelf shelf_here in
+        let behind : losses_in losses later_shelves a ≡ losses later_shelf = ap (losses_in losses later_shelves) e
+        ∙ losses_in-here losses later_shelves own.app later_shelf shelf_here in
         let rising : losses_in losses first a ≤ losses_in losses now a = was.later in
         it_is_there (slice_get later_apps a) _ (record app { stopped = stopped }) (ap (slice_get later_apps) e ∙ own_app) (record {
           port_is = ap (λ x. x.port) (sym same_app) ∙ was.port_is;
-          nothing = (ap (λ x. x.written) (sym same_app) ∙ was.nothing.0, ap (λ x. x.loans) (sym same_app) ∙ was.nothing.1, ap (λ x. x.copied) (sym same_app) ∙ was.nothing.2);
+          nothing = (
+            ap (λ x. x.written) (sym same_app) ∙ was.nothing.0,
+            ap (λ x. x.loans) (sym same_app)
+                ∙ was.nothing.1,
+            ap (λ x. x.copied) (sym same_app) ∙ was.nothing.2,
+          );
           quits_not = quits_not;
           later = omega (arith, before, behind, rising, later);
           cause = λ write. (let rose : Rose (losses shelf) (losses later_shelf) = cause write in omega (arith, before, behind, rising, rose));
         }))
         (λ (other : a ≢ own.app).
         let same_losses : losses_in losses later_shelves a ≡ losses_in losses now a = losses_in-same losses now later_shelves a (shelf_there a other) in
-        it_is_there (slice_get later_apps a) _ one (other_apps a other ∙ one_is) (subst (λ l. IsAppOf port (losses_in losses first a) l one) (sym same_losses) was))
+        it_is_there (slice_get later_apps a) _ one (other_apps a other ∙ one_is)
+        (subst (λ l. IsAppOf port (losses_in losses first a) l one) (sym same_losses) was))
         (cases_eq a own.app)
 
     pub stands-received : Stands kept losses first (set now own.app later_shelf) ports flows after (set lines n later_line) later_queues later_apps
@@ -324,9 +395,12 @@ module _ {T : Type 0} {kept : T → ℕ → Option (List ℕ)} {losses : T → �
       flow = λ f flow is. from_parts (set lines n later_line) later_queues later_apps f flow _ (later_flow f flow is);
       others = λ a f no_flow. ⊎_elim
           (λ (e : f ≡ n).
-          let away_from : a ≢ own.app = λ same_app. no_flow (ap (λ i. option_map (λ (fl : Flow). fl.app) (slice_get flows i)) e ∙ ap (option_map (λ (fl : Flow). fl.app)) own_is ∙ ap Some (sym same_app)) in
+          let away_from : a ≢ own.app =
+          λ same_app. no_flow (ap (λ i. option_map (λ (fl : Flow). fl.app) (slice_get flows i)) e ∙ ap (option_map (λ (fl : Flow). fl.app)) own_is
+          ∙ ap Some (sym same_app)) in
           subst (λ k. Keeps (kept_in kept first a f) k) (sym (kept_in-same kept now later_shelves a f (shelf_there a away_from))) (stands.others a f no_flow))
-          (λ (other : f ≢ n). Keeps-trans (kept_in kept first a f) (kept_in kept now a f) (kept_in kept later_shelves a f) (stands.others a f no_flow) (keeps a f other))
+          (λ (other : f ≢ n). Keeps-trans (kept_in kept first a f) (kept_in kept now a f) (kept_in kept later_shelves a f) (stands.others a f no_flow)
+          (keeps a f other))
           (cases_eq f n);
       many_apps = many_apps ∙ stands.many_apps;
       app = later_app;
@@ -351,17 +425,21 @@ follows-nothing base = record {
 followed-nothing : (stopped : Stopped) (a b : Option (List ℕ)) (base : ℕ) → Keeps a b → IsFollowed stopped a b base nothing_placed 0 (empty_queue base)
 unfolding front_of next_missing
 followed-nothing stopped a b base keeps = record {
-  gained = Gained-nothing a b (λ bytes. IsStreamed stopped (front_of nothing_placed) bytes 0) keeps (record { rest = []; front = refl; whole = λ _. refl; counted = λ _. refl; at_least = omega arith });
+  gained = Gained-nothing a b (λ bytes. IsStreamed stopped (front_of nothing_placed) bytes 0) keeps
+      (record { rest = []; front = refl; whole = λ _. refl; counted = λ _. refl; at_least = omega arith });
   follows = λ _. follows-nothing base;
 }
 
-module _ {T : Type 0} {kept : T → ℕ → Option (List ℕ)} {losses : T → ℕ} {first now : List T} {ports : List ℕ} {flows : List Flow} {placed : ℕ → Placed ℕ}
+module _ {T : Type 0} {kept : T → ℕ → Option (List ℕ)} {losses : T → ℕ} {first now : List T} {ports : List ℕ} {flows : List Flow} {placed : ℕ
+    → Placed ℕ}
     {lines : List FlowLine} {queues : List (Queue (Vec ℕ Global))} {apps : List AppLine}
     (stands : Stands kept losses first now ports flows placed lines queues apps) where
   -- which is one that is there
-  pub stands-seen : (n : ℕ) (own later_own : Flow) → slice_get flows n ≡ Some own → (later_flows : List Flow) → length later_flows ≡ length flows → ((f : ℕ) → f ≢ n → slice_get later_flows f ≡ slice_get flows f)
+  pub stands-seen : (n : ℕ) (own later_own : Flow) → slice_get flows n ≡ Some own → (later_flows : List Flow) → length later_flows ≡ length flows
+      → ((f : ℕ) → f ≢ n → slice_get later_flows f ≡ slice_get flows f)
       → slice_get later_flows n ≡ Some later_own → later_own.app ≡ own.app → later_own.base ≡ own.base
-      → (line later_line : FlowLine) → slice_get lines n ≡ Some line → (IsLineOf own line → IsLineOf later_own later_line) → later_line.bytes ≡ line.bytes
+      → (line later_line : FlowLine) → slice_get lines n ≡ Some line → (IsLineOf own line → IsLineOf later_own later_line)
+      → later_line.bytes ≡ line.bytes
       → Stands kept losses first now ports later_flows placed (set lines n later_line) queues apps
   stands-seen n own later_own own_is later_flows many others later_is app_same base_same line later_line line_is same_line bytes_same = record {
     many_lines = length-set lines n later_line ∙ stands.many_lines ∙ sym many;
@@ -374,9 +452,11 @@ module _ {T : Type 0} {kept : T → ℕ → Option (List ℕ)} {losses : T → �
         let old : Option (List ℕ) = kept_in kept first own.app n in
         let new : Option (List ℕ) = kept_in kept now own.app n in
         let followed : IsFollowed parts.app.stopped old new own.base (placed n) later_line.bytes parts.queue =
-        subst (λ b. IsFollowed parts.app.stopped old new own.base (placed n) b parts.queue) (ap (λ l. l.bytes) same_line_is ∙ sym bytes_same) parts.holds.1 in
+        subst (λ b. IsFollowed parts.app.stopped old new own.base (placed n) b parts.queue)
+        (ap (λ l. l.bytes) same_line_is ∙ sym bytes_same) parts.holds.1 in
         let its_line : IsLineOf later_own later_line = same_line (subst (IsLineOf own) same_line_is parts.holds.0) in
-        let later_parts : Parts (set lines n later_line) queues apps n later_own (λ l q a. FlowStands (kept_in kept first later_own.app n) (kept_in kept now later_own.app n) later_own (placed n) l q a) = record {
+        let later_parts : Parts (set lines n later_line) queues apps n later_own
+        (λ l q a. FlowStands (kept_in kept first later_own.app n) (kept_in kept now later_own.app n) later_own (placed n) l q a) = record {
           line = later_line;
           queue = parts.queue;
           app = parts.app;
@@ -385,17 +465,26 @@ module _ {T : Type 0} {kept : T → ℕ → Option (List ℕ)} {losses : T → �
           app_is = ap (slice_get apps) app_same ∙ parts.app_is;
           holds = (
             its_line,
-            subst (λ a. IsFollowed parts.app.stopped (kept_in kept first a n) (kept_in kept now a n) later_own.base (placed n) later_line.bytes parts.queue) (sym app_same)
+            subst (λ a. IsFollowed parts.app.stopped (kept_in kept first a n) (kept_in kept now a n) later_own.base (placed n) later_line.bytes parts.queue)
+                (sym app_same)
                 (subst (λ b. IsFollowed parts.app.stopped old new b (placed n) later_line.bytes parts.queue) (sym base_same) followed),
             parts.holds.2,
           );
         } in
-        subst (λ g. There (slice_get (set lines n later_line) g) (λ l. There (slice_get queues g) (λ q. There (slice_get apps flow.app) (λ a. FlowStands (kept_in kept first flow.app g) (kept_in kept now flow.app g) flow (placed g) l q a)))) (sym e)
-        (subst (λ fl. There (slice_get (set lines n later_line) n) (λ l. There (slice_get queues n) (λ q. There (slice_get apps fl.app) (λ a. FlowStands (kept_in kept first fl.app n) (kept_in kept now fl.app n) fl (placed n) l q a)))) (sym same_flow)
-        (from_parts (set lines n later_line) queues apps n later_own (λ l q a. FlowStands (kept_in kept first later_own.app n) (kept_in kept now later_own.app n) later_own (placed n) l q a) later_parts)))
+        subst (λ g. There (slice_get (set lines n later_line) g)
+        (λ l. There (slice_get queues g)
+        (λ q. There (slice_get apps flow.app) (λ a. FlowStands (kept_in kept first flow.app g) (kept_in kept now flow.app g) flow (placed g) l q a))))
+        (sym e)
+        (subst (λ fl. There (slice_get (set lines n later_line) n)
+        (λ l. There (slice_get queues n)
+        (λ q. There (slice_get apps fl.app) (λ a. FlowStands (kept_in kept first fl.app n) (kept_in kept now fl.app n) fl (placed n) l q a))))
+        (sym same_flow)
+        (from_parts (set lines n later_line) queues apps n later_own
+        (λ l q a. FlowStands (kept_in kept first later_own.app n) (kept_in kept now later_own.app n) later_own (placed n) l q a) later_parts)))
         (λ (other : f ≢ n).
         let parts = parts_of lines queues apps f flow _ (stands.flow f flow (sym (others f other) ∙ is)) in
-        from_parts (set lines n later_line) queues apps f flow (λ l q a. FlowStands (kept_in kept first flow.app f) (kept_in kept now flow.app f) flow (placed f) l q a) (record {
+        from_parts (set lines n later_line) queues apps f flow
+        (λ l q a. FlowStands (kept_in kept first flow.app f) (kept_in kept now flow.app f) flow (placed f) l q a) (record {
           line = parts.line;
           queue = parts.queue;
           app = parts.app;
@@ -406,7 +495,8 @@ module _ {T : Type 0} {kept : T → ℕ → Option (List ℕ)} {losses : T → �
         }))
         (cases_eq f n);
     others = λ a f no_flow. stands.others a f (λ flow_is. no_flow (⊎_elim
-        (λ (e : f ≡ n). ap (λ i. option_map (λ (fl : Flow). fl.app) (slice_get later_flows i)) e ∙ ap (option_map (λ (fl : Flow). fl.app)) later_is ∙ ap Some app_same
+        (λ (e : f ≡ n). ap (λ i. option_map (λ (fl : Flow). fl.app) (slice_get later_flows i)) e ∙ ap (option_map (λ (fl : Flow). fl.app)) later_is
+        ∙ ap Some app_same
         ∙ sym (ap (option_map (λ (fl : Flow). fl.app)) own_is) ∙ ap (λ i. option_map (λ (fl : Flow). fl.app) (slice_get flows i)) (sym e) ∙ flow_is)
         (λ (other : f ≢ n). ap (option_map (λ (fl : Flow). fl.app)) (others f other) ∙ flow_is)
         (cases_eq f n)));
@@ -417,8 +507,10 @@ module _ {T : Type 0} {kept : T → ℕ → Option (List ℕ)} {losses : T → �
   }
 
   -- which begins with it
-  pub stands-begun : (own : Flow) (app : AppLine) → slice_get apps own.app ≡ Some app → placed (length flows) ≡ nothing_placed → (line : FlowLine) → IsLineOf own line → line.bytes ≡ 0
-      → Stands kept losses first now ports (flows ++ own ∷ []) placed (lines ++ line ∷ []) (queues ++ record { base = own.base; popped = 0; kept = [] } ∷ []) apps
+  pub stands-begun : (own : Flow) (app : AppLine) → slice_get apps own.app ≡ Some app → placed (length flows) ≡ nothing_placed → (line : FlowLine)
+      → IsLineOf own line → line.bytes ≡ 0
+      → Stands kept losses first now ports (flows ++ own ∷ []) placed (lines ++ line ∷ [])
+      (queues ++ record { base = own.base; popped = 0; kept = [] } ∷ []) apps
   unfolding empty_queue
   stands-begun own app app_is nothing line is_line no_bytes = record {
     many_lines = length-append lines (line ∷ []) ∙ ap (λ n. n + 1) stands.many_lines ∙ sym (length-append flows (own ∷ []));
@@ -428,7 +520,8 @@ module _ {T : Type 0} {kept : T → ℕ → Option (List ℕ)} {losses : T → �
         let parts = parts_of lines queues apps f flow _ (stands.flow f flow (sym (get-before flows own f before) ∙ is)) in
         let many_lines = stands.many_lines in
         let many_queues = stands.many_queues in
-        from_parts (lines ++ line ∷ []) (queues ++ empty_queue own.base ∷ []) apps f flow (λ l q a. FlowStands (kept_in kept first flow.app f) (kept_in kept now flow.app f) flow (placed f) l q a) (record {
+        from_parts (lines ++ line ∷ []) (queues ++ empty_queue own.base ∷ []) apps f flow
+        (λ l q a. FlowStands (kept_in kept first flow.app f) (kept_in kept now flow.app f) flow (placed f) l q a) (record {
           line = parts.line;
           queue = parts.queue;
           app = parts.app;
@@ -440,9 +533,12 @@ module _ {T : Type 0} {kept : T → ℕ → Option (List ℕ)} {losses : T → �
         (λ (from : length flows ≤ f).
         let within : f < length (flows ++ own ∷ []) = get-within (flows ++ own ∷ []) f flow is in
         let last : f ≡ length flows = omega (arith, length-append flows (own ∷ [])) in
-        let same_flow : flow ≡ own = same_some flow own (slice_get (flows ++ own ∷ []) f) is (ap (slice_get (flows ++ own ∷ [])) last ∙ get-last flows own) in
-        let keeps : Keeps (kept_in kept first flow.app f) (kept_in kept now flow.app f) = stands.others flow.app f (λ is_some. absurd (let none : slice_get flows f ≡ None = get-behind flows f from in cc)) in
-        from_parts (lines ++ line ∷ []) (queues ++ empty_queue own.base ∷ []) apps f flow (λ l q a. FlowStands (kept_in kept first flow.app f) (kept_in kept now flow.app f) flow (placed f) l q a) (record {
+        let same_flow : flow ≡ own =
+        same_some flow own (slice_get (flows ++ own ∷ []) f) is (ap (slice_get (flows ++ own ∷ [])) last ∙ get-last flows own) in
+        let keeps : Keeps (kept_in kept first flow.app f) (kept_in kept now flow.app f) =
+        stands.others flow.app f (λ is_some. absurd (let none : slice_get flows f ≡ None = get-behind flows f from in cc)) in
+        from_parts (lines ++ line ∷ []) (queues ++ empty_queue own.base ∷ []) apps f flow
+        (λ l q a. FlowStands (kept_in kept first flow.app f) (kept_in kept now flow.app f) flow (placed f) l q a) (record {
           line = line;
           queue = empty_queue own.base;
           app = app;
@@ -451,9 +547,12 @@ module _ {T : Type 0} {kept : T → ℕ → Option (List ℕ)} {losses : T → �
           app_is = ap (λ fl. slice_get apps fl.app) same_flow ∙ app_is;
           holds = (
             subst (λ fl. IsLineOf fl line) (sym same_flow) is_line,
-            subst (λ p. IsFollowed app.stopped (kept_in kept first flow.app f) (kept_in kept now flow.app f) flow.base p line.bytes (empty_queue own.base)) (sym (ap placed last ∙ nothing))
-                (subst (λ b. IsFollowed app.stopped (kept_in kept first flow.app f) (kept_in kept now flow.app f) flow.base nothing_placed b (empty_queue own.base)) (sym no_bytes)
-                (subst (λ fl. IsFollowed app.stopped (kept_in kept first flow.app f) (kept_in kept now flow.app f) fl.base nothing_placed 0 (empty_queue own.base)) (sym same_flow)
+            subst (λ p. IsFollowed app.stopped (kept_in kept first flow.app f) (kept_in kept now flow.app f) flow.base p line.bytes (empty_queue own.base))
+                (sym (ap placed last ∙ nothing))
+                (subst (λ b. IsFollowed app.stopped (kept_in kept first flow.app f) (kept_in kept now flow.app f) flow.base nothing_placed b
+                (empty_queue own.base)) (sym no_bytes)
+                (subst (λ fl. IsFollowed app.stopped (kept_in kept first flow.app f) (kept_in kept now flow.app f) fl.base nothing_placed 0
+                (empty_queue own.base)) (sym same_flow)
                 (followed-nothing app.stopped (kept_in kept first flow.app f) (kept_in kept now flow.app f) own.base keeps))),
             λ _. refl,
           );

@@ -3,9 +3,7 @@ pub mod Turns
 pub mod Places
 pub mod Placing
 pub mod Flowing
-pub mod Values
 pub mod Tallies
-pub mod Filling
 pub mod Delivering
 pub mod Takings
 pub mod Frames

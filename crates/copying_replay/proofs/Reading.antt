@@ -11,13 +11,17 @@ captured frame original = record { frame = frame; original = original }
 
 -- ---- records
 
-with_records-append : (records : List Captured) (frame : List ℕ) (original : ℕ) (others : Records) → with_records records (with_record frame original others) ≡ with_records (records ++ record { frame = frame; original = original } ∷ []) others
+with_records-append : (records : List Captured) (frame : List ℕ) (original : ℕ) (others : Records)
+    → with_records records (with_record frame original others) ≡ with_records (records ++ record { frame = frame; original = original } ∷ []) others
 with_records-append records frame original others =
     ap (λ all. record { all = all; fault = others.fault }) (sym (append_assoc records (record { frame = frame; original = original } ∷ []) others.all))
 
-pub Holds-more : (order : ByteOrder) (records : List Captured) (frame : List ℕ) (original : ℕ) (xs ys : List ℕ) → Holds order records xs → ((rest : List ℕ) → records_in order (ys ++ rest) ≡ with_record frame original (records_in order rest)) → Holds order (records ++ record { frame = frame; original = original } ∷ []) (xs ++ ys)
+pub Holds-more : (order : ByteOrder) (records : List Captured) (frame : List ℕ) (original : ℕ) (xs ys : List ℕ) → Holds order records xs
+    → ((rest : List ℕ) → records_in order (ys ++ rest) ≡ with_record frame original (records_in order rest))
+    → Holds order (records ++ record { frame = frame; original = original } ∷ []) (xs ++ ys)
 Holds-more order records frame original xs ys holds found = λ rest.
-    ap records_of (append_assoc xs ys rest) ∙ holds (ys ++ rest) ∙ ap (with_records records) (found rest) ∙ with_records-append records frame original (records_in order rest)
+    ap records_of (append_assoc xs ys rest) ∙ holds (ys ++ rest) ∙ ap (with_records records) (found rest)
+    ∙ with_records-append records frame original (records_in order rest)
 
 pub frames-append : (xs ys : List Captured) → frames_of (xs ++ ys) ≡ frames_of xs ++ frames_of ys
 frames-append [] ys = refl
@@ -29,32 +33,38 @@ records_in-nothing order = refl
 
 -- ---- the walk over frames
 
-pub ended_after-none : (ports : List ℕ) (before : List (List ℕ)) (fault : Option Fault) → ended_after ports before [] fault ≡ record { before = before; fault = fault }
+pub ended_after-none : (ports : List ℕ) (before : List (List ℕ)) (fault : Option Fault)
+    → ended_after ports before [] fault ≡ record { before = before; fault = fault }
 unfolding ended_after
 ended_after-none ports before fault = refl
 
-ended_after-next : (ports : List ℕ) (before : List (List ℕ)) (frame : List ℕ) (more : List (List ℕ)) (fault : Option Fault) → ended_after ports before (frame ∷ more) fault ≡ ended_or (ending_at ports before frame) before (ended_after ports (before ++ frame ∷ []) more fault)
+ended_after-next : (ports : List ℕ) (before : List (List ℕ)) (frame : List ℕ) (more : List (List ℕ)) (fault : Option Fault)
+    → ended_after ports before (frame ∷ more) fault ≡ ended_or (ending_at ports before frame) before
+    (ended_after ports (before ++ frame ∷ []) more fault)
 unfolding ended_after
 ended_after-next ports before frame more fault = refl
 
 pub GoesThrough-nothing : (ports : List ℕ) → GoesThrough ports []
 GoesThrough-nothing ports = λ more fault. refl
 
-pub GoesThrough-more : (ports : List ℕ) (frames : List (List ℕ)) (frame : List ℕ) → GoesThrough ports frames → ending_at ports frames frame ≡ None → GoesThrough ports (frames ++ frame ∷ [])
+pub GoesThrough-more : (ports : List ℕ) (frames : List (List ℕ)) (frame : List ℕ) → GoesThrough ports frames → ending_at ports frames frame ≡ None
+    → GoesThrough ports (frames ++ frame ∷ [])
 GoesThrough-more ports frames frame through goes = λ more fault.
     ap (λ all. ended_after ports [] all fault) (append_assoc frames (frame ∷ []) more)
     ∙ through (frame ∷ more) fault
     ∙ ended_after-next ports frames frame more fault
     ∙ ap (λ ending. ended_or ending frames (ended_after ports (frames ++ frame ∷ []) more fault)) goes
 
-ended_after-at : (ports : List ℕ) (before : List (List ℕ)) (frame : List ℕ) (more : List (List ℕ)) (fault : Option Fault) (ends : Fault) → ending_at ports before frame ≡ Some ends → ended_after ports before (frame ∷ more) fault ≡ record { before = before; fault = Some ends }
+ended_after-at : (ports : List ℕ) (before : List (List ℕ)) (frame : List ℕ) (more : List (List ℕ)) (fault : Option Fault) (ends : Fault)
+    → ending_at ports before frame ≡ Some ends → ended_after ports before (frame ∷ more) fault ≡ record { before = before; fault = Some ends }
 ended_after-at ports before frame more fault ends is =
     ended_after-next ports before frame more fault ∙ ap (λ ending. ended_or ending before (ended_after ports (before ++ frame ∷ []) more fault)) is
 
 -- ---- the bytes that were taken, and those that follow
 
 -- the reading of all bytes goes on behind the records that were read
-pub ended_of-rest : (ports : List ℕ) (order : ByteOrder) (records : List Captured) (taken rest : List ℕ) → Holds order records taken → GoesThrough ports (frames_of records)
+pub ended_of-rest : (ports : List ℕ) (order : ByteOrder) (records : List Captured) (taken rest : List ℕ) → Holds order records taken
+    → GoesThrough ports (frames_of records)
     → ended_of ports (taken ++ rest) ≡ ended_after ports (frames_of records) (frames_of (records_in order rest).all) (records_in order rest).fault
 unfolding ended_of
 ended_of-rest ports order records taken rest holds through =
@@ -72,7 +82,8 @@ module _ (ports : List ℕ) (order : ByteOrder) (records : List Captured) (throu
       ∙ ended_after-none ports (frames_of records) None
 
   -- what follows shows a fault
-  pub ended_of-fault : (taken rest : List ℕ) (fault : Option Fault) → Holds order records taken → records_in order rest ≡ no_record fault → ended_of ports (taken ++ rest) ≡ record { before = frames_of records; fault = fault }
+  pub ended_of-fault : (taken rest : List ℕ) (fault : Option Fault) → Holds order records taken → records_in order rest ≡ no_record fault
+      → ended_of ports (taken ++ rest) ≡ record { before = frames_of records; fault = fault }
   ended_of-fault taken rest fault holds shows =
       ended_of-rest ports order records taken rest holds through
       ∙ ap (λ read. ended_after ports (frames_of records) (frames_of read.all) read.fault) shows

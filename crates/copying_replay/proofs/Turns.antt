@@ -1,25 +1,30 @@
 -- How the reading stands after one more record, and how it ends.
-use Rattle.std.proofs.Common.{◌≡◌, ℕ, ◌≤◌, List, [], ◌∷◌, ◌++◌, length, Option, None, Some, refl, sym, ap, subst, ◌∙◌, ⊎_elim, inl, inr, append_assoc, append-nil, arith}
+use Rattle.std.proofs.Common.{◌≡◌, ◌≢◌, ℕ, List, [], ◌∷◌, ◌++◌, length, Option, None, Some, refl, sym, ap, subst, ◌∙◌}
+use Rattle.std.proofs.Common.{⊎_elim, inl, inr, append_assoc, append-nil, arith}
 use Rattle.std.specs.Prelude.{IfSome, ◌==◌, Err}
 use Rattle.std.specs.Io.KnownBytes.{Keeps, IsAtEnd}
 use Rattle.std.proofs.lemmas.Bool.{cond_both}
 use Rattle.zr_kinds.specs.declared.fault.Fault.{Fault}
-use Rattle.zr_kinds.specs.declared.fault.Fault.TheVariants.{Memory, Usage, NotPcap, Version, LinkType, Cut, LongRecord, Read, Write, TooManyFlows, TooManyFrames}
+use Rattle.zr_kinds.specs.declared.fault.Fault.TheVariants.{Memory, Usage, NotPcap, Version, LinkType, Cut, LongRecord, Read, Write, TooManyFlows}
+use Rattle.zr_kinds.specs.declared.fault.Fault.TheVariants.{TooManyFrames}
 use Rattle.zr_io.specs.Moved.{Rose, Took}
 use Rattle.zr_io.proofs.Moved.{Took-nothing, Took-then, Took-weaker, Rose-earlier}
 use Rattle.pcap_reader.specs.declared.order.ByteOrder.{ByteOrder}
 use Rattle.pcap_reader.specs.Records.{Captured, Records, no_record, with_record, records_in, records_of}
-use Rattle.pcap_reader.specs.Capture.{ShowsFault, TakenShows, IsOpeningFault, IsRecordFault}
+use Rattle.pcap_reader.specs.Capture.{ShowsFault, TakenShows, IsOpeningFault, IsRecordFault, WantsMemory}
+use Rattle.pcap_reader.proofs.RecordLaws.{records_in-bodiless}
 use Rattle.flow_table.specs.Steered.{Steered}
 use Rattle.flow_table.specs.Flows.{Flow, flows_of, number_of_flow}
 use Rattle.copying_replay.specs.Ending.{Ended, ended_after, steered_in, steered_next, flow_ending, ending_at, frames_of, ended_of}
-use Rattle.copying_replay.specs.Reading.{Holds, GoesThrough, HasRead, HasEnded, ShowsEnding, TakenEnds, IsNearEnd, IsEnding, IsReadToEnd}
+use Rattle.copying_replay.specs.Reading.{Holds, GoesThrough, HasRead, HasEnded, ShowsEnding, TakenEnds, BeginsFlowAt, LacksMemory, IsEnding, IsReadToEnd}
 use Rattle.copying_replay.specs.Copying.{CopiesFrame}
-use Rattle.copying_replay.proofs.Reading.{Holds-more, frames-append, ended_after-none, GoesThrough-nothing, GoesThrough-more, ended_of-end, ended_of-fault, ended_of-frame}
+use Rattle.copying_replay.proofs.Reading.{Holds-more, frames-append, ended_after-none, GoesThrough-nothing, GoesThrough-more, ended_of-end, ended_of-fault}
+use Rattle.copying_replay.proofs.Reading.{ended_of-frame}
 
 -- ---- all bytes of a source that tells them
 
-all-rest : (left0 left : Option (List ℕ)) (P R Q : List ℕ → Type 0) → Took left0 left P → IfSome left R → ((xs rest : List ℕ) → P xs → R rest → Q (xs ++ rest)) → IfSome left0 Q
+all-rest : (left0 left : Option (List ℕ)) (P R Q : List ℕ → Type 0) → Took left0 left P → IfSome left R
+    → ((xs rest : List ℕ) → P xs → R rest → Q (xs ++ rest)) → IfSome left0 Q
 all-rest None left P R Q took shows join = tt
 all-rest (Some xs) None P R Q took shows join = absurd took
 all-rest (Some xs) (Some ys) P R Q (bs, e, p) shows join = subst Q (sym e) (join bs ys p shows)
@@ -28,7 +33,8 @@ at_end-some : (left : Option (List ℕ)) → IsAtEnd left → IfSome left (λ re
 at_end-some None at_end = tt
 at_end-some (Some xs) at_end = at_end
 
-at_end-kept : (left0 left later : Option (List ℕ)) (P : List ℕ → Type 0) → Took left0 left P → IsAtEnd left → Keeps left later → IsReadToEnd left0 later
+at_end-kept : (left0 left later : Option (List ℕ)) (P : List ℕ → Type 0) → Took left0 left P → IsAtEnd left → Keeps left later
+    → IsReadToEnd left0 later
 at_end-kept None left later P took at_end kept = tt
 at_end-kept (Some all) None later P took at_end kept = absurd took
 at_end-kept (Some all) (Some xs) None P took at_end kept = absurd kept
@@ -60,9 +66,11 @@ flow-kind flows (Some s) = cond_both (number_of_flow flows s == 65535) _ _ IsNon
 
 ending-kind : (ports : List ℕ) (frames : List (List ℕ)) (frame : List ℕ) → IsNoneOr (ending_at ports frames frame)
 unfolding ending_at
-ending-kind ports frames frame = cond_both (length frames == 16777216) _ _ IsNoneOr (λ _. tt) (λ _. flow-kind (flows_of (steered_in ports frames)) (steered_next ports frames frame))
+ending-kind ports frames frame = cond_both (length frames == 16777216) _ _ IsNoneOr (λ _. tt)
+    (λ _. flow-kind (flows_of (steered_in ports frames)) (steered_next ports frames frame))
 
-frame-kind : (ports : List ℕ) (frames : List (List ℕ)) (frame : List ℕ) (fault : Fault) → ending_at ports frames frame ≡ Some fault → IsFrameEnding fault
+frame-kind : (ports : List ℕ) (frames : List (List ℕ)) (frame : List ℕ) (fault : Fault) → ending_at ports frames frame ≡ Some fault
+    → IsFrameEnding fault
 frame-kind ports frames frame fault is = subst IsNoneOr is (ending-kind ports frames frame)
 
 -- what holds of a reading that ended by such a fault
@@ -101,107 +109,140 @@ kind-fault = record_cases (λ fault. IsEnding (Some fault)) tt tt tt tt
 abbrev Leads : Ended → List (List ℕ) → Records → Type 0
 Leads ended before records = (end : Option Fault) → records ≡ no_record end → ended ≡ record { before = before; fault = end }
 
-shown-fault : (ended : Ended) (before : List (List ℕ)) (records : Records) → Leads ended before records → (fault : Fault) → IsRecordFault fault → ShowsFault records fault → ShowsEnding ended before (Some fault)
+shown-fault : (ended : Ended) (before : List (List ℕ)) (records : Records) → Leads ended before records → (fault : Fault) → IsRecordFault fault
+    → ShowsFault records fault → ShowsEnding ended before (Some fault)
 shown-fault ended before records leads = record_cases (λ fault. ShowsFault records fault → ShowsEnding ended before (Some fault))
     (λ shows. tt) (λ shows. leads (Some Cut) shows) (λ shows. leads (Some LongRecord) shows) (λ shows. tt)
 
-taken-fault : (ended : Ended) (before : List (List ℕ)) (taken : Records) → Leads ended before taken → (fault : Fault) → IsRecordFault fault → TakenShows taken fault → TakenEnds ended before (Some fault)
-taken-fault ended before taken leads = record_cases (λ fault. TakenShows taken fault → TakenEnds ended before (Some fault))
-    (λ shows. inl (⊎_elim (λ none. ap (λ e. e.before) (leads None none)) (λ cut. ap (λ e. e.before) (leads (Some Cut) cut)) shows))
-    (λ shows. leads (Some Cut) shows) (λ shows. leads (Some LongRecord) shows)
-    (λ shows. ⊎_elim (λ none. inl (leads None none)) (λ cut. inr (leads (Some Cut) cut)) shows)
+-- a header alone is a record that breaks off
+header-cut : (order : ByteOrder) (header : List ℕ) → WantsMemory order header → records_in order header ≡ no_record (Some Cut)
+header-cut order header (whole, some, short) = ap (records_in order) (sym (append-nil header)) ∙ records_in-bodiless order header [] whole short some
 
 -- ---- the turns
 
-module _ {order : ByteOrder} {left0 left : Option (List ℕ)} {faults0 faults : ℕ} {ports : List ℕ} {records : List Captured} (read : HasRead order left0 left faults0 faults ports records) where
+module _ {order : ByteOrder} {left0 left : Option (List ℕ)} {faults0 faults : ℕ} {ports : List ℕ} {records : List Captured}
+    (read : HasRead order left0 left faults0 faults ports records) where
   -- the bytes ended
-  pub ends-without : (later : Option (List ℕ)) (now : ℕ) → IsAtEnd left → Keeps left later → HasEnded left0 later faults0 now ports (frames_of records) None
-  ends-without later now at_end kept =
-      let ends : (xs ys : List ℕ) → Holds order records xs → ys ≡ [] → ended_of ports (xs ++ ys) ≡ record { before = frames_of records; fault = None } =
-      λ xs ys holds none. ap (λ bytes. ended_of ports (xs ++ bytes)) none ∙ ap (ended_of ports) (append-nil xs) ∙ ended_of-end ports order records read.through xs holds in
+  pub ends-without : (later : Option (List ℕ)) (now : ℕ) → now ≡ faults → IsAtEnd left → Keeps left later
+      → HasEnded left0 later faults0 now ports (frames_of records) None
+  ends-without later now same at_end kept =
+      let ends : (xs ys : List ℕ) → Holds order records xs → ys ≡ []
+      → ended_of ports (xs ++ ys) ≡ record { before = frames_of records; fault = None } =
+      λ xs ys holds none. ap (λ bytes. ended_of ports (xs ++ bytes)) none ∙ ap (ended_of ports) (append-nil xs)
+      ∙ ended_of-end ports order records read.through xs holds in
       record {
         taken = Took-then left0 left later (Holds order records) (λ ys. ys ≡ []) _ ends read.taken (Took-nothing left later (λ ys. ys ≡ []) kept refl);
         shown = all-rest left0 left (Holds order records) (λ rest. rest ≡ []) _ read.taken (at_end-some left at_end) ends;
         at_end = λ _. at_end-kept left0 left later (Holds order records) read.taken at_end kept;
         kind = tt;
         cause = λ is. absurd (cc);
+        still = λ _. same ∙ read.still;
       }
+
+  leads-behind : (xs ys : List ℕ) → Holds order records xs → Leads (ended_of ports (xs ++ ys)) (frames_of records) (records_in order ys)
+  leads-behind xs ys holds end shown = ended_of-fault ports order records read.through xs ys end holds shown
+
+  taken-by : (later : Option (List ℕ)) (fault : Fault) → IsRecordFault fault → Took left later (λ taken. TakenShows (records_in order taken) fault)
+      → (fault ≡ Memory → Took left later (WantsMemory order))
+      → Took left0 later (λ taken. TakenEnds ports (ended_of ports taken) (frames_of records) (Some fault))
+  taken-by later = record_cases (λ fault. Took left later (λ taken. TakenShows (records_in order taken) fault)
+      → (fault ≡ Memory → Took left later (WantsMemory order))
+      → Took left0 later (λ taken. TakenEnds ports (ended_of ports taken) (frames_of records) (Some fault)))
+      (λ took wants. Took-then left0 left later (Holds order records) (WantsMemory order)
+      (λ taken. TakenEnds ports (ended_of ports taken) (frames_of records) (Some Memory))
+      (λ xs ys holds header. inl (leads-behind xs ys holds (Some Cut) (header-cut order ys header))) read.taken (wants refl))
+      (λ took wants. Took-then left0 left later (Holds order records) (λ ys. TakenShows (records_in order ys) Cut)
+      (λ taken. TakenEnds ports (ended_of ports taken) (frames_of records) (Some Cut))
+      (λ xs ys holds shown. leads-behind xs ys holds (Some Cut) shown) read.taken took)
+      (λ took wants. Took-then left0 left later (Holds order records) (λ ys. TakenShows (records_in order ys) LongRecord)
+      (λ taken. TakenEnds ports (ended_of ports taken) (frames_of records) (Some LongRecord))
+      (λ xs ys holds shown. leads-behind xs ys holds (Some LongRecord) shown) read.taken took)
+      (λ took wants. Took-then left0 left later (Holds order records) (λ ys. TakenShows (records_in order ys) Read)
+      (λ taken. TakenEnds ports (ended_of ports taken) (frames_of records) (Some Read))
+      (λ xs ys holds shown. ⊎_elim (λ none. inl (leads-behind xs ys holds None none))
+      (λ cut. inr (leads-behind xs ys holds (Some Cut) cut)) shown) read.taken took)
 
   -- a fault of the capture, a failed read, or want of memory for a record
-  pub ends-by : (later : Option (List ℕ)) (now : ℕ) (fault : Fault) → IsRecordFault fault → IfSome left (λ all. ShowsFault (records_in order all) fault) → Took left later (λ taken. TakenShows (records_in order taken) fault)
-      → (fault ≡ Read → Rose faults now) → HasEnded left0 later faults0 now ports (frames_of records) (Some fault)
-  ends-by later now fault is shows took cause =
-      let leads : (xs ys : List ℕ) → Holds order records xs → Leads (ended_of ports (xs ++ ys)) (frames_of records) (records_in order ys) =
-      λ xs ys holds end shown. ended_of-fault ports order records read.through xs ys end holds shown in
-      record {
-        taken = Took-then left0 left later (Holds order records) (λ ys. TakenShows (records_in order ys) fault) _
-            (λ xs ys holds shown. taken-fault (ended_of ports (xs ++ ys)) (frames_of records) (records_in order ys) (leads xs ys holds) fault is shown) read.taken took;
-        shown = all-rest left0 left (Holds order records) (λ rest. ShowsFault (records_in order rest) fault) _ read.taken shows
-            (λ xs rest holds shown. shown-fault (ended_of ports (xs ++ rest)) (frames_of records) (records_in order rest) (leads xs rest holds) fault is shown);
-        at_end = λ none. absurd (cc);
-        kind = kind-fault fault is;
-        cause = λ by. Rose-earlier faults0 faults now read.later (cause (cc));
-      }
+  pub ends-by : (later : Option (List ℕ)) (now : ℕ) (fault : Fault) → IsRecordFault fault
+      → IfSome left (λ all. ShowsFault (records_in order all) fault) → Took left later (λ taken. TakenShows (records_in order taken) fault)
+      → (fault ≡ Memory → Took left later (WantsMemory order)) → (fault ≡ Read → Rose faults now) → (fault ≢ Read → now ≡ faults)
+      → HasEnded left0 later faults0 now ports (frames_of records) (Some fault)
+  ends-by later now fault is shows took wants cause same = record {
+    taken = taken-by later fault is took wants;
+    shown = all-rest left0 left (Holds order records) (λ rest. ShowsFault (records_in order rest) fault) _ read.taken shows
+        (λ xs rest holds shown. shown-fault (ended_of ports (xs ++ rest)) (frames_of records) (records_in order rest)
+        (leads-behind xs rest holds) fault is shown);
+    at_end = λ none. absurd (cc);
+    kind = kind-fault fault is;
+    cause = λ by. Rose-earlier faults0 faults now (let unchanged : faults ≡ faults0 = read.still in omega arith) (cause (cc));
+    still = λ other. same (λ by. other (ap Some by)) ∙ read.still;
+  }
 
   -- a frame that ends it
-  pub ends-at : (later : Option (List ℕ)) (now : ℕ) (frame : List ℕ) (original : ℕ) (fault : Fault)
+  pub ends-at : (later : Option (List ℕ)) (now : ℕ) → now ≡ faults → (frame : List ℕ) (original : ℕ) (fault : Fault)
       → Took left later (λ taken. (rest : List ℕ) → records_in order (taken ++ rest) ≡ with_record frame original (records_in order rest))
       → ending_at ports (frames_of records) frame ≡ Some fault → HasEnded left0 later faults0 now ports (frames_of records) (Some fault)
-  ends-at later now frame original fault took is =
-      let Ends : List ℕ → Type 0 = λ taken. (rest : List ℕ) → ended_of ports (taken ++ rest) ≡ record { before = frames_of records; fault = Some fault } in
+  ends-at later now same frame original fault took is =
+      let Ends : List ℕ → Type 0 = λ taken. (rest : List ℕ)
+      → ended_of ports (taken ++ rest) ≡ record { before = frames_of records; fault = Some fault } in
       let both : Took left0 later Ends =
-      Took-then left0 left later (Holds order records) (λ taken. (rest : List ℕ) → records_in order (taken ++ rest) ≡ with_record frame original (records_in order rest)) Ends
-      (λ xs ys holds shows. λ rest. ap (ended_of ports) (append_assoc xs ys rest) ∙ ended_of-frame ports order records read.through xs ys rest frame original fault holds shows is)
+      Took-then left0 left later (Holds order records) (λ taken. (rest : List ℕ)
+      → records_in order (taken ++ rest) ≡ with_record frame original (records_in order rest)) Ends
+      (λ xs ys holds shows. λ rest. ap (ended_of ports) (append_assoc xs ys rest)
+      ∙ ended_of-frame ports order records read.through xs ys rest frame original fault holds shows is)
       read.taken took in
       let by : IsFrameEnding fault = frame-kind ports (frames_of records) frame fault is in
       record {
-        taken = Took-weaker left0 later Ends (λ taken. TakenEnds (ended_of ports taken) (frames_of records) (Some fault))
-            (λ taken ends. frame_cases (λ end. ended_of ports taken ≡ record { before = frames_of records; fault = end } → TakenEnds (ended_of ports taken) (frames_of records) end)
+        taken = Took-weaker left0 later Ends (λ taken. TakenEnds ports (ended_of ports taken) (frames_of records) (Some fault))
+            (λ taken ends. frame_cases (λ end. ended_of ports taken ≡ record { before = frames_of records; fault = end }
+            → TakenEnds ports (ended_of ports taken) (frames_of records) end)
             (λ e. e) (λ e. e) fault by (ap (ended_of ports) (sym (append-nil taken)) ∙ ends [])) both;
         shown = all-rest left0 later Ends (λ rest. Unit {0}) (λ all. ShowsEnding (ended_of ports all) (frames_of records) (Some fault)) both (anything later)
-            (λ taken rest ends _. frame_cases (λ end. ended_of ports (taken ++ rest) ≡ record { before = frames_of records; fault = end } → ShowsEnding (ended_of ports (taken ++ rest)) (frames_of records) end)
+            (λ taken rest ends _. frame_cases (λ end. ended_of ports (taken ++ rest) ≡ record { before = frames_of records; fault = end }
+            → ShowsEnding (ended_of ports (taken ++ rest)) (frames_of records) end)
             (λ e. e) (λ e. e) fault by (ends rest));
         at_end = λ none. absurd (cc);
         kind = frame_cases IsEnding tt tt fault by;
         cause = λ failed. absurd (frame_cases (λ end. end ≡ Some Read → ⊥) (λ e. cc) (λ e. cc) fault by failed);
+        still = λ _. same ∙ read.still;
       }
 
   pub goes_on : (later : Option (List ℕ)) (now : ℕ) (frame : List ℕ) (original : ℕ)
       → Took left later (λ taken. (rest : List ℕ) → records_in order (taken ++ rest) ≡ with_record frame original (records_in order rest))
-      → faults ≤ now → ending_at ports (frames_of records) frame ≡ None
+      → now ≡ faults → ending_at ports (frames_of records) frame ≡ None
       → HasRead order left0 later faults0 now ports (records ++ record { frame = frame; original = original } ∷ [])
-  goes_on later now frame original took rising goes =
+  goes_on later now frame original took same goes =
       let found : Captured = record { frame = frame; original = original } in
       let frames : frames_of (records ++ found ∷ []) ≡ frames_of records ++ frame ∷ [] = frames-append records (found ∷ []) in
       record {
-        taken = Took-then left0 left later (Holds order records) _ (Holds order (records ++ found ∷ [])) (λ xs ys holds shows. Holds-more order records frame original xs ys holds shows) read.taken took;
-        later = (let before : faults0 ≤ faults = read.later in omega arith);
+        taken = Took-then left0 left later (Holds order records) _ (Holds order (records ++ found ∷ []))
+            (λ xs ys holds shows. Holds-more order records frame original xs ys holds shows) read.taken took;
+        still = same ∙ read.still;
         through = subst (λ all. GoesThrough ports all) (sym frames) (GoesThrough-more ports (frames_of records) frame read.through goes);
       }
 
-  -- no memory for what the frame brings
+  -- no memory for the flow that begins with the frame
   pub ends-wanting : (later : Option (List ℕ)) (now : ℕ) (frame : List ℕ) (original : ℕ)
       → Took left later (λ taken. (rest : List ℕ) → records_in order (taken ++ rest) ≡ with_record frame original (records_in order rest))
-      → faults ≤ now → HasEnded left0 later faults0 now ports (frames_of records) (Some Memory)
-  ends-wanting later now frame original took rising = record {
-    taken = wanting (ending_at ports (frames_of records) frame) refl;
-    shown = all-rest left0 later (λ taken. Unit {0}) (λ rest. Unit {0}) _ (Took-weaker left0 later (λ taken. TakenEnds (ended_of ports taken) (frames_of records) (Some Memory)) (λ taken. Unit {0}) (λ taken _. tt) (wanting (ending_at ports (frames_of records) frame) refl)) (anything later) (λ taken rest _ _. tt);
-    at_end = λ none. absurd (cc);
-    kind = tt;
-    cause = λ failed. absurd (cc);
-  }
-    where
-      wanting : (ending : Option Fault) → ending_at ports (frames_of records) frame ≡ ending → Took left0 later (λ taken. IsNearEnd (ended_of ports taken) (frames_of records))
-      wanting (Some fault) is =
-          Took-weaker left0 later (λ taken. TakenEnds (ended_of ports taken) (frames_of records) (Some fault)) (λ taken. IsNearEnd (ended_of ports taken) (frames_of records))
-          (λ taken ends. inl (frame_cases (λ end. TakenEnds (ended_of ports taken) (frames_of records) end → (ended_of ports taken).before ≡ frames_of records)
-          (λ e. ap (λ e. e.before) e) (λ e. ap (λ e. e.before) e) fault (frame-kind ports (frames_of records) frame fault is) ends))
-          (ends-at later now frame original fault took is).taken
-      wanting None is =
-          let found : Captured = record { frame = frame; original = original } in
-          let more : HasRead order left0 later faults0 now ports (records ++ found ∷ []) = goes_on later now frame original took rising is in
-          Took-weaker left0 later (Holds order (records ++ found ∷ [])) (λ taken. IsNearEnd (ended_of ports taken) (frames_of records))
-          (λ taken holds. inr (frame, ap (λ e. e.before) (ended_of-end ports order (records ++ found ∷ []) more.through taken holds) ∙ frames-append records (found ∷ []))) more.taken
+      → now ≡ faults → ending_at ports (frames_of records) frame ≡ None → BeginsFlowAt ports (frames_of records) frame
+      → HasEnded left0 later faults0 now ports (frames_of records) (Some Memory)
+  ends-wanting later now frame original took same goes begins =
+      let found : Captured = record { frame = frame; original = original } in
+      let more : HasRead order left0 later faults0 now ports (records ++ found ∷ []) = goes_on later now frame original took same goes in
+      record {
+        taken = Took-weaker left0 later (Holds order (records ++ found ∷ [])) (λ taken. LacksMemory ports (ended_of ports taken) (frames_of records))
+            (λ taken holds. inr (
+              frame,
+              begins,
+              ended_of-end ports order (records ++ found ∷ []) more.through taken holds
+                  ∙ ap (λ frames. record { before = frames; fault = None }) (frames-append records (found ∷ [])),
+            )) more.taken;
+        shown = all-rest left0 later (Holds order (records ++ found ∷ [])) (λ rest. Unit {0}) _ more.taken (anything later) (λ taken rest _ _. tt);
+        at_end = λ none. absurd (cc);
+        kind = tt;
+        cause = λ failed. absurd (cc);
+        still = λ _. same ∙ read.still;
+      }
 
 -- ---- before the first record
 
@@ -222,53 +263,65 @@ opening-ends : (ports : List ℕ) (bytes : List ℕ) → Leads (ended_of ports b
 unfolding ended_of
 opening-ends ports bytes = λ end shows. ap (λ read. ended_after ports [] (frames_of read.all) read.fault) shows ∙ ended_after-none ports [] end
 
-shown-opening : (ports : List ℕ) (all : List ℕ) (fault : Fault) → IsOpeningFault fault → ShowsFault (records_of all) fault → ShowsEnding (ended_of ports all) [] (Some fault)
+shown-opening : (ports : List ℕ) (all : List ℕ) (fault : Fault) → IsOpeningFault fault → ShowsFault (records_of all) fault
+    → ShowsEnding (ended_of ports all) [] (Some fault)
 shown-opening ports all =
     let leads : Leads (ended_of ports all) [] (records_of all) = opening-ends ports all in
     opening_cases (λ fault. ShowsFault (records_of all) fault → ShowsEnding (ended_of ports all) [] (Some fault))
-    (λ shows. leads (Some NotPcap) shows) (λ shows. leads (Some Version) shows) (λ shows. leads (Some LinkType) shows) (λ shows. leads (Some Cut) shows) (λ shows. tt)
+    (λ shows. leads (Some NotPcap) shows) (λ shows. leads (Some Version) shows) (λ shows. leads (Some LinkType) shows) (λ shows. leads (Some Cut) shows)
+    (λ shows. tt)
 
-taken-opening : (ports : List ℕ) (taken : List ℕ) (fault : Fault) → IsOpeningFault fault → TakenShows (records_of taken) fault → TakenEnds (ended_of ports taken) [] (Some fault)
+taken-opening : (ports : List ℕ) (taken : List ℕ) (fault : Fault) → IsOpeningFault fault → TakenShows (records_of taken) fault
+    → TakenEnds ports (ended_of ports taken) [] (Some fault)
 taken-opening ports taken =
     let leads : Leads (ended_of ports taken) [] (records_of taken) = opening-ends ports taken in
-    opening_cases (λ fault. TakenShows (records_of taken) fault → TakenEnds (ended_of ports taken) [] (Some fault))
+    opening_cases (λ fault. TakenShows (records_of taken) fault → TakenEnds ports (ended_of ports taken) [] (Some fault))
     (λ shows. leads (Some NotPcap) shows) (λ shows. leads (Some Version) shows) (λ shows. leads (Some LinkType) shows) (λ shows. leads (Some Cut) shows)
     (λ shows. ⊎_elim (λ none. inl (leads None none)) (λ cut. inr (leads (Some Cut) cut)) shows)
 
 -- the file header was refused
-pub ends-opening : (left0 left : Option (List ℕ)) (faults0 faults : ℕ) (ports : List ℕ) (fault : Fault) → IsOpeningFault fault → IfSome left0 (λ all. ShowsFault (records_of all) fault) → Took left0 left (λ taken. TakenShows (records_of taken) fault)
-    → (fault ≡ Read → Rose faults0 faults) → HasEnded left0 left faults0 faults ports [] (Some fault)
-ends-opening left0 left faults0 faults ports fault is shows took cause = record {
-  taken = Took-weaker left0 left (λ taken. TakenShows (records_of taken) fault) (λ taken. TakenEnds (ended_of ports taken) [] (Some fault))
+pub ends-opening : (left0 left : Option (List ℕ)) (faults0 faults : ℕ) (ports : List ℕ) (fault : Fault) → IsOpeningFault fault
+    → IfSome left0 (λ all. ShowsFault (records_of all) fault) → Took left0 left (λ taken. TakenShows (records_of taken) fault)
+    → (fault ≡ Read → Rose faults0 faults) → (fault ≢ Read → faults ≡ faults0) → HasEnded left0 left faults0 faults ports [] (Some fault)
+ends-opening left0 left faults0 faults ports fault is shows took cause same = record {
+  taken = Took-weaker left0 left (λ taken. TakenShows (records_of taken) fault) (λ taken. TakenEnds ports (ended_of ports taken) [] (Some fault))
       (λ taken shown. taken-opening ports taken fault is shown) took;
-  shown = some-weaker left0 (λ all. ShowsFault (records_of all) fault) (λ all. ShowsEnding (ended_of ports all) [] (Some fault)) shows (λ all shown. shown-opening ports all fault is shown);
+  shown = some-weaker left0 (λ all. ShowsFault (records_of all) fault) (λ all. ShowsEnding (ended_of ports all) [] (Some fault)) shows
+      (λ all shown. shown-opening ports all fault is shown);
   at_end = λ none. absurd (cc);
   kind = opening_cases (λ fault. IsEnding (Some fault)) tt tt tt tt tt fault is;
   cause = λ by. cause (cc);
+  still = λ other. same (λ by. other (ap Some by));
 }
 
 -- it was read
-pub reads-nothing : (order : ByteOrder) (left0 left : Option (List ℕ)) (faults0 faults : ℕ) (ports : List ℕ) → Took left0 left (λ taken. (rest : List ℕ) → records_of (taken ++ rest) ≡ records_in order rest)
-    → faults0 ≤ faults → HasRead order left0 left faults0 faults ports []
-reads-nothing order left0 left faults0 faults ports took rising = record {
+pub reads-nothing : (order : ByteOrder) (left0 left : Option (List ℕ)) (faults0 faults : ℕ) (ports : List ℕ)
+    → Took left0 left (λ taken. (rest : List ℕ) → records_of (taken ++ rest) ≡ records_in order rest)
+    → faults ≡ faults0 → HasRead order left0 left faults0 faults ports []
+reads-nothing order left0 left faults0 faults ports took same = record {
   taken = took;
-  later = rising;
+  still = same;
   through = GoesThrough-nothing ports;
 }
 
 -- ---- a frame that isn't copied
 
-module _ {order : ByteOrder} {left0 left : Option (List ℕ)} {faults0 faults : ℕ} {ports : List ℕ} {records : List Captured} (read : HasRead order left0 left faults0 faults ports records) where
+module _ {order : ByteOrder} {left0 left : Option (List ℕ)} {faults0 faults : ℕ} {ports : List ℕ} {records : List Captured}
+    (read : HasRead order left0 left faults0 faults ports records) where
   pub ends-frame : (later : Option (List ℕ)) (now : ℕ) (frame : List ℕ) (original : ℕ)
-      → Took left later (λ taken. (rest : List ℕ) → records_in order (taken ++ rest) ≡ with_record frame original (records_in order rest)) → faults ≤ now
-      → (Follow : List (List ℕ) → Type 0) (fault : Fault) → CopiesFrame ports (frames_of records) frame Follow (Err fault) → HasEnded left0 later faults0 now ports (frames_of records) (Some fault) × Follow (frames_of records)
-  ends-frame later now frame original took rising Follow fault refused = by_fault fault refused
+      → Took left later (λ taken. (rest : List ℕ) → records_in order (taken ++ rest) ≡ with_record frame original (records_in order rest))
+      → now ≡ faults
+      → (Follow : List (List ℕ) → Type 0) (fault : Fault) → CopiesFrame ports (frames_of records) frame Follow (Err fault)
+      → HasEnded left0 later faults0 now ports (frames_of records) (Some fault) × Follow (frames_of records)
+  ends-frame later now frame original took same Follow fault refused = by_fault fault refused
     where
-      at : (fault : Fault) → ending_at ports (frames_of records) frame ≡ Some fault → HasEnded left0 later faults0 now ports (frames_of records) (Some fault)
-      at fault is = ends-at read later now frame original fault took is
+      at : (fault : Fault) → ending_at ports (frames_of records) frame ≡ Some fault
+          → HasEnded left0 later faults0 now ports (frames_of records) (Some fault)
+      at fault is = ends-at read later now same frame original fault took is
 
-      by_fault : (fault : Fault) → CopiesFrame ports (frames_of records) frame Follow (Err fault) → HasEnded left0 later faults0 now ports (frames_of records) (Some fault) × Follow (frames_of records)
-      by_fault Memory follows = (ends-wanting read later now frame original took rising, follows)
+      by_fault : (fault : Fault) → CopiesFrame ports (frames_of records) frame Follow (Err fault)
+          → HasEnded left0 later faults0 now ports (frames_of records) (Some fault) × Follow (frames_of records)
+      by_fault Memory (goes, begins, follows) = (ends-wanting read later now frame original took same goes begins, follows)
       by_fault Usage (is, follows) = (at Usage is, follows)
       by_fault NotPcap (is, follows) = (at NotPcap is, follows)
       by_fault Version (is, follows) = (at Version is, follows)

@@ -31,7 +31,8 @@ unfolding steered_of
 steered-nothing ports = refl
 
 module _ {T : Type 0} (kept : T → ℕ → Option (List ℕ)) (losses : T → ℕ) (shelves : List T) (ports : List ℕ) (copier : Copier) where
-  pub follows-nothing : copier.counting.tally ≡ no_tally → copier.streams.table ≡ record { ports = ports; flows = [] } → copier.streams.apps.items ≡ map new_app ports → Follows kept losses shelves shelves ports [] copier
+  pub follows-nothing : copier.counting.tally ≡ no_tally → copier.streams.table ≡ record { ports = ports; flows = [] }
+      → copier.streams.apps.items ≡ map new_app ports → Follows kept losses shelves shelves ports [] copier
   unfolding steered_of
   follows-nothing tally table apps =
       let no_lines : length copier.streams.lines.items ≡ 0 = copier.streams.many_lines ∙ ap (λ t. length t.flows) table in
@@ -49,7 +50,8 @@ module _ {T : Type 0} (kept : T → ℕ → Option (List ℕ)) (losses : T → �
             flow = λ number flow is. absurd (cc);
             others = λ app number other. Keeps-refl (kept_in kept shelves app number);
             many_apps = length-map ports new_app;
-            app = λ number port is. it_is_there (slice_get (map new_app ports) number) (IsAppOf port (losses_in losses shelves number) (losses_in losses shelves number)) (new_app port)
+            app = λ number port is. it_is_there (slice_get (map new_app ports) number)
+                (IsAppOf port (losses_in losses shelves number) (losses_in losses shelves number)) (new_app port)
                 (slice_get-map new_app ports number ∙ ap (option_map new_app) is)
                 (record { port_is = refl; nothing = (refl, refl, refl); quits_not = λ quits. cc; later = omega arith; cause = λ write. absurd (cc) });
             many_shelves = refl;
@@ -60,14 +62,21 @@ module _ {T : Type 0} (kept : T → ℕ → Option (List ℕ)) (losses : T → �
 
 -- ---- once the reading ended
 
-module _ {S T : Type 0} {left : S → Option (List ℕ)} {faults : S → ℕ} {kept : T → ℕ → Option (List ℕ)} {losses : T → ℕ} {source source_now : S} {shelves shelves_now : List T} {ports : List ℕ} {copier : Copier} {end : Option Fault}
+module _ {S T : Type 0} {left : S → Option (List ℕ)} {faults : S → ℕ} {kept : T → ℕ → Option (List ℕ)} {losses : T
+    → ℕ} {source source_now : S} {shelves shelves_now : List T} {ports : List ℕ} {copier : Copier} {end : Option Fault}
     (copied : Copied left faults kept losses source source_now shelves shelves_now ports copier end) (outcome : Outcome)
-    (tally : outcome.tally ≡ copier.counting.tally) (lines : outcome.flows.items ≡ copier.streams.lines.items) (apps : outcome.apps.items ≡ map (with_written copier.streams.lines.items) copier.streams.apps.items) (ended : outcome.end ≡ end) where
-  stands : Stands kept losses shelves shelves_now ports (flows_of (steered_in ports copied.before)) (placed_of (steered_in ports copied.before)) copier.streams.lines.items copier.streams.queues.items copier.streams.apps.items
-  stands = subst (λ p. Stands kept losses shelves shelves_now p (flows_of (steered_in ports copied.before)) (placed_of (steered_in ports copied.before)) copier.streams.lines.items copier.streams.queues.items copier.streams.apps.items) copied.follows.ports_are copied.follows.carries.stands
+    (tally : outcome.tally ≡ copier.counting.tally) (lines : outcome.flows.items ≡ copier.streams.lines.items)
+    (apps : outcome.apps.items ≡ map (with_written copier.streams.lines.items) copier.streams.apps.items) (ended : outcome.end ≡ end) where
+  stands : Stands kept losses shelves shelves_now ports (flows_of (steered_in ports copied.before))
+      (placed_of (steered_in ports copied.before)) copier.streams.lines.items copier.streams.queues.items copier.streams.apps.items
+  stands = subst (λ p. Stands kept losses shelves shelves_now p (flows_of (steered_in ports copied.before))
+      (placed_of (steered_in ports copied.before)) copier.streams.lines.items copier.streams.queues.items copier.streams.apps.items) copied.follows.ports_are
+      copied.follows.carries.stands
 
-  app-there : (number : ℕ) (app : AppLine) → slice_get copier.streams.apps.items number ≡ Some app → slice_get outcome.apps.items number ≡ Some (with_written copier.streams.lines.items app)
-  app-there number app is = ap (λ xs. slice_get xs number) apps ∙ slice_get-map (with_written copier.streams.lines.items) copier.streams.apps.items number ∙ ap (option_map (with_written copier.streams.lines.items)) is
+  app-there : (number : ℕ) (app : AppLine) → slice_get copier.streams.apps.items number ≡ Some app
+      → slice_get outcome.apps.items number ≡ Some (with_written copier.streams.lines.items app)
+  app-there number app is = ap (λ xs. slice_get xs number) apps ∙ slice_get-map (with_written copier.streams.lines.items) copier.streams.apps.items number
+      ∙ ap (option_map (with_written copier.streams.lines.items)) is
 
   pub replayed : Replayed left faults kept losses source source_now shelves shelves_now ports outcome
   unfolding stands
@@ -80,8 +89,11 @@ module _ {S T : Type 0} {left : S → Option (List ℕ)} {faults : S → ℕ} {k
         let old = kept_in kept shelves flow.app number in
         let new = kept_in kept shelves_now flow.app number in
         it_is_there (slice_get outcome.flows.items number) _ parts.line (ap (λ xs. slice_get xs number) lines ∙ parts.line_is)
-        (it_is_there (slice_get outcome.apps.items flow.app) _ (with_written copier.streams.lines.items parts.app) (app-there flow.app parts.app parts.app_is)
-        (parts.holds.0, Gained-weaker old new _ _ (λ bytes streamed. subst (λ stream. IsStreamed parts.app.stopped stream bytes parts.line.bytes) (sym (stream-placed (steered_in ports copied.before) number flow is)) streamed) parts.holds.1.gained));
+        (it_is_there (slice_get outcome.apps.items flow.app) _ (with_written copier.streams.lines.items parts.app) (app-there flow.app parts.app parts.app_is) (
+          parts.holds.0,
+          Gained-weaker old new _ _ (λ bytes streamed. subst (λ stream. IsStreamed parts.app.stopped stream bytes parts.line.bytes)
+              (sym (stream-placed (steered_in ports copied.before) number flow is)) streamed) parts.holds.1.gained,
+        ));
     many_flows = ap length lines ∙ stands.many_lines;
     others = stands.others;
     app = λ number port is.

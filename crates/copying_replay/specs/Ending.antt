@@ -1,5 +1,5 @@
 -- Where the reading of a list of frames ends, and which frames came before.
-use Rattle.std.specs.Prelude.{ℕ, suc, List, [], ◌∷◌, ◌++◌, length, map, ◌==◌, if◌then◌else◌, Option, Some, None}
+use Rattle.std.specs.Prelude.{◌≡◌, ℕ, suc, List, [], ◌∷◌, ◌++◌, length, map, ◌==◌, if◌then◌else◌, Option, Some, None}
 use Rattle.zr_kinds.specs.declared.fault.Fault.{Fault}
 use Rattle.zr_kinds.specs.declared.fault.Fault.TheVariants.{TooManyFlows, TooManyFrames}
 use Rattle.pcap_reader.specs.Records.{Captured, records_of}
@@ -20,6 +20,11 @@ steered_next ports before frame = steer ports (suc (length before)) (segment_of 
 abbrev pub flow_ending : List Flow → Option Steered → Option Fault
 flow_ending flows None = None
 flow_ending flows (Some steered) = if number_of_flow flows steered == 65535 then Some TooManyFlows else None
+
+-- a flow begins with the segment
+abbrev pub BeginsFlow : List Flow → Option Steered → Type 0
+BeginsFlow flows None = ⊥
+BeginsFlow flows (Some steered) = number_of_flow flows steered ≡ length flows
 
 -- What ends the reading at a frame, if anything, where these frames came before. No more than 2^24 frames are read;
 -- this decides before the flow.

@@ -1,12 +1,13 @@
 -- What was read of a source since a replay began, and how its reading ended.
-use Rattle.std.specs.Prelude.{◌≡◌, ℕ, ◌≤◌, List, [], ◌∷◌, ◌++◌, Option, Some, None, IfSome, ◌⊎◌}
+use Rattle.std.specs.Prelude.{◌≡◌, ◌≢◌, ℕ, List, [], ◌∷◌, ◌++◌, Option, Some, None, IfSome, ◌⊎◌}
 use Rattle.std.specs.Io.KnownBytes.{IsAtEnd}
 use Rattle.zr_kinds.specs.declared.fault.Fault.{Fault}
 use Rattle.zr_kinds.specs.declared.fault.Fault.TheVariants.{Memory, NotPcap, Version, LinkType, Cut, LongRecord, Read, TooManyFlows, TooManyFrames}
 use Rattle.zr_io.specs.Moved.{Rose, Took}
 use Rattle.pcap_reader.specs.declared.order.ByteOrder.{ByteOrder}
 use Rattle.pcap_reader.specs.Records.{Captured, Records, records_in, records_of}
-use Rattle.copying_replay.specs.Ending.{Ended, frames_of, ended_after, ended_of}
+use Rattle.flow_table.specs.Flows.{flows_of}
+use Rattle.copying_replay.specs.Ending.{Ended, steered_in, steered_next, BeginsFlow, frames_of, ended_after, ended_of}
 
 -- more records, before these
 abbrev pub with_records : List Captured → Records → Records
@@ -19,12 +20,14 @@ Holds order records taken = (rest : List ℕ) → records_of (taken ++ rest) ≡
 
 -- no frame of these ends the reading
 abbrev pub GoesThrough : List ℕ → List (List ℕ) → Type 0
-GoesThrough ports frames = (more : List (List ℕ)) (fault : Option Fault) → ended_after ports [] (frames ++ more) fault ≡ ended_after ports frames more fault
+GoesThrough ports frames = (more : List (List ℕ)) (fault : Option Fault)
+    → ended_after ports [] (frames ++ more) fault ≡ ended_after ports frames more fault
 
--- these records were read
-pub record HasRead (order : ByteOrder) (left_at_first left : Option (List ℕ)) (faults_at_first faults : ℕ) (ports : List ℕ) (records : List Captured) : Type 0 where
+-- These records were read, and no read failed.
+pub record HasRead (order : ByteOrder) (left_at_first left : Option (List ℕ)) (faults_at_first faults : ℕ) (ports : List ℕ)
+    (records : List Captured) : Type 0 where
   pub taken : Took left_at_first left (Holds order records)
-  pub later : faults_at_first ≤ faults
+  pub still : faults ≡ faults_at_first
   pub through : GoesThrough ports (frames_of records)
 
 -- All bytes show this ending. Want of memory and a failed read show in none.
@@ -37,16 +40,23 @@ ShowsEnding ended before fault = ended ≡ record { before = before; fault = fau
 abbrev pub BreaksOff : Ended → List (List ℕ) → Type 0
 BreaksOff ended before = (ended ≡ record { before = before; fault = None }) ⊎ (ended ≡ record { before = before; fault = Some Cut })
 
--- These are the frames before the ending, or all but the last of them.
-abbrev pub IsNearEnd : Ended → List (List ℕ) → Type 0
-IsNearEnd ended before = (ended.before ≡ before) ⊎ ((frame : List ℕ) × (ended.before ≡ before ++ frame ∷ []))
+-- a flow begins with this frame
+abbrev pub BeginsFlowAt : List ℕ → List (List ℕ) → List ℕ → Type 0
+BeginsFlowAt ports before frame = BeginsFlow (flows_of (steered_in ports before)) (steered_next ports before frame)
 
--- The bytes that were taken show this ending by themselves. At a failed read they break off; at want of memory they
--- may hold one record more, for which there was none.
-abbrev pub TakenEnds : Ended → List (List ℕ) → Option Fault → Type 0
-TakenEnds ended before (Some Memory) = IsNearEnd ended before
-TakenEnds ended before (Some Read) = BreaksOff ended before
-TakenEnds ended before fault = ended ≡ record { before = before; fault = fault }
+-- Behind these frames the bytes that were taken end within a record, for which there was no memory; or they hold one
+-- frame more, and there was none for the flow that begins with it.
+abbrev pub LacksMemory : List ℕ → Ended → List (List ℕ) → Type 0
+LacksMemory ports ended before =
+    (ended ≡ record { before = before; fault = Some Cut })
+    ⊎ ((frame : List ℕ) × BeginsFlowAt ports before frame × (ended ≡ record { before = before ++ frame ∷ []; fault = None }))
+
+-- The bytes that were taken show this ending by themselves. At a failed read they break off, and at want of memory they
+-- show what it was wanted for.
+abbrev pub TakenEnds : List ℕ → Ended → List (List ℕ) → Option Fault → Type 0
+TakenEnds ports ended before (Some Memory) = LacksMemory ports ended before
+TakenEnds ports ended before (Some Read) = BreaksOff ended before
+TakenEnds ports ended before fault = ended ≡ record { before = before; fault = fault }
 
 -- how a reading may end
 abbrev pub IsEnding : Option Fault → Type 0
@@ -68,11 +78,14 @@ IsReadToEnd None left = Unit {0}
 IsReadToEnd (Some bytes) left = IsAtEnd left
 
 -- The reading ended after these frames, by this fault or without one.
-pub record HasEnded (left_at_first left : Option (List ℕ)) (faults_at_first faults : ℕ) (ports : List ℕ) (before : List (List ℕ)) (fault : Option Fault) : Type 0 where
+pub record HasEnded (left_at_first left : Option (List ℕ)) (faults_at_first faults : ℕ) (ports : List ℕ) (before : List (List ℕ))
+    (fault : Option Fault) : Type 0 where
   -- what was taken shows the ending, and so do all the bytes
-  pub taken : Took left_at_first left (λ taken. TakenEnds (ended_of ports taken) before fault)
+  pub taken : Took left_at_first left (λ taken. TakenEnds ports (ended_of ports taken) before fault)
   pub shown : IfSome left_at_first (λ all. ShowsEnding (ended_of ports all) before fault)
   pub at_end : fault ≡ None → IsReadToEnd left_at_first left
   pub kind : IsEnding fault
-  -- a read failed only where the source's count of faults rose
+  -- A read failed only where the source's count of faults rose. If it ended otherwise, that count stood still: the
+  -- first read that fails ends the reading.
   pub cause : fault ≡ Some Read → Rose faults_at_first faults
+  pub still : fault ≢ Some Read → faults ≡ faults_at_first

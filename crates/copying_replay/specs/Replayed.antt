@@ -1,5 +1,6 @@
 -- What a replay leaves of its source and its shelves, and what its outcome says.
-use Rattle.std.specs.Prelude.{◌≡◌, ◌≢◌, ℕ, ◌≤◌, ◌-◌, ◌^◌, min, List, [], length, drop, sum_by, ◌==◌, if◌then◌else◌, Option, Some, option_map}
+use Rattle.std.specs.Prelude.{◌≡◌, ◌≢◌, ℕ, ◌≤◌, ◌-◌, ◌^◌, min, List, [], length, drop, sum_by, ◌==◌, if◌then◌else◌}
+use Rattle.std.specs.Prelude.{Option, Some, option_map}
 use Rattle.std.specs.List.{slice_get}
 use Rattle.std.specs.Io.KnownBytes.{Keeps}
 use Rattle.zr_kinds.specs.declared.behaviour.Stopped.TheVariants as stop
@@ -32,7 +33,8 @@ pub record IsAppLine (port losses_at_first losses : ℕ) (flows : List FlowLine)
   -- its shelf failed
   pub cause : app.stopped ≡ stop.Write → Rose losses_at_first losses
 
-pub record Replayed {S T : Type 0} (left : S → Option (List ℕ)) (faults : S → ℕ) (kept : T → ℕ → Option (List ℕ)) (losses : T → ℕ) (source source_now : S) (shelves shelves_now : List T) (ports : List ℕ) (outcome : Outcome) : Type 0 where
+pub record Replayed {S T : Type 0} (left : S → Option (List ℕ)) (faults : S → ℕ) (kept : T → ℕ → Option (List ℕ)) (losses : T → ℕ)
+    (source source_now : S) (shelves shelves_now : List T) (ports : List ℕ) (outcome : Outcome) : Type 0 where
   -- the frames before the reading ended, and what ended it
   pub before : List (List ℕ)
   pub ended : HasEnded (left source) (left source_now) (faults source) (faults source_now) ports before outcome.end
@@ -41,11 +43,15 @@ pub record Replayed {S T : Type 0} (left : S → Option (List ℕ)) (faults : S 
   -- all of it where the flow's application wasn't stopped.
   pub flow : (number : ℕ) (flow : Flow) → slice_get (flows_of (steered_in ports before)) number ≡ Some flow →
       There (slice_get outcome.flows.items number) (λ line. There (slice_get outcome.apps.items flow.app) (λ app.
-      IsLineOf flow line × Gained (kept_in kept shelves flow.app number) (kept_in kept shelves_now flow.app number) (λ bytes. IsStreamed app.stopped (stream_of (steered_in ports before) [] number) bytes line.bytes)))
+      IsLineOf flow line × Gained (kept_in kept shelves flow.app number) (kept_in kept shelves_now flow.app number)
+      (λ bytes. IsStreamed app.stopped (stream_of (steered_in ports before) [] number) bytes line.bytes)))
   pub many_flows : length outcome.flows.items ≡ length (flows_of (steered_in ports before))
   -- No other flow of any shelf gained anything.
-  pub others : (app number : ℕ) → option_map (λ (flow : Flow). flow.app) (slice_get (flows_of (steered_in ports before)) number) ≢ Some app → Keeps (kept_in kept shelves app number) (kept_in kept shelves_now app number)
-  pub app : (number port : ℕ) → slice_get ports number ≡ Some port → There (slice_get outcome.apps.items number) (IsAppLine port (losses_in losses shelves number) (losses_in losses shelves_now number) outcome.flows.items)
+  pub others : (app number : ℕ) → option_map (λ (flow : Flow). flow.app) (slice_get (flows_of (steered_in ports before)) number) ≢ Some app
+      → Keeps (kept_in kept shelves app number) (kept_in kept shelves_now app number)
+  pub app : (number port : ℕ) → slice_get ports number ≡ Some port
+      → There (slice_get outcome.apps.items number) (IsAppLine port (losses_in losses shelves number)
+      (losses_in losses shelves_now number) outcome.flows.items)
   pub many_apps : length outcome.apps.items ≡ length ports
   -- The shelves of no application are as they were.
   pub many_shelves : length shelves_now ≡ length shelves

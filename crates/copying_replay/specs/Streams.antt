@@ -68,7 +68,8 @@ pub record Follows (queue : Queue (Vec ℕ Global)) (base : ℕ) (placed : Place
   pub delivered : queue.popped ≡ next_missing placed
 
 -- the flow of a number, as its application's shelf has it
-pub record IsFollowed (stopped : Stopped) (kept_at_first kept : Option (List ℕ)) (base : ℕ) (placed : Placed ℕ) (count : ℕ) (queue : Queue (Vec ℕ Global)) : Type 0 where
+pub record IsFollowed (stopped : Stopped) (kept_at_first kept : Option (List ℕ)) (base : ℕ) (placed : Placed ℕ) (count : ℕ)
+    (queue : Queue (Vec ℕ Global)) : Type 0 where
   pub gained : Gained kept_at_first kept (λ bytes. IsStreamed stopped (front_of placed) bytes count)
   pub follows : stopped ≡ stop.No → Follows queue base placed
 
@@ -94,7 +95,8 @@ FlowStands kept_at_first kept flow placed line queue app =
     IsLineOf flow line × IsFollowed app.stopped kept_at_first kept flow.base placed line.bytes queue × (app.stopped ≢ stop.No → queue.kept ≡ [])
 
 -- All flows, by what the copying receiver has of each: their lines, their queues, their applications and the shelves.
-pub record Stands {T : Type 0} (kept : T → ℕ → Option (List ℕ)) (losses : T → ℕ) (first now : List T) (ports : List ℕ) (flows : List Flow) (placed : ℕ → Placed ℕ)
+pub record Stands {T : Type 0} (kept : T → ℕ → Option (List ℕ)) (losses : T → ℕ) (first now : List T) (ports : List ℕ) (flows : List Flow)
+    (placed : ℕ → Placed ℕ)
     (lines : List FlowLine) (queues : List (Queue (Vec ℕ Global))) (apps : List AppLine) : Type 0 where
   pub many_lines : length lines ≡ length flows
   pub many_queues : length queues ≡ length flows
@@ -102,9 +104,11 @@ pub record Stands {T : Type 0} (kept : T → ℕ → Option (List ℕ)) (losses 
       There (slice_get lines number) (λ line. There (slice_get queues number) (λ queue. There (slice_get apps flow.app) (λ app.
       FlowStands (kept_in kept first flow.app number) (kept_in kept now flow.app number) flow (placed number) line queue app)))
   -- no other flow of any shelf gained anything
-  pub others : (app number : ℕ) → option_map (λ (flow : Flow). flow.app) (slice_get flows number) ≢ Some app → Keeps (kept_in kept first app number) (kept_in kept now app number)
+  pub others : (app number : ℕ) → option_map (λ (flow : Flow). flow.app) (slice_get flows number) ≢ Some app
+      → Keeps (kept_in kept first app number) (kept_in kept now app number)
   pub many_apps : length apps ≡ length ports
-  pub app : (number port : ℕ) → slice_get ports number ≡ Some port → There (slice_get apps number) (IsAppOf port (losses_in losses first number) (losses_in losses now number))
+  pub app : (number port : ℕ) → slice_get ports number ≡ Some port
+      → There (slice_get apps number) (IsAppOf port (losses_in losses first number) (losses_in losses now number))
   -- the shelves of no application are as at first
   pub many_shelves : length now ≡ length first
   pub beyond : drop (length ports) now ≡ drop (length ports) first

@@ -65,7 +65,9 @@ impl Copier {
         ensures ports { self.new.streams.table.ports ≡ self.old.streams.table.ports }
         ensures many { length shelves.new ≡ length shelves.old }
         ensures counting { self.new.counting ≡ self.old.counting }
-        ensures takes { (first : List T) (earlier : List Steered) (record_number : ℕ) → Takes T.kept T.faults first shelves.old shelves.new self.old.streams self.new.streams earlier (steer self.old.streams.table.ports record_number (segment_seen seen.now)) result }
+        ensures takes { (first : List T) (earlier : List Steered) (record_number : ℕ)
+            → Takes T.kept T.faults first shelves.old shelves.new self.old.streams self.new.streams earlier
+            (steer self.old.streams.table.ports record_number (segment_seen seen.now)) result }
     {
         match seen {
             Seen::Tcp(segment) => self.streams.take(alloc, segment, shelves),

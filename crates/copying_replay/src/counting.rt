@@ -12,7 +12,8 @@ use zr_kinds::Tally;
 pub struct Counting {
     pub tally: Tally,
     ghost limit: { tally.records ≤ 16777216 },
-    ghost parts: { (tally.tcp ≤ tally.records) × (tally.steered ≤ tally.records) × (tally.other ≤ tally.records) × (tally.fragment ≤ tally.records) × (tally.cut ≤ tally.records) × (tally.bad ≤ tally.records) },
+    ghost parts: { (tally.tcp ≤ tally.records) × (tally.steered ≤ tally.records) × (tally.other ≤ tally.records) × (tally.fragment ≤ tally.records)
+        × (tally.cut ≤ tally.records) × (tally.bad ≤ tally.records) },
 }
 
 impl Counting {

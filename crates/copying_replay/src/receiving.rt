@@ -26,7 +26,8 @@ pub fn receive<T: Shelf>(
 ) -> Stopped
     requires size { length payload.now ≤ 65515 }
     ensures line { line.new ≡ record line.old { bytes = line.new.bytes } }
-    ensures receives { (first : Option (List ℕ)) (base : ℕ) (placed : Placed ℕ) → IsFollowed No first (T.kept shelf.old joined.now.flow) base placed line.old.bytes queue.old →
+    ensures receives { (first : Option (List ℕ)) (base : ℕ) (placed : Placed ℕ)
+        → IsFollowed No first (T.kept shelf.old joined.now.flow) base placed line.old.bytes queue.old →
         IsFollowed result first (T.kept shelf.new joined.now.flow) base (received base placed joined.now.seq payload.now) line.new.bytes queue.new }
     ensures others { (flow : ℕ) → flow ≢ joined.now.flow → Keeps (T.kept shelf.old flow) (T.kept shelf.new flow) }
     ensures later { T.faults shelf.old ≤ T.faults shelf.new }
@@ -51,7 +52,8 @@ fn take_copies(
 ) -> Result<(), Wanting>
     requires size { length payload.now ≤ 65515 }
     ensures same { (queue.new.base ≡ queue.old.base) × (queue.new.popped ≡ queue.old.popped) }
-    ensures takes { OnOk result ((placed : Placed ℕ) → Holds bytes_of queue.old placed → Holds bytes_of queue.new (received queue.old.base placed seq payload.now)) }
+    ensures takes { OnOk result ((placed : Placed ℕ) → Holds bytes_of queue.old placed
+        → Holds bytes_of queue.new (received queue.old.base placed seq payload.now)) }
 {
     let total = payload.len() as u32;
     if !queue.accepts(seq, total) {
@@ -84,7 +86,8 @@ fn deliver<T: Shelf>(
     shelf: &mut T,
 ) -> Stopped
     ensures line { line.new ≡ record line.old { bytes = line.new.bytes } }
-    ensures delivers { (first : Option (List ℕ)) (placed : Placed ℕ) → HasDelivered first (T.kept shelf.old flow) placed queue.old → Delivered first (T.kept shelf.new flow) placed line.new.bytes queue.new result }
+    ensures delivers { (first : Option (List ℕ)) (placed : Placed ℕ) → HasDelivered first (T.kept shelf.old flow) placed queue.old
+        → Delivered first (T.kept shelf.new flow) placed line.new.bytes queue.new result }
     ensures base { queue.new.base ≡ queue.old.base }
     ensures others { (other : ℕ) → other ≢ flow → Keeps (T.kept shelf.old other) (T.kept shelf.new other) }
     ensures later { T.faults shelf.old ≤ T.faults shelf.new }

@@ -1,12 +1,13 @@
 //! All flows of a replay: which there are, what is kept of each, and what came of it.
 
-ghost use Rattle.std.specs.Prelude.{◌≡◌, ◌≢◌, ℕ, ◌+◌, ◌<◌, ◌≤◌, ◌==◌, if◌then◌else◌, List, [], Some, length, map, slice_get, nat_eq, vec_capacity, IfOk};
+ghost use Rattle.std.specs.Prelude.{◌≡◌, ◌≢◌, ℕ, ◌+◌, ◌<◌, ◌≤◌, ◌==◌, if◌then◌else◌, List, [], Some, length, map};
+ghost use Rattle.std.specs.Prelude.{slice_get, nat_eq, vec_capacity, IfOk, IsTrue};
 ghost use Rattle.std.specs.List.{IsDistinct};
 ghost use Rattle.frame_headers.specs.Seen.{shown};
 ghost use Rattle.flow_table.specs.Steered.{Steered as SteeredSegment, steer};
 ghost use Rattle.flow_table.specs.Flows.{Flow};
 ghost use Rattle.copying_replay.specs.Streams.{There};
-ghost use Rattle.copying_replay.specs.Taking.{new_app, Joins, PlacesIn, AppStops, Delivers, Takes};
+ghost use Rattle.copying_replay.specs.Taking.{new_app, Joins, SameFlows, PlacesIn, AppStops, Delivers, Takes};
 
 use crate::receiving::receive;
 use crate::state::{Joined, Streams};
@@ -41,7 +42,8 @@ fn join(
 )
     requires many { length queues.old.items ≡ length lines.old.items }
     requires reached { number ≤ length lines.old.items }
-    requires room { (length queues.old.items < vec_capacity queues.old) × (length lines.old.items < vec_capacity lines.old) }
+    requires room { number ≡ length lines.old.items → (length queues.old.items < vec_capacity queues.old)
+        × (length lines.old.items < vec_capacity lines.old) }
     ensures joins { Joins queues.old.items queues.new.items lines.old.items lines.new.items number line }
     ensures more_queues { length queues.new.items ≡ length queues.old.items + (if number == length lines.old.items then 1 else 0) }
     ensures more_lines { length lines.new.items ≡ length lines.old.items + (if number == length lines.old.items then 1 else 0) }
@@ -74,14 +76,25 @@ impl Streams {
         })
     }
 
-    /// Places a segment in its flow. Nothing is received yet.
+    /// Makes room for one flow more: whether there is.
+    fn make_room(&mut self) -> bool
+        ensures room { IsTrue result → (length self.new.queues.items < vec_capacity self.new.queues)
+            × (length self.new.lines.items < vec_capacity self.new.lines) }
+        ensures same { SameFlows self.old self.new }
+        ensures apps { self.new.apps ≡ self.old.apps }
+    {
+        self.queues.reserve(1).is_ok() && self.lines.reserve(1).is_ok()
+    }
+
+    /// Places a segment in its flow. Nothing is received yet. Memory is wanted only where a flow begins.
     fn place(&mut self, alloc: Global, segment: &Segment<'_>) -> Result<Option<Joined>, Fault>
         ensures apps { self.new.apps ≡ self.old.apps }
         ensures ports { self.new.table.ports ≡ self.old.table.ports }
         ensures places { PlacesIn self.old self.new (shown segment.now) result }
     {
-        self.queues.reserve(1).map_err(|_| Fault::Memory)?;
-        self.lines.reserve(1).map_err(|_| Fault::Memory)?;
+        if !self.make_room() && self.table.begins(segment) {
+            return Err(Fault::Memory);
+        }
         match self.table.place(segment) {
             Ok(Steered::Elsewhere) => Ok(None),
             Ok(
@@ -113,8 +126,10 @@ impl Streams {
         ensures table { self.new.table ≡ self.old.table }
         ensures lines { self.new.lines ≡ self.old.lines }
         ensures apps { AppStops self.old.apps.items self.new.apps.items app why }
-        ensures queues { (number : ℕ) (flow : Flow) → slice_get self.old.table.flows number ≡ Some flow → flow.app ≢ app → slice_get self.new.queues.items number ≡ slice_get self.old.queues.items number }
-        ensures emptied { (number : ℕ) (flow : Flow) → slice_get self.old.table.flows number ≡ Some flow → flow.app ≡ app → There (slice_get self.new.queues.items number) (λ queue. queue.kept ≡ []) }
+        ensures queues { (number : ℕ) (flow : Flow) → slice_get self.old.table.flows number ≡ Some flow → flow.app ≢ app
+            → slice_get self.new.queues.items number ≡ slice_get self.old.queues.items number }
+        ensures emptied { (number : ℕ) (flow : Flow) → slice_get self.old.table.flows number ≡ Some flow → flow.app ≡ app
+            → There (slice_get self.new.queues.items number) (λ queue. queue.kept ≡ []) }
     {
         self.apps[app as usize].stopped = why;
         for number in 0..self.table.count() {
@@ -170,7 +185,9 @@ impl Streams {
         requires shelves { length self.old.table.ports ≤ length shelves.old }
         ensures ports { self.new.table.ports ≡ self.old.table.ports }
         ensures many { length shelves.new ≡ length shelves.old }
-        ensures takes { (first : List T) (earlier : List SteeredSegment) (record_number : ℕ) → Takes T.kept T.faults first shelves.old shelves.new self.old self.new earlier (steer self.old.table.ports record_number (Some (shown segment.now))) result }
+        ensures takes { (first : List T) (earlier : List SteeredSegment) (record_number : ℕ)
+            → Takes T.kept T.faults first shelves.old shelves.new self.old self.new earlier
+            (steer self.old.table.ports record_number (Some (shown segment.now))) result }
     {
         match self.place(alloc, segment) {
             Ok(Some(joined)) => {

@@ -1,10 +1,12 @@
 -- One more numbered line.
-use Rattle.std.proofs.Common.{◌≡◌, ℕ, zero, suc, ◌+◌, ◌<◌, List, [], ◌∷◌, ◌++◌, length, get_or, take, sym, ap, ◌∙◌, append_assoc, append-nil, add-one, arith}
+use Rattle.std.proofs.Common.{◌≡◌, ℕ, zero, suc, ◌+◌, ◌<◌, List, [], ◌∷◌, ◌++◌, length, get_or, take, sym, ap, ◌∙◌}
+use Rattle.std.proofs.Common.{append_assoc, append-nil, add-one, arith}
 use Rattle.std.specs.List.{flat_map, enumerate_from}
 use Rattle.run_report.specs.Report.{numbered}
 
 more_from : {T : Type 0} (line : ℕ → T → List ℕ) (first : ℕ) (items : List T) (i n : ℕ) (d : T) → n ≡ first + i → i < length items
-    → flat_map (λ e. line e.0 e.1) (enumerate_from first (take i items)) ++ line n (get_or items i d) ≡ flat_map (λ e. line e.0 e.1) (enumerate_from first (take (suc i) items))
+    → flat_map (λ e. line e.0 e.1) (enumerate_from first (take i items)) ++ line n (get_or items i d)
+    ≡ flat_map (λ e. line e.0 e.1) (enumerate_from first (take (suc i) items))
 more_from line first [] i n d is within = absurd (omega (arith, within))
 more_from line first (x ∷ items) zero n d is within =
     let same : n ≡ first = omega (arith, is) in ap (λ m. line m x) same ∙ sym (append-nil (line first x))

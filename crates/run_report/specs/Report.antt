@@ -26,7 +26,8 @@ yes_or_no false = codes "no"
 -- the records by the class of their frames
 unfoldable pub capture_line : Tally → List ℕ
 capture_line tally =
-    codes "capture records " ++ decimal tally.records ++ codes " tcp " ++ decimal tally.tcp ++ codes " steered " ++ decimal tally.steered ++ codes " other " ++ decimal tally.other
+    codes "capture records " ++ decimal tally.records ++ codes " tcp " ++ decimal tally.tcp ++ codes " steered " ++ decimal tally.steered ++ codes " other "
+    ++ decimal tally.other
     ++ codes " fragment " ++ decimal tally.fragment ++ codes " cut " ++ decimal tally.cut ++ codes " bad " ++ decimal tally.bad ++ 10 ∷ []
 
 -- application `number`

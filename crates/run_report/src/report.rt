@@ -1,5 +1,5 @@
 //! What a report says, its text, and its way to a sink.
-ghost use Rattle.std.specs.Prelude.{◌≡◌, ◌≤◌, Some, Err};
+ghost use Rattle.std.specs.Prelude.{◌≡◌, ◌≤◌, Some, Err, OnOk};
 ghost use Rattle.run_report.specs.Report.{report_of, Reports, answer_of};
 
 use crate::lines::{AppLines, CaptureLine, FlowLines};
@@ -50,6 +50,7 @@ pub fn write_report<O: Sink>(
     ensures gained { let text = report_of report.now.tally.now report.now.apps.now report.now.flows.now report.now.status in
         Reports (O.sent out.old) (O.sent out.new) (O.faults out.old) (O.faults out.new) text result }
     ensures later { O.faults out.old ≤ O.faults out.new }
+    ensures still { OnOk result (O.faults out.new ≡ O.faults out.old) }
     ensures untouched { result ≡ Err Unreported.Memory → out.new ≡ out.old }
 {
     let Ok(text) = format!(in alloc; "{report}") else {

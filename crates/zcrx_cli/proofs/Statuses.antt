@@ -1,11 +1,13 @@
 -- What the status of a replay says of how it went.
-use Rattle.std.proofs.Common.{◌≡◌, ◌≢◌, nat_eq, ℕ, suc, List, [], ◌∷◌, length, ◌<◌, Bool, true, false, ◌||◌, Option, None, Some, refl, sym, ap, subst, ◌∙◌, ◌⊎◌, ⊎_elim, inl, inr, arith}
+use Rattle.std.proofs.Common.{◌≡◌, ◌≢◌, nat_eq, ℕ, suc, List, [], ◌∷◌, length, ◌<◌, Bool, true, false, ◌||◌, Option, None, Some}
+use Rattle.std.proofs.Common.{refl, sym, ap, subst, ◌∙◌, ◌⊎◌, ⊎_elim, inl, inr, arith}
 use Rattle.std.specs.Prelude.{IfSome, Result, Ok, Err, ◌==◌, if◌then◌else◌}
 use Rattle.std.specs.List.{slice_get}
 use Rattle.std.proofs.lemmas.Bool.{cases_eq}
 use Rattle.std.proofs.lemmas.Bool.Decides.{nat_tests}
 use Rattle.zr_kinds.specs.declared.fault.Fault.{Fault}
-use Rattle.zr_kinds.specs.declared.fault.Fault.TheVariants.{Memory, Usage, NotPcap, Version, LinkType, Cut, LongRecord, Read, Write, TooManyFlows, TooManyFrames}
+use Rattle.zr_kinds.specs.declared.fault.Fault.TheVariants.{Memory, Usage, NotPcap, Version, LinkType, Cut, LongRecord, Read, Write, TooManyFlows}
+use Rattle.zr_kinds.specs.declared.fault.Fault.TheVariants.{TooManyFrames}
 use Rattle.zr_kinds.specs.declared.behaviour.Stopped.{Stopped}
 use Rattle.zr_kinds.specs.declared.behaviour.Stopped.TheVariants as stop
 use Rattle.zr_kinds.specs.declared.outcome.AppLine.{AppLine}
@@ -27,7 +29,8 @@ use Rattle.zcrx_cli.specs.StreamTheorem.{IsStatusOf, IsStatus, IsBrokenOff, Repl
 
 -- ---- the ways in which a reading ends
 
-ending_cases : (P : Option Fault → Type 0) → P None → P (Some Memory) → P (Some NotPcap) → P (Some Version) → P (Some LinkType) → P (Some Cut) → P (Some LongRecord) → P (Some Read) → P (Some TooManyFlows) → P (Some TooManyFrames)
+ending_cases : (P : Option Fault → Type 0) → P None → P (Some Memory) → P (Some NotPcap) → P (Some Version) → P (Some LinkType) → P (Some Cut)
+    → P (Some LongRecord) → P (Some Read) → P (Some TooManyFlows) → P (Some TooManyFrames)
     → (end : Option Fault) → IsEnding end → P end
 ending_cases P none memory not_pcap version link_type cut long_record read flows frames None is = none
 ending_cases P none memory not_pcap version link_type cut long_record read flows frames (Some Memory) is = memory
@@ -43,7 +46,8 @@ ending_cases P none memory not_pcap version link_type cut long_record read flows
 ending_cases P none memory not_pcap version link_type cut long_record read flows frames (Some Write) is = absurd is
 
 -- and what stopped applications
-all_cases : (P : Bool → Bool → Option Fault → Type 0) → ((lost : Bool) (end : Option Fault) → IsEnding end → P true lost end) → ((end : Option Fault) → IsEnding end → P false true end) → ((end : Option Fault) → IsEnding end → P false false end)
+all_cases : (P : Bool → Bool → Option Fault → Type 0) → ((lost : Bool) (end : Option Fault) → IsEnding end → P true lost end)
+    → ((end : Option Fault) → IsEnding end → P false true end) → ((end : Option Fault) → IsEnding end → P false false end)
     → (wanting lost : Bool) (end : Option Fault) → IsEnding end → P wanting lost end
 all_cases P if_wanting if_lost else_ true lost end is = if_wanting lost end is
 all_cases P if_wanting if_lost else_ false true end is = if_lost end is
@@ -51,13 +55,16 @@ all_cases P if_wanting if_lost else_ false false end is = else_ end is
 
 -- by the status itself
 Says : Bool → Bool → Option Fault → Type 0
-Says wanting lost end = (status_from wanting lost end ≡ 1) ⊎ (((status_from wanting lost end ≡ 9) × (lost ≡ true)) ⊎ (status_from wanting lost end ≡ end_number end))
+Says wanting lost end = (status_from wanting lost end ≡ 1)
+    ⊎ (((status_from wanting lost end ≡ 9) × (lost ≡ true)) ⊎ (status_from wanting lost end ≡ end_number end))
 
 says : (wanting lost : Bool) (end : Option Fault) → IsEnding end → Says wanting lost end
 unfolding Says
 says = all_cases Says (λ lost end is. inl refl)
-    (ending_cases (Says false true) (inr (inl (refl, refl))) (inl refl) (inr (inl (refl, refl))) (inr (inl (refl, refl))) (inr (inl (refl, refl))) (inr (inl (refl, refl))) (inr (inl (refl, refl))) (inr (inl (refl, refl))) (inr (inl (refl, refl))) (inr (inl (refl, refl))))
-    (ending_cases (Says false false) (inr (inr refl)) (inl refl) (inr (inr refl)) (inr (inr refl)) (inr (inr refl)) (inr (inr refl)) (inr (inr refl)) (inr (inr refl)) (inr (inr refl)) (inr (inr refl)))
+    (ending_cases (Says false true) (inr (inl (refl, refl))) (inl refl) (inr (inl (refl, refl))) (inr (inl (refl, refl))) (inr (inl (refl, refl)))
+    (inr (inl (refl, refl))) (inr (inl (refl, refl))) (inr (inl (refl, refl))) (inr (inl (refl, refl))) (inr (inl (refl, refl))))
+    (ending_cases (Says false false) (inr (inr refl)) (inl refl) (inr (inr refl)) (inr (inr refl)) (inr (inr refl)) (inr (inr refl)) (inr (inr refl))
+    (inr (inr refl)) (inr (inr refl)) (inr (inr refl)))
 
 -- each way of ending by its number
 IsNumbered : Option Fault → Type 0
@@ -66,25 +73,40 @@ IsNumbered end = IsStatus (end_number end) × (end_number end ≢ 9) × (end_num
 numbered : (end : Option Fault) → IsEnding end → IsNumbered end
 unfolding IsNumbered
 numbered = ending_cases IsNumbered
-    (refl, (λ e. omega arith), (λ e. absurd (omega arith)), (λ e. refl)) (refl, (λ e. omega arith), (λ e. absurd (omega arith)), (λ e. absurd (omega arith))) (refl, (λ e. omega arith), (λ e. absurd (omega arith)), (λ e. absurd (omega arith)))
-    (refl, (λ e. omega arith), (λ e. absurd (omega arith)), (λ e. absurd (omega arith))) (refl, (λ e. omega arith), (λ e. absurd (omega arith)), (λ e. absurd (omega arith))) (refl, (λ e. omega arith), (λ e. absurd (omega arith)), (λ e. absurd (omega arith)))
-    (refl, (λ e. omega arith), (λ e. absurd (omega arith)), (λ e. absurd (omega arith))) (refl, (λ e. omega arith), (λ e. refl), (λ e. absurd (omega arith))) (refl, (λ e. omega arith), (λ e. absurd (omega arith)), (λ e. absurd (omega arith)))
+    (refl, (λ e. omega arith), (λ e. absurd (omega arith)), (λ e. refl))
+    (refl, (λ e. omega arith), (λ e. absurd (omega arith)), (λ e. absurd (omega arith)))
+    (refl, (λ e. omega arith), (λ e. absurd (omega arith)), (λ e. absurd (omega arith)))
+    (refl, (λ e. omega arith), (λ e. absurd (omega arith)), (λ e. absurd (omega arith)))
+    (refl, (λ e. omega arith), (λ e. absurd (omega arith)), (λ e. absurd (omega arith)))
+    (refl, (λ e. omega arith), (λ e. absurd (omega arith)), (λ e. absurd (omega arith)))
+    (refl, (λ e. omega arith), (λ e. absurd (omega arith)), (λ e. absurd (omega arith)))
+    (refl, (λ e. omega arith), (λ e. refl), (λ e. absurd (omega arith)))
+    (refl, (λ e. omega arith), (λ e. absurd (omega arith)), (λ e. absurd (omega arith)))
     (refl, (λ e. omega arith), (λ e. absurd (omega arith)), (λ e. absurd (omega arith)))
 
 -- ---- what the bytes show
 
 -- what ended the reading, where the bytes show it
-shown-number : (end : Option Fault) → IsEnding end → (ended : Ended) (before : List (List ℕ)) → ShowsEnding ended before end → (end_number end ≡ end_number ended.fault) ⊎ ((end_number end ≡ 1) ⊎ (end_number end ≡ 8))
-shown-number = ending_cases (λ end. (ended : Ended) (before : List (List ℕ)) → ShowsEnding ended before end → (end_number end ≡ end_number ended.fault) ⊎ ((end_number end ≡ 1) ⊎ (end_number end ≡ 8)))
-    (λ ended before shows. inl (ap (λ e. end_number e.fault) (sym shows))) (λ ended before shows. inr (inl refl)) (λ ended before shows. inl (ap (λ e. end_number e.fault) (sym shows))) (λ ended before shows. inl (ap (λ e. end_number e.fault) (sym shows)))
-    (λ ended before shows. inl (ap (λ e. end_number e.fault) (sym shows))) (λ ended before shows. inl (ap (λ e. end_number e.fault) (sym shows))) (λ ended before shows. inl (ap (λ e. end_number e.fault) (sym shows))) (λ ended before shows. inr (inr refl))
+shown-number : (end : Option Fault) → IsEnding end → (ended : Ended) (before : List (List ℕ)) → ShowsEnding ended before end
+    → (end_number end ≡ end_number ended.fault) ⊎ ((end_number end ≡ 1) ⊎ (end_number end ≡ 8))
+shown-number = ending_cases (λ end. (ended : Ended) (before : List (List ℕ)) → ShowsEnding ended before end
+    → (end_number end ≡ end_number ended.fault) ⊎ ((end_number end ≡ 1) ⊎ (end_number end ≡ 8)))
+    (λ ended before shows. inl (ap (λ e. end_number e.fault) (sym shows))) (λ ended before shows. inr (inl refl))
+    (λ ended before shows. inl (ap (λ e. end_number e.fault) (sym shows))) (λ ended before shows. inl (ap (λ e. end_number e.fault) (sym shows)))
+    (λ ended before shows. inl (ap (λ e. end_number e.fault) (sym shows))) (λ ended before shows. inl (ap (λ e. end_number e.fault) (sym shows)))
+    (λ ended before shows. inl (ap (λ e. end_number e.fault) (sym shows))) (λ ended before shows. inr (inr refl))
     (λ ended before shows. inl (ap (λ e. end_number e.fault) (sym shows))) (λ ended before shows. inl (ap (λ e. end_number e.fault) (sym shows)))
 
 -- what was taken ends as all bytes do, unless memory ran out or a read failed
-same-ending : (end : Option Fault) → IsEnding end → ((taken all : Ended) (before : List (List ℕ)) → TakenEnds taken before end → ShowsEnding all before end → taken ≡ all) ⊎ ((end ≡ Some Memory) ⊎ (end ≡ Some Read))
-same-ending = ending_cases (λ end. ((taken all : Ended) (before : List (List ℕ)) → TakenEnds taken before end → ShowsEnding all before end → taken ≡ all) ⊎ ((end ≡ Some Memory) ⊎ (end ≡ Some Read)))
-    (inl (λ taken all before ends shows. ends ∙ sym shows)) (inr (inl refl)) (inl (λ taken all before ends shows. ends ∙ sym shows)) (inl (λ taken all before ends shows. ends ∙ sym shows)) (inl (λ taken all before ends shows. ends ∙ sym shows))
-    (inl (λ taken all before ends shows. ends ∙ sym shows)) (inl (λ taken all before ends shows. ends ∙ sym shows)) (inr (inr refl)) (inl (λ taken all before ends shows. ends ∙ sym shows)) (inl (λ taken all before ends shows. ends ∙ sym shows))
+same-ending : (ports : List ℕ) (end : Option Fault) → IsEnding end
+    → ((taken all : Ended) (before : List (List ℕ)) → TakenEnds ports taken before end → ShowsEnding all before end → taken ≡ all)
+    ⊎ ((end ≡ Some Memory) ⊎ (end ≡ Some Read))
+same-ending ports = ending_cases (λ end. ((taken all : Ended) (before : List (List ℕ)) → TakenEnds ports taken before end → ShowsEnding all before end
+    → taken ≡ all) ⊎ ((end ≡ Some Memory) ⊎ (end ≡ Some Read)))
+    (inl (λ taken all before ends shows. ends ∙ sym shows)) (inr (inl refl)) (inl (λ taken all before ends shows. ends ∙ sym shows))
+    (inl (λ taken all before ends shows. ends ∙ sym shows)) (inl (λ taken all before ends shows. ends ∙ sym shows))
+    (inl (λ taken all before ends shows. ends ∙ sym shows)) (inl (λ taken all before ends shows. ends ∙ sym shows)) (inr (inr refl))
+    (inl (λ taken all before ends shows. ends ∙ sym shows)) (inl (λ taken all before ends shows. ends ∙ sym shows))
 
 broken_off : (ended : Ended) (before : List (List ℕ)) → BreaksOff ended before → IsBrokenOff ended.fault
 broken_off ended before broke = ⊎_elim (λ none. inl (ap (λ e. e.fault) none)) (λ cut. inr (ap (λ e. e.fault) cut)) broke
@@ -107,7 +129,8 @@ any-write : (apps : List AppLine) → any_stopped is_write apps ≡ true → Sta
 any-write [] is = absurd (cc)
 any-write (app ∷ apps) is = by_first (is_write app.stopped) refl is (λ others. any-write apps others)
   where
-    by_first : (b : Bool) → is_write app.stopped ≡ b → (b || any_stopped is_write apps) ≡ true → (any_stopped is_write apps ≡ true → Stands apps) → Stands (app ∷ apps)
+    by_first : (b : Bool) → is_write app.stopped ≡ b → (b || any_stopped is_write apps) ≡ true → (any_stopped is_write apps ≡ true → Stands apps)
+        → Stands (app ∷ apps)
     by_first true first all others = record { number = 0; app = app; at = refl; why = is_it app.stopped first }
     by_first false first all others = let rest = others all in record { number = suc rest.number; app = rest.app; at = rest.at; why = rest.why }
 
@@ -121,9 +144,11 @@ pub record IsAnswer (said answer refusals refusals_now : ℕ) : Type 0 where
   pub cases : (answer ≡ said) ⊎ ((answer ≡ 1) ⊎ ((answer ≡ 9) × Rose refusals refusals_now × (said ≢ 1)))
 
 chosen : (said answer : ℕ) → answer ≡ (if said == 1 then 1 else 9) → (answer ≡ 1) ⊎ ((answer ≡ 9) × (said ≢ 1))
-chosen said answer is = ⊎_elim (λ (one : said ≡ 1). inl (is ∙ rw one refl)) (λ (other : said ≢ 1). inr (is ∙ rw (unequal said 1 other) refl, other)) (cases_eq said 1)
+chosen said answer is = ⊎_elim (λ (one : said ≡ 1). inl (is ∙ rw one refl)) (λ (other : said ≢ 1). inr (is ∙ rw (unequal said 1 other) refl, other))
+    (cases_eq said 1)
 
-is_answer : (sent now : Option (List ℕ)) (refusals refusals_now said answer : ℕ) (text : List ℕ) (reported : Result (Unit {0}) Unreported) → Reports sent now refusals refusals_now text reported → answer ≡ answer_of said reported → IsAnswer said answer refusals refusals_now
+is_answer : (sent now : Option (List ℕ)) (refusals refusals_now said answer : ℕ) (text : List ℕ) (reported : Result (Unit {0}) Unreported)
+    → Reports sent now refusals refusals_now text reported → answer ≡ answer_of said reported → IsAnswer said answer refusals refusals_now
 is_answer sent now refusals refusals_now said answer text (Ok done) report is = record { cases = inl is }
 is_answer sent now refusals refusals_now said answer text (Err unreported.Memory) report is = record { cases = inr (inl is) }
 is_answer sent now refusals refusals_now said answer text (Err unreported.Write) report is = record {
@@ -138,12 +163,15 @@ memory-status : (wanting lost : Bool) → status_from wanting lost (Some Memory)
 memory-status true lost = refl
 memory-status false lost = refl
 
-module _ (wanting lost : Bool) (end : Option Fault) {answer refusals refusals_now : ℕ} (is : IsAnswer (status_from wanting lost end) answer refusals refusals_now) (kind : IsEnding end) where
+module _ (wanting lost : Bool) (end : Option Fault) {answer refusals refusals_now : ℕ}
+    (is : IsAnswer (status_from wanting lost end) answer refusals refusals_now) (kind : IsEnding end) where
   has_causes : HasCauses lost end answer refusals refusals_now
   unfolding Says
   has_causes = record {
     cases = ⊎_elim
-        (λ (same : answer ≡ status_from wanting lost end). ⊎_elim (λ one. inl (same ∙ one)) (λ others. ⊎_elim (λ (nine, shelf). inr (inl (same ∙ nine, inl shelf))) (λ number. inr (inr (same ∙ number))) others) (says wanting lost end kind))
+        (λ (same : answer ≡ status_from wanting lost end). ⊎_elim (λ one. inl (same ∙ one))
+        (λ others. ⊎_elim (λ (nine, shelf). inr (inl (same ∙ nine, inl shelf))) (λ number. inr (inr (same ∙ number))) others)
+        (says wanting lost end kind))
         (λ others. ⊎_elim (λ one. inl one) (λ (nine, rose, other). inr (inl (nine, inr rose))) others) is.cases;
   }
 
@@ -157,7 +185,8 @@ module _ (wanting lost : Bool) (end : Option Fault) {answer refusals refusals_no
 
 module _ {S T : Type 0} {left : S → Option (List ℕ)} {failed : S → ℕ} {kept : T → ℕ → Option (List ℕ)} {losses : T → ℕ}
     {source source_now : S} {shelves shelves_now : List T} {ports : List ℕ} {outcome : Outcome} {answer refusals refusals_now : ℕ}
-    (replayed : Replayed left failed kept losses source source_now shelves shelves_now ports outcome) (is : IsAnswer (status_of outcome) answer refusals refusals_now) where
+    (replayed : Replayed left failed kept losses source source_now shelves shelves_now ports outcome)
+    (is : IsAnswer (status_of outcome) answer refusals refusals_now) where
   abbrev pub lost : Bool
   lost = any_stopped is_write outcome.apps.items
 
@@ -166,36 +195,46 @@ module _ {S T : Type 0} {left : S → Option (List ℕ)} {failed : S → ℕ} {k
 
   kind-of : IsStatus answer
   unfolding IsNumbered
-  kind-of = ⊎_elim (λ one. subst IsStatus (sym one) refl) (λ others. ⊎_elim (λ (nine, why). subst IsStatus (sym nine) refl) (λ number. subst IsStatus (sym number) (numbered outcome.end replayed.ended.kind).0) others) causes.cases
+  kind-of = ⊎_elim (λ one. subst IsStatus (sym one) refl)
+      (λ others. ⊎_elim (λ (nine, why). subst IsStatus (sym nine) refl)
+      (λ number. subst IsStatus (sym number) (numbered outcome.end replayed.ended.kind).0) others) causes.cases
 
   ending-of : (all : List ℕ) → ShowsEnding (ended_of ports all) replayed.before outcome.end → IsStatusOf answer (ended_of ports all).fault
   ending-of all shows = ⊎_elim (λ one. inr (inl one)) (λ others. ⊎_elim (λ (nine, why). inr (inr (inr nine)))
-      (λ number. ⊎_elim (λ same. inl (number ∙ same)) (λ hidden. ⊎_elim (λ one. inr (inl (number ∙ one))) (λ eight. inr (inr (inl (number ∙ eight)))) hidden)
+      (λ number. ⊎_elim (λ same. inl (number ∙ same)) (λ hidden. ⊎_elim (λ one. inr (inl (number ∙ one)))
+      (λ eight. inr (inr (inl (number ∙ eight)))) hidden)
       (shown-number outcome.end replayed.ended.kind (ended_of ports all) replayed.before shows)) others) causes.cases
 
   reached-of : IfSome (left source) (λ all. Took (left source) (left source_now) (λ taken. ended_of ports taken ≡ ended_of ports all))
       ⊎ ((answer ≡ 1) ⊎ (((answer ≡ 8) ⊎ (answer ≡ 9)) × Rose (failed source) (failed source_now)))
   reached-of = ⊎_elim
       (λ same. inl (some-weaker (left source) _ _ replayed.ended.shown (λ all shows.
-      Took-weaker (left source) (left source_now) (λ taken. TakenEnds (ended_of ports taken) replayed.before outcome.end) (λ taken. ended_of ports taken ≡ ended_of ports all)
+      Took-weaker (left source) (left source_now) (λ taken. TakenEnds ports (ended_of ports taken) replayed.before outcome.end)
+      (λ taken. ended_of ports taken ≡ ended_of ports all)
       (λ taken ends. same (ended_of ports taken) (ended_of ports all) replayed.before ends shows) replayed.ended.taken)))
       (λ hidden. inr (⊎_elim (λ memory. inl (at-memory (any_stopped is_memory outcome.apps.items) lost outcome.end is replayed.ended.kind memory))
-      (λ failed_read. ⊎_elim (λ one. inl one) (λ others. inr (⊎_elim (λ (nine, why). inr nine) (λ number. inl (number ∙ ap end_number failed_read)) others, replayed.ended.cause failed_read)) causes.cases) hidden))
-      (same-ending outcome.end replayed.ended.kind)
+      (λ failed_read. ⊎_elim (λ one. inl one) (λ others. inr (
+        ⊎_elim (λ (nine, why). inr nine) (λ number. inl (number ∙ ap end_number failed_read)) others,
+        replayed.ended.cause failed_read,
+      )) causes.cases) hidden))
+      (same-ending ports outcome.end replayed.ended.kind)
 
   whole-of : answer ≡ 0 → IsReadToEnd (left source) (left source_now)
   unfolding IsNumbered
   whole-of zero = ⊎_elim (λ one. absurd (omega arith)) (λ others. ⊎_elim (λ (nine, why). absurd (omega arith))
       (λ number. replayed.ended.at_end ((numbered outcome.end replayed.ended.kind).3 (sym number ∙ zero))) others) causes.cases
 
-  read-of : answer ≡ 8 → Rose (failed source) (failed source_now) × Took (left source) (left source_now) (λ taken. IsBrokenOff (ended_of ports taken).fault)
+  read-of : answer ≡ 8 → Rose (failed source) (failed source_now)
+      × Took (left source) (left source_now) (λ taken. IsBrokenOff (ended_of ports taken).fault)
   unfolding IsNumbered
   read-of eight = ⊎_elim (λ one. absurd (omega arith)) (λ others. ⊎_elim (λ (nine, why). absurd (omega arith))
       (λ number.
       let by_read : outcome.end ≡ Some Read = (numbered outcome.end replayed.ended.kind).2 (sym number ∙ eight) in (
         replayed.ended.cause by_read,
-        Took-weaker (left source) (left source_now) (λ taken. TakenEnds (ended_of ports taken) replayed.before outcome.end) (λ taken. IsBrokenOff (ended_of ports taken).fault)
-            (λ taken ends. broken_off (ended_of ports taken) replayed.before (subst (λ e. TakenEnds (ended_of ports taken) replayed.before e) by_read ends)) replayed.ended.taken,
+        Took-weaker (left source) (left source_now) (λ taken. TakenEnds ports (ended_of ports taken) replayed.before outcome.end)
+            (λ taken. IsBrokenOff (ended_of ports taken).fault)
+            (λ taken ends. broken_off (ended_of ports taken) replayed.before
+            (subst (λ e. TakenEnds ports (ended_of ports taken) replayed.before e) by_read ends)) replayed.ended.taken,
       )) others) causes.cases
 
   shelf-failed : lost ≡ true → (app : ℕ) × Rose (losses_in losses shelves app) (losses_in losses shelves_now app)
@@ -210,15 +249,19 @@ module _ {S T : Type 0} {left : S → Option (List ℕ)} {failed : S → ℕ} {k
 
   lost-of : answer ≡ 9 → ((app : ℕ) × Rose (losses_in losses shelves app) (losses_in losses shelves_now app)) ⊎ Rose refusals refusals_now
   unfolding IsNumbered
-  lost-of nine = ⊎_elim (λ one. absurd (omega arith)) (λ others. ⊎_elim (λ (at_nine, why). ⊎_elim (λ shelf. inl (shelf-failed shelf)) (λ sink. inr sink) why)
+  lost-of nine = ⊎_elim (λ one. absurd (omega arith)) (λ others. ⊎_elim
+      (λ (at_nine, why). ⊎_elim (λ shelf. inl (shelf-failed shelf)) (λ sink. inr sink) why)
       (λ number. absurd ((numbered outcome.end replayed.ended.kind).1 (sym number ∙ nine))) others) causes.cases
 
-pub replays : {S T O : Type 0} {left : S → Option (List ℕ)} {failed : S → ℕ} {kept : T → ℕ → Option (List ℕ)} {losses : T → ℕ} (sent : O → Option (List ℕ)) (refusals : O → ℕ)
+pub replays : {S T O : Type 0} {left : S → Option (List ℕ)} {failed : S → ℕ} {kept : T → ℕ → Option (List ℕ)} {losses : T → ℕ}
+    (sent : O → Option (List ℕ)) (refusals : O → ℕ)
     {source source_now : S} {shelves shelves_now : List T} (out out_now : O) {ports : List ℕ} {outcome : Outcome} {answer : ℕ}
-    → Replayed left failed kept losses source source_now shelves shelves_now ports outcome → Tells (sent out) (sent out_now) (refusals out) (refusals out_now) outcome answer
+    → Replayed left failed kept losses source source_now shelves shelves_now ports outcome
+    → Tells (sent out) (sent out_now) (refusals out) (refusals out_now) outcome answer
     → Replays left failed kept losses sent refusals source source_now shelves shelves_now out out_now ports answer
 replays {left = left} sent refusals {source = source} out out_now {outcome = outcome} {answer = answer} replayed tells =
-    let is : IsAnswer (status_of outcome) answer (refusals out) (refusals out_now) = is_answer (sent out) (sent out_now) (refusals out) (refusals out_now) (status_of outcome) answer _ tells.reported tells.report tells.answered in
+    let is : IsAnswer (status_of outcome) answer (refusals out) (refusals out_now) = is_answer (sent out) (sent out_now) (refusals out) (refusals out_now)
+    (status_of outcome) answer _ tells.reported tells.report tells.answered in
     record {
       outcome = outcome;
       replayed = replayed;

@@ -27,14 +27,16 @@ abbrev pub IsBrokenOff : Option Fault → Type 0
 IsBrokenOff end = (end ≡ None) ⊎ (end ≡ Some Cut)
 
 -- What a replay to these ports leaves of its source, its shelves and its sink, and what its answer says.
-pub record Replays {S T O : Type 0} (left : S → Option (List ℕ)) (failed : S → ℕ) (kept : T → ℕ → Option (List ℕ)) (losses : T → ℕ) (sent : O → Option (List ℕ)) (refusals : O → ℕ)
+pub record Replays {S T O : Type 0} (left : S → Option (List ℕ)) (failed : S → ℕ) (kept : T → ℕ → Option (List ℕ)) (losses : T → ℕ)
+    (sent : O → Option (List ℕ)) (refusals : O → ℕ)
     (source source_now : S) (shelves shelves_now : List T) (out out_now : O) (ports : List ℕ) (answer : ℕ) : Type 0 where
   -- The stream theorem, and what the lines of the report say.
   pub outcome : Outcome
   pub replayed : Replayed left failed kept losses source source_now shelves shelves_now ports outcome
   -- The report, with the status of that outcome, went out whole; or not, and then the answer says so.
   pub reported : Result (Unit {0}) Unreported
-  pub report : Reports (sent out) (sent out_now) (refusals out) (refusals out_now) (report_of outcome.tally outcome.apps.items outcome.flows.items (status_of outcome)) reported
+  pub report : Reports (sent out) (sent out_now) (refusals out) (refusals out_now)
+      (report_of outcome.tally outcome.apps.items outcome.flows.items (status_of outcome)) reported
   pub answered : answer ≡ answer_of (status_of outcome) reported
   -- What was taken ends as all the bytes do, after the same records and by the same fault, unless memory ran out or a read failed.
   pub reached : IfSome (left source) (λ all. Took (left source) (left source_now) (λ taken. ended_of ports taken ≡ ended_of ports all))
@@ -44,7 +46,8 @@ pub record Replays {S T O : Type 0} (left : S → Option (List ℕ)) (failed : S
   pub kind : IsStatus answer
   pub whole : answer ≡ 0 → IsReadToEnd (left source) (left source_now)
   -- 8 comes only where a read failed, and what was taken by then breaks off: nothing else in it ends the reading.
-  pub read : answer ≡ 8 → Rose (failed source) (failed source_now) × Took (left source) (left source_now) (λ taken. IsBrokenOff (ended_of ports taken).fault)
+  pub read : answer ≡ 8 → Rose (failed source) (failed source_now)
+      × Took (left source) (left source_now) (λ taken. IsBrokenOff (ended_of ports taken).fault)
   -- 9 comes only where an application's shelf failed, or the sink.
   pub lost : answer ≡ 9 → ((app : ℕ) × Rose (losses_in losses shelves app) (losses_in losses shelves_now app)) ⊎ Rose (refusals out) (refusals out_now)
 
@@ -55,7 +58,8 @@ pub record IsUntouched {S T O : Type 0} (source source_now : S) (shelves shelves
   pub out_is : out_now ≡ out
 
 -- what a command leaves
-abbrev pub Commands : {S T O : Type 0} → (S → Option (List ℕ)) → (S → ℕ) → (T → ℕ → Option (List ℕ)) → (T → ℕ) → (O → Option (List ℕ)) → (O → ℕ)
+abbrev pub Commands : {S T O : Type 0} → (S → Option (List ℕ)) → (S → ℕ) → (T → ℕ → Option (List ℕ)) → (T → ℕ)
+    → (O → Option (List ℕ)) → (O → ℕ)
     → S → S → List T → List T → O → O → ℕ → Shown → Type 0
 Commands left failed kept losses sent refusals source source_now shelves shelves_now out out_now answer (replay told) =
     Replays left failed kept losses sent refusals source source_now shelves shelves_now out out_now told.ports answer

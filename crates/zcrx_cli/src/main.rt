@@ -5,11 +5,13 @@
 
 ghost use Rattle.std.specs.Prelude.{◌≡◌, IfOk, vec_len};
 
+mod descriptors;
 mod status;
 #[cfg(test)]
 mod tests;
 mod top;
 
+use descriptors::hold_closed_streams;
 use std::alloc::{AllocError, Global};
 use std::collections::hash_map::RandomState;
 use std::io::BufReader;
@@ -28,14 +30,15 @@ const INPUT_BUFFER: usize = 65_536;
 
 /// All arguments. One that isn't UTF-8 is a faulty command line.
 fn read_arguments(rt: &(impl Env + AllocGlobal)) -> Result<Vec<String>, Fault> {
-    let arguments = env::args(rt).map_err(|error| fault_of(&error))?;
+    let arguments = env::args(rt).map_err(|error| memory_or(Fault::Usage, &error))?;
     arguments.collect(rt.alloc()).map_err(|_| Fault::Memory)
 }
 
-fn fault_of(error: &io::Error) -> Fault {
+/// Want of memory, or else this fault.
+fn memory_or(other: Fault, error: &io::Error) -> Fault {
     match error.kind() {
         io::ErrorKind::OutOfMemory => Fault::Memory,
-        _ => Fault::Usage,
+        _ => other,
     }
 }
 
@@ -51,6 +54,7 @@ fn make_shelves<R: Files + AllocGlobal>(rt: &R) -> Result<Vec<FileShelf<&R>>, Al
 
 /// Runs the command over standard input, standard output and the files of the current folder.
 fn start(rt: &HostRuntime) -> Result<u8, Fault> {
+    let _held = hold_closed_streams(rt).map_err(|error| memory_or(Fault::Write, &error))?;
     let arguments = read_arguments(rt)?;
     let words: Vec<&str> = arguments
         .iter()
@@ -62,7 +66,7 @@ fn start(rt: &HostRuntime) -> Result<u8, Fault> {
     let mut source = StdSource::new(input.map_err(|_| Fault::Memory)?);
     let mut shelves = make_shelves(rt).map_err(|_| Fault::Memory)?;
     let mut out = StdSink::new(io::writer(rt));
-    let random = RandomState::new(rt).map_err(|_| Fault::Memory)?;
+    let random = RandomState::new(rt).map_err(|_| Fault::Read)?;
     Ok(zcrx(
         rt.alloc(),
         random,

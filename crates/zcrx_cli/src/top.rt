@@ -69,7 +69,8 @@ pub fn zcrx<S: Source + Send, T: Shelf + Send, O: Sink>(
     ensures usage { result ≡ 2 → reading_of (map (λ w. w.now) words.now) ≡ None }
     ensures unread { reading_of (map (λ w. w.now) words.now) ≡ None → (result ≡ 2) ⊎ (result ≡ 1) }
     // Then nothing is read or written.
-    ensures untouched { reading_of (map (λ w. w.now) words.now) ≡ None → IsUntouched source.old source.new shelves.old.items shelves.new.items out.old out.new }
+    ensures untouched { reading_of (map (λ w. w.now) words.now) ≡ None
+        → IsUntouched source.old source.new shelves.old.items shelves.new.items out.old out.new }
 
     // The stream theorem, and what the status and the report say.
     ensures replays { IfSome (reading_of (map (λ w. w.now) words.now))

@@ -3,7 +3,7 @@ ghost use Rattle.std.specs.Prelude.{◌<◌, ◌^◌, length};
 
 use super::frames::capture;
 use super::runs::{Given, Row, Stream, check, faultless};
-use flow_table::{PlainFlow, plain_flows, plain_stream};
+use flow_table::plain::{PlainFlow, plain_flows, plain_stream};
 use frame_headers::{Seen, read_frame};
 use std::alloc::Global;
 use std::process::Abort;

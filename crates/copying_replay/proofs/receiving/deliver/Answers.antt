@@ -9,7 +9,8 @@ pub returns-in-Err-clause-delivers : goal.returns-in-Err-clause-delivers
 returns-in-Err-clause-delivers g c = λ first placed had.
     let before = g.T.Shelf.kept c.loop-piece.shelf c.args.flow in
     let now = g.T.Shelf.kept c.append.new.self c.args.flow in
-    lost-piece (c.loop-piece.invariant.2 first placed had) c.in-Some.piece c.in-Some.span c.in-Some.ensures.popped c.in-Some.ensures.in_order now c.in-Err.ensures.bytes.0
+    lost-piece (c.loop-piece.invariant.2 first placed had) c.in-Some.piece c.in-Some.span c.in-Some.ensures.popped c.in-Some.ensures.in_order now
+    c.in-Err.ensures.bytes.0
     (subst (λ (v : List ℕ). Appends before now (take c.in-Err.ensures.bytes.0 v)) c.deref.ensures.value c.in-Err.ensures.bytes.1)
 
 pub loop-piece-preserved : goal.loop-piece-preserved

@@ -8,7 +8,8 @@ use Rattle.copying_replay.proofs.receiving.deliver.Given as goal
 abbrev pub invariant-loop-piece : goal.invariant-loop-piece
 invariant-loop-piece g l =
     (l.line ≡ record l.initial.line { bytes = l.line.bytes }) × (l.queue.base ≡ l.fn.queue.base)
-    × ((first : Option (List ℕ)) (placed : Placed ℕ) → HasDelivered first (g.T.Shelf.kept l.initial.shelf l.flow) placed l.fn.queue → HasDelivered first (g.T.Shelf.kept l.shelf l.flow) placed l.queue)
+    × ((first : Option (List ℕ)) (placed : Placed ℕ) → HasDelivered first (g.T.Shelf.kept l.initial.shelf l.flow) placed l.fn.queue
+    → HasDelivered first (g.T.Shelf.kept l.shelf l.flow) placed l.queue)
     × ((other : ℕ) → other ≢ l.flow → Keeps (g.T.Shelf.kept l.initial.shelf other) (g.T.Shelf.kept l.shelf other))
     × (g.T.Shelf.faults l.initial.shelf ≤ g.T.Shelf.faults l.shelf)
 

@@ -9,7 +9,8 @@ returns-in-Ok-clause-receives g c = λ first base placed followed.
     let s = c.args.joined.now.seq in
     let values = c.args.payload.now in
     let taken = copies-taken followed s values c.take_copies.new.queue c.take_copies.ensures.same.1 c.in-Ok.ensures.takes in
-    followed-delivered c.deliver.new.line.bytes c.deliver.new.queue c.deliver.result (c.deliver.ensures.base ∙ c.take_copies.ensures.same.0 ∙ (followed.follows refl).base_is)
+    followed-delivered c.deliver.new.line.bytes c.deliver.new.queue c.deliver.result
+    (c.deliver.ensures.base ∙ c.take_copies.ensures.same.0 ∙ (followed.follows refl).base_is)
     (c.deliver.ensures.delivers first (received base placed s values) taken)
 
 pub returns-in-Err-clause-receives : goal.returns-in-Err-clause-receives

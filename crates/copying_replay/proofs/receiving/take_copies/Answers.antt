@@ -1,65 +1,92 @@
 -- Each gap of the payload is taken, and what lies between was there.
-use Rattle.std.proofs.Common.{rules, ◌≡◌, ◌≤◌, ◌<◌, ◌+◌, ◌-◌, ◌%◌, ◌^◌, ℕ, List, length, take, drop, true, false, refl, ap, subst, ◌∙◌, take_all, arith}
-use Rattle.zr_kinds.specs.CopyingReceiver.{accepts, filled}
-use Rattle.tcp_reorder.specs.Queue.{next_of, with_kept, IsSound}
-use Rattle.tcp_reorder.specs.Gaps.{origin, wants, IsFirstGap}
+use Rattle.std.proofs.Common.{rules, ◌≡◌, ◌≤◌, ◌+◌, ◌-◌, ◌%◌, ◌^◌, ℕ, List, length, take, drop, Vec, true, false, refl}
+use Rattle.std.proofs.Common.{subst, arith}
+use Rattle.std.specs.declared.alloc.Global.{Global}
+use Rattle.zr_kinds.specs.CopyingReceiver.{Placed, accepts, received}
+use Rattle.tcp_reorder.specs.Queue.{Queue, next_of}
+use Rattle.tcp_reorder.specs.Gaps.{AreUnwanted, with_taken}
 use Rattle.tcp_reorder.specs.Values.{Holds}
-use Rattle.tcp_reorder.proofs.Parts.{may_be_taken}
+use Rattle.tcp_reorder.specs.Entering.{HasEntered, HoldsWhatCame}
+use Rattle.tcp_reorder.proofs.Entering.{holds_what_came}
 use Rattle.copying_replay.specs.Streams.{bytes_of}
-use Rattle.copying_replay.proofs.Filling.{IsPast, copied, copy-goes-on, copy-held, received-ignored, received-filled, holds-all, past-unwanted}
 use Rattle.copying_replay.proofs.receiving.take_copies.Goals as goal
 
+-- of queues of copies
+law : HoldsWhatCame ℕ (Vec ℕ Global)
+law = holds_what_came ℕ (Vec ℕ Global)
+
+-- a payload is a whole frame, which is a part that begins at its first byte
+place-is : (seq done : ℕ) → (seq + done) % 2 ^ 32 ≡ (seq + (0 + done)) % 2 ^ 32
+place-is seq done = omega arith
+
+whole-entered : (was now : Queue (Vec ℕ Global)) (seq : ℕ) (payload : List ℕ) (done : ℕ)
+    → HasEntered bytes_of was now seq (length payload) 0 payload done
+    → AreUnwanted now ((seq + done) % 2 ^ 32) (length payload - done)
+    → (placed : Placed ℕ) → Holds bytes_of was placed → Holds bytes_of now (received was.base placed seq payload)
+whole-entered was now seq payload done entered unwanted placed holds = subst (Holds bytes_of now) (law.whole was.base placed seq payload)
+    (law.ended bytes_of was now seq (length payload) 0 payload done ((seq + done) % 2 ^ 32) placed entered (place-is seq done) unwanted holds)
+
 pub returns-then-not-accepts-clause-takes : goal.returns-then-not-accepts-clause-takes
-returns-then-not-accepts-clause-takes c = λ placed holds. received-ignored c.args.queue.now placed c.args.seq c.args.payload.now holds (search rules)
+returns-then-not-accepts-clause-takes c = λ placed holds.
+    let queue = c.args.queue.now in
+    let seq = c.args.seq in
+    let payload = c.args.payload.now in
+    let refused : accepts queue.base (next_of queue) seq (length payload) ≡ false = search rules in
+    subst (Holds bytes_of queue) (law.whole queue.base placed seq payload) (law.refused bytes_of queue placed seq (length payload) 0 payload refused holds)
+
+pub loop-done-init : goal.loop-done-init
+loop-done-init c =
+    let accepted : accepts c.args.queue.now.base (next_of c.args.queue.now) c.args.seq (length c.args.payload.now) ≡ true = search rules in (
+      refl,
+      law.begun bytes_of c.args.queue.now c.args.seq (length c.args.payload.now) 0 c.args.payload.now accepted (omega (arith, c.requires.size))
+          (omega arith),
+    )
+
+rest-accepted : (was now : Queue (Vec ℕ Global)) (seq : ℕ) (payload : List ℕ) (done : ℕ)
+    → HasEntered bytes_of was now seq (length payload) 0 payload done
+    → accepts now.base (next_of now) ((seq + done) % 2 ^ 32) (length payload - done) ≡ true
+rest-accepted was now seq payload done entered =
+    law.rest bytes_of was now seq (length payload) 0 payload done ((seq + done) % 2 ^ 32) entered (place-is seq done)
+
+pub gap-requires : goal.gap-requires
+gap-requires c = rest-accepted c.args.queue.now c.loop-done.queue c.args.seq c.args.payload.now c.loop-done.done c.loop-done.invariant.1
 
 pub take-requires-clause-accepted : goal.take-requires-clause-accepted
-take-requires-clause-accepted c = (may_be_taken c.loop-done.queue ((c.args.seq + c.loop-done.done) % 2 ^ 32) _ c.loop-done.invariant.4.near c.in-Some.gap c.in-Some.ensures.first).accepted
+take-requires-clause-accepted c =
+    let accepted = rest-accepted c.args.queue.now c.loop-done.queue c.args.seq c.args.payload.now c.loop-done.done c.loop-done.invariant.1 in
+    (law.may_be_taken c.loop-done.queue ((c.args.seq + c.loop-done.done) % 2 ^ 32)
+    (length c.args.payload.now - c.loop-done.done) c.in-Some.gap accepted c.in-Some.ensures.first).0
 
 pub take-requires-clause-wanted : goal.take-requires-clause-wanted
-take-requires-clause-wanted c = (may_be_taken c.loop-done.queue ((c.args.seq + c.loop-done.done) % 2 ^ 32) _ c.loop-done.invariant.4.near c.in-Some.gap c.in-Some.ensures.first).wanted
+take-requires-clause-wanted c =
+    let accepted = rest-accepted c.args.queue.now c.loop-done.queue c.args.seq c.args.payload.now c.loop-done.done c.loop-done.invariant.1 in
+    (law.may_be_taken c.loop-done.queue ((c.args.seq + c.loop-done.done) % 2 ^ 32)
+    (length c.args.payload.now - c.loop-done.done) c.in-Some.gap accepted c.in-Some.ensures.first).1
 
 pub loop-done-preserved : goal.loop-done-preserved
 loop-done-preserved c =
-    let queue = c.loop-done.queue in
+    let now = c.loop-done.queue in
     let seq = c.args.seq in
     let payload = c.args.payload.now in
     let done = c.loop-done.done in
     let gap = c.in-Some.gap in
-    let inv = c.loop-done.invariant in
-    let sound : IsSound queue = c.in-Some.ensures.sound in
-    let first : IsFirstGap queue ((seq + done) % 2 ^ 32) (length payload - done) gap = c.in-Some.ensures.first in
+    let from : ℕ = (seq + done) % 2 ^ 32 in
     let items : c.in-Ok.copy.items ≡ take gap.len (drop (done + gap.skip) payload) = search rules in
-    let before : done < length payload = omega (arith, c.loop-done-test.true) in
-    let fits : length payload ≤ 2 ^ 30 = omega (arith, c.requires.size) in
-    let within : gap.skip + gap.len ≤ length payload - done = first.within in
-    let from : ℕ = origin c.args.queue.now seq in
-    let taken : c.take.new.self ≡ record queue { kept = with_kept queue.kept (copied queue sound seq payload done from fits before inv.4 gap first c.in-Ok.copy items) } = search rules in
+    let taken : c.take.new.self ≡ with_taken now ((from + gap.skip) % 2 ^ 32) gap.len c.in-Ok.copy = search rules in
     rw taken (
-      inv.0,
-      inv.1,
       refl,
-      omega arith,
-      copy-goes-on queue sound seq payload done from fits before inv.4 gap first c.in-Ok.copy items,
-      λ placed holds. copy-held queue sound seq payload done from fits before inv.4 gap first c.in-Ok.copy items placed holds.past (inv.5 placed holds),
+      law.taken bytes_of c.args.queue.now now seq
+          (length payload) 0 payload done from gap c.in-Ok.copy c.in-Some.ensures.sound c.loop-done.invariant.1
+          (place-is seq done) c.in-Some.ensures.first items,
     )
 
 pub returns-after-loop-done-clause-takes : goal.returns-after-loop-done-clause-takes
 returns-after-loop-done-clause-takes c = λ placed holds.
-    let inv = c.loop-done.invariant in
-    let payload = c.args.payload.now in
-    let all : c.loop-done.done ≡ length payload = omega (arith, inv.3, c.loop-done-test.false) in
-    let accepted : accepts c.args.queue.now.base (next_of c.args.queue.now) c.args.seq (length payload) ≡ true = search rules in
-    received-filled c.args.queue.now placed c.args.seq payload holds c.loop-done.queue accepted
-    (subst (λ (bytes : List ℕ). Holds bytes_of c.loop-done.queue (filled placed (origin c.args.queue.now c.args.seq) bytes)) (ap (λ n. take n payload) all ∙ take_all (length payload) payload (omega arith)) (inv.5 placed holds))
+    let none_left : length c.args.payload.now ≤ c.loop-done.done = omega (arith, c.loop-done-test.false) in
+    whole-entered c.args.queue.now c.loop-done.queue c.args.seq c.args.payload.now c.loop-done.done c.loop-done.invariant.1
+    (λ place below. absurd (omega arith)) placed holds
 
 pub returns-in_default-clause-takes : goal.returns-in_default-clause-takes
 returns-in_default-clause-takes c = λ placed holds.
-    let inv = c.loop-done.invariant in
-    let payload = c.args.payload.now in
-    let seq = c.args.seq in
-    let accepted : accepts c.args.queue.now.base (next_of c.args.queue.now) seq (length payload) ≡ true = search rules in
-    let unwanted : (place : ℕ) → place < length payload - c.loop-done.done → wants c.loop-done.queue ((seq + c.loop-done.done) % 2 ^ 32) place ≡ false = search rules in
-    received-filled c.args.queue.now placed seq payload holds c.loop-done.queue accepted
-    (holds-all c.loop-done.queue placed payload (origin c.args.queue.now seq) c.loop-done.done holds.past (inv.5 placed holds) inv.3
-    (λ k from until. subst (λ (place : ℕ). IsPast (filled placed (origin c.args.queue.now seq) (take c.loop-done.done payload)) place) (omega (arith, inv.4.place))
-    (past-unwanted c.loop-done.queue (filled placed (origin c.args.queue.now seq) (take c.loop-done.done payload)) ((seq + c.loop-done.done) % 2 ^ 32) (k - c.loop-done.done) (inv.5 placed holds) (unwanted (k - c.loop-done.done) (omega arith)))))
+    let unwanted : AreUnwanted c.loop-done.queue ((c.args.seq + c.loop-done.done) % 2 ^ 32) (length c.args.payload.now - c.loop-done.done) = search rules in
+    whole-entered c.args.queue.now c.loop-done.queue c.args.seq c.args.payload.now c.loop-done.done c.loop-done.invariant.1 unwanted placed holds

@@ -7,7 +7,8 @@ use Rattle.zr_io.proofs.Moved.{Gained-added}
 use Rattle.run_report.specs.Report.{report_of}
 use Rattle.run_report.proofs.report.write_report.Goals as goal
 
-front : (old new : Option (List ℕ)) (text report : List ℕ) (n : ℕ) → Appends old new (take n text) → text ≡ report → Gained old new (λ sent. (rest : List ℕ) × (report ≡ sent ++ rest))
+front : (old new : Option (List ℕ)) (text report : List ℕ) (n : ℕ) → Appends old new (take n text) → text ≡ report
+    → Gained old new (λ sent. (rest : List ℕ) × (report ≡ sent ++ rest))
 front old new text report n appends is =
     Gained-added old new (take n text) (λ sent. (rest : List ℕ) × (report ≡ sent ++ rest)) appends (drop n text, sym is ∙ sym (take-append-drop n text))
 
@@ -16,6 +17,7 @@ returns-clause-gained g c =
     let said = c.args.report.now in
     let report = report_of said.tally.now said.apps.now said.flows.now said.status in
     let text : c.as_bytes.result.now ≡ report = search rules in (
-      front (g.O.Sink.sent c.args.out.now) (g.O.Sink.sent c.write_all.new.self) c.as_bytes.result.now report c.in-Err.ensures.bytes.0 c.in-Err.ensures.bytes.1 text,
+      front (g.O.Sink.sent c.args.out.now) (g.O.Sink.sent c.write_all.new.self) c.as_bytes.result.now report c.in-Err.ensures.bytes.0 c.in-Err.ensures.bytes.1
+          text,
       c.in-Err.ensures.cause.failed,
     )

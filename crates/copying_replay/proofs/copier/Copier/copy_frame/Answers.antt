@@ -24,12 +24,16 @@ returns-in-Ok-clause-copies g c = λ first ports frames follows.
     let later : Copier = record { counting = c.count.new.self; streams = c.take.new.self.streams } in
     let below : length frames ≢ 16777216 = λ limit. c.if-self-eq-MAX_RECORDS.false (ap (λ t. t.records) follows.tally_is ∙ limit) in
     let next : steer c.args.self.now.streams.table.ports (suc (length frames)) (segment_seen found) ≡ steered_next ports frames frame =
-    ap (λ p. steer p (suc (length frames)) (segment_seen found)) follows.ports_are ∙ ap (steer ports (suc (length frames))) (seen-segment found ∙ ap segment_of c.read_frame-seen.ensures.class) in
+    ap (λ p. steer p (suc (length frames)) (segment_seen found)) follows.ports_are
+    ∙ ap (steer ports (suc (length frames))) (seen-segment found ∙ ap segment_of c.read_frame-seen.ensures.class) in
     let taken = c.in-Ok.ensures.takes first (steered_in ports frames) (suc (length frames)) follows.carries in
     let tally : c.count.new.self.tally ≡ counted c.args.self.now.counting.tally (class_of frame) c.in-Ok.is_steered =
-    c.count.ensures ∙ ap (λ k. counted k.tally (class_seen found) c.in-Ok.is_steered) c.take.ensures.counting ∙ ap (λ class. counted c.args.self.now.counting.tally class c.in-Ok.is_steered) c.read_frame-seen.ensures.class in
+    c.count.ensures ∙ ap (λ k. counted k.tally (class_seen found) c.in-Ok.is_steered) c.take.ensures.counting
+    ∙ ap (λ class. counted c.args.self.now.counting.tally class c.in-Ok.is_steered) c.read_frame-seen.ensures.class in
     frame-taken follows frame shelves later c.take.ensures.ports below c.in-Ok.is_steered
-    (subst (λ (n : Option Steered). TakesNext (steered_in ports frames) n (λ all. Carries g.T.Shelf.kept g.T.Shelf.faults first shelves (flows_of all) (placed_of all) c.take.new.self.streams) (Ok c.in-Ok.is_steered)) next taken)
+    (subst (λ (n : Option Steered). TakesNext (steered_in ports frames) n
+    (λ all. Carries g.T.Shelf.kept g.T.Shelf.faults first shelves (flows_of all) (placed_of all) c.take.new.self.streams)
+    (Ok c.in-Ok.is_steered)) next taken)
     tally
 
 pub returns-in-Err-clause-copies : goal.returns-in-Err-clause-copies
@@ -39,8 +43,10 @@ returns-in-Err-clause-copies g c = λ first ports frames follows.
     let shelves = c.take.new.shelves in
     let below : length frames ≢ 16777216 = λ limit. c.if-self-eq-MAX_RECORDS.false (ap (λ t. t.records) follows.tally_is ∙ limit) in
     let next : steer c.args.self.now.streams.table.ports (suc (length frames)) (segment_seen found) ≡ steered_next ports frames frame =
-    ap (λ p. steer p (suc (length frames)) (segment_seen found)) follows.ports_are ∙ ap (steer ports (suc (length frames))) (seen-segment found ∙ ap segment_of c.read_frame-seen.ensures.class) in
+    ap (λ p. steer p (suc (length frames)) (segment_seen found)) follows.ports_are
+    ∙ ap (steer ports (suc (length frames))) (seen-segment found ∙ ap segment_of c.read_frame-seen.ensures.class) in
     let taken = c.in-Err.ensures.takes first (steered_in ports frames) (suc (length frames)) follows.carries in
     frame-refused follows frame shelves c.take.new.self c.take.ensures.ports below c.in-Err.fault
-    (subst (λ (n : Option Steered). TakesNext (steered_in ports frames) n (λ all. Carries g.T.Shelf.kept g.T.Shelf.faults first shelves (flows_of all) (placed_of all) c.take.new.self.streams) (Err c.in-Err.fault)) next taken)
+    (subst (λ (n : Option Steered). TakesNext (steered_in ports frames) n
+    (λ all. Carries g.T.Shelf.kept g.T.Shelf.faults first shelves (flows_of all) (placed_of all) c.take.new.self.streams) (Err c.in-Err.fault)) next taken)
     c.take.ensures.counting

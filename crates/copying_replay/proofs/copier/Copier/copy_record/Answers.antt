@@ -13,7 +13,8 @@ returns-in-Ok-None-clause-turn g c = λ first_source first_shelves ports records
     let gives = (rw c.in-Ok-None.field-0-is at c.in-Ok-None.ensures.gives) stands.is_open in
     record {
       before = frames_of records;
-      ended = ends-without stands.read (g.S.Source.left c.next.new.source) (g.S.Source.faults c.next.new.source) gives.0 gives.1;
+      ended = ends-without stands.read (g.S.Source.left c.next.new.source) (g.S.Source.faults c.next.new.source)
+          ((c.in-Ok-None.ensures.cause stands.is_open).still (λ failed. cc)) gives.0 gives.1;
       follows = stands.follows;
     }
 
@@ -23,7 +24,8 @@ returns-in-Err-clause-turn g c = λ first_source first_shelves ports records sta
     record {
       before = frames_of records;
       ended = ends-by stands.read (g.S.Source.left c.next.new.source) (g.S.Source.faults c.next.new.source) c.in-Err.fault gives.0 gives.1 gives.2
-          (λ by. (c.in-Err.ensures.cause stands.is_open).read (ap Err by));
+          (λ by. c.in-Err.ensures.memory stands.is_open (ap Err by)) (λ by. (c.in-Err.ensures.cause stands.is_open).read (ap Err by))
+          (λ other. (c.in-Err.ensures.cause stands.is_open).still (λ failed. other (cc)));
       follows = stands.follows;
     }
 
@@ -35,14 +37,19 @@ returns-in-Ok-clause-turn g c = λ first_source first_shelves ports records stan
     let original : ℕ = c.in-Ok-Some.field-0-0.original in
     let frame : List ℕ = c.deref.result.now in
     let gives = (rw c.in-Ok-Some.field-0-is at c.in-Ok-Some.ensures.gives) stands.is_open in
-    let took = subst (λ (f : List ℕ). Took left later (λ taken. (rest : List ℕ) → records_in order (taken ++ rest) ≡ with_record f original (records_in order rest))) (sym c.deref.ensures.value) gives.1 in
+    let took = subst
+    (λ (f : List ℕ). Took left later
+    (λ taken. (rest : List ℕ) → records_in order (taken ++ rest) ≡ with_record f original (records_in order rest)))
+    (sym c.deref.ensures.value) gives.1 in
     let copied = c.in-Ok.ensures.copies first_shelves ports (frames_of records) stands.follows in
-    let read = goes_on stands.read later (g.S.Source.faults c.next.new.source) frame original took (c.in-Ok-Some.ensures.cause stands.is_open).later copied.0 in (
+    let read = goes_on stands.read later (g.S.Source.faults c.next.new.source) frame original took
+    ((c.in-Ok-Some.ensures.cause stands.is_open).still (λ failed. cc)) copied.0 in (
       record { frame = frame; original = original },
       record {
         is_open = ap (λ capture. capture.fault) c.in-Ok-Some.ensures.kept ∙ stands.is_open;
         read = rw c.in-Ok-Some.ensures.kept read;
-        follows = subst (λ all. Follows g.T.Shelf.kept g.T.Shelf.faults first_shelves c.copy_frame.new.shelves ports all c.copy_frame.new.self) (sym (frames-append records _)) copied.1;
+        follows = subst (λ all. Follows g.T.Shelf.kept g.T.Shelf.faults first_shelves c.copy_frame.new.shelves ports all c.copy_frame.new.self)
+            (sym (frames-append records _)) copied.1;
       },
     )
 
@@ -54,8 +61,12 @@ returns-in-Err-copy_frame-clause-turn g c = λ first_source first_shelves ports 
     let original : ℕ = c.in-Ok-Some.field-0-0.original in
     let frame : List ℕ = c.deref.result.now in
     let gives = (rw c.in-Ok-Some.field-0-is at c.in-Ok-Some.ensures.gives) stands.is_open in
-    let took = subst (λ (f : List ℕ). Took left later (λ taken. (rest : List ℕ) → records_in order (taken ++ rest) ≡ with_record f original (records_in order rest))) (sym c.deref.ensures.value) gives.1 in
+    let took = subst
+    (λ (f : List ℕ). Took left later
+    (λ taken. (rest : List ℕ) → records_in order (taken ++ rest) ≡ with_record f original (records_in order rest)))
+    (sym c.deref.ensures.value) gives.1 in
     let refused = c.in-Err-copy_frame.ensures.copies first_shelves ports (frames_of records) stands.follows in
-    let ends = ends-frame stands.read later (g.S.Source.faults c.next.new.source) frame original took (c.in-Ok-Some.ensures.cause stands.is_open).later
+    let ends = ends-frame stands.read later (g.S.Source.faults c.next.new.source) frame original took
+    ((c.in-Ok-Some.ensures.cause stands.is_open).still (λ failed. cc))
     (λ all. Follows g.T.Shelf.kept g.T.Shelf.faults first_shelves c.copy_frame.new.shelves ports all c.copy_frame.new.self) c.in-Err-copy_frame.fault refused in
     record { before = frames_of records; ended = ends.0; follows = ends.1 }
