@@ -1,5 +1,6 @@
 ghost use Rattle.std.specs.Prelude.{◌≡◌, ℕ, ◌+◌, ◌^◌, ◌<◌, ◌≤◌, ◌↔◌, Some, IsTrue, IsSome, IsNone, IfSome};
-ghost use Rattle.area_layout.specs.Layout.{IsLayout, IsBufferSize, LiesIn, IsVoid, shape_of, pool_buffers, total, least_size, size_of, begin_of, first_word, off_of, judged};
+ghost use Rattle.area_layout.specs.Layout.{IsLayout, IsBufferSize, LiesIn, IsVoid, shape_of, pool_buffers, total, least_size, size_of, begin_of, first_word};
+ghost use Rattle.area_layout.specs.Layout.{off_of, judged};
 
 use std::marker::Model;
 use zr_kinds::{Place, Rqe};

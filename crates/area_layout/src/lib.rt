@@ -9,6 +9,3 @@ mod layout;
 pub use entries::{cqe_bytes, cqe_read, rqe_bytes, rqe_read};
 pub use laws::{places_are_judged, words_are_apart};
 pub use layout::Layout;
-
-#[cfg(test)]
-mod tests;

@@ -8,13 +8,14 @@ use Rattle.zr_kinds.specs.declared.place.Place.{Place}
 use Rattle.board_face.specs.Tokens.{AreApart}
 use Rattle.board_face.specs.Places.{has_byte}
 use Rattle.board_face.proofs.Tallies.{weight, tally}
-use Rattle.board_face.proofs.PlaceParts.{in_buffer}
+use Rattle.board_face.proofs.PlaceTallies.{in_buffer}
 
 pub has-weight : (x : ℕ) (p : Place) → p.offset ≤ x → x < p.offset + p.len → weight (has_byte x p) ≡ 1
 has-weight x p from_begin before_end = rw (le-leb p.offset x from_begin, lt-ltb x (p.offset + p.len) before_end) refl
 
 -- the greater of two offsets is a byte of both places, unless one ends before the other begins
-apart-offsets : (p q : Place) → 0 < p.len → 0 < q.len → ((x : ℕ) → weight (has_byte x p) + weight (has_byte x q) ≤ 1) → (p.offset + p.len ≤ q.offset) ⊎ (q.offset + q.len ≤ p.offset)
+apart-offsets : (p q : Place) → 0 < p.len → 0 < q.len → ((x : ℕ) → weight (has_byte x p) + weight (has_byte x q) ≤ 1)
+    → (p.offset + p.len ≤ q.offset) ⊎ (q.offset + q.len ≤ p.offset)
 apart-offsets p q some_p some_q once =
     ⊎_elim
     (λ before_p.
@@ -32,7 +33,8 @@ apart-offsets p q some_p some_q once =
     (cases_lt q.offset (p.offset + p.len))
 
 -- two places with bytes are apart, where no byte of a buffer lies in both
-pub AreApart-once : (b : ℕ) (p q : Place) → p.buffer ≡ b → 0 < p.len → 0 < q.len → ((x : ℕ) → weight (in_buffer b (has_byte x) p) + weight (in_buffer b (has_byte x) q) ≤ 1) → AreApart q p
+pub AreApart-once : (b : ℕ) (p q : Place) → p.buffer ≡ b → 0 < p.len → 0 < q.len
+    → ((x : ℕ) → weight (in_buffer b (has_byte x) p) + weight (in_buffer b (has_byte x) q) ≤ 1) → AreApart q p
 AreApart-once b p q here some_p some_q once =
     ⊎_elim
     (λ t.

@@ -36,17 +36,27 @@ sum-at f x (suc n) small =
     (cases_lt x n)
 
 -- places of which none is empty and none ends behind n are at most as many as the bytes that lie in them
-many-bytes : (n : ℕ) (ps : List Place) → tally is_empty ps ≡ 0 → tally (ends_behind n) ps ≡ 0 → length ps ≤ sum_below (λ x. tally (has_byte x) ps) n
+many-bytes : (n : ℕ) (ps : List Place) → tally is_empty ps ≡ 0 → tally (ends_behind n) ps ≡ 0
+    → length ps ≤ sum_below (λ x. tally (has_byte x) ps) n
 many-bytes n [] some within = omega arith
 many-bytes n (p ∷ ps) some within =
-    let full : 0 < p.len = ⊎_elim (λ less. less) (λ none. absurd (let e : p.len ≡ 0 = omega arith in omega (arith, some, ap weight (eq-eqb p.len 0 e)))) (cases_lt 0 p.len) in
-    let inside : p.offset + p.len ≤ n = ⊎_elim (λ behind. absurd (omega (arith, within, ap weight (lt-ltb n (p.offset + p.len) behind)))) (λ in_time. in_time) (cases_lt n (p.offset + p.len)) in
+    let full : 0 < p.len = ⊎_elim (λ less. less) (λ none. absurd (let e : p.len ≡ 0 = omega arith in omega (arith, some, ap weight (eq-eqb p.len 0 e))))
+    (cases_lt 0 p.len) in
+    let inside : p.offset + p.len ≤ n = ⊎_elim (λ behind. absurd (omega (arith, within, ap weight (lt-ltb n (p.offset + p.len) behind))))
+    (λ in_time. in_time) (cases_lt n (p.offset + p.len)) in
     let here = sum-at (λ x. weight (has_byte x p)) p.offset n (omega arith) in
     let one = has-weight p.offset p (omega arith) (omega arith) in
-    omega (arith, sum-both (λ x. weight (has_byte x p)) (λ x. tally (has_byte x) ps) n, here, one, many-bytes n ps (omega (arith, some)) (omega (arith, within)))
+    omega (
+      arith,
+      sum-both (λ x. weight (has_byte x p)) (λ x. tally (has_byte x) ps) n,
+      here,
+      one,
+      many-bytes n ps (omega (arith, some)) (omega (arith, within)),
+    )
 
 -- the places of a buffer are at most as many as its bytes
-pub places-few : (b : ℕ) (nic : NicSide) (apps : List AppSide) → ArePlaced b nic apps → length (places_of b nic apps) ≤ size_of nic.view.setting.layout b
+pub places-few : (b : ℕ) (nic : NicSide) (apps : List AppSide) → ArePlaced b nic apps
+    → length (places_of b nic apps) ≤ size_of nic.view.setting.layout b
 places-few b nic apps placed =
     let ps = places_of b nic apps in
     let n = size_of nic.view.setting.layout b in
@@ -72,7 +82,8 @@ kinds-few [] = refl
 kinds-few (k ∷ ks) = omega (arith, kind-one k, length-append (kind_place k) (flat_map kind_place ks), kinds-few ks)
 
 -- So a buffer has at most as many holders as it has bytes, and one that fills it.
-pub pool_count-few : (b : ℕ) (nic : NicSide) (apps : List AppSide) → ArePlaced b nic apps → IsFilledByOne b nic apps → pool_count b nic apps ≤ size_of nic.view.setting.layout b + 1
+pub pool_count-few : (b : ℕ) (nic : NicSide) (apps : List AppSide) → ArePlaced b nic apps → IsFilledByOne b nic apps
+    → pool_count b nic apps ≤ size_of nic.view.setting.layout b + 1
 pool_count-few b nic apps placed filled =
     omega (
       arith,

@@ -1,5 +1,6 @@
 -- What each event does to the free places of every buffer, and that a buffer without holder has no user.
-use Rattle.std.proofs.Common.{◌≡◌, ℕ, ◌+◌, ◌<◌, ◌≤◌, Bool, true, false, cond, List, [], ◌∷◌, ◌++◌, length, set, refl, ap, ⊎_elim, arith}
+use Rattle.std.proofs.Common.{◌≡◌, ℕ, ◌+◌, ◌<◌, ◌≤◌, Bool, true, false, cond, List, [], ◌∷◌, ◌++◌, length, set, refl, ap}
+use Rattle.std.proofs.Common.{⊎_elim, arith}
 use Rattle.std.specs.Prelude.{if◌then◌else◌, ◌==◌, nat_lt, nat_eq, count_by, ◌&&◌}
 use Rattle.std.specs.List.{flat_map}
 use Rattle.std.proofs.lemmas.Bool.{eq-eqb}
@@ -28,7 +29,8 @@ times-append : (b : ℕ) (xs ys : List ℕ) → count_by (nat_eq b) (xs ++ ys) �
 times-append b xs ys = omega (arith, count-tally (nat_eq b) (xs ++ ys), count-tally (nat_eq b) xs, count-tally (nat_eq b) ys, tally-append (nat_eq b) xs ys)
 
 -- a buffer that was taken stood in the cache
-pub free_places-took : (listed : ℕ → Bool) (b : ℕ) (nic : NicSide) (apps : List AppSide) (buffer : ℕ) → nic.view.cache ≡ (took nic.view buffer).cache ++ buffer ∷ []
+pub free_places-took : (listed : ℕ → Bool) (b : ℕ) (nic : NicSide) (apps : List AppSide) (buffer : ℕ)
+    → nic.view.cache ≡ (took nic.view buffer).cache ++ buffer ∷ []
     → free_places listed b (nic_at nic (took nic.view buffer)) apps + weight (b == buffer) ≡ free_places listed b nic apps
 free_places-took listed b nic apps buffer last = omega (arith, ap (count_by (nat_eq b)) last, times-push b buffer (took nic.view buffer).cache)
 
@@ -37,7 +39,8 @@ pub free_places-swept : (listed : ℕ → Bool) (b : ℕ) (nic : NicSide) (apps 
     → free_places listed b (nic_at nic (swept nic.view word found)) apps ≡ free_places listed b nic apps + count_by (nat_eq b) found
 free_places-swept listed b nic apps word found = omega (arith, times-append b nic.view.cache found)
 
-cached-case : (c : Bool) (b buffer : ℕ) (cache : List ℕ) → count_by (nat_eq b) (cond c (cache ++ buffer ∷ []) cache) ≡ count_by (nat_eq b) cache + (if c then weight (b == buffer) else 0)
+cached-case : (c : Bool) (b buffer : ℕ) (cache : List ℕ)
+    → count_by (nat_eq b) (cond c (cache ++ buffer ∷ []) cache) ≡ count_by (nat_eq b) cache + (if c then weight (b == buffer) else 0)
 cached-case true b buffer cache = times-push b buffer cache
 cached-case false b buffer cache = omega arith
 
@@ -45,20 +48,28 @@ cached-case false b buffer cache = omega arith
 abbrev pub comes_in : NicSide → ℕ → Bool → Bool
 comes_in nic buffer last = (last && nat_lt buffer (pool_buffers nic.view.setting.layout)) && nat_lt (length nic.view.cache) cache_room
 
-gave_up-case : (c : Bool) (b buffer : ℕ) (cache : List ℕ) → count_by (nat_eq b) (cond c (cached cache buffer) cache) ≡ count_by (nat_eq b) cache + (if c && nat_lt (length cache) cache_room then weight (b == buffer) else 0)
+gave_up-case : (c : Bool) (b buffer : ℕ) (cache : List ℕ)
+    → count_by (nat_eq b) (cond c (cached cache buffer) cache)
+    ≡ count_by (nat_eq b) cache + (if c && nat_lt (length cache) cache_room then weight (b == buffer) else 0)
 gave_up-case true b buffer cache = cached-case (nat_lt (length cache) cache_room) b buffer cache
 gave_up-case false b buffer cache = omega arith
 
 pub free_places-gave_up : (listed : ℕ → Bool) (b : ℕ) (nic : NicSide) (apps : List AppSide) (buffer : ℕ) (last : Bool)
-    → free_places listed b (nic_at nic (gave_up nic.view buffer last)) apps ≡ free_places listed b nic apps + (if comes_in nic buffer last then weight (b == buffer) else 0)
-free_places-gave_up listed b nic apps buffer last = omega (arith, gave_up-case (last && nat_lt buffer (pool_buffers nic.view.setting.layout)) b buffer nic.view.cache)
+    → free_places listed b (nic_at nic (gave_up nic.view buffer last)) apps
+    ≡ free_places listed b nic apps + (if comes_in nic buffer last then weight (b == buffer) else 0)
+free_places-gave_up listed b nic apps buffer last = omega (
+  arith,
+  gave_up-case (last && nat_lt buffer (pool_buffers nic.view.setting.layout)) b buffer nic.view.cache,
+)
 
 -- an event that leaves the cache leaves the free places
-pub free_places-nic : (listed : ℕ → Bool) (b : ℕ) (nic : NicSide) (v : NicView) (apps : List AppSide) → v.cache ≡ nic.view.cache → free_places listed b (nic_at nic v) apps ≡ free_places listed b nic apps
+pub free_places-nic : (listed : ℕ → Bool) (b : ℕ) (nic : NicSide) (v : NicView) (apps : List AppSide) → v.cache ≡ nic.view.cache
+    → free_places listed b (nic_at nic v) apps ≡ free_places listed b nic apps
 free_places-nic listed b nic v apps same = rw same refl
 
 -- and so does every event of an application
-pub free_places-app : (listed : ℕ → Bool) (b : ℕ) (nic : NicSide) (apps : List AppSide) (a : ℕ) (app : AppSide) (v : AppView) → IsApp apps a app → free_places listed b nic (set apps a (app_at app v)) ≡ free_places listed b nic apps
+pub free_places-app : (listed : ℕ → Bool) (b : ℕ) (nic : NicSide) (apps : List AppSide) (a : ℕ) (app : AppSide) (v : AppView) → IsApp apps a app
+    → free_places listed b nic (set apps a (app_at app v)) ≡ free_places listed b nic apps
 free_places-app listed b nic apps a app v here =
     let now = set apps a (app_at app v) in
     let hands : AppSide → List ℕ = λ x. x.inside.hands in
@@ -72,14 +83,16 @@ free_places-app listed b nic apps a app v here =
     )
 
 -- a buffer that stands in a free place, as in the cache, has no holder
-pub IsFreeOnce-unheld : (listed : ℕ → Bool) (b : ℕ) (nic : NicSide) (apps : List AppSide) → IsFreeOnce listed b nic apps → 0 < free_places listed b nic apps → pool_count b nic apps ≡ 0
+pub IsFreeOnce-unheld : (listed : ℕ → Bool) (b : ℕ) (nic : NicSide) (apps : List AppSide) → IsFreeOnce listed b nic apps
+    → 0 < free_places listed b nic apps → pool_count b nic apps ≡ 0
 IsFreeOnce-unheld listed b nic apps once free =
     ⊎_elim
     (λ t. t.1)
     (λ t. absurd (let none : free_places listed b nic apps ≡ 0 = rw t.0 at once in omega arith))
     (eqb_tells (pool_count b nic apps) 0)
 
-pub IsFreeOnce-cached : (listed : ℕ → Bool) (b : ℕ) (nic : NicSide) (apps : List AppSide) (rest : List ℕ) → nic.view.cache ≡ rest ++ b ∷ [] → IsFreeOnce listed b nic apps → pool_count b nic apps ≡ 0
+pub IsFreeOnce-cached : (listed : ℕ → Bool) (b : ℕ) (nic : NicSide) (apps : List AppSide) (rest : List ℕ) → nic.view.cache ≡ rest ++ b ∷ []
+    → IsFreeOnce listed b nic apps → pool_count b nic apps ≡ 0
 IsFreeOnce-cached listed b nic apps rest last once =
     let one : weight (b == b) ≡ 1 = ap weight (eq-eqb b b refl) in
     IsFreeOnce-unheld listed b nic apps once (omega (arith, ap (count_by (nat_eq b)) last, times-push b b rest, one))

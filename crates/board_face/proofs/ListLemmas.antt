@@ -21,11 +21,13 @@ same_filling-refl x = rw (eqb_same x.buffer, eqb_same x.start, eqb_same x.size) 
 pub without-head : {A : Type 0} (test : A → Bool) (x : A) (xs : List A) → test x ≡ true → without test (x ∷ xs) ≡ xs
 without-head test x xs meets = rw meets refl
 
-pub at_first-head : {A B : Type 0} (test : A → Bool) (f : A → B) (other : B) (x : A) (xs : List A) → test x ≡ true → at_first test f other (x ∷ xs) ≡ f x
+pub at_first-head : {A B : Type 0} (test : A → Bool) (f : A → B) (other : B) (x : A) (xs : List A) → test x ≡ true
+    → at_first test f other (x ∷ xs) ≡ f x
 at_first-head test f other x xs meets = rw meets refl
 
 -- where the first of the places is this one, it is the element that is taken out
-pub places-without_first : {A : Type 0} (at : A → Place) (xs : List A) (p : Place) (ps : List Place) → map at xs ≡ p ∷ ps → map at (without (λ x. same_place p (at x)) xs) ≡ ps
+pub places-without_first : {A : Type 0} (at : A → Place) (xs : List A) (p : Place) (ps : List Place) → map at xs ≡ p ∷ ps
+    → map at (without (λ x. same_place p (at x)) xs) ≡ ps
 places-without_first at [] p ps e = absurd (let none : ⊥ = cc in none)
 places-without_first at (x ∷ xs) p ps e =
     let here : at x ≡ p = cc in

@@ -1,6 +1,7 @@
 -- A look raises its count by one, and lowers none.
-use Rattle.std.proofs.Common.{◌≡◌, ℕ, ◌≤◌, Bool, true, false, List, ◌∷◌, refl, ap, sym, subst, arith, inl, inr, ⊎_elim}
-use Rattle.std.specs.Prelude.{◌==◌, ◌&&◌, ◌⊎◌}
+use Rattle.std.proofs.Common.{◌≡◌, ℕ, ◌≤◌, Bool, true, false, List, ◌∷◌, refl, ap, sym, subst, arith, ⊎_elim}
+use Rattle.std.specs.Prelude.{◌==◌, ◌&&◌}
+use Rattle.std.proofs.lemmas.Bool.{cases_Bool}
 use Rattle.std.proofs.lemmas.Bool.Decides.{eqb_tells}
 use Rattle.board_face.specs.declared.views.nic.NicLook.{NicLook}
 use Rattle.board_face.specs.declared.views.nic.NicLook.TheVariants.{RingEmpty, NoteInUse, Swept, NotLeft, HasLeft, NotOwed, Owed, LastHolder, StillHeld}
@@ -94,7 +95,8 @@ same_nic_look-is (NoteInUse a) (NoteInUse b) e = ap NoteInUse (are-one a b e)
 same_nic_look-is (Swept a) (Swept b) e = ap Swept (are-one a b e)
 same_nic_look-is (NotLeft a) (NotLeft b) e = ap NotLeft (are-one a b e)
 same_nic_look-is (HasLeft a) (HasLeft b) e = ap HasLeft (are-one a b e)
-same_nic_look-is (NotOwed a i) (NotOwed b j) e = let both = both-are (a == b) (i == j) e in let app = are-one a b both.0 in let buffer = are-one i j both.1 in cc
+same_nic_look-is (NotOwed a i) (NotOwed b j) e = let both = both-are (a == b)
+    (i == j) e in let app = are-one a b both.0 in let buffer = are-one i j both.1 in cc
 same_nic_look-is (Owed a i) (Owed b j) e = let both = both-are (a == b) (i == j) e in let app = are-one a b both.0 in let buffer = are-one i j both.1 in cc
 same_nic_look-is (LastHolder a) (LastHolder b) e = ap LastHolder (are-one a b e)
 same_nic_look-is (StillHeld a) (StillHeld b) e = ap StillHeld (are-one a b e)
@@ -110,10 +112,6 @@ same_app_look-is NoSpare NoSpare e = refl
 same_app_look-is NotQuiet NotQuiet e = refl
 same_app_look-is x y e = absurd (let no : false ≡ true = e in cc)
 
-true-or-false : (c : Bool) → (c ≡ true) ⊎ (c ≡ false)
-true-or-false true = inl refl
-true-or-false false = inr refl
-
 -- a look that isn't the one in front stands no more often than behind it
 times-other : {A : Type 0} (same : A → A → Bool) (x y : A) (ys : List A) → same x y ≡ false → times same x (y ∷ ys) ≡ times same x ys
 times-other same x y ys other = omega (arith, ap weight other)
@@ -126,7 +124,7 @@ NicTold-one is_so v w x more so look rose =
     ⊎_elim
     (λ same. subst is_so (sym (same_nic_look-is look x same)) so)
     (λ other. absurd (omega (arith, rose.rose, ap (times same_nic_look look) more, times-other same_nic_look look x v.looks other)))
-    (true-or-false (same_nic_look look x))
+    (cases_Bool (same_nic_look look x))
 
 pub NicTold-two : (is_so : NicLook → Type 0) (v w : NicView) (x y : NicLook) → w.looks ≡ x ∷ y ∷ v.looks → is_so x → is_so y → NicTold is_so v w
 NicTold-two is_so v w x y more so also look rose =
@@ -134,9 +132,15 @@ NicTold-two is_so v w x y more so also look rose =
     (λ same. subst is_so (sym (same_nic_look-is look x same)) so)
     (λ other. ⊎_elim
     (λ same. subst is_so (sym (same_nic_look-is look y same)) also)
-    (λ other_too. absurd (omega (arith, rose.rose, ap (times same_nic_look look) more, times-other same_nic_look look x (y ∷ v.looks) other, times-other same_nic_look look y v.looks other_too)))
-    (true-or-false (same_nic_look look y)))
-    (true-or-false (same_nic_look look x))
+    (λ other_too. absurd (omega (
+      arith,
+      rose.rose,
+      ap (times same_nic_look look) more,
+      times-other same_nic_look look x (y ∷ v.looks) other,
+      times-other same_nic_look look y v.looks other_too,
+    )))
+    (cases_Bool (same_nic_look look y)))
+    (cases_Bool (same_nic_look look x))
 
 pub AppTold-none : (is_so : AppLook → Type 0) (v w : AppView) → w.looks ≡ v.looks → AppTold is_so v w
 AppTold-none is_so v w same look rose = absurd (omega (arith, rose.rose, ap (times same_app_look look) same))
@@ -146,4 +150,4 @@ AppTold-one is_so v w x more so look rose =
     ⊎_elim
     (λ same. subst is_so (sym (same_app_look-is look x same)) so)
     (λ other. absurd (omega (arith, rose.rose, ap (times same_app_look look) more, times-other same_app_look look x v.looks other)))
-    (true-or-false (same_app_look look x))
+    (cases_Bool (same_app_look look x))

@@ -50,7 +50,8 @@ some-of-three true d = omega arith
 some-of-three false true = omega arith
 some-of-three false false = omega arith
 
-each-somewhere : (v : NicView) → ((w : ℕ) → w < free_words_of v.setting → list_any (nat_eq w) v.swept ≡ true) → (n : ℕ) → n ≤ pool_buffers v.setting.layout
+each-somewhere : (v : NicView) → ((w : ℕ) → w < free_words_of v.setting → list_any (nat_eq w) v.swept ≡ true) → (n : ℕ)
+    → n ≤ pool_buffers v.setting.layout
     → n ≤ count_below (is_lost v) n + (count_below (λ b. list_any (nat_eq b) v.cache) n + count_below (λ b. list_any (nat_eq b) v.used) n)
 each-somewhere v swept zero within = omega arith
 each-somewhere v swept (suc n) within =
@@ -62,7 +63,8 @@ each-somewhere v swept (suc n) within =
 
 -- Where every word of the free list was swept, the pool's buffers are at most as many as those that are cached, the
 -- takes so far, and those that are lost to spares.
-pub buffers-accounted : (v : NicView) → ((w : ℕ) → w < free_words_of v.setting → list_any (nat_eq w) v.swept ≡ true) → pool_buffers v.setting.layout ≤ lost_of v + (length v.cache + length v.used)
+pub buffers-accounted : (v : NicView) → ((w : ℕ) → w < free_words_of v.setting → list_any (nat_eq w) v.swept ≡ true)
+    → pool_buffers v.setting.layout ≤ lost_of v + (length v.cache + length v.used)
 buffers-accounted v swept =
     let n = pool_buffers v.setting.layout in
     omega (arith, each-somewhere v swept n (omega arith), below-list v.cache n, below-list v.used n)
@@ -79,5 +81,10 @@ below-fewer p q (suc n) each =
     weight-fewer false d e = omega arith
 
 -- Where each lost buffer is among these picks, no more are lost than these.
-pub lost-few : (v : NicView) (picks : List ℕ) → ((b : ℕ) → b < pool_buffers v.setting.layout → is_lost v b ≡ true → list_any (nat_eq b) picks ≡ true) → lost_of v ≤ length picks
-lost-few v picks each = omega (arith, below-fewer (is_lost v) (λ b. list_any (nat_eq b) picks) (pool_buffers v.setting.layout) each, below-list picks (pool_buffers v.setting.layout))
+pub lost-few : (v : NicView) (picks : List ℕ) → ((b : ℕ) → b < pool_buffers v.setting.layout → is_lost v b ≡ true
+    → list_any (nat_eq b) picks ≡ true) → lost_of v ≤ length picks
+lost-few v picks each = omega (
+  arith,
+  below-fewer (is_lost v) (λ b. list_any (nat_eq b) picks) (pool_buffers v.setting.layout) each,
+  below-list picks (pool_buffers v.setting.layout),
+)

@@ -20,34 +20,40 @@ use Rattle.board_face.specs.declared.views.app.SpareOwn.{SpareOwn}
 use Rattle.board_face.specs.declared.views.app.AppSide.{AppSide}
 use Rattle.board_face.proofs.Tallies.{total}
 use Rattle.board_face.proofs.Parts.{app_count, pool_count-parts}
-use Rattle.board_face.proofs.FilledLemmas.{IsFilledByOne-from, fillings-held}
-use Rattle.board_face.proofs.FitLemmas.{IsFit, AreFit}
-use Rattle.board_face.proofs.PlacedLemmas.{IsBehind, places-none}
+use Rattle.board_face.proofs.IsFilledByOneLemmas.{IsFilledByOne-from, fillings-held}
+use Rattle.board_face.proofs.FillingsFitLemmas.{IsFit, AreFit}
+use Rattle.board_face.proofs.ArePlacedLemmas.{IsBehind, places-none}
 
 -- the application has done nothing
 abbrev pub IsNew : Setting → AppSide → Type 0
 IsNew setting app = app ≡ new_app setting app.view.app
 
-zeros : (n b : ℕ) → get_or {A = ℕ} (replicate n 0) b 0 ≡ 0
-zeros zero b = refl
-zeros (suc n) zero = refl
-zeros (suc n) (suc b) = zeros n b
+-- a list of one number alone has it everywhere, past its end too
+pub all-alike : (n i z : ℕ) → get_or (replicate n z) i z ≡ z
+all-alike zero i z = refl
+all-alike (suc n) zero z = refl
+all-alike (suc n) (suc i) z = all-alike n i z
 
-all-new : (P : AppSide → Type 0) (setting : Setting) → ((a : ℕ) → P (new_app setting a)) → (apps : List AppSide) → All (IsNew setting) apps → All P apps
+all-new : (P : AppSide → Type 0) (setting : Setting) → ((a : ℕ) → P (new_app setting a)) → (apps : List AppSide) → All (IsNew setting) apps
+    → All P apps
 all-new P setting each apps news = All-weaker (IsNew setting) P (λ app is. subst P (sym is) (each app.view.app)) apps news
 
 none-held : (b : ℕ) (setting : Setting) (apps : List AppSide) → All (IsNew setting) apps → total (app_count b (new_nic setting)) apps ≡ 0
 none-held b setting [] news = refl
 none-held b setting (app ∷ apps) news =
     let new : app_count b (new_nic setting) (new_app setting app.view.app) ≡ 0 = omega arith in
-    let here : app_count b (new_nic setting) app ≡ 0 = subst (λ (x : AppSide). app_count b (new_nic setting) x ≡ 0) (sym (All-head (IsNew setting) app apps news)) new in
+    let here : app_count b (new_nic setting) app ≡ 0 = subst (λ (x : AppSide). app_count b (new_nic setting) x ≡ 0)
+    (sym (All-head (IsNew setting) app apps news)) new in
     omega (arith, here, none-held b setting apps (All-tail (IsNew setting) app apps news))
 
 pub pool_count-opened : (b : ℕ) (setting : Setting) (apps : List AppSide) → All (IsNew setting) apps → pool_count b (new_nic setting) apps ≡ 0
 pool_count-opened b setting apps news = omega (arith, pool_count-parts b (new_nic setting) apps, none-held b setting apps news)
 
 pub EndedWereReturned-opened : (b : ℕ) (setting : Setting) (a : ℕ) → EndedWereReturned b (new_nic setting) (new_app setting a)
-EndedWereReturned-opened b setting a = let none = zeros (all_buffers setting.layout) b in record { ended = omega (arith, none); returning = omega (arith, none) }
+EndedWereReturned-opened b setting a = let none = all-alike (all_buffers setting.layout) b 0 in record {
+  ended = omega (arith, none);
+  returning = omega (arith, none);
+}
 
 pub IsFilledByOne-opened : (b : ℕ) (setting : Setting) (apps : List AppSide) → All (IsNew setting) apps → IsFilledByOne b (new_nic setting) apps
 IsFilledByOne-opened b setting apps news =

@@ -1,11 +1,13 @@
 -- The counts of a buffer as sums of numbers, one for each kind of holding.
-use Rattle.std.proofs.Common.{◌≡◌, ℕ, zero, suc, ◌+◌, ◌-◌, ◌<◌, min, Bool, true, false, List, [], ◌∷◌, ◌++◌, length, map, get_or, refl, ap, sym, ◌∙◌, arith, length-append, length-drop, length-take}
+use Rattle.std.proofs.Common.{◌≡◌, ℕ, zero, suc, ◌+◌, ◌-◌, ◌<◌, min, Bool, true, false, List, [], ◌∷◌, ◌++◌, length, map, get_or}
+use Rattle.std.proofs.Common.{refl, ap, sym, ◌∙◌, arith, length-append, length-drop, length-take}
 use Rattle.std.specs.Prelude.{if◌then◌else◌, ◌≢◌, filter, count_by, ◌==◌}
 use Rattle.std.specs.List.{flat_map}
 use Rattle.std.proofs.lemmas.List.{length-map}
 use Rattle.std.proofs.lemmas.List.Sums.{length-filter}
 use Rattle.board_face.specs.Sides.{AreNumbered}
-use Rattle.board_face.specs.Holders.{Kind, own, piece, sent, held, spare, loan, owed, returning, places_in, on_way, sent_places, returned_in, ended_in, returning_count, owed_in, returning_in, making_places, nic_holders, app_holders, holders_of}
+use Rattle.board_face.specs.Holders.{Kind, own, piece, sent, held, spare, loan, owed, returning, places_in, on_way, sent_places, returned_in, ended_in}
+use Rattle.board_face.specs.Holders.{returning_count, owed_in, returning_in, making_places, nic_holders, app_holders, holders_of}
 use Rattle.board_face.specs.Counts.{pool_count, is_user, user_count}
 use Rattle.board_face.specs.declared.views.nic.SentNote.{SentNote}
 use Rattle.board_face.specs.declared.views.nic.NicSide.{NicSide}
@@ -57,7 +59,8 @@ app_count b nic app = sent_in b nic app + (helds_in b app + (spares_in b app + (
 -- ---- the holders are as many
 
 pub returned_in-count : (b : ℕ) (app : AppSide) → length (returned_in b app) ≡ came_back_in b app
-returned_in-count b app = length-tally (λ p. p.buffer == b) (map (λ l. l.place) app.view.returned) ∙ tally-map (λ p. p.buffer == b) (λ l. l.place) app.view.returned
+returned_in-count b app = length-tally (λ p. p.buffer == b) (map (λ l. l.place) app.view.returned)
+    ∙ tally-map (λ p. p.buffer == b) (λ l. l.place) app.view.returned
 
 pub length-nic_holders : (b : ℕ) (nic : NicSide) → length (nic_holders b nic) ≡ nic_count b nic
 length-nic_holders b nic = simp (length-append, length-map, length-tally, tally-append, tally-map) refl
@@ -92,7 +95,8 @@ count-tally test xs = sym (length-filter test xs) ∙ length-tally test xs
 tally-not_user : {A : Type 0} (a : ℕ) (f : A → Kind) → ((x : A) → is_user a (f x) ≡ false) → (xs : List A) → tally (is_user a) (map f xs) ≡ 0
 tally-not_user a f not_user xs = tally-map (is_user a) f xs ∙ (tally-agree (λ x. is_user a (f x)) (λ _. false) not_user xs ∙ tally-const false xs)
 
-tally-user : {A : Type 0} (a n : ℕ) (f : A → Kind) → ((x : A) → is_user a (f x) ≡ n == a) → (xs : List A) → tally (is_user a) (map f xs) ≡ (if n == a then length xs else 0)
+tally-user : {A : Type 0} (a n : ℕ) (f : A → Kind) → ((x : A) → is_user a (f x) ≡ n == a) → (xs : List A)
+    → tally (is_user a) (map f xs) ≡ (if n == a then length xs else 0)
 tally-user a n f is_users xs = tally-map (is_user a) f xs ∙ (tally-agree (λ x. is_user a (f x)) (λ _. n == a) is_users xs ∙ tally-const (n == a) xs)
 
 tally-nic_holders : (a b : ℕ) (nic : NicSide) → tally (is_user a) (nic_holders b nic) ≡ 0
@@ -113,7 +117,7 @@ user_case false l m p q e f = omega arith
 loans-count : (b : ℕ) (app : AppSide) → length (places_in b (map (λ l. l.place) app.view.loans)) ≡ loans_in b app
 loans-count b app = length-tally (λ p. p.buffer == b) (map (λ l. l.place) app.view.loans) ∙ tally-map (λ p. p.buffer == b) (λ l. l.place) app.view.loans
 
-owed-count : (b : ℕ) (nic : NicSide) (app : AppSide) → length (owed_in b nic app) ≡ owed_count b nic app
+pub owed-count : (b : ℕ) (nic : NicSide) (app : AppSide) → length (owed_in b nic app) ≡ owed_count b nic app
 owed-count b nic app = length-drop (ended_in b nic app) (returned_in b app) ∙ ap (λ n. n - ended_in b nic app) (returned_in-count b app)
 
 tally-app_holders : (a b : ℕ) (nic : NicSide) (app : AppSide) → tally (is_user a) (app_holders b nic app) ≡ user_part a b nic app
@@ -127,9 +131,15 @@ tally-app_holders a b nic app =
     let returnings = returning_in b nic app in
     let l = loans-count b app in
     let o = owed-count b nic app in
-    let users = user_case (n == a) (length loans) (length oweds) _ _ (tally-user a n (loan n) (λ _. refl) loans) (tally-user a n (owed n) (λ _. refl) oweds) in
+    let users = user_case (n == a) (length loans) (length oweds) _ _ (tally-user a n (loan n) (λ _. refl) loans)
+    (tally-user a n (owed n) (λ _. refl) oweds) in
     simp tally-append (
-    rw (tally-not_user a (sent n) (λ _. refl) sents, tally-not_user a (held n) (λ _. refl) helds, tally-not_user a (λ s. spare n) (λ _. refl) spares, tally-not_user a (returning n) (λ _. refl) returnings) (omega (arith, rw (l, o) at users))
+    rw (
+      tally-not_user a (sent n) (λ _. refl) sents,
+      tally-not_user a (held n) (λ _. refl) helds,
+      tally-not_user a (λ s. spare n) (λ _. refl) spares,
+      tally-not_user a (returning n) (λ _. refl) returnings,
+    ) (omega (arith, rw (l, o) at users))
     )
 
 pub user_count-parts : (a b : ℕ) (nic : NicSide) (apps : List AppSide) → user_count a b nic apps ≡ total (user_part a b nic) apps
@@ -145,28 +155,32 @@ user_count-parts a b nic apps =
 
 -- ---- one application among those that are numbered in order
 
-total-none : (n : ℕ) (f : AppSide → ℕ) (a : ℕ) → ((app : AppSide) → app.view.app ≢ a → f app ≡ 0) → (apps : List AppSide) → AreNumbered n apps → a < n → total f apps ≡ 0
+total-none : (n : ℕ) (f : AppSide → ℕ) (a : ℕ) → ((app : AppSide) → app.view.app ≢ a → f app ≡ 0) → (apps : List AppSide)
+    → AreNumbered n apps → a < n → total f apps ≡ 0
 total-none n f a others [] numbered before = refl
 total-none n f a others (app ∷ apps) numbered before =
     let here : f app ≡ 0 = others app (let e = numbered.0 in omega arith) in
     omega (arith, here, total-none (suc n) f a others apps numbered.1 (omega arith))
 
 -- what only this application adds to is what it adds
-pub total-only : (n : ℕ) (f : AppSide → ℕ) (a : ℕ) → ((app : AppSide) → app.view.app ≢ a → f app ≡ 0) → (apps : List AppSide) → AreNumbered n apps → (i : ℕ) (d : AppSide) → i < length apps → n + i ≡ a → total f apps ≡ f (get_or apps i d)
+pub total-only : (n : ℕ) (f : AppSide → ℕ) (a : ℕ) → ((app : AppSide) → app.view.app ≢ a → f app ≡ 0) → (apps : List AppSide)
+    → AreNumbered n apps → (i : ℕ) (d : AppSide) → i < length apps → n + i ≡ a → total f apps ≡ f (get_or apps i d)
 total-only n f a others [] numbered i d within is = absurd (omega arith)
 total-only n f a others (app ∷ apps) numbered zero d within is = omega (arith, total-none (suc n) f a others apps numbered.1 (omega arith))
 total-only n f a others (app ∷ apps) numbered (suc i) d within is =
     let here : f app ≡ 0 = others app (let e = numbered.0 in omega arith) in
     omega (arith, here, total-only (suc n) f a others apps numbered.1 i d (omega arith) (omega arith))
 
-same-after : (n : ℕ) (f g : AppSide → ℕ) (a : ℕ) → ((app : AppSide) → app.view.app ≢ a → f app ≡ g app) → (apps : List AppSide) → AreNumbered n apps → a < n → total f apps ≡ total g apps
+same-after : (n : ℕ) (f g : AppSide → ℕ) (a : ℕ) → ((app : AppSide) → app.view.app ≢ a → f app ≡ g app) → (apps : List AppSide)
+    → AreNumbered n apps → a < n → total f apps ≡ total g apps
 same-after n f g a others [] numbered before = refl
 same-after n f g a others (app ∷ apps) numbered before =
     let here : f app ≡ g app = others app (let e = numbered.0 in omega arith) in
     omega (arith, here, same-after (suc n) f g a others apps numbered.1 (omega arith))
 
 -- where f and g differ by w at this application alone, their sums differ by w
-pub total-shift : (n : ℕ) (f g : AppSide → ℕ) (w a : ℕ) → ((app : AppSide) → app.view.app ≢ a → f app ≡ g app) → (apps : List AppSide) → AreNumbered n apps → (i : ℕ) (d : AppSide) → i < length apps → n + i ≡ a
+pub total-shift : (n : ℕ) (f g : AppSide → ℕ) (w a : ℕ) → ((app : AppSide) → app.view.app ≢ a → f app ≡ g app) → (apps : List AppSide)
+    → AreNumbered n apps → (i : ℕ) (d : AppSide) → i < length apps → n + i ≡ a
     → f (get_or apps i d) ≡ g (get_or apps i d) + w → total f apps ≡ total g apps + w
 total-shift n f g w a others [] numbered i d within is shift = absurd (omega arith)
 total-shift n f g w a others (app ∷ apps) numbered zero d within is shift =

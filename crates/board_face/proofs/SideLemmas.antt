@@ -4,7 +4,8 @@ use Rattle.board_face.specs.Sides.{IsApp, AreNumbered}
 use Rattle.board_face.specs.declared.views.app.AppSide.{AppSide}
 
 -- one application's side changes, and not its number
-pub AreNumbered-set : (n : ℕ) (apps : List AppSide) (i : ℕ) (now : AppSide) → now.view.app ≡ n + i → AreNumbered n apps → AreNumbered n (set apps i now)
+pub AreNumbered-set : (n : ℕ) (apps : List AppSide) (i : ℕ) (now : AppSide) → now.view.app ≡ n + i → AreNumbered n apps
+    → AreNumbered n (set apps i now)
 AreNumbered-set n [] i now number numbered = numbered
 AreNumbered-set n (app ∷ apps) zero now number numbered = (omega (arith, number), numbered.1)
 AreNumbered-set n (app ∷ apps) (suc i) now number numbered = (numbered.0, AreNumbered-set (suc n) apps i now (omega (arith, number)) numbered.1)

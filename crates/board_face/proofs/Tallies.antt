@@ -1,5 +1,6 @@
 -- How many elements of a list meet a test, and sums over a list, by recursion, so that they compute.
-use Rattle.std.proofs.Common.{◌≡◌, ℕ, zero, suc, ◌+◌, ◌<◌, ◌≤◌, Bool, true, false, cond, List, [], ◌∷◌, ◌++◌, length, map, get_or, set, refl, ap, sym, ◌∙◌, arith, length-append, ◌*◌}
+use Rattle.std.proofs.Common.{◌≡◌, ℕ, zero, suc, ◌+◌, ◌<◌, ◌≤◌, Bool, true, false, cond, List, [], ◌∷◌, ◌++◌, length, map}
+use Rattle.std.proofs.Common.{get_or, set, refl, ap, sym, ◌∙◌, arith, length-append, ◌*◌}
 use Rattle.std.specs.Prelude.{if◌then◌else◌, filter, Contains}
 use Rattle.std.specs.List.{flat_map}
 use Rattle.std.proofs.lemmas.Bool.{false≢true}
@@ -31,7 +32,8 @@ pub length-tally : {A : Type 0} (test : A → Bool) (xs : List A) → length (fi
 length-tally test [] = refl
 length-tally test (x ∷ xs) = length-case (test x) x (filter test xs) (tally test xs) (length-tally test xs)
 
-tally-case : {A : Type 0} (test : A → Bool) (b : Bool) (x : A) (ys : List A) (n : ℕ) → tally test ys ≡ n → tally test (cond b (x ∷ ys) ys) ≡ weight b * weight (test x) + n
+tally-case : {A : Type 0} (test : A → Bool) (b : Bool) (x : A) (ys : List A) (n : ℕ) → tally test ys ≡ n
+    → tally test (cond b (x ∷ ys) ys) ≡ weight b * weight (test x) + n
 tally-case test true x ys n e = omega (arith, e)
 tally-case test false x ys n e = omega (arith, e)
 
@@ -53,12 +55,15 @@ tally-agree p q same (x ∷ xs) = rw (same x) (ap (λ n. weight (q x) + n) (tall
 
 -- ---- one element taken out
 
-without-case : {A B : Type 0} (f : A → B) (test : B → Bool) (b : Bool) (w : ℕ) (x : A) (xs ys : List A) → (b ≡ true → weight (test (f x)) ≡ w) → (b ≡ false → tally (λ y. test (f y)) ys + w ≡ tally (λ y. test (f y)) xs) → tally (λ y. test (f y)) (cond b xs (x ∷ ys)) + w ≡ weight (test (f x)) + tally (λ y. test (f y)) xs
+without-case : {A B : Type 0} (f : A → B) (test : B → Bool) (b : Bool) (w : ℕ) (x : A) (xs ys : List A) → (b ≡ true → weight (test (f x)) ≡ w)
+    → (b ≡ false → tally (λ y. test (f y)) ys + w ≡ tally (λ y. test (f y)) xs)
+    → tally (λ y. test (f y)) (cond b xs (x ∷ ys)) + w ≡ weight (test (f x)) + tally (λ y. test (f y)) xs
 without-case f test true w x xs ys here there = omega (arith, here refl)
 without-case f test false w x xs ys here there = omega (arith, there refl)
 
 -- Where the list has an element that shows q, the first that `same` finds shows q too, and taking it out takes q's weight.
-pub tally-without : {A B : Type 0} (f : A → B) (same : B → Bool) (q : B) → ((y : B) → same y ≡ true → y ≡ q) → same q ≡ true → (test : B → Bool) (xs : List A) → Contains (map f xs) q
+pub tally-without : {A B : Type 0} (f : A → B) (same : B → Bool) (q : B) → ((y : B) → same y ≡ true → y ≡ q) → same q ≡ true
+    → (test : B → Bool) (xs : List A) → Contains (map f xs) q
     → tally (λ x. test (f x)) (without (λ x. same (f x)) xs) + weight (test q) ≡ tally (λ x. test (f x)) xs
 tally-without f same q is refls test [] (k, there, e) = absurd (omega arith)
 tally-without f same q is refls test (x ∷ xs) (zero, there, e) =
@@ -74,7 +79,8 @@ pub total-append : {A : Type 0} (f : A → ℕ) (xs ys : List A) → total f (xs
 total-append f [] ys = omega arith
 total-append f (x ∷ xs) ys = omega (arith, total-append f xs ys)
 
-pub total-set : {A : Type 0} (f : A → ℕ) (xs : List A) (i : ℕ) (v w : A) → i < length xs → get_or xs i v ≡ v → total f (set xs i w) + f v ≡ total f xs + f w
+pub total-set : {A : Type 0} (f : A → ℕ) (xs : List A) (i : ℕ) (v w : A) → i < length xs → get_or xs i v ≡ v
+    → total f (set xs i w) + f v ≡ total f xs + f w
 total-set f [] i v w within e = absurd (omega arith)
 total-set f (x ∷ xs) zero v w within e = let same : f x ≡ f v = ap f e in omega arith
 total-set f (x ∷ xs) (suc i) v w within e = omega (arith, total-set f xs i v w (omega arith) e)
@@ -90,3 +96,11 @@ length-flat f (x ∷ xs) = simp length-append (omega (arith, length-flat f xs))
 pub tally-flat : {A B : Type 0} (test : B → Bool) (f : A → List B) (xs : List A) → tally test (flat_map f xs) ≡ total (λ x. tally test (f x)) xs
 tally-flat test f [] = refl
 tally-flat test f (x ∷ xs) = omega (arith, tally-append test (f x) (flat_map f xs), tally-flat test f xs)
+
+-- a sum is no greater where none of its numbers is
+pub total-le : {A : Type 0} (f g : A → ℕ) (xs : List A) → ((x : A) → Contains xs x → f x ≤ g x) → total f xs ≤ total g xs
+total-le f g [] each = omega arith
+total-le f g (x ∷ xs) each =
+    let here : f x ≤ g x = each x (0, omega arith, refl) in
+    let there = total-le f g xs (λ y has. each y (suc has.0, omega arith, has.2)) in
+    omega arith

@@ -33,4 +33,9 @@ pub whole-size : (size : ℕ) → IsBufferSize size → size % 64 ≡ 0
 whole-size size good = let least = good.least in sixty-fours good.power.0 size good.power.1 (omega arith)
 
 pub FitsBuffer-fresh : (setting : Setting) (buffer : ℕ) → IsLayout setting.layout → FitsBuffer (fresh setting buffer)
-FitsBuffer-fresh setting buffer layout = record { start = omega arith; size = layout.size.most; whole = whole-size (size_of setting.layout buffer) layout.size; aligned = omega arith }
+FitsBuffer-fresh setting buffer layout = record {
+  start = omega arith;
+  size = layout.size.most;
+  whole = whole-size (size_of setting.layout buffer) layout.size;
+  aligned = omega arith;
+}

@@ -1,5 +1,6 @@
 -- What an application may ask of a board, and what its calls answer.
-use Rattle.std.specs.Prelude.{⊤, ◌≡◌, ◌≢◌, ℕ, ◌<◌, ◌≤◌, ◌⊎◌, true, false, List, [], length, map, take, drop, All, Contains, IfSome}
+use Rattle.std.specs.Prelude.{⊤, ◌≡◌, ◌≢◌, ℕ, ◌<◌, ◌≤◌, ◌⊎◌, true, false, List, [], length, map, take, drop, All, Contains}
+use Rattle.std.specs.Prelude.{IfSome}
 use Rattle.zr_kinds.specs.declared.place.Place.{Place}
 use Rattle.zr_kinds.specs.declared.place.Note.{Note}
 use Rattle.zr_kinds.specs.declared.ring.Rqe.{Rqe}
@@ -8,7 +9,8 @@ use Rattle.board_face.specs.Tokens.{AreApart}
 use Rattle.board_face.specs.Looks.{AppRose}
 use Rattle.board_face.specs.Texts.{IsSplitNote, IsLinearNote, unsplit_bytes}
 use Rattle.board_face.specs.NicEvents.{fresh}
-use Rattle.board_face.specs.AppEvents.{took_note, took_linear, told_end, app_saw, reserve_of, got_spare, own_bytes}
+use Rattle.board_face.specs.OwnBuffers.{IsOwnBuffer}
+use Rattle.board_face.specs.AppEvents.{took_note, took_linear, told_end, app_saw, got_spare, own_bytes}
 use Rattle.board_face.specs.declared.views.parts.Filling.{Filling}
 use Rattle.board_face.specs.declared.views.app.Origin.{Origin}
 use Rattle.board_face.specs.declared.views.app.Origin.TheVariants.{Note as of_note, Copied as of_copy}
@@ -90,13 +92,14 @@ pub record AppOnlySaw (look : AppLook) (old new : AppView) : Type 0 where
   pub event : new ≡ app_saw old look
   pub rose : AppRose look old new
 
--- A note was taken, whose piece lies where nothing of this application's lay.
+-- A note was taken, whose piece lies in a pool buffer, where nothing of this application's lay.
 pub record TookNote (old new : AppView) (note : Note) (held : Place) : Type 0 where
   pub event : new ≡ took_note old note
   pub place : held ≡ note.place
   pub fields : IsSplitNote note
   pub some_bytes : 0 < note.place.len
   pub lies : LiesIn old.setting.layout note.place
+  pub of_pool : note.place.buffer < pool_buffers old.setting.layout
   pub apart : IsNewPlace old note.place
 
 -- A note was taken in which the first bytes of `linear` travelled.
@@ -121,7 +124,7 @@ Looked old new linear got_end = ToldEnd old new
 pub record GotSpare (old new : AppView) (own : Filling) : Type 0 where
   pub fresh : own ≡ fresh old.setting own.buffer
   pub event : new ≡ got_spare old own.buffer
-  pub buffer : (own.buffer < pool_buffers old.setting.layout) ⊎ (own.buffer ≡ reserve_of old)
+  pub buffer : IsOwnBuffer old own.buffer
   pub apart : HasNoneIn old own.buffer
   pub look : pool_buffers old.setting.layout ≤ own.buffer → AppRose NoneListed old new
 

@@ -10,7 +10,8 @@
 -- | loan a      | lent                        | given back or abandoned                           |
 -- | owed a      | given back or abandoned     | an entry of a was honoured, or a scrub took it    |
 -- | returning a | owed ended                  | the pool count was lowered                        |
-use Rattle.std.specs.Prelude.{ℕ, ◌+◌, ◌-◌, Bool, false, ◌&&◌, if◌then◌else◌, List, [], ◌∷◌, ◌++◌, length, map, filter, take, drop, ◌==◌, count_by, slice_index, Option, Some, None}
+use Rattle.std.specs.Prelude.{ℕ, ◌+◌, ◌-◌, Bool, false, ◌&&◌, if◌then◌else◌, List, [], ◌∷◌, ◌++◌, length, map, filter, take, drop}
+use Rattle.std.specs.Prelude.{◌==◌, count_by, slice_index, Option, Some, None}
 use Rattle.std.specs.List.{flat_map}
 use Rattle.zr_kinds.specs.declared.place.Place.{Place}
 use Rattle.board_face.specs.declared.views.parts.Making.{Making}

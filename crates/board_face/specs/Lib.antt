@@ -17,3 +17,5 @@ pub mod Places
 pub mod Shown
 pub mod Relay
 pub mod Used
+pub mod OwnBuffers
+pub mod Laws

@@ -1,5 +1,6 @@
 -- What the card may ask of a board, and what its calls answer.
-use Rattle.std.specs.Prelude.{◌≤◌, true, ◌≡◌, ◌≢◌, ℕ, ◌+◌, ◌/◌, ◌<◌, Bool, false, not, ◌&&◌, List, [], ◌∷◌, ◌++◌, length, map, nat_eq, All, AllPairs, Contains, Some, IfSome}
+use Rattle.std.specs.Prelude.{◌≤◌, true, ◌≡◌, ◌≢◌, ℕ, ◌+◌, ◌/◌, ◌<◌, Bool, false, not, ◌&&◌, List, [], ◌∷◌, ◌++◌}
+use Rattle.std.specs.Prelude.{length, map, nat_eq, All, AllPairs, Contains, Some, IfSome}
 use Rattle.std.specs.List.{list_any}
 use Rattle.zr_kinds.specs.declared.place.Place.{Place}
 use Rattle.zr_kinds.specs.declared.ring.Rqe.{Rqe}

@@ -1,7 +1,8 @@
 -- The places of a buffer: where its holders lie, but for the buffer that is being filled itself and an unfilled spare. None
 -- is empty, none ends behind the buffer, and each byte lies in one of them at most. They end where the bytes begin that
 -- the card fills next.
-use Rattle.std.specs.Prelude.{◌≡◌, ℕ, ◌+◌, ◌≤◌, ◌==◌, Bool, ◌&&◌, List, [], ◌∷◌, ◌++◌, length, map, filter, nat_lt, nat_le, count_by, All, IfSome}
+use Rattle.std.specs.Prelude.{◌≡◌, ℕ, ◌+◌, ◌≤◌, ◌==◌, Bool, ◌&&◌, List, [], ◌∷◌, ◌++◌, length, map, filter, nat_lt, nat_le}
+use Rattle.std.specs.Prelude.{count_by, All}
 use Rattle.std.specs.List.{flat_map}
 use Rattle.zr_kinds.specs.declared.place.Place.{Place}
 use Rattle.area_layout.specs.Layout.{size_of}
@@ -23,7 +24,8 @@ kind_place (returning a p) = p ∷ []
 
 -- where the filled spares of a buffer lie
 abbrev pub filled_places : ℕ → AppSide → List Place
-filled_places b app = map (λ s. begin_place s.own.buffer (length s.bytes)) (filter (λ s. s.own.buffer == b) (filter (λ s. nat_lt 0 (length s.bytes)) app.view.owns))
+filled_places b app = map (λ s. begin_place s.own.buffer (length s.bytes))
+    (filter (λ s. s.own.buffer == b) (filter (λ s. nat_lt 0 (length s.bytes)) app.view.owns))
 
 abbrev pub places_of : ℕ → NicSide → List AppSide → List Place
 places_of b nic apps = flat_map kind_place (holders_of b nic apps) ++ flat_map (filled_places b) apps
@@ -44,9 +46,3 @@ pub record ArePlaced (b : ℕ) (nic : NicSide) (apps : List AppSide) : Type 0 wh
   pub within : count_by (ends_behind (size_of nic.view.setting.layout b)) (places_of b nic apps) ≡ 0
   pub apart : (x : ℕ) → count_by (has_byte x) (places_of b nic apps) ≤ 1
   pub behind : All (λ o. o.buffer ≡ b → count_by (ends_behind o.start) (places_of b nic apps) ≡ 0) nic.view.owns
-
--- A piece in the making is the last of its buffer: no place ends behind it, so the bytes that fill up its last word lie in
--- none.
-abbrev pub IsMadeLast : ℕ → NicSide → List AppSide → Type 0
-IsMadeLast b nic apps =
-    IfSome nic.inside.making (λ m. m.place.buffer ≡ b → count_by (ends_behind (m.place.offset + m.place.len)) (places_of b nic apps) ≡ 0)

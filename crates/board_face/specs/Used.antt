@@ -1,5 +1,5 @@
 -- Used buffers: a pool buffer is used once the card has taken it or an application has picked it as a spare.
-use Rattle.std.specs.Prelude.{ℕ, ◌≤◌, List, ◌++◌, length, map, Contains}
+use Rattle.std.specs.Prelude.{ℕ, ◌≤◌, List, ◌++◌, length, map}
 use Rattle.std.specs.List.{flat_map}
 use Rattle.board_face.specs.Texts.{unsplit_bytes}
 use Rattle.board_face.specs.declared.views.nic.NicSide.{NicSide}
@@ -9,11 +9,9 @@ use Rattle.board_face.specs.declared.views.app.AppSide.{AppSide}
 abbrev pub picked_buffers : List AppSide → List ℕ
 picked_buffers apps = flat_map (λ app. app.view.picked) apps
 
+-- and all that were used, each as often as it was
 abbrev pub used_buffers : NicSide → List AppSide → List ℕ
 used_buffers nic apps = nic.view.used ++ picked_buffers apps
-
-abbrev pub IsUsed : NicSide → List AppSide → ℕ → Type 0
-IsUsed nic apps b = Contains (used_buffers nic apps) b
 
 -- An application has picked, and was given, at most as many buffers as the unsplit notes that it has taken have bytes.
 pub record HasFewPicks (app : AppSide) : Type 0 where

@@ -7,14 +7,18 @@
 
 mod answers;
 mod app_face;
+mod laws;
 mod nic_face;
-#[cfg(test)]
-mod tests;
 mod tokens;
 mod views;
 
 pub use answers::{Entry, Polled};
 pub use app_face::AppFace;
+pub use laws::{
+    app_keeps, card_keeps, cut_law, fill_law, give_law, honour_law, lend_law, lend_own_law,
+    place_law, poll_law, release_law, scrub_law, send_law, shut_law, spare_law, stray_law,
+    sweep_law, take_law,
+};
 pub use nic_face::NicFace;
 pub use tokens::{Held, Loan, Own, Piece};
 pub use views::app::{

@@ -7,7 +7,8 @@ ghost use Rattle.board_face.specs.Looks.{NicTold};
 ghost use Rattle.board_face.specs.Tokens.{filled_by, next_place};
 ghost use Rattle.board_face.specs.Texts.{IsSplitNote, IsLinearNote};
 ghost use Rattle.board_face.specs.NicEvents.{nic_gist, placed, sent, sent_linear, saw_leave, nic_ended};
-ghost use Rattle.board_face.specs.NicCalls.{apps_of, free_words_of, IsOpen, HasOwn, HasPiece, HasNoToken, lost_of, sent_unsplit_bytes, NicOnlySaw, TookBuffer, SweptWord, DealtWith, Closed};
+ghost use Rattle.board_face.specs.NicCalls.{apps_of, free_words_of, IsOpen, HasOwn, HasPiece, HasNoToken, lost_of, sent_unsplit_bytes, NicOnlySaw, TookBuffer};
+ghost use Rattle.board_face.specs.NicCalls.{SweptWord, DealtWith, Closed};
 
 use crate::{Entry, Own, Piece};
 use zr_kinds::Note;

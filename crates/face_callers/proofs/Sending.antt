@@ -19,7 +19,8 @@ IsReady-sent v p ps ready = record {
   places = All-tail (λ q. q.note.place ≡ q.piece) p ps ready.places;
 }
 
-pub Sends-sent : (old v : NicView) (before : List Pending) (p : Pending) (ps : List Pending) → Sends old v before (p ∷ ps) → Sends old (sent v p.app p.note) before ps
+pub Sends-sent : (old v : NicView) (before : List Pending) (p : Pending) (ps : List Pending) → Sends old v before (p ∷ ps)
+    → Sends old (sent v p.app p.note) before ps
 Sends-sent old v before p ps sends = record {
   gone = sends.gone ++ p ∷ [];
   parts = rw append_assoc sends.parts;

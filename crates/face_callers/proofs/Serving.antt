@@ -1,5 +1,6 @@
 -- More of a loan was read, and one more note was served.
-use Rattle.std.proofs.Common.{◌≡◌, ℕ, ◌+◌, List, [], ◌∷◌, ◌++◌, length, refl, ap, sym, ◌∙◌, arith, append_assoc, length-append, add-zero, sum_by, true, false}
+use Rattle.std.proofs.Common.{◌≡◌, ℕ, ◌+◌, List, [], ◌∷◌, ◌++◌, length, refl, ap, sym, ◌∙◌, arith, append_assoc, length-append}
+use Rattle.std.proofs.Common.{add-zero, sum_by, true, false}
 use Rattle.std.proofs.lemmas.List.{append-nil}
 use Rattle.std.proofs.lemmas.List.Sums.{sum_by-append}
 use Rattle.board_face.proofs.ListLemmas.{same_place-refl}
@@ -20,14 +21,16 @@ use Rattle.board_face.proofs.LookLemmas.{times-more}
 use Rattle.zr_kinds.specs.declared.place.Note.{Note}
 use Rattle.face_callers.specs.Reader.{GoesOn, ReadsOf, HasNothing, Serves, bytes_read}
 
-pub GoesOn-push : (origin : Origin) (from : ℕ) (rs : List Reading) (middle : ℕ) (bytes : List ℕ) → GoesOn origin from rs middle → GoesOn origin from (rs ++ record { origin = further origin middle; bytes = bytes } ∷ []) (middle + length bytes)
+pub GoesOn-push : (origin : Origin) (from : ℕ) (rs : List Reading) (middle : ℕ) (bytes : List ℕ) → GoesOn origin from rs middle
+    → GoesOn origin from (rs ++ record { origin = further origin middle; bytes = bytes } ∷ []) (middle + length bytes)
 GoesOn-push origin from [] middle bytes on = (ap (further origin) (sym on), rw on refl)
 GoesOn-push origin from (r ∷ rs) middle bytes on = (on.0, GoesOn-push origin (from + length r.bytes) rs middle bytes on.1)
 
 pub ReadsOf-none : (v : AppView) (loan : Place) → ReadsOf v v loan 0
 ReadsOf-none v loan = record { readings = []; event = rw append-nil refl; in_order = refl }
 
-pub ReadsOf-more : (old v : AppView) (loan : Place) (count : ℕ) (bytes : List ℕ) → ReadsOf old v loan count → ReadsOf old (has_read v loan count bytes) loan (count + length bytes)
+pub ReadsOf-more : (old v : AppView) (loan : Place) (count : ℕ) (bytes : List ℕ) → ReadsOf old v loan count
+    → ReadsOf old (has_read v loan count bytes) loan (count + length bytes)
 ReadsOf-more old v loan count [] reads = record {
   readings = reads.readings;
   event = reads.event;
@@ -40,7 +43,13 @@ ReadsOf-more old v loan count (b ∷ bytes) reads = record {
 }
 
 pub Serves-told_end : (old v : AppView) → Serves old v → Serves old (told_end v)
-Serves-told_end old v s = record { notes = s.notes; taken = s.taken; returned = s.returned; read = s.read; looks = record { later = λ look. omega (arith, s.looks.later look, times-more same_app_look look CardEnded v.looks) } }
+Serves-told_end old v s = record {
+  notes = s.notes;
+  taken = s.taken;
+  returned = s.returned;
+  read = s.read;
+  looks = record { later = λ look. omega (arith, s.looks.later look, times-more same_app_look look CardEnded v.looks) };
+}
 
 pub Serves-took_linear : (old v : AppView) (note : Note) (bytes : List ℕ) → IsLinearNote note → Serves old v → Serves old (took_linear v note bytes)
 Serves-took_linear old v note bytes fields s = record {
@@ -52,11 +61,17 @@ Serves-took_linear old v note bytes fields s = record {
 }
 
 -- readings that go on are as long as they go
-GoesOn-total : (origin : Origin) (from : ℕ) (rs : List Reading) (end : ℕ) → GoesOn origin from rs end → from + sum_by (λ (r : Reading). length r.bytes) rs ≡ end
+GoesOn-total : (origin : Origin) (from : ℕ) (rs : List Reading) (end : ℕ) → GoesOn origin from rs end
+    → from + sum_by (λ (r : Reading). length r.bytes) rs ≡ end
 GoesOn-total origin from [] end on = simp add-zero on
-GoesOn-total origin from (r ∷ rs) end on = omega (arith, sum_by-append (λ (x : Reading). length x.bytes) (r ∷ []) rs, GoesOn-total origin (from + length r.bytes) rs end on.1)
+GoesOn-total origin from (r ∷ rs) end on = omega (
+  arith,
+  sum_by-append (λ (x : Reading). length x.bytes) (r ∷ []) rs,
+  GoesOn-total origin (from + length r.bytes) rs end on.1,
+)
 
-read_all : (origin : Origin) (before rs : List Reading) (len : ℕ) → GoesOn origin 0 rs len → sum_by (λ (r : Reading). length r.bytes) (before ++ rs) ≡ sum_by (λ (r : Reading). length r.bytes) before + len
+read_all : (origin : Origin) (before rs : List Reading) (len : ℕ) → GoesOn origin 0 rs len
+    → sum_by (λ (r : Reading). length r.bytes) (before ++ rs) ≡ sum_by (λ (r : Reading). length r.bytes) before + len
 read_all origin before rs len on = omega (arith, sum_by-append (λ (x : Reading). length x.bytes) before rs, GoesOn-total origin 0 rs len on)
 
 -- What lending, reading and giving up the piece of a note leaves, whatever the last look was.
@@ -70,7 +85,8 @@ pub record CameBack (v w : AppView) (note : Note) : Type 0 where
   pub read : bytes_read w ≡ bytes_read v + note.place.len
   pub looks : AppLooksStay v w
 
-pub CameBack-abandoned : (v u : AppView) (note : Note) → HasNothing v → ReadsOf (lent (took_note v note) note.place) u note.place note.place.len → CameBack v (abandoned u note.place) note
+pub CameBack-abandoned : (v u : AppView) (note : Note) → HasNothing v → ReadsOf (lent (took_note v note) note.place) u note.place note.place.len
+    → CameBack v (abandoned u note.place) note
 CameBack-abandoned v u note none reads =
     let e = reads.event in
     rw e (record {
@@ -97,7 +113,8 @@ Serves-CameBack old v w note fields s back = record {
   looks = record { later = λ look. omega (arith, s.looks.later look, back.looks.later look) };
 }
 
-CameBack-looked : (v u : AppView) (note : Note) (look : AppLook) → CameBack v (abandoned u note.place) note → CameBack v (abandoned (app_saw u look) note.place) note
+CameBack-looked : (v u : AppView) (note : Note) (look : AppLook) → CameBack v (abandoned u note.place) note
+    → CameBack v (abandoned (app_saw u look) note.place) note
 CameBack-looked v u note look back = record {
   here = back.here;
   settled = back.settled;
@@ -122,14 +139,16 @@ CameBack-gave v u note back = record {
 }
 
 -- a whole turn of one note, up to the loan's end
-module _ (v took lend read : AppView) (note : Note) (held loan : Place) (none : HasNothing v) (taken : TookNote v took note held) (lends : lend ≡ lent took held) (same : loan ≡ held) (reads : ReadsOf lend read loan loan.len) where
+module _ (v took lend read : AppView) (note : Note) (held loan : Place) (none : HasNothing v) (taken : TookNote v took note held)
+    (lends : lend ≡ lent took held) (same : loan ≡ held) (reads : ReadsOf lend read loan loan.len) where
   reads_note : ReadsOf (lent (took_note v note) note.place) read note.place note.place.len
   reads_note =
       let place : loan ≡ note.place = same ∙ taken.place in
       let view : lend ≡ lent (took_note v note) note.place = rw (lends, taken.event, taken.place) refl in
       rw (← view, ← place) reads
 
-  pub CameBack-turn_abandoned : (saw gone : AppView) (back : Place) → back ≡ loan → AppOnlySaw RefillInUse read saw → gone ≡ abandoned saw back → CameBack v gone note
+  pub CameBack-turn_abandoned : (saw gone : AppView) (back : Place) → back ≡ loan → AppOnlySaw RefillInUse read saw → gone ≡ abandoned saw back
+      → CameBack v gone note
   CameBack-turn_abandoned saw gone back same_back only leaves =
       rw (leaves, only.event, same_back, same, taken.place) (CameBack-looked v read note RefillInUse (CameBack-abandoned v read note none reads_note))
 

@@ -26,7 +26,8 @@ module _ (v : AppView) (hand : AppHand) (is : IsAppHand v hand) where
   pub helds-none : hand.front ≡ None → hand.rest ≡ None → v.helds ≡ []
   helds-none front rest = map-none (λ h. h.place) v.helds (rw (front, rest) at is.helds)
 
-  pub helds-cut : (held : Place) (at : ℕ) → hand.front ≡ Some held → hand.rest ≡ None → map (λ h. h.place) (cut v held at).helds ≡ front_place held at ∷ rest_place held at ∷ []
+  pub helds-cut : (held : Place) (at : ℕ) → hand.front ≡ Some held → hand.rest ≡ None
+      → map (λ h. h.place) (cut v held at).helds ≡ front_place held at ∷ rest_place held at ∷ []
   helds-cut held at front rest =
       let gone : helds_without v held ≡ [] = map-none (λ h. h.place) _ (rw rest at (helds-front held front)) in
       rw gone refl
@@ -48,7 +49,8 @@ spare_gone own (s ∷ owns) e =
     let rest : map (λ (t : SpareOwn). t.own) owns ≡ [] = cc in
     rw (here, same_filling-refl own) (map-none (λ t. t.own) owns rest)
 
-spare_bytes : (own : Filling) (owns : List SpareOwn) (n : ℕ) → map (λ s. s.own) owns ≡ own ∷ [] → All (λ s. length s.bytes ≡ n) owns → length (at_first (λ s. same_filling own s.own) (λ s. s.bytes) [] owns) ≡ n
+spare_bytes : (own : Filling) (owns : List SpareOwn) (n : ℕ) → map (λ s. s.own) owns ≡ own ∷ [] → All (λ s. length s.bytes ≡ n) owns
+    → length (at_first (λ s. same_filling own s.own) (λ s. s.bytes) [] owns) ≡ n
 spare_bytes own [] n e all = absurd (let none : ⊥ = cc in none)
 spare_bytes own (s ∷ owns) n e all =
     let here : s.own ≡ own = cc in

@@ -1,18 +1,22 @@
 -- What an application's hand says of its face, and what the answer of a call says.
-use Rattle.std.specs.Prelude.{⊤, ◌≡◌, ℕ, ◌+◌, ◌<◌, ◌≤◌, ◌↔◌, true, false, List, ◌++◌, length, map, min, take, All, IsTrue, MatchBool, Option, Some, None, IsSome, IsSomeAnd, option_to_list}
+use Rattle.std.specs.Prelude.{⊤, ◌≡◌, ℕ, ◌+◌, ◌<◌, ◌≤◌, ◌↔◌, true, false, List, ◌++◌, length, map, min, take, All, IsTrue}
+use Rattle.std.specs.Prelude.{MatchBool, Option, Some, None, IsSome, IsSomeAnd, option_to_list}
 use Rattle.zr_kinds.specs.declared.place.Place.{Place}
 use Rattle.area_layout.specs.Layout.{least_size, off_of}
 use Rattle.board_face.specs.Texts.{IsLinearNote, unsplit_bytes, front_place, rest_place}
 use Rattle.board_face.specs.NicEvents.{fresh}
-use Rattle.board_face.specs.AppEvents.{took_linear, cut, released, lent, has_read, abandoned, gave, pushed_raw, came_to_rest, reserve_of, filled, begin_place, lent_own, fell_quiet, scrubbed, left_board}
+use Rattle.board_face.specs.AppEvents.{took_linear, cut, released, lent, has_read, abandoned, gave, pushed_raw, came_to_rest, reserve_of, filled, begin_place}
+use Rattle.board_face.specs.AppEvents.{lent_own, fell_quiet, scrubbed, left_board}
 use Rattle.board_face.specs.AppCalls.{IsLive, AppOnlySaw, TookNote, ToldEnd, GotSpare}
 use Rattle.board_face.specs.declared.views.app.AppView.{AppView}
 use Rattle.board_face.specs.declared.views.app.AppLook.TheVariants.{NoNote as saw_no_note, RefillInUse, RawOnItsWay, NoSpare, NotQuiet}
 use Rattle.face_table.specs.declared.answers.TheConstants.{TEXT_ROOM}
 use Rattle.face_table.specs.declared.answers.Answer.{Answer}
-use Rattle.face_table.specs.declared.answers.Answer.TheVariants.{Skipped, Done, Full, Number, Flag, Offset, Buffer, NoBuffer, At, Note, Linear, NoNote, Ended, Cut as pieces, Read as bytes}
+use Rattle.face_table.specs.declared.answers.Answer.TheVariants.{Skipped, Done, Full, Number, Flag, Offset, Buffer, NoBuffer, At, Note, Linear, NoNote, Ended}
+use Rattle.face_table.specs.declared.answers.Answer.TheVariants.{Cut as pieces, Read as bytes}
 use Rattle.face_table.specs.declared.app.AppCall.{AppCall}
-use Rattle.face_table.specs.declared.app.AppCall.TheVariants.{Places, Size, Reserve, Off, Poll, Cut, Settle, Lend, Read, Give, Live, PushRaw, Release, Spare, Fill, LendOwn, Abandon, Quiet, Scrub, Leave}
+use Rattle.face_table.specs.declared.app.AppCall.TheVariants.{Places, Size, Reserve, Off, Poll, Cut, Settle, Lend, Read, Give, Live, PushRaw, Release, Spare}
+use Rattle.face_table.specs.declared.app.AppCall.TheVariants.{Fill, LendOwn, Abandon, Quiet, Scrub, Leave}
 use Rattle.face_table.specs.declared.app.AppHand.{AppHand}
 use Rattle.face_table.specs.Text.{text_bytes}
 

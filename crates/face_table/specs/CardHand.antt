@@ -10,7 +10,8 @@ use Rattle.board_face.specs.declared.views.nic.NicLook.TheVariants.{NoteInUse, N
 use Rattle.face_table.specs.declared.answers.Answer.{Answer}
 use Rattle.face_table.specs.declared.answers.Answer.TheVariants.{Skipped, Done, Full, Number, Flag, Buffer, NoBuffer, At, Entry as found}
 use Rattle.face_table.specs.declared.card.CardCall.{CardCall}
-use Rattle.face_table.specs.declared.card.CardCall.TheVariants.{Apps, Places, Size, FreeWords, Cached, Take, Sweep, Entry, Place, Send, SendLinear, Shut, End, Left}
+use Rattle.face_table.specs.declared.card.CardCall.TheVariants.{Apps, Places, Size, FreeWords, Cached, Take, Sweep, Entry, Place, Send, SendLinear, Shut, End}
+use Rattle.face_table.specs.declared.card.CardCall.TheVariants.{Left}
 use Rattle.face_table.specs.declared.card.CardHand.{CardHand}
 use Rattle.face_table.specs.Text.{text_bytes}
 

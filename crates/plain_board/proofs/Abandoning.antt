@@ -9,17 +9,20 @@ use Rattle.board_face.specs.AppCalls.{HasLoan}
 use Rattle.board_face.specs.declared.views.app.AppSide.{AppSide}
 use Rattle.board_face.proofs.AppLemmas.{app_count-abandoned, user_part-abandoned, EndedWereReturned-abandoned}
 use Rattle.board_face.proofs.RelayLemmas.{Relayed-app}
-use Rattle.board_face.proofs.FilledLemmas.{IsFilledByOne-abandoned}
-use Rattle.board_face.proofs.FitLemmas.{FillingsFit-same}
+use Rattle.board_face.proofs.IsFilledByOneLemmas.{IsFilledByOne-abandoned}
+use Rattle.board_face.proofs.OwnBufferLemmas.{AppLiesInOwn-abandoned}
+use Rattle.board_face.proofs.FillingsFitLemmas.{FillingsFit-same}
 use Rattle.board_face.proofs.AreShownLemmas.{AreShown-abandoned}
 use Rattle.plain_parts.specs.Counts.{user_at}
 use Rattle.plain_board.specs.Board.{Arrays, Board, byte_of}
 use Rattle.plain_board.specs.Returns.{loans_out}
 use Rattle.plain_board.specs.Sound.{IsSound}
-use Rattle.plain_board.proofs.AppFrames.{IsSet-app, was-at_rest, AreCounted-app, was-returned, AreRelayed-kept, was-relayed, returns-app, was-returns, AreFlags-kept, AreFreeOnce-app, AreKept-app, AreDue-app, was-given, was-due, AreBooked-app, was-booked_loans, was-booked_filled, was-booked_raw, ArePhased-app, was-phased}
+use Rattle.plain_board.proofs.AppFrames.{IsSet-app, was-at_rest, AreCounted-app, was-returned, AreRelayed-kept, was-relayed, returns-app, was-returns}
+use Rattle.plain_board.proofs.AppFrames.{AreFlags-kept, AreFreeOnce-app, AreKept-app, AreDue-app, was-given, was-due, AreBooked-app, was-booked_loans}
+use Rattle.plain_board.proofs.AppFrames.{was-booked_filled, was-booked_raw, ArePhased-app, was-phased, was-own, OwnBuffers-app}
 use Rattle.plain_board.proofs.Users.{loans-there, user-other, user-lowered}
-use Rattle.plain_board.proofs.Lying.{loan-some, loan-none, loan-lies}
-use Rattle.plain_board.proofs.Owing.{loans-fewer, owed-more, IsClear-fewer}
+use Rattle.plain_board.proofs.TokensLie.{loan-some, loan-none, loan-lies}
+use Rattle.plain_board.proofs.Owing.{loans-fewer, returned-more, owed-more, IsClear-fewer}
 
 module _ (board : Board) (a : ℕ) (x : AppSide) (place : Place) (sound : IsSound board) (here : IsApp board.apps a x) (out : HasLoan x.view place) where
   abbrev now : AppSide
@@ -45,7 +48,8 @@ module _ (board : Board) (a : ℕ) (x : AppSide) (place : Place) (sound : IsSoun
   loan-counted = omega (arith, was-booked_loans board a x now sound here place.buffer within, loan-some board a x sound here place out)
 
   -- each count of loans is right then
-  pub loans-rest : (n : ℕ) → n ≡ get_or board.arrays.loans user 0 - 1 → (b : ℕ) → b < total board.arrays.layout → get_or (loans_then n) (user_at board.arrays.layout a b) 0 ≡ loans_out b now
+  pub loans-rest : (n : ℕ) → n ≡ get_or board.arrays.loans user 0 - 1 → (b : ℕ) → b < total board.arrays.layout
+      → get_or (loans_then n) (user_at board.arrays.layout a b) 0 ≡ loans_out b now
   loans-rest n less b inside =
       omega (
         arith,
@@ -54,7 +58,8 @@ module _ (board : Board) (a : ℕ) (x : AppSide) (place : Place) (sound : IsSoun
         loans-fewer b x place out,
       )
 
-  pub IsSound-abandoned : (n : ℕ) → n ≡ get_or board.arrays.loans user 0 - 1 → IsSound (record { arrays = record board.arrays { loans = loans_then n }; nic = board.nic; apps = set board.apps a now })
+  pub IsSound-abandoned : (n : ℕ) → n ≡ get_or board.arrays.loans user 0 - 1
+      → IsSound (record { arrays = record board.arrays { loans = loans_then n }; nic = board.nic; apps = set board.apps a now })
   IsSound-abandoned n less =
       let arr : Arrays = record board.arrays { loans = loans_then n } in
       let was = was-returns board a x now sound here in
@@ -84,14 +89,19 @@ module _ (board : Board) (a : ℕ) (x : AppSide) (place : Place) (sound : IsSoun
             (λ k b ne app inside. refl)
             (λ b past. omega (arith, app_count-abandoned b board.nic x place out (ended b)))
             (λ b. EndedWereReturned-abandoned b board.nic x place (ended b));
-        free = AreFreeOnce-app board a x now sound here _ (let r = was-at_rest board a x now sound here in record { hands = r.hands; owes = r.owes }) (λ b. app_count-abandoned b board.nic x place out (ended b)) sound.free;
-        relayed = AreRelayed-kept board a x now sound here arr refl refl refl (Relayed-app board.nic x (abandoned x.view place) _ _ refl refl refl refl (was-relayed board a x now sound here));
+        free = AreFreeOnce-app board a x now sound here _ (let r = was-at_rest board a x now sound here in record { hands = r.hands; owes = r.owes })
+            (λ b. app_count-abandoned b board.nic x place out (ended b)) sound.free;
+        relayed = AreRelayed-kept board a x now sound here arr refl refl refl
+            (Relayed-app board.nic x (abandoned x.view place) _ _ refl refl refl refl (was-relayed board a x now sound here));
         returns = returns-app board a x now sound here (record {
+          written = λ b. omega (arith, was.written b, returned-more b x place);
           owed = λ b. omega (arith, was.owed b, owed-more b board.nic x place (ended b));
+          no_more = λ b. omega (arith, was.written b, was.no_more b, owed-more b board.nic x place (ended b), returned-more b x place);
           clear = λ b. IsClear-fewer _ b (loans_out b x) (loans_out b now) _ (omega (arith, loans-fewer b x place out)) (was.clear b);
           named = was.named;
           settled = was.settled;
           quiet = was.quiet;
+          scrubbed = was.scrubbed;
           strays = was.strays;
         });
         flags = AreFlags-kept board a x now sound here arr refl refl refl;
@@ -101,6 +111,8 @@ module _ (board : Board) (a : ℕ) (x : AppSide) (place : Place) (sound : IsSoun
         by_one = λ b. IsFilledByOne-abandoned b board.nic board.apps a x place here out (ended b) (sound.by_one b);
         shown = AreShown-abandoned (byte_of board.arrays) board.nic board.apps a x place here out ended sound.shown;
         notes = sound.notes;
+        own_buffers = OwnBuffers-app board a x now sound here (AppLiesInOwn-abandoned x.view place out (was-own board a x now sound here));
+        judged = sound.judged;
         booked = AreBooked-app board a x now sound here arr refl
             (record { loans = loans-rest n less; filled = was-booked_filled board a x now sound here; raw = was-booked_raw board a x now sound here })
             (λ k b ne app inside. user-other (total board.arrays.layout) board.arrays.loans a place.buffer n within k b inside (inl ne))

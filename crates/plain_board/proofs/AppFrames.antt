@@ -1,5 +1,6 @@
 -- What an event of one application leaves: all that it doesn't say of itself is as before.
-use Rattle.std.proofs.Common.{◌≡◌, ℕ, ◌+◌, ◌<◌, ◌≤◌, Bool, List, length, map, set, get_or, refl, ap, sym, ◌∙◌, subst, arith, inl, inr, ⊎_elim}
+use Rattle.std.proofs.Common.{◌≡◌, ℕ, ◌+◌, ◌<◌, ◌≤◌, Bool, List, length, map, set, get_or, refl, ap, sym, ◌∙◌, subst, arith, inl}
+use Rattle.std.proofs.Common.{inr, ⊎_elim}
 use Rattle.std.specs.Prelude.{◌≢◌, ◌⊎◌, nat_eq, count_by, All}
 use Rattle.std.specs.List.{flat_map}
 use Rattle.std.proofs.lemmas.List.{get_or-set_same, get_or-set_other, length-set, map-set, set-set}
@@ -12,27 +13,44 @@ use Rattle.board_face.specs.Counts.{pool_count, user_count, EndedWereReturned}
 use Rattle.board_face.specs.FreeOnce.{AreFreeOnce, free_places}
 use Rattle.board_face.specs.Relay.{Relayed}
 use Rattle.board_face.specs.Texts.{unsplit_bytes}
-use Rattle.board_face.specs.Used.{PicksAreGiven}
+use Rattle.board_face.specs.Used.{picked_buffers, used_buffers, HasFewPicks, PicksAreGiven}
+use Rattle.board_face.specs.OwnBuffers.{AppLiesInOwn, LieInOwn}
 use Rattle.board_face.specs.declared.views.nic.NicSide.{NicSide}
 use Rattle.board_face.specs.declared.views.app.AppSide.{AppSide}
 use Rattle.board_face.proofs.ListLemmas.{not-eqb}
 use Rattle.board_face.proofs.SideLemmas.{AreNumbered-set, IsApp-at}
 use Rattle.board_face.proofs.AppLemmas.{pool_count-app, user_count-app}
 use Rattle.board_face.proofs.Parts.{app_count, user_part, count-tally}
+use Rattle.board_face.proofs.OwnBufferLemmas.{LieInOwn-app, LieInOwn-side}
 use Rattle.board_face.proofs.Tallies.{weight, tally, tally-flat, total-set}
 use Rattle.plain_parts.specs.Counts.{user_at}
 use Rattle.plain_parts.specs.Blank.{blank_app}
 use Rattle.plain_board.specs.declared.others.Others.{Others}
 use Rattle.plain_board.specs.Board.{Arrays, Board, setting_of, side_in, side_of}
 use Rattle.plain_board.specs.Returns.{AreReturns, entries_on_way, loans_out, reach_of}
-use Rattle.plain_board.specs.Sound.{IsSound, IsRing, IsSet, IsAtRest, AreCounted, AreRelayed, AreFlags, AreKept, AreDue, AreBooked, IsPhased, ArePhased, notes_of, refills_of, taken_of, times_picked}
+use Rattle.plain_board.specs.Sound.{IsSound, IsRing, IsSet, IsAtRest, AreCounted, AreRelayed, AreFlags, AreKept, AreDue, AreBooked, IsPhased, ArePhased}
+use Rattle.plain_board.specs.Sound.{notes_of, refills_of, taken_of}
+use Rattle.plain_board.proofs.Lists.{count-append}
+
+-- how often a buffer was picked as a spare
+abbrev pub times_picked : ℕ → List AppSide → ℕ
+times_picked b apps = count_by (nat_eq b) (picked_buffers apps)
+
+-- how often it was used
+pub times_used : (b : ℕ) (nic : NicSide) (apps : List AppSide)
+    → count_by (nat_eq b) (used_buffers nic apps) ≡ count_by (nat_eq b) nic.view.used + times_picked b apps
+times_used b nic apps = count-append b nic.view.used (picked_buffers apps)
 
 module _ (board : Board) (a : ℕ) (x now : AppSide) (sound : IsSound board) (here : IsApp board.apps a x) where
   -- each application is as before, but this one
   pub at-then : (k : ℕ) (y : AppSide) → IsApp (set board.apps a now) k y → ((k ≡ a) × (y ≡ now)) ⊎ ((k ≢ a) × IsApp board.apps k y)
   at-then k y it =
       ⊎_elim
-      (λ t. let same : k ≡ a = t.1 in inl (same, sym it.is ∙ (ap (λ n. get_or (set board.apps a now) n y) same ∙ get_or-set_same board.apps a now y here.there)))
+      (λ t. let same : k ≡ a = t.1 in inl (
+        same,
+        sym it.is
+            ∙ (ap (λ n. get_or (set board.apps a now) n y) same ∙ get_or-set_same board.apps a now y here.there),
+      ))
       (λ t. let ne : k ≢ a = t.1 in inr (
         ne,
         record {
@@ -43,13 +61,15 @@ module _ (board : Board) (a : ℕ) (x now : AppSide) (sound : IsSound board) (he
       ))
       (eqb_tells k a)
 
-  pub IsSet-app : now.view.setting ≡ x.view.setting → now.view.app ≡ x.view.app → IsAtRest now → IsSet (setting_of board.arrays) board.nic (set board.apps a now)
+  pub IsSet-app : now.view.setting ≡ x.view.setting → now.view.app ≡ x.view.app → IsAtRest now
+      → IsSet (setting_of board.arrays) board.nic (set board.apps a now)
   IsSet-app setting number rest = record {
     card = sound.set.card;
     card_rest = sound.set.card_rest;
     many = length-set board.apps a now ∙ sound.set.many;
     numbers = AreNumbered-set 0 board.apps a now (let n = here.number in omega (arith, number)) sound.set.numbers;
-    roles = All-set (λ app. app.view.setting ≡ setting_of board.arrays) board.apps a now (setting ∙ subst (λ app. app.view.setting ≡ setting_of board.arrays) here.is (sound.set.roles a x here.there)) sound.set.roles;
+    roles = All-set (λ app. app.view.setting ≡ setting_of board.arrays) board.apps a now
+        (setting ∙ subst (λ app. app.view.setting ≡ setting_of board.arrays) here.is (sound.set.roles a x here.there)) sound.set.roles;
     roles_rest = All-set IsAtRest board.apps a now rest sound.set.roles_rest;
   }
 
@@ -65,9 +85,12 @@ module _ (board : Board) (a : ℕ) (x now : AppSide) (sound : IsSound board) (he
   part-other k b app other = rw (not-eqb app.view.app k other) refl
 
   pub AreCounted-app : (arr : Arrays) → arr.layout ≡ board.arrays.layout → now.view.app ≡ x.view.app
-      → ((b : ℕ) → b < total board.arrays.layout → get_or arr.pool b 0 + app_count b board.nic x ≡ get_or board.arrays.pool b 0 + app_count b board.nic now)
-      → ((b : ℕ) → b < total board.arrays.layout → get_or arr.users (user_at board.arrays.layout a b) 0 + user_part a b board.nic x ≡ get_or board.arrays.users (user_at board.arrays.layout a b) 0 + user_part a b board.nic now)
-      → ((k b : ℕ) → k ≢ a → k < length board.apps → b < total board.arrays.layout → get_or arr.users (user_at board.arrays.layout k b) 0 ≡ get_or board.arrays.users (user_at board.arrays.layout k b) 0)
+      → ((b : ℕ) → b < total board.arrays.layout → get_or arr.pool b 0 + app_count b board.nic x
+      ≡ get_or board.arrays.pool b 0 + app_count b board.nic now)
+      → ((b : ℕ) → b < total board.arrays.layout → get_or arr.users (user_at board.arrays.layout a b) 0 + user_part a b board.nic x
+      ≡ get_or board.arrays.users (user_at board.arrays.layout a b) 0 + user_part a b board.nic now)
+      → ((k b : ℕ) → k ≢ a → k < length board.apps → b < total board.arrays.layout
+      → get_or arr.users (user_at board.arrays.layout k b) 0 ≡ get_or board.arrays.users (user_at board.arrays.layout k b) 0)
       → ((b : ℕ) → total board.arrays.layout ≤ b → app_count b board.nic now ≤ app_count b board.nic x)
       → ((b : ℕ) → EndedWereReturned b board.nic now)
       → AreCounted arr board.nic (set board.apps a now)
@@ -115,7 +138,8 @@ module _ (board : Board) (a : ℕ) (x now : AppSide) (sound : IsSound board) (he
   pub AreRelayed-kept : (arr : Arrays) → arr.places ≡ board.arrays.places → arr.notes ≡ board.arrays.notes → arr.refills ≡ board.arrays.refills
       → Relayed board.nic now (map taken_of (notes_of board.arrays a)) (refills_of board.arrays a) → AreRelayed arr board.nic (set board.apps a now)
   AreRelayed-kept arr places notes refills mine =
-      AreRelayed-app arr places (rw (notes, refills) mine) (λ k ne. rw notes refl) (λ k ne. rw refills refl) (rw (notes, places) sound.relayed.notes) (rw (refills, places) sound.relayed.refills)
+      AreRelayed-app arr places (rw (notes, refills) mine) (λ k ne. rw notes refl) (λ k ne. rw refills refl) (rw (notes, places) sound.relayed.notes)
+      (rw (refills, places) sound.relayed.refills)
 
   -- what lay in its slots before
   pub was-relayed : Relayed board.nic x (map taken_of (notes_of board.arrays a)) (refills_of board.arrays a)
@@ -124,19 +148,22 @@ module _ (board : Board) (a : ℕ) (x now : AppSide) (sound : IsSound board) (he
   pub returns-app : AreReturns board.nic now → (k : ℕ) (y : AppSide) → IsApp (set board.apps a now) k y → AreReturns board.nic y
   returns-app mine k y it = ⊎_elim (λ t. subst (AreReturns board.nic) (sym t.1) mine) (λ t. sound.returns k y t.1) (at-then k y it)
 
-  pub AreFlags-app : (arr : Arrays) → arr.ended ≡ board.arrays.ended → arr.left ≡ set board.arrays.left a now.view.left → AreFlags arr board.nic (set board.apps a now)
+  pub AreFlags-app : (arr : Arrays) → arr.ended ≡ board.arrays.ended → arr.left ≡ set board.arrays.left a now.view.left
+      → AreFlags arr board.nic (set board.apps a now)
   AreFlags-app arr ended left = record {
     ended = ended ∙ sound.flags.ended;
     left = left ∙ (ap (λ flags. set flags a now.view.left) sound.flags.left ∙ sym (map-set (λ app. app.view.left) board.apps a now));
   }
 
-  pub AreFlags-kept : (arr : Arrays) → arr.ended ≡ board.arrays.ended → arr.left ≡ board.arrays.left → now.view.left ≡ x.view.left → AreFlags arr board.nic (set board.apps a now)
+  pub AreFlags-kept : (arr : Arrays) → arr.ended ≡ board.arrays.ended → arr.left ≡ board.arrays.left → now.view.left ≡ x.view.left
+      → AreFlags arr board.nic (set board.apps a now)
   AreFlags-kept arr ended left same = record {
     ended = ended ∙ sound.flags.ended;
     left = left ∙ (sound.flags.left ∙ sym (map-set_same (λ app. app.view.left) board.apps a now x (same ∙ ap (λ app. app.view.left) (sym here.is))));
   }
 
-  hands-count : (b : ℕ) → IsAtRest now → count_by (nat_eq b) (flat_map (λ app. app.inside.hands) (set board.apps a now)) ≡ count_by (nat_eq b) (flat_map (λ app. app.inside.hands) board.apps)
+  hands-count : (b : ℕ) → IsAtRest now → count_by (nat_eq b) (flat_map (λ app. app.inside.hands) (set board.apps a now))
+      ≡ count_by (nat_eq b) (flat_map (λ app. app.inside.hands) board.apps)
   hands-count b rest =
       let hands : AppSide → List ℕ = λ app. app.inside.hands in
       let before = was-at_rest in
@@ -152,19 +179,23 @@ module _ (board : Board) (a : ℕ) (x now : AppSide) (sound : IsSound board) (he
       )
 
   -- free places change by the free list alone
-  pub free_places-side : (listed listed' : ℕ → Bool) (b : ℕ) → IsAtRest now → free_places listed' b board.nic (set board.apps a now) + weight (listed b) ≡ free_places listed b board.nic board.apps + weight (listed' b)
+  pub free_places-side : (listed listed' : ℕ → Bool) (b : ℕ) → IsAtRest now
+      → free_places listed' b board.nic (set board.apps a now) + weight (listed b) ≡ free_places listed b board.nic board.apps + weight (listed' b)
   free_places-side listed listed' b rest = omega (arith, hands-count b rest)
 
   -- where its holdings have the number that they had, and no buffer is listed or taken off the list
-  pub AreFreeOnce-app : (listed : ℕ → Bool) → IsAtRest now → ((b : ℕ) → app_count b board.nic now ≡ app_count b board.nic x) → AreFreeOnce listed board.nic board.apps → AreFreeOnce listed board.nic (set board.apps a now)
+  pub AreFreeOnce-app : (listed : ℕ → Bool) → IsAtRest now → ((b : ℕ) → app_count b board.nic now ≡ app_count b board.nic x)
+      → AreFreeOnce listed board.nic board.apps → AreFreeOnce listed board.nic (set board.apps a now)
   AreFreeOnce-app listed rest same free = record {
-    pool = λ b within. let kept : pool_count b board.nic (set board.apps a now) ≡ pool_count b board.nic board.apps = omega (arith, same b, pool_count-app b board.nic board.apps a x now here) in
+    pool = λ b within. let kept : pool_count b board.nic (set board.apps a now)
+        ≡ pool_count b board.nic board.apps = omega (arith, same b, pool_count-app b board.nic board.apps a x now here) in
         rw kept (omega (arith, free_places-side listed listed b rest, free.pool b within));
     reserves = λ b past. omega (arith, free_places-side listed listed b rest, free.reserves b past);
   }
 
   -- picks of this application, and those of all
-  pub times_picked-app : (b : ℕ) → times_picked b (set board.apps a now) + count_by (nat_eq b) x.view.picked ≡ times_picked b board.apps + count_by (nat_eq b) now.view.picked
+  pub times_picked-app : (b : ℕ) → times_picked b (set board.apps a now) + count_by (nat_eq b) x.view.picked
+      ≡ times_picked b board.apps + count_by (nat_eq b) now.view.picked
   times_picked-app b =
       let picks : AppSide → List ℕ = λ app. app.view.picked in
       omega (
@@ -179,16 +210,32 @@ module _ (board : Board) (a : ℕ) (x now : AppSide) (sound : IsSound board) (he
       )
 
   -- where no buffer left the free list
-  pub AreKept-app : (listed listed' : ℕ → Bool) → now.view.picked ≡ x.view.picked → ((b : ℕ) → weight (listed b) ≤ weight (listed' b)) → AreKept listed board.nic board.apps → AreKept listed' board.nic (set board.apps a now)
+  pub AreKept-app : (listed listed' : ℕ → Bool) → now.view.picked ≡ x.view.picked → ((b : ℕ) → weight (listed b) ≤ weight (listed' b))
+      → AreKept listed board.nic board.apps → AreKept listed' board.nic (set board.apps a now)
   AreKept-app listed listed' picks more kept = record {
-    kept = λ b within. omega (arith, kept.kept b within, more b, times_picked-app b, ap (count_by (nat_eq b)) picks);
-    swept = λ b within gone. omega (arith, kept.swept b within gone, times_picked-app b, ap (count_by (nat_eq b)) picks);
+    kept = λ b within. omega (
+      arith,
+      kept.kept b within,
+      more b,
+      times_used b board.nic board.apps,
+      times_used b board.nic (set board.apps a now),
+      times_picked-app b,
+      ap (count_by (nat_eq b)) picks,
+    );
+    swept = λ b within gone. omega (
+      arith,
+      kept.swept b within gone,
+      times_used b board.nic board.apps,
+      times_used b board.nic (set board.apps a now),
+      times_picked-app b,
+      ap (count_by (nat_eq b)) picks,
+    );
   }
 
   pub AreDue-app : PicksAreGiven now → now.view.spares ≤ unsplit_bytes (map (λ t. t.note) now.view.taken) → AreDue (set board.apps a now)
   AreDue-app picks due = record {
     picked = All-set PicksAreGiven board.apps a now picks sound.due.picked;
-    spares = All-set (λ app. app.view.spares ≤ unsplit_bytes (map (λ t. t.note) app.view.taken)) board.apps a now due sound.due.spares;
+    few = All-set HasFewPicks board.apps a now (record { picks = omega arith; spares = due }) sound.due.few;
   }
 
   -- of the application before
@@ -196,7 +243,7 @@ module _ (board : Board) (a : ℕ) (x now : AppSide) (sound : IsSound board) (he
   was-given = subst PicksAreGiven here.is (sound.due.picked a x here.there)
 
   pub was-due : x.view.spares ≤ unsplit_bytes (map (λ t. t.note) x.view.taken)
-  was-due = subst (λ app. app.view.spares ≤ unsplit_bytes (map (λ t. t.note) app.view.taken)) here.is (sound.due.spares a x here.there)
+  was-due = (subst HasFewPicks here.is (sound.due.few a x here.there)).spares
 
   -- its own part of what the arrays keep of it
   pub record IsBooked (arr : Arrays) : Type 0 where
@@ -205,7 +252,8 @@ module _ (board : Board) (a : ℕ) (x now : AppSide) (sound : IsSound board) (he
     pub raw : get_or arr.raw a 0 ≡ reach_of (entries_on_way board.nic now)
 
   pub AreBooked-app : (arr : Arrays) → arr.layout ≡ board.arrays.layout → IsBooked arr
-      → ((k b : ℕ) → k ≢ a → k < length board.apps → b < total board.arrays.layout → get_or arr.loans (user_at board.arrays.layout k b) 0 ≡ get_or board.arrays.loans (user_at board.arrays.layout k b) 0)
+      → ((k b : ℕ) → k ≢ a → k < length board.apps → b < total board.arrays.layout
+      → get_or arr.loans (user_at board.arrays.layout k b) 0 ≡ get_or board.arrays.loans (user_at board.arrays.layout k b) 0)
       → ((k : ℕ) (y : AppSide) → k ≢ a → IsApp board.apps k y → All (λ s. get_or arr.filled s.own.buffer 0 ≡ length s.bytes) y.view.owns)
       → ((k : ℕ) → k ≢ a → get_or arr.raw k 0 ≡ get_or board.arrays.raw k 0)
       → AreBooked arr board.nic (set board.apps a now)
@@ -229,6 +277,26 @@ module _ (board : Board) (a : ℕ) (x now : AppSide) (sound : IsSound board) (he
   pub was-booked_raw : get_or board.arrays.raw a 0 ≡ reach_of (entries_on_way board.nic x)
   was-booked_raw = sound.booked.raw a x here
 
+  -- where its holdings lay before
+  pub was-own : AppLiesInOwn x.view
+  was-own = LieInOwn-side board.nic board.apps a x here sound.own_buffers
+
+  pub OwnBuffers-app : AppLiesInOwn now.view → LieInOwn board.nic (set board.apps a now)
+  OwnBuffers-app mine = LieInOwn-app board.nic board.apps a now mine sound.own_buffers
+
+  -- an event that leaves its holdings
+  pub OwnBuffers-kept : now.view.setting ≡ x.view.setting → now.view.app ≡ x.view.app → now.view.helds ≡ x.view.helds
+      → now.view.owns ≡ x.view.owns → now.view.loans ≡ x.view.loans → now.view.returned ≡ x.view.returned
+      → LieInOwn board.nic (set board.apps a now)
+  OwnBuffers-kept setting number helds owns loans returned =
+      let was = was-own in
+      OwnBuffers-app (record {
+        helds = rw (setting, helds) was.helds;
+        spares = rw (setting, number, owns) was.spares;
+        loans = rw (setting, number, loans) was.loans;
+        returned = rw (setting, number, returned) was.returned;
+      })
+
   pub ArePhased-app : IsPhased board.nic now → ArePhased board.nic (set board.apps a now)
   ArePhased-app mine = record { card = sound.phased.card; sides = All-set (IsPhased board.nic) board.apps a now mine sound.phased.sides }
 
@@ -244,7 +312,9 @@ pub side-then : (apps : List AppSide) (a : ℕ) (x now : AppSide) → IsApp apps
 side-then apps a x now here = get_or-set_same apps a now blank_app here.there
 
 -- what stands beside it stays
-pub others-then : (nic : NicSide) (apps : List AppSide) (a : ℕ) (now : AppSide) → ◌≡◌ {A = Others} (record { card = nic; apps = set (set apps a now) a blank_app; number = a }) (record { card = nic; apps = set apps a blank_app; number = a })
+pub others-then : (nic : NicSide) (apps : List AppSide) (a : ℕ) (now : AppSide)
+    → ◌≡◌ {A = Others} (record { card = nic; apps = set (set apps a now) a blank_app; number = a })
+    (record { card = nic; apps = set apps a blank_app; number = a })
 others-then nic apps a now = ap (λ sides. record { card = nic; apps = sides; number = a }) (set-set apps a now blank_app)
 
 -- the application is one of the board's

@@ -9,13 +9,15 @@ use Rattle.board_face.specs.declared.views.app.AppView.{AppView}
 use Rattle.board_face.specs.declared.views.app.AppSide.{AppSide}
 use Rattle.board_face.proofs.AppLemmas.{SameHoldings, app_count-same, user_part-same}
 use Rattle.board_face.proofs.RelayLemmas.{Relayed-app}
-use Rattle.board_face.proofs.FilledLemmas.{IsFilledByOne-same}
-use Rattle.board_face.proofs.FitLemmas.{FillingsFit-same}
+use Rattle.board_face.proofs.IsFilledByOneLemmas.{IsFilledByOne-same}
+use Rattle.board_face.proofs.FillingsFitLemmas.{FillingsFit-same}
 use Rattle.board_face.proofs.AreShownLemmas.{AreShown-same}
 use Rattle.plain_board.specs.Board.{Board, byte_of}
 use Rattle.plain_board.specs.Returns.{entries_on_way, IsOfLoan}
 use Rattle.plain_board.specs.Sound.{IsSound}
-use Rattle.plain_board.proofs.AppFrames.{IsSet-app, was-at_rest, AreCounted-app, was-returned, AreRelayed-kept, was-relayed, returns-app, was-returns, AreFlags-kept, AreFreeOnce-app, AreKept-app, AreDue-app, was-given, was-due, AreBooked-app, was-booked_loans, was-booked_filled, was-booked_raw, ArePhased-app, was-phased}
+use Rattle.plain_board.proofs.AppFrames.{IsSet-app, was-at_rest, AreCounted-app, was-returned, AreRelayed-kept, was-relayed, returns-app, was-returns}
+use Rattle.plain_board.proofs.AppFrames.{AreFlags-kept, AreFreeOnce-app, AreKept-app, AreDue-app, was-given, was-due, AreBooked-app, was-booked_loans}
+use Rattle.plain_board.proofs.AppFrames.{was-booked_filled, was-booked_raw, ArePhased-app, was-phased, OwnBuffers-kept}
 
 -- no more changed than what it knows of its slots and of the card's end, and what it saw
 abbrev pub told_of : AppView → Bool → Bool → Bool → List AppLook → AppView
@@ -38,16 +40,30 @@ module _ (board : Board) (a : ℕ) (x : AppSide) (sound : IsSound board) (here :
       record {
         sizes = sound.sizes;
         cached = sound.cached;
-        set = IsSet-app board a x learnt sound here refl refl (let rest = was-at_rest board a x learnt sound here in record { hands = rest.hands; owes = rest.owes });
+        set = IsSet-app board a x learnt sound here refl refl
+            (let rest = was-at_rest board a x learnt sound here in record { hands = rest.hands; owes = rest.owes });
         counted = AreCounted-app board a x learnt sound here board.arrays refl refl
             (λ b within. omega (arith, app_count-same b board.nic x (told_of x.view settled quiet ended looks) same))
             (λ b within. omega (arith, user_part-same a b board.nic x (told_of x.view settled quiet ended looks) same))
             (λ k b ne app within. refl)
             (λ b past. omega (arith, app_count-same b board.nic x (told_of x.view settled quiet ended looks) same))
             (λ b. let e = was-returned board a x learnt sound here b in record { ended = e.ended; returning = e.returning });
-        free = AreFreeOnce-app board a x learnt sound here _ (let rest = was-at_rest board a x learnt sound here in record { hands = rest.hands; owes = rest.owes }) (λ b. app_count-same b board.nic x (told_of x.view settled quiet ended looks) same) sound.free;
-        relayed = AreRelayed-kept board a x learnt sound here board.arrays refl refl refl (Relayed-app board.nic x (told_of x.view settled quiet ended looks) _ _ refl refl refl refl (was-relayed board a x learnt sound here));
-        returns = returns-app board a x learnt sound here (record { owed = was.owed; clear = was.clear; named = was.named; settled = rests; quiet = falls_quiet; strays = was.strays });
+        free = AreFreeOnce-app board a x learnt sound here _
+            (let rest = was-at_rest board a x learnt sound here in record { hands = rest.hands; owes = rest.owes })
+            (λ b. app_count-same b board.nic x (told_of x.view settled quiet ended looks) same) sound.free;
+        relayed = AreRelayed-kept board a x learnt sound here board.arrays refl refl refl
+            (Relayed-app board.nic x (told_of x.view settled quiet ended looks) _ _ refl refl refl refl (was-relayed board a x learnt sound here));
+        returns = returns-app board a x learnt sound here (record {
+          written = was.written;
+          owed = was.owed;
+          no_more = was.no_more;
+          clear = was.clear;
+          named = was.named;
+          settled = rests;
+          quiet = falls_quiet;
+          scrubbed = was.scrubbed;
+          strays = was.strays;
+        });
         flags = AreFlags-kept board a x learnt sound here board.arrays refl refl refl;
         kept = AreKept-app board a x learnt sound here _ _ refl (λ b. omega arith) sound.kept;
         due = AreDue-app board a x learnt sound here (was-given board a x learnt sound here) (was-due board a x learnt sound here);
@@ -55,16 +71,35 @@ module _ (board : Board) (a : ℕ) (x : AppSide) (sound : IsSound board) (here :
         by_one = λ b. IsFilledByOne-same b board.nic board.apps a x (told_of x.view settled quiet ended looks) here same (sound.by_one b);
         shown = AreShown-same (byte_of board.arrays) board.nic board.apps a x (told_of x.view settled quiet ended looks) here same sound.shown;
         notes = sound.notes;
+        own_buffers = OwnBuffers-kept board a x learnt sound here refl refl refl refl refl refl;
+        judged = sound.judged;
         booked = AreBooked-app board a x learnt sound here board.arrays refl
-            (record { loans = was-booked_loans board a x learnt sound here; filled = was-booked_filled board a x learnt sound here; raw = was-booked_raw board a x learnt sound here })
+            (record {
+              loans = was-booked_loans board a x learnt sound here;
+              filled = was-booked_filled board a x learnt sound here;
+              raw = was-booked_raw board a x learnt sound here;
+            })
             (λ k b ne app within. refl)
             (λ k y ne it. sound.booked.filled k y it)
             (λ k ne. refl);
-        phased = ArePhased-app board a x learnt sound here (record { ended = ends; unscrubbed = phase.unscrubbed; scrubbed = phase.scrubbed; left = λ e. let can = phase.left e in record { scrubbed = can.scrubbed; ended = stays can.ended; helds = can.helds; loans = can.loans; spares = can.spares } });
+        phased = ArePhased-app board a x learnt sound here (record {
+          ended = ends;
+          unscrubbed = phase.unscrubbed;
+          scrubbed = phase.scrubbed;
+          left = λ e. let can = phase.left e in record {
+            scrubbed = can.scrubbed;
+            ended = stays can.ended;
+            helds = can.helds;
+            loans = can.loans;
+            spares = can.spares;
+          };
+        });
       }
   -- and it stays soundly what it was, where it learnt nothing of its slots and of the end
 
-pub IsSound-looked : (board : Board) (a : ℕ) (x : AppSide) (look : AppLook) → IsSound board → IsApp board.apps a x → IsSound (record { arrays = board.arrays; nic = board.nic; apps = set board.apps a (app_at x (app_saw x.view look)) })
+pub IsSound-looked : (board : Board) (a : ℕ) (x : AppSide) (look : AppLook) → IsSound board → IsApp board.apps a x
+    → IsSound (record { arrays = board.arrays; nic = board.nic; apps = set board.apps a (app_at x (app_saw x.view look)) })
 IsSound-looked board a x look sound here =
     let was = sound.returns a x here in
-    IsSound-told board a x sound here x.view.settled x.view.quiet x.view.ended (look ∷ x.view.looks) was.settled was.quiet (was-phased board a x x sound here).ended (λ e. e)
+    IsSound-told board a x sound here x.view.settled x.view.quiet x.view.ended (look ∷ x.view.looks) was.settled was.quiet
+    (was-phased board a x x sound here).ended (λ e. e)

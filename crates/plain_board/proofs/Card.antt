@@ -22,7 +22,8 @@ use Rattle.plain_board.proofs.Lists.{counts-set}
 pub within-setting : (board : Board) (a : ℕ) → IsSound board → a < apps_of board.nic.view.setting → a < board.arrays.layout.reserves
 within-setting board a sound few = omega (arith, few, ap (λ s. s.layout.reserves) sound.set.card)
 
-pub IsSet-nic : (setting : Setting) (nic : NicSide) (v : NicView) (apps : List AppSide) → v.setting ≡ nic.view.setting → IsSet setting nic apps → IsSet setting (nic_at nic v) apps
+pub IsSet-nic : (setting : Setting) (nic : NicSide) (v : NicView) (apps : List AppSide) → v.setting ≡ nic.view.setting → IsSet setting nic apps
+    → IsSet setting (nic_at nic v) apps
 IsSet-nic setting nic v apps same h = record {
   card = rw same h.card;
   card_rest = h.card_rest;
@@ -32,11 +33,14 @@ IsSet-nic setting nic v apps same h = record {
   roles_rest = h.roles_rest;
 }
 
-pub EndedWereReturned-nic : (nic : NicSide) (v : NicView) (apps : List AppSide) → v.dealt ≡ nic.view.dealt → (b : ℕ) → All (EndedWereReturned b nic) apps → All (EndedWereReturned b (nic_at nic v)) apps
+pub EndedWereReturned-nic : (nic : NicSide) (v : NicView) (apps : List AppSide) → v.dealt ≡ nic.view.dealt → (b : ℕ)
+    → All (EndedWereReturned b nic) apps → All (EndedWereReturned b (nic_at nic v)) apps
 EndedWereReturned-nic nic v apps deals b all =
-    All-weaker (EndedWereReturned b nic) (EndedWereReturned b (nic_at nic v)) (λ app h. record { ended = rw deals h.ended; returning = rw deals h.returning }) apps all
+    All-weaker (EndedWereReturned b nic) (EndedWereReturned b (nic_at nic v))
+    (λ app h. record { ended = rw deals h.ended; returning = rw deals h.returning }) apps all
 
-pub AreRelayed-nic : (arrays now : Arrays) (nic : NicSide) (v : NicView) (apps : List AppSide) → v.sent ≡ nic.view.sent → v.dealt ≡ nic.view.dealt → now.notes ≡ arrays.notes → now.refills ≡ arrays.refills → now.places ≡ arrays.places
+pub AreRelayed-nic : (arrays now : Arrays) (nic : NicSide) (v : NicView) (apps : List AppSide) → v.sent ≡ nic.view.sent → v.dealt ≡ nic.view.dealt
+    → now.notes ≡ arrays.notes → now.refills ≡ arrays.refills → now.places ≡ arrays.places
     → AreRelayed arrays nic apps → AreRelayed now (nic_at nic v) apps
 AreRelayed-nic arrays now nic v apps sents deals notes refills places h = record {
   relayed = λ a app here. rw (notes, refills) (Relayed-nic nic v app _ _ sents deals (h.relayed a app here));
@@ -45,18 +49,23 @@ AreRelayed-nic arrays now nic v apps sents deals notes refills places h = record
 }
 
 -- Where a count is set to what the holders of one buffer came to be, and no other buffer's changed, counts are holders.
-pub AreCounted-nic : (arrays now : Arrays) (nic : NicSide) (v : NicView) (apps : List AppSide) (i n : ℕ) → v.dealt ≡ nic.view.dealt → now.layout ≡ arrays.layout → now.users ≡ arrays.users → now.pool ≡ set arrays.pool i n
-    → i < total arrays.layout → length arrays.pool ≡ total arrays.layout → n ≡ pool_count i (nic_at nic v) apps → ((b : ℕ) → b ≢ i → pool_count b (nic_at nic v) apps ≡ pool_count b nic apps)
+pub AreCounted-nic : (arrays now : Arrays) (nic : NicSide) (v : NicView) (apps : List AppSide) (i n : ℕ) → v.dealt ≡ nic.view.dealt
+    → now.layout ≡ arrays.layout → now.users ≡ arrays.users → now.pool ≡ set arrays.pool i n
+    → i < total arrays.layout → length arrays.pool ≡ total arrays.layout → n ≡ pool_count i (nic_at nic v) apps
+    → ((b : ℕ) → b ≢ i → pool_count b (nic_at nic v) apps ≡ pool_count b nic apps)
     → AreCounted arrays nic apps → AreCounted now (nic_at nic v) apps
 AreCounted-nic arrays now nic v apps i n deals layout users pool there many here others h = record {
-  pool = λ b within. rw pool (counts-set (total arrays.layout) arrays.pool (λ b. pool_count b nic apps) (λ b. pool_count b (nic_at nic v) apps) i n (omega arith) h.pool here others b (rw (← layout) within));
+  pool = λ b within. rw pool (counts-set (total arrays.layout) arrays.pool (λ b. pool_count b nic apps) (λ b. pool_count b (nic_at nic v) apps) i n
+      (omega arith) h.pool here others b (rw (← layout) within));
   users = λ a b app within. rw (users, layout) (h.users a b app (rw (← layout) within) ∙ sym (user_count-nic a b nic v apps deals));
-  beyond = λ b past. others b (λ e. absurd (let past' : total arrays.layout ≤ b = rw (← layout) past in omega arith)) ∙ h.beyond b (rw (← layout) past);
+  beyond = λ b past. others b (λ e. absurd (let past' : total arrays.layout ≤ b = rw (← layout) past in omega arith))
+      ∙ h.beyond b (rw (← layout) past);
   returned = λ b. EndedWereReturned-nic nic v apps deals b (h.returned b);
 }
 
 -- Where no buffer's holders changed in number, counts are holders.
-pub AreCounted-same : (arrays now : Arrays) (nic : NicSide) (v : NicView) (apps : List AppSide) → v.dealt ≡ nic.view.dealt → now.layout ≡ arrays.layout → now.users ≡ arrays.users → now.pool ≡ arrays.pool
+pub AreCounted-same : (arrays now : Arrays) (nic : NicSide) (v : NicView) (apps : List AppSide) → v.dealt ≡ nic.view.dealt → now.layout ≡ arrays.layout
+    → now.users ≡ arrays.users → now.pool ≡ arrays.pool
     → ((b : ℕ) → pool_count b (nic_at nic v) apps ≡ pool_count b nic apps) → AreCounted arrays nic apps → AreCounted now (nic_at nic v) apps
 AreCounted-same arrays now nic v apps deals layout users pool same h = record {
   pool = λ b within. rw pool (h.pool b (rw (← layout) within)) ∙ sym (same b);
@@ -67,15 +76,20 @@ AreCounted-same arrays now nic v apps deals layout users pool same h = record {
 
 pub AreReturns-nic : (nic : NicSide) (v : NicView) (app : AppSide) → v.dealt ≡ nic.view.dealt → AreReturns nic app → AreReturns (nic_at nic v) app
 AreReturns-nic nic v app deals h = record {
+  written = h.written;
   owed = λ b. rw deals (h.owed b);
+  no_more = λ b. rw deals (h.no_more b);
   clear = λ b. rw deals (h.clear b);
   named = rw deals h.named;
   settled = λ e. rw deals (h.settled e);
   quiet = λ e. rw deals (h.quiet e);
+  scrubbed = λ e. rw deals (h.scrubbed e);
   strays = rw deals h.strays;
 }
 
-pub AreBooked-nic : (arrays now : Arrays) (nic : NicSide) (v : NicView) (apps : List AppSide) → v.dealt ≡ nic.view.dealt → now.layout ≡ arrays.layout → now.loans ≡ arrays.loans → now.filled ≡ arrays.filled → now.raw ≡ arrays.raw → AreBooked arrays nic apps → AreBooked now (nic_at nic v) apps
+pub AreBooked-nic : (arrays now : Arrays) (nic : NicSide) (v : NicView) (apps : List AppSide) → v.dealt ≡ nic.view.dealt → now.layout ≡ arrays.layout
+    → now.loans ≡ arrays.loans → now.filled ≡ arrays.filled → now.raw ≡ arrays.raw → AreBooked arrays nic apps
+    → AreBooked now (nic_at nic v) apps
 AreBooked-nic arrays now nic v apps deals layout loans filled raw h = record {
   loans = λ a b app here within. rw (loans, layout) (h.loans a b app here (rw (← layout) within));
   filled = λ a app here. rw filled (h.filled a app here);
@@ -83,7 +97,8 @@ AreBooked-nic arrays now nic v apps deals layout loans filled raw h = record {
 }
 
 -- No more is sent and dealt with, and where the card has ended it stays so, with no token out.
-pub ArePhased-nic : (nic : NicSide) (v : NicView) (apps : List AppSide) → v.sent ≡ nic.view.sent → v.dealt ≡ nic.view.dealt → (nic.view.ended ≡ true → v.ended ≡ true) → (v.ended ≡ true → HasNoToken v) → ArePhased nic apps → ArePhased (nic_at nic v) apps
+pub ArePhased-nic : (nic : NicSide) (v : NicView) (apps : List AppSide) → v.sent ≡ nic.view.sent → v.dealt ≡ nic.view.dealt
+    → (nic.view.ended ≡ true → v.ended ≡ true) → (v.ended ≡ true → HasNoToken v) → ArePhased nic apps → ArePhased (nic_at nic v) apps
 ArePhased-nic nic v apps sents deals ends none h = record {
   card = none;
   sides = All-weaker (IsPhased nic) (IsPhased (nic_at nic v))
@@ -97,7 +112,8 @@ ArePhased-nic nic v apps sents deals ends none h = record {
 }
 
 -- As long as the card hasn't ended, no application was told the end, so it may send.
-pub ArePhased-open : (nic : NicSide) (v : NicView) (apps : List AppSide) → IsOpen nic.view → v.dealt ≡ nic.view.dealt → v.ended ≡ nic.view.ended → ArePhased nic apps → ArePhased (nic_at nic v) apps
+pub ArePhased-open : (nic : NicSide) (v : NicView) (apps : List AppSide) → IsOpen nic.view → v.dealt ≡ nic.view.dealt → v.ended ≡ nic.view.ended
+    → ArePhased nic apps → ArePhased (nic_at nic v) apps
 ArePhased-open nic v apps running deals same h = record {
   card = λ e. absurd (false≢true (sym running ∙ (sym same ∙ e)));
   sides = All-weaker (IsPhased nic) (IsPhased (nic_at nic v))

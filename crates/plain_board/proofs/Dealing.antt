@@ -1,5 +1,6 @@
 -- The entry that is next in an application's ring is dealt with.
-use Rattle.std.proofs.Common.{◌≡◌, ℕ, zero, suc, ◌+◌, ◌-◌, ◌≤◌, Bool, true, false, eqb, List, [], ◌∷◌, ◌++◌, length, map, drop, refl, ap, sym, ◌∙◌, arith, length-append, length-drop}
+use Rattle.std.proofs.Common.{◌≡◌, ℕ, zero, suc, ◌+◌, ◌-◌, ◌≤◌, Bool, true, false, eqb, List, [], ◌∷◌, ◌++◌, length, map, drop}
+use Rattle.std.proofs.Common.{refl, ap, sym, ◌∙◌, arith, length-append, length-drop}
 use Rattle.std.specs.Prelude.{◌≢◌, filter, count_by, ◌==◌, nat_lt, if◌then◌else◌}
 use Rattle.std.specs.List.{zip}
 use Rattle.std.proofs.lemmas.List.{append-nil, drop-map}
@@ -21,7 +22,7 @@ use Rattle.board_face.proofs.ListLemmas.{not-eqb}
 use Rattle.board_face.proofs.NicLemmas.{ended_in-push}
 use Rattle.board_face.proofs.Parts.{returned_in-count, owed_count}
 use Rattle.board_face.proofs.Tallies.{weight}
-use Rattle.plain_board.specs.Returns.{entries_on_way, returns, reach_of, IsNamed, IsOfLoan, AreReturns}
+use Rattle.plain_board.specs.Returns.{entries_on_way, returns, abandoned_in, reach_of, IsNamed, IsOfLoan, AreReturns}
 use Rattle.plain_board.specs.Sound.{IsPhased, ArePhased}
 
 pub count-first : {A : Type 0} (p : A → Bool) (x : A) (xs : List A) → count_by p (x ∷ xs) ≡ weight (p x) + count_by p xs
@@ -40,12 +41,14 @@ pub length-mapped : {A B : Type 0} (f : A → B) (xs : List A) → length (map f
 length-mapped f [] = refl
 length-mapped f (x ∷ xs) = omega (arith, length-mapped f xs)
 
-front-case : (nic : NicSide) (app : AppSide) (e : Rqe) (es : List Rqe) (q : List WrittenEntry) → entries_on_way nic app ≡ q → map (λ w. w.entry) q ≡ e ∷ es → HasFront nic app e
+front-case : (nic : NicSide) (app : AppSide) (e : Rqe) (es : List Rqe) (q : List WrittenEntry) → entries_on_way nic app ≡ q
+    → map (λ w. w.entry) q ≡ e ∷ es → HasFront nic app e
 front-case nic app e es [] way same = absurd (let none : ⊥ = cc in none)
 front-case nic app e es (w ∷ ws) way same = record { first = w; others = ws; way = way; entry = let is : w.entry ≡ e = cc in is }
 
 -- what lies in the slots are the entries on their way
-pub entries-relayed : (nic : NicSide) (app : AppSide) (ns : List TakenNote) (es : List Rqe) → Relayed nic app ns es → map (λ w. w.entry) (entries_on_way nic app) ≡ es
+pub entries-relayed : (nic : NicSide) (app : AppSide) (ns : List TakenNote) (es : List Rqe) → Relayed nic app ns es
+    → map (λ w. w.entry) (entries_on_way nic app) ≡ es
 entries-relayed nic app ns es relayed =
     let dealt = dealt_entries app.view.app nic in
     let rest : drop (length dealt) (map (λ w. w.entry) app.view.written) ≡ es = rw (← relayed.entries) (drop-append_seam dealt es) in
@@ -61,14 +64,16 @@ drop-after (suc n) (y ∷ xs) x rest e = drop-after n xs x rest e
 
 -- ---- what the card has dealt with
 
-pub dealt-more : (nic : NicSide) (v : NicView) (a : ℕ) (d : Dealt) → v.dealt ≡ nic.view.dealt ++ d ∷ [] → d.app ≡ a → filter (λ x. x.app == a) v.dealt ≡ filter (λ x. x.app == a) nic.view.dealt ++ d ∷ []
+pub dealt-more : (nic : NicSide) (v : NicView) (a : ℕ) (d : Dealt) → v.dealt ≡ nic.view.dealt ++ d ∷ [] → d.app ≡ a
+    → filter (λ x. x.app == a) v.dealt ≡ filter (λ x. x.app == a) nic.view.dealt ++ d ∷ []
 dealt-more nic v a d deals same =
     let mine : Dealt → Bool = λ x. x.app == a in
     let is : eqb d.app a ≡ true = eq-eqb d.app a same in
     let one : filter mine (d ∷ []) ≡ d ∷ [] = rw is refl in
     rw deals (filter-append mine nic.view.dealt (d ∷ []) ∙ ap (λ ds. filter mine nic.view.dealt ++ ds) one)
 
-pub dealt-same : (nic : NicSide) (v : NicView) (a : ℕ) (d : Dealt) → v.dealt ≡ nic.view.dealt ++ d ∷ [] → d.app ≢ a → filter (λ x. x.app == a) v.dealt ≡ filter (λ x. x.app == a) nic.view.dealt
+pub dealt-same : (nic : NicSide) (v : NicView) (a : ℕ) (d : Dealt) → v.dealt ≡ nic.view.dealt ++ d ∷ [] → d.app ≢ a
+    → filter (λ x. x.app == a) v.dealt ≡ filter (λ x. x.app == a) nic.view.dealt
 dealt-same nic v a d deals other =
     let mine : Dealt → Bool = λ x. x.app == a in
     let no_one : eqb d.app a ≡ false = not-eqb d.app a other in
@@ -79,7 +84,8 @@ zip-nil : {A B : Type 0} (xs : List A) → zip {K = A} {X = B} xs [] ≡ []
 zip-nil [] = refl
 zip-nil (x ∷ xs) = refl
 
-zip-push : {A B : Type 0} (xs : List A) (ds : List B) (d : B) (x : A) (rest : List A) → drop (length ds) xs ≡ x ∷ rest → zip xs (ds ++ d ∷ []) ≡ zip xs ds ++ (x, d) ∷ []
+zip-push : {A B : Type 0} (xs : List A) (ds : List B) (d : B) (x : A) (rest : List A) → drop (length ds) xs ≡ x ∷ rest
+    → zip xs (ds ++ d ∷ []) ≡ zip xs ds ++ (x, d) ∷ []
 zip-push [] [] d x rest e = absurd (let none : ⊥ = cc in none)
 zip-push [] (z ∷ ds) d x rest e = absurd (let none : ⊥ = cc in none)
 zip-push {A = A} {B = B} (y ∷ ys) [] d x rest e = let same : y ≡ x = cc in let none = zip-nil {B = B} ys in rw (same, none) refl
@@ -87,38 +93,59 @@ zip-push (y ∷ ys) (z ∷ ds) d x rest e = ap (λ ps. (y, z) ∷ ps) (zip-push 
 
 -- ---- the application whose entry it is
 
-module _ (nic : NicSide) (v : NicView) (app : AppSide) (d : Dealt) (deals : v.dealt ≡ nic.view.dealt ++ d ∷ []) (front : HasFront nic app d.entry) (mine : d.app ≡ app.view.app) where
+module _ (nic : NicSide) (v : NicView) (app : AppSide) (d : Dealt) (deals : v.dealt ≡ nic.view.dealt ++ d ∷ []) (front : HasFront nic app d.entry)
+    (mine : d.app ≡ app.view.app) where
   pub way-after : entries_on_way (nic_at nic v) app ≡ front.others
   way-after =
       let before = filter (λ (x : Dealt). x.app == app.view.app) nic.view.dealt in
       let after = filter (λ (x : Dealt). x.app == app.view.app) v.dealt in
       let more : length (dealt_entries app.view.app (nic_at nic v)) ≡ suc (length (dealt_entries app.view.app nic)) =
-      omega (arith, length-mapped (λ (x : Dealt). x.entry) after, length-mapped (λ (x : Dealt). x.entry) before, ap length (dealt-more nic v app.view.app d deals mine), length-append before (d ∷ [])) in
+      omega (
+        arith,
+        length-mapped (λ (x : Dealt). x.entry) after,
+        length-mapped (λ (x : Dealt). x.entry) before,
+        ap length (dealt-more nic v app.view.app d deals mine),
+        length-append before (d ∷ []),
+      ) in
       rw more (drop-after (length (dealt_entries app.view.app nic)) app.view.written front.first front.others front.way)
 
-  pub AreReturns-dealt : AreReturns nic app → ((b : ℕ) → count_by (returns app.view.setting.layout b) front.others ≤ length (owed_in b (nic_at nic v) app)) → IsNoLoanStray (front.first, d) → AreReturns (nic_at nic v) app
-  AreReturns-dealt h still_owed good =
+  pub AreReturns-dealt : AreReturns nic app → ((b : ℕ) → count_by (returns app.view.setting.layout b) front.others
+      ≤ length (owed_in b (nic_at nic v) app))
+      → ((b : ℕ) → length (owed_in b (nic_at nic v) app) ≤ count_by (returns app.view.setting.layout b) front.others + abandoned_in b app)
+      → IsNoLoanStray (front.first, d) → AreReturns (nic_at nic v) app
+  AreReturns-dealt h still_owed no_more good =
       let before = filter (λ (x : Dealt). x.app == app.view.app) nic.view.dealt in
       record {
+        written = h.written;
         owed = λ b. rw way-after (still_owed b);
+        no_more = λ b. rw way-after (no_more b);
         clear = λ b. rw way-after ((rw front.way at (h.clear b)).1);
         named = rw way-after (All-tail (IsNamed app.view.setting.layout) front.first front.others (rw front.way at h.named));
         settled = λ e. rw way-after (All-tail IsOfLoan front.first front.others (rw front.way at (h.settled e)));
         quiet = λ e. absurd (let empty : front.first ∷ front.others ≡ [] = sym front.way ∙ h.quiet e in let none : ⊥ = cc in none);
-        strays = rw (dealt-more nic v app.view.app d deals mine, zip-push app.view.written before d front.first front.others (rw (length-mapped (λ (x : Dealt). x.entry) before) at front.way)) (All-push IsNoLoanStray (zip app.view.written before) (front.first, d) h.strays good);
+        scrubbed = λ e. absurd (let empty : front.first ∷ front.others ≡ [] = sym front.way ∙ h.scrubbed e in let none : ⊥ = cc in none);
+        strays = rw (
+          dealt-more nic v app.view.app d deals mine,
+          zip-push app.view.written before d front.first front.others (rw (length-mapped (λ (x : Dealt). x.entry) before) at front.way),
+        )
+            (All-push IsNoLoanStray (zip app.view.written before) (front.first, d) h.strays good);
       }
 
 -- ---- the other applications
 
-pub AreReturns-other : (nic : NicSide) (v : NicView) (app : AppSide) (d : Dealt) → v.dealt ≡ nic.view.dealt ++ d ∷ [] → d.app ≢ app.view.app → ((b : ℕ) → ended_in b (nic_at nic v) app ≡ ended_in b nic app) → AreReturns nic app → AreReturns (nic_at nic v) app
+pub AreReturns-other : (nic : NicSide) (v : NicView) (app : AppSide) (d : Dealt) → v.dealt ≡ nic.view.dealt ++ d ∷ [] → d.app ≢ app.view.app
+    → ((b : ℕ) → ended_in b (nic_at nic v) app ≡ ended_in b nic app) → AreReturns nic app → AreReturns (nic_at nic v) app
 AreReturns-other nic v app d deals other ends h =
     let same = dealt-same nic v app.view.app d deals other in
     record {
+      written = h.written;
       owed = λ b. rw (same, ends b) (h.owed b);
+      no_more = λ b. rw (same, ends b) (h.no_more b);
       clear = λ b. rw same (h.clear b);
       named = rw same h.named;
       settled = λ e. rw same (h.settled e);
       quiet = λ e. rw same (h.quiet e);
+      scrubbed = λ e. rw same (h.scrubbed e);
       strays = rw same h.strays;
     }
 
@@ -128,14 +155,24 @@ length-owed_in b nic app = length-drop (ended_in b nic app) (returned_in b app) 
 -- ---- how far the applications have come
 
 -- an entry more is dealt with: who has scrubbed still owes nothing
-pub ArePhased-dealt : (nic : NicSide) (v : NicView) (apps : List AppSide) (d : Dealt) → v.sent ≡ nic.view.sent → v.dealt ≡ nic.view.dealt ++ d ∷ [] → v.ended ≡ nic.view.ended → v.owns ≡ nic.view.owns → v.pieces ≡ nic.view.pieces → ArePhased nic apps → ArePhased (nic_at nic v) apps
+pub ArePhased-dealt : (nic : NicSide) (v : NicView) (apps : List AppSide) (d : Dealt) → v.sent ≡ nic.view.sent → v.dealt ≡ nic.view.dealt ++ d ∷ []
+    → v.ended ≡ nic.view.ended → v.owns ≡ nic.view.owns → v.pieces ≡ nic.view.pieces → ArePhased nic apps → ArePhased (nic_at nic v) apps
 ArePhased-dealt nic v apps d sents deals same owns pieces h = record {
   card = λ e. let none = h.card (sym same ∙ e) in record { owns = owns ∙ none.owns; pieces = pieces ∙ none.pieces };
   sides = All-weaker (IsPhased nic) (IsPhased (nic_at nic v))
       (λ app p. record {
         ended = λ e. (same ∙ (p.ended e).0, rw sents (p.ended e).1);
         unscrubbed = p.unscrubbed;
-        scrubbed = λ e. ((p.scrubbed e).0, λ b. omega (arith, (p.scrubbed e).1 b, length-owed_in b nic app, length-owed_in b (nic_at nic v) app, ended_in-push b nic v d app deals));
+        scrubbed = λ e. (
+          (p.scrubbed e).0,
+          λ b. omega (
+            arith,
+            (p.scrubbed e).1 b,
+            length-owed_in b nic app,
+            length-owed_in b (nic_at nic v) app,
+            ended_in-push b nic v d app deals,
+          ),
+        );
         left = p.left;
       })
       apps h.sides;

@@ -1,5 +1,6 @@
 -- All have left, so nobody has a buffer, nothing is on its way, and each pool buffer is free once.
-use Rattle.std.proofs.Common.{◌≡◌, ℕ, zero, suc, ◌+◌, ◌*◌, ◌<◌, ◌≤◌, Bool, true, false, List, [], ◌∷◌, ◌++◌, length, map, get_or, refl, ap, sym, ◌∙◌, arith, ⊎_elim, length-drop, length-append}
+use Rattle.std.proofs.Common.{◌≡◌, ℕ, zero, suc, ◌+◌, ◌*◌, ◌<◌, ◌≤◌, Bool, true, false, List, [], ◌∷◌, ◌++◌, length, map}
+use Rattle.std.proofs.Common.{get_or, refl, ap, sym, ◌∙◌, arith, ⊎_elim, length-drop, length-append}
 use Rattle.std.specs.Prelude.{◌≢◌, ◌==◌, ◌/◌, ◌%◌, All, nat_eq, count_by, if◌then◌else◌}
 use Rattle.std.specs.List.{flat_map}
 use Rattle.std.proofs.Math.Nat.{mul-le-mul_left}
@@ -12,7 +13,8 @@ use Rattle.board_face.specs.Sides.{IsApp}
 use Rattle.board_face.specs.AppCalls.{CanLeave}
 use Rattle.board_face.specs.Counts.{pool_count, user_count}
 use Rattle.board_face.specs.Holders.{on_way, ended_in, returned_in, returning_count}
-use Rattle.board_face.specs.Relay.{as_taken}
+use Rattle.board_face.specs.Relay.{as_taken, dealt_entries}
+use Rattle.board_face.specs.declared.views.app.WrittenEntry.{WrittenEntry}
 use Rattle.board_face.specs.declared.views.app.AppSide.{AppSide}
 use Rattle.board_face.proofs.SideLemmas.{IsApp-at}
 use Rattle.board_face.proofs.Tallies.{weight, tally, total, tally-flat}
@@ -21,8 +23,9 @@ use Rattle.board_face.proofs.FreeLemmas.{user_count-le}
 use Rattle.board_face.proofs.RelayLemmas.{way-taken}
 use Rattle.plain_parts.specs.Free.{listed_in, listed_below}
 use Rattle.plain_board.specs.Board.{Board}
-use Rattle.plain_board.specs.Finish.{IsOver, free_of, IsEachOnce, HasNoCounts, IsServed}
+use Rattle.plain_board.specs.Finish.{IsOver, free_of, IsEachOnce, HasNoCounts, IsServed, BoardsEndWell}
 use Rattle.plain_board.specs.Sound.{IsSound, IsPhased}
+use Rattle.plain_board.proofs.Dealing.{entries-relayed}
 use Rattle.plain_board.proofs.Lists.{count-push, count-append, weight-same, weight-other}
 
 -- ---- lists of numbers
@@ -65,7 +68,8 @@ count-cons : (b x : ℕ) (xs : List ℕ) → count_by (nat_eq b) (x ∷ xs) ≡ 
 count-cons b x xs = omega (arith, count-append b (x ∷ []) xs, count-push b x [])
 
 -- A list has as many numbers as are counted below n, where it has none from n on.
-length-counts : (n : ℕ) (xs : List ℕ) → ((b : ℕ) → n ≤ b → count_by (nat_eq b) xs ≡ 0) → sum_below (λ b. count_by (nat_eq b) xs) n ≡ length xs
+length-counts : (n : ℕ) (xs : List ℕ) → ((b : ℕ) → n ≤ b → count_by (nat_eq b) xs ≡ 0)
+    → sum_below (λ b. count_by (nat_eq b) xs) n ≡ length xs
 length-counts n [] none = sum-agree (λ b. count_by (nat_eq b) []) (λ b. 0) n (λ b. refl) ∙ sum-none n
 length-counts n (x ∷ xs) none =
     let within : x < n = ⊎_elim (λ less. less) (λ past. absurd (omega (arith, none x past, count-cons x x xs, weight-same x))) (cases_lt x n) in
@@ -90,8 +94,13 @@ with-one : (c : Bool) (w : ℕ) → w ≡ 1 → (if c then w else 0) ≡ weight 
 with-one true w one = one
 with-one false w one = refl
 
-below-more : (b n : ℕ) (listed : List Bool) → count_by (nat_eq b) (listed_below listed (suc n)) ≡ count_by (nat_eq b) (listed_below listed n) + (if get_or listed n false then weight (b == n) else 0)
-below-more b n listed = omega (arith, count-append b (listed_below listed n) (if get_or listed n false then n ∷ [] else []), listed-case (get_or listed n false) b n)
+below-more : (b n : ℕ) (listed : List Bool) → count_by (nat_eq b) (listed_below listed (suc n))
+    ≡ count_by (nat_eq b) (listed_below listed n) + (if get_or listed n false then weight (b == n) else 0)
+below-more b n listed = omega (
+  arith,
+  count-append b (listed_below listed n) (if get_or listed n false then n ∷ [] else []),
+  listed-case (get_or listed n false) b n,
+)
 
 -- No listed buffer below n is n or more,
 below-past : (b n : ℕ) (listed : List Bool) → n ≤ b → count_by (nat_eq b) (listed_below listed n) ≡ 0
@@ -105,8 +114,19 @@ below-once : (b n : ℕ) (listed : List Bool) → b < n → count_by (nat_eq b) 
 below-once b zero listed within = absurd (omega arith)
 below-once b (suc n) listed within =
     ⊎_elim
-    (λ t. let e : b ≡ n = t.1 in omega (arith, below-more b n listed, with-one (get_or listed n false) (weight (b == n)) (ap weight t.0), below-past b n listed (omega (arith, e)), ap (λ k. weight (get_or listed k false)) e))
-    (λ t. let ne : b ≢ n = t.1 in omega (arith, below-more b n listed, with-none (get_or listed n false) (weight (b == n)) (ap weight t.0), below-once b n listed (omega (arith, ne))))
+    (λ t. let e : b ≡ n = t.1 in omega (
+      arith,
+      below-more b n listed,
+      with-one (get_or listed n false) (weight (b == n)) (ap weight t.0),
+      below-past b n listed (omega (arith, e)),
+      ap (λ k. weight (get_or listed k false)) e,
+    ))
+    (λ t. let ne : b ≢ n = t.1 in omega (
+      arith,
+      below-more b n listed,
+      with-none (get_or listed n false) (weight (b == n)) (ap weight t.0),
+      below-once b n listed (omega (arith, ne)),
+    ))
     (eqb_tells b n)
 
 total-zero : {A : Type 0} (f : A → ℕ) (xs : List A) → All (λ x. f x ≡ 0) xs → total f xs ≡ 0
@@ -154,10 +174,14 @@ module _ (board : Board) (sound : IsSound board) (over : IsOver board) where
     served =
         let relayed = sound.relayed.relayed k app it in
         let none = sym (way-taken board.nic app _ _ relayed) ∙ ap (map as_taken) way-empty in
+        let returns = sound.returns k app it in
+        let dealt = dealt_entries app.view.app board.nic in
+        let empty = sym (entries-relayed board.nic app _ _ relayed) ∙ ap (map (λ (w : WrittenEntry). w.entry)) (returns.scrubbed could.scrubbed) in
         record {
           taken = sym (append-nil app.view.taken) ∙ (ap (λ ns. app.view.taken ++ ns) (sym none) ∙ relayed.notes);
           reads = relayed.reads;
-          strays = (sound.returns k app it).strays;
+          entries = sym (append-nil dealt) ∙ (ap (λ es. dealt ++ es) (sym empty) ∙ relayed.entries);
+          strays = returns.strays;
         }
 
   card-none : (b : ℕ) → nic_count b board.nic ≡ 0
@@ -166,7 +190,12 @@ module _ (board : Board) (sound : IsSound board) (over : IsOver board) where
       rw (none.owns, none.pieces, sound.set.card_rest) refl
 
   pub holders-none : (b : ℕ) → pool_count b board.nic board.apps ≡ 0
-  holders-none b = omega (arith, pool_count-parts b board.nic board.apps, card-none b, total-zero (app_count b board.nic) board.apps (λ k d there. has-none k d there b))
+  holders-none b = omega (
+    arith,
+    pool_count-parts b board.nic board.apps,
+    card-none b,
+    total-zero (app_count b board.nic) board.apps (λ k d there. has-none k d there b),
+  )
 
   pub users-none : (a b : ℕ) → user_count a b board.nic board.apps ≡ 0
   users-none a b = omega (arith, user_count-le a b board.nic board.apps, holders-none b)
@@ -181,7 +210,8 @@ module _ (board : Board) (sound : IsSound board) (over : IsOver board) where
       let within : b < n = omega arith in
       let is : n * a + b ≡ i = omega arith in
       let app_there : a < length board.apps =
-      ⊎_elim (λ less. less) (λ past. absurd (omega (arith, mul-le-mul_left n past, is, there, sound.sizes.users, ap (λ r. n * r) sound.set.many))) (cases_lt a (length board.apps)) in
+      ⊎_elim (λ less. less) (λ past. absurd (omega (arith, mul-le-mul_left n past, is, there, sound.sizes.users, ap (λ r. n * r) sound.set.many)))
+      (cases_lt a (length board.apps)) in
       ap (λ j. get_or board.arrays.users j 0) (sym is ∙ omega arith) ∙ (sound.counted.users a b app_there within ∙ users-none a b)
 
   pub HasNoCounts-over : HasNoCounts board
@@ -216,17 +246,34 @@ module _ (board : Board) (sound : IsSound board) (over : IsOver board) where
   abbrev free : List ℕ
   free = free_of board.arrays
 
-  count-free : (b : ℕ) → count_by (nat_eq b) free ≡ count_by (nat_eq b) board.nic.view.cache + count_by (nat_eq b) (listed_below board.arrays.listed (length board.arrays.listed))
-  count-free b = omega (arith, count-append b board.arrays.cache (listed_below board.arrays.listed (length board.arrays.listed)), ap (count_by (nat_eq b)) sound.cached)
+  count-free : (b : ℕ) → count_by (nat_eq b) free ≡ count_by (nat_eq b) board.nic.view.cache + count_by (nat_eq b)
+      (listed_below board.arrays.listed (length board.arrays.listed))
+  count-free b = omega (
+    arith,
+    count-append b board.arrays.cache (listed_below board.arrays.listed (length board.arrays.listed)),
+    ap (count_by (nat_eq b)) sound.cached,
+  )
 
   free-once : (b : ℕ) → b < pool_buffers board.arrays.layout → count_by (nat_eq b) free ≡ 1
   free-once b within =
       let one = sound.free.pool b (rw pools within) ∙ ap (λ n. if n == 0 then 1 else 0) (holders-none b) in
-      omega (arith, count-free b, below-once b (length board.arrays.listed) board.arrays.listed (omega (arith, sound.sizes.listed)), one, card-hands b, hands-none b)
+      omega (
+        arith,
+        count-free b,
+        below-once b (length board.arrays.listed) board.arrays.listed (omega (arith, sound.sizes.listed)),
+        one,
+        card-hands b,
+        hands-none b,
+      )
 
   free-past : (b : ℕ) → pool_buffers board.arrays.layout ≤ b → count_by (nat_eq b) free ≡ 0
   free-past b past =
-      omega (arith, count-free b, below-past b (length board.arrays.listed) board.arrays.listed (omega (arith, sound.sizes.listed)), sound.free.reserves b (rw pools past))
+      omega (
+        arith,
+        count-free b,
+        below-past b (length board.arrays.listed) board.arrays.listed (omega (arith, sound.sizes.listed)),
+        sound.free.reserves b (rw pools past),
+      )
 
   pub IsEachOnce-over : IsEachOnce (pool_buffers board.arrays.layout) free
   IsEachOnce-over =
@@ -237,5 +284,13 @@ module _ (board : Board) (sound : IsSound board) (over : IsOver board) where
       }
 
   -- so they fit the memory that was kept for them
-  pub fits-room : (room : ℕ) → pool_buffers board.arrays.layout ≤ room → length board.arrays.cache + length (listed_below board.arrays.listed (length board.arrays.listed)) ≤ room
+  pub fits-room : (room : ℕ) → pool_buffers board.arrays.layout ≤ room
+      → length board.arrays.cache + length (listed_below board.arrays.listed (length board.arrays.listed)) ≤ room
   fits-room room enough = omega (arith, IsEachOnce-over.many, length-append board.arrays.cache (listed_below board.arrays.listed (length board.arrays.listed)))
+
+pub boards-end_well : BoardsEndWell
+boards-end_well board sound over = record {
+  once = IsEachOnce-over board sound over;
+  counts = HasNoCounts-over board sound over;
+  served = served-all board sound over;
+}

@@ -1,11 +1,12 @@
 -- The next note of an application is as it was sent, and its piece shares no byte with what the application has.
-use Rattle.std.proofs.Common.{◌≡◌, ℕ, ◌+◌, ◌<◌, ◌≤◌, Bool, true, false, List, [], ◌∷◌, length, refl, ap, ◌∙◌, subst, arith, ⊎_elim}
+use Rattle.std.proofs.Common.{◌≡◌, ℕ, ◌+◌, ◌<◌, ◌≤◌, Bool, true, false, List, [], ◌∷◌, length, refl, ap, ◌∙◌, subst, arith}
+use Rattle.std.proofs.Common.{⊎_elim}
 use Rattle.std.specs.Prelude.{◌==◌, ◌&&◌, count_by, filter, if◌then◌else◌, All}
 use Rattle.std.proofs.lemmas.Bool.{cases_lt, lt-ltb, eq-eqb}
 use Rattle.std.proofs.lemmas.List.Elements.{All-nil, All-cons, All-head, All-filter, All-drop}
 use Rattle.zr_kinds.specs.declared.place.Place.{Place}
 use Rattle.zr_kinds.specs.declared.place.Note.{Note}
-use Rattle.area_layout.specs.Layout.{LiesIn, size_of, total as all_buffers}
+use Rattle.area_layout.specs.Layout.{LiesIn, pool_buffers, size_of, total as all_buffers}
 use Rattle.board_face.specs.Sides.{IsApp}
 use Rattle.board_face.specs.Holders.{sent_to, on_way}
 use Rattle.board_face.specs.Counts.{pool_count}
@@ -17,9 +18,9 @@ use Rattle.board_face.specs.declared.views.app.AppSide.{AppSide}
 use Rattle.board_face.proofs.ListLemmas.{eqb_same}
 use Rattle.board_face.proofs.Tallies.{weight, tally}
 use Rattle.board_face.proofs.Parts.{app_count, spares_in, pool_count-parts, count-tally}
-use Rattle.board_face.proofs.PlaceParts.{in_buffer, app_places, held_places, loan_places, places-parts}
+use Rattle.board_face.proofs.PlaceTallies.{in_buffer, app_places, held_places, loan_places, places-parts}
 use Rattle.board_face.proofs.AppLemmas.{IsNext}
-use Rattle.board_face.proofs.FilledLemmas.{fillings-alone}
+use Rattle.board_face.proofs.IsFilledByOneLemmas.{fillings-alone}
 use Rattle.board_face.proofs.ApartLemmas.{AreApart-all}
 use Rattle.plain_board.specs.Board.{Board, setting_of}
 use Rattle.plain_board.specs.Sound.{IsSound, IsProper}
@@ -28,7 +29,8 @@ use Rattle.plain_board.proofs.AppFrames.{has-setting}
 
 -- ---- one among many
 
-first-of : (f : Place → Bool) (c : Bool) (s : SentNote) (rest : List SentNote) → c ≡ true → tally (λ (t : SentNote). f t.note.place) (if c then s ∷ rest else rest) ≡ weight (f s.note.place) + tally (λ (t : SentNote). f t.note.place) rest
+first-of : (f : Place → Bool) (c : Bool) (s : SentNote) (rest : List SentNote) → c ≡ true
+    → tally (λ (t : SentNote). f t.note.place) (if c then s ∷ rest else rest) ≡ weight (f s.note.place) + tally (λ (t : SentNote). f t.note.place) rest
 first-of f true s rest is = refl
 first-of f false s rest is = absurd (let none : ⊥ = cc in none)
 
@@ -36,20 +38,23 @@ pub in-own : (test : Place → Bool) (p : Place) → in_buffer p.buffer test p �
 in-own test p = ap (λ c. c && test p) (eqb_same p.buffer)
 
 -- where no place is empty in any buffer, each has a byte
-pub All-some : {A : Type 0} (f : A → Place) (xs : List A) → ((b : ℕ) → tally (λ y. in_buffer b is_empty (f y)) xs ≡ 0) → All (λ y. 0 < (f y).len) xs
+pub All-some : {A : Type 0} (f : A → Place) (xs : List A) → ((b : ℕ) → tally (λ y. in_buffer b is_empty (f y)) xs ≡ 0)
+    → All (λ y. 0 < (f y).len) xs
 All-some f [] none = All-nil (λ y. 0 < (f y).len)
 All-some f (y ∷ ys) none =
     All-cons (λ z. 0 < (f z).len) y ys
     (⊎_elim
     (λ some. some)
-    (λ empty. let e : (f y).len ≡ 0 = omega arith in absurd (omega (arith, none (f y).buffer, ap weight (in-own is_empty (f y)), ap weight (eq-eqb (f y).len 0 e))))
+    (λ empty. let e : (f y).len ≡ 0 = omega arith in absurd
+    (omega (arith, none (f y).buffer, ap weight (in-own is_empty (f y)), ap weight (eq-eqb (f y).len 0 e))))
     (cases_lt 0 (f y).len))
     (All-some f ys (λ b. omega (arith, none b)))
 
 module _ (board : Board) (a : ℕ) (x : AppSide) (sound : IsSound board) (here : IsApp board.apps a x) (note : Note) (next : IsNext board.nic x note) where
   proper : IsProper next.next
   proper =
-      let all : All IsProper (on_way board.nic x) = All-drop IsProper (length x.view.taken) (sent_to x.view.app board.nic) (All-filter (λ s. s.app == x.view.app) IsProper board.nic.view.sent sound.notes) in
+      let all : All IsProper (on_way board.nic x) = All-drop IsProper (length x.view.taken) (sent_to x.view.app board.nic)
+      (All-filter (λ s. s.app == x.view.app) IsProper board.nic.view.sent sound.notes) in
       All-head IsProper next.next next.rest (subst (All IsProper) next.way all)
 
   pub split-next : note.split ≡ true → IsSplitNote note
@@ -60,7 +65,8 @@ module _ (board : Board) (a : ℕ) (x : AppSide) (sound : IsSound board) (here :
 
   -- ---- its piece
 
-  first-in : (f : Place → Bool) → note.split ≡ true → weight (f note.place) ≤ tally (λ (t : SentNote). f t.note.place) (filter (λ (t : SentNote). t.note.split) (on_way board.nic x))
+  first-in : (f : Place → Bool) → note.split ≡ true → weight (f note.place)
+      ≤ tally (λ (t : SentNote). f t.note.place) (filter (λ (t : SentNote). t.note.split) (on_way board.nic x))
   first-in f is =
       omega (
         arith,
@@ -69,7 +75,8 @@ module _ (board : Board) (a : ℕ) (x : AppSide) (sound : IsSound board) (here :
         ap (λ (n : Note). weight (f n.place)) next.same,
       )
 
-  places-first : (b : ℕ) (test : Place → Bool) → note.split ≡ true → weight (in_buffer b test note.place) + held_places b test x + loan_places b test x ≤ count_by test (places_of b board.nic board.apps)
+  places-first : (b : ℕ) (test : Place → Bool) → note.split ≡ true
+      → weight (in_buffer b test note.place) + held_places b test x + loan_places b test x ≤ count_by test (places_of b board.nic board.apps)
   places-first b test is =
       omega (
         arith,
@@ -94,14 +101,21 @@ module _ (board : Board) (a : ℕ) (x : AppSide) (sound : IsSound board) (here :
       ⊎_elim
       (λ some. some)
       (λ empty. let e : note.place.len ≡ 0 = omega arith in
-      absurd (omega (arith, places-first b is_empty is, (sound.shown.places b).some_bytes, ap weight (in-own is_empty note.place), ap weight (eq-eqb note.place.len 0 e))))
+      absurd (omega (
+        arith,
+        places-first b is_empty is,
+        (sound.shown.places b).some_bytes,
+        ap weight (in-own is_empty note.place),
+        ap weight (eq-eqb note.place.len 0 e),
+      )))
       (cases_lt 0 note.place.len)
 
   pub lies-next : note.split ≡ true → LiesIn x.view.setting.layout note.place
   lies-next is =
       let b = note.place.buffer in
       let mine = has-setting board a x x sound here in
-      let size : size_of board.nic.view.setting.layout b ≡ size_of x.view.setting.layout b = ap (λ s. size_of s.layout b) sound.set.card ∙ ap (λ s. size_of s.layout b) (let e : setting_of board.arrays ≡ x.view.setting = cc in e) in
+      let size : size_of board.nic.view.setting.layout b ≡ size_of x.view.setting.layout b = ap (λ s. size_of s.layout b) sound.set.card
+      ∙ ap (λ s. size_of s.layout b) (let e : setting_of board.arrays ≡ x.view.setting = cc in e) in
       record {
         buffer = ⊎_elim
             (λ inside. rw mine inside)
@@ -110,10 +124,30 @@ module _ (board : Board) (a : ℕ) (x : AppSide) (sound : IsSound board) (here :
         bytes = ⊎_elim
             (λ behind. absurd (
             let beyond : size_of board.nic.view.setting.layout b < note.place.offset + note.place.len = omega (arith, size) in
-            omega (arith, places-first b (ends_behind (size_of board.nic.view.setting.layout b)) is, (sound.shown.places b).within, ap weight (in-own (ends_behind (size_of board.nic.view.setting.layout b)) note.place), ap weight (lt-ltb _ _ beyond))))
+            omega (
+              arith,
+              places-first b (ends_behind (size_of board.nic.view.setting.layout b)) is,
+              (sound.shown.places b).within,
+              ap weight (in-own (ends_behind (size_of board.nic.view.setting.layout b)) note.place),
+              ap weight (lt-ltb _ _ beyond),
+            )))
             (λ inside. inside)
             (cases_lt (size_of x.view.setting.layout b) (note.place.offset + note.place.len));
       }
+
+  -- it lies in a buffer of the pool
+  pub pool-next : note.split ≡ true → note.place.buffer < pool_buffers x.view.setting.layout
+  pool-next is =
+      let IsOfPool : SentNote → Type 0 = λ s. s.note.split ≡ true → s.note.place.buffer < pool_buffers board.nic.view.setting.layout in
+      let all : All IsOfPool (on_way board.nic x) = All-drop IsOfPool (length x.view.taken) (sent_to x.view.app board.nic)
+      (All-filter (λ s. s.app == x.view.app) IsOfPool board.nic.view.sent sound.own_buffers.card.sent) in
+      let first : IsOfPool next.next = All-head IsOfPool next.next next.rest (subst (All IsOfPool) next.way all) in
+      let inside : note.place.buffer < pool_buffers board.nic.view.setting.layout = subst
+      (λ (n : Note). n.place.buffer < pool_buffers board.nic.view.setting.layout) next.same (first (ap (λ (n : Note). n.split) next.same ∙ is)) in
+      let nic-pools : pool_buffers board.nic.view.setting.layout ≡ pool_buffers board.arrays.layout = ap (λ s. pool_buffers s.layout) sound.set.card in
+      let my-pools : pool_buffers x.view.setting.layout ≡ pool_buffers board.arrays.layout = ap (λ s. pool_buffers s.layout)
+      (has-setting board a x x sound here) in
+      omega (arith, inside, nic-pools, my-pools)
 
   -- no place of the application is empty
   some-helds : note.split ≡ true → All (λ h. 0 < h.place.len) x.view.helds
@@ -126,8 +160,10 @@ module _ (board : Board) (a : ℕ) (x : AppSide) (sound : IsSound board) (here :
   new-next is =
       let b = note.place.buffer in
       record {
-        helds = AreApart-all (λ h. h.place) b note.place x.view.helds refl (some-next is) (some-helds is) (λ y. omega (arith, places-first b (has_byte y) is, (sound.shown.places b).apart y));
-        loans = AreApart-all (λ l. l.place) b note.place x.view.loans refl (some-next is) (some-loans is) (λ y. omega (arith, places-first b (has_byte y) is, (sound.shown.places b).apart y));
+        helds = AreApart-all (λ h. h.place) b note.place x.view.helds refl (some-next is) (some-helds is)
+            (λ y. omega (arith, places-first b (has_byte y) is, (sound.shown.places b).apart y));
+        loans = AreApart-all (λ l. l.place) b note.place x.view.loans refl (some-next is) (some-loans is)
+            (λ y. omega (arith, places-first b (has_byte y) is, (sound.shown.places b).apart y));
         spares = All-none (λ s. s.own.buffer) b x.view.owns (⊎_elim
             (λ some. absurd (
             let alone = fillings-alone b board.nic board.apps (sound.by_one b) (omega (arith, total-at (spares_in b) board.apps a x here.there here.is)) in

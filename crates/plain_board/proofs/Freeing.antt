@@ -1,5 +1,6 @@
 -- A buffer whose last holder goes enters the cache or the free list.
-use Rattle.std.proofs.Common.{◌≡◌, ℕ, ◌+◌, ◌<◌, ◌≤◌, Bool, true, false, List, [], ◌∷◌, ◌++◌, length, set, refl, ap, sym, ◌∙◌, subst, arith, ⊎_elim, length-append}
+use Rattle.std.proofs.Common.{◌≡◌, ℕ, ◌+◌, ◌<◌, ◌≤◌, Bool, true, false, List, [], ◌∷◌, ◌++◌, length, set, refl, ap, sym}
+use Rattle.std.proofs.Common.{◌∙◌, subst, arith, ⊎_elim, length-append}
 use Rattle.std.specs.Prelude.{◌≢◌, ◌⊎◌, ◌&&◌, nat_eq, count_by, ◌==◌, if◌then◌else◌, nat_lt, Contains, All}
 use Rattle.std.proofs.lemmas.List.{get_or-set_same, get_or-set_other, length-set}
 use Rattle.std.proofs.lemmas.Bool.Decides.{eqb_tells}
@@ -30,24 +31,28 @@ cache_after last cache i = if last then cached cache i else cache
 abbrev pub listed_after : Bool → List ℕ → List Bool → ℕ → List Bool
 listed_after last cache listed i = if last then relisted cache listed i else listed
 
-pub listed-set : (listed : List Bool) (i b : ℕ) → i < length listed → listed_in listed i ≡ false → weight (listed_in (set listed i true) b) ≡ weight (listed_in listed b) + weight (i == b)
+pub listed-set : (listed : List Bool) (i b : ℕ) → i < length listed → listed_in listed i ≡ false
+    → weight (listed_in (set listed i true) b) ≡ weight (listed_in listed b) + weight (i == b)
 listed-set listed i b there was =
     ⊎_elim
     (λ t. let e : i ≡ b = t.1 in
-    let now : weight (listed_in (set listed i true) b) ≡ 1 = subst (λ x. weight (listed_in (set listed i true) x) ≡ 1) e (ap weight (get_or-set_same listed i true false there)) in
+    let now : weight (listed_in (set listed i true) b) ≡ 1 = subst (λ x. weight (listed_in (set listed i true) x) ≡ 1) e
+    (ap weight (get_or-set_same listed i true false there)) in
     let before : weight (listed_in listed b) ≡ 0 = subst (λ x. weight (listed_in listed x) ≡ 0) e (ap weight was) in
     omega (arith, now, before, ap weight t.0))
     (λ t. let ne : b ≢ i = λ e. t.1 (sym e) in omega (arith, ap weight (get_or-set_other listed i b true false ne), ap weight t.0))
     (eqb_tells i b)
 
 room-case : (c : Bool) (cache : List ℕ) (listed : List Bool) (i b : ℕ) → i < length listed → listed_in listed i ≡ false
-    → weight (listed_in (if c then listed else set listed i true) b) + count_by (nat_eq b) (if c then cache ++ i ∷ [] else cache) ≡ weight (listed_in listed b) + count_by (nat_eq b) cache + weight (i == b)
+    → weight (listed_in (if c then listed else set listed i true) b) + count_by (nat_eq b) (if c then cache ++ i ∷ [] else cache)
+    ≡ weight (listed_in listed b) + count_by (nat_eq b) cache + weight (i == b)
 room-case true cache listed i b there was = omega (arith, count-push b i cache, weight-swap b i)
 room-case false cache listed i b there was = omega (arith, listed-set listed i b there was)
 
 -- Free places of a buffer, on the free list and in the cache.
 pub places-after : (last : Bool) (cache : List ℕ) (listed : List Bool) (i b : ℕ) → i < length listed → listed_in listed i ≡ false
-    → weight (listed_in (listed_after last cache listed i) b) + count_by (nat_eq b) (cache_after last cache i) ≡ weight (listed_in listed b) + count_by (nat_eq b) cache + (if last then weight (i == b) else 0)
+    → weight (listed_in (listed_after last cache listed i) b) + count_by (nat_eq b) (cache_after last cache i)
+    ≡ weight (listed_in listed b) + count_by (nat_eq b) cache + (if last then weight (i == b) else 0)
 places-after true cache listed i b there was = room-case (nat_lt (length cache) cache_room) cache listed i b there was
 places-after false cache listed i b there was = omega arith
 
@@ -59,7 +64,8 @@ pub cache-grows : (last : Bool) (cache : List ℕ) (i b : ℕ) → count_by (nat
 cache-grows true cache i b = cache-case (nat_lt (length cache) cache_room) cache i b
 cache-grows false cache i b = omega arith
 
-room-length : (c : Bool) (cache : List ℕ) (i : ℕ) → (c ≡ true → length cache < cache_room) → length cache ≤ cache_room → length (if c then cache ++ i ∷ [] else cache) ≤ cache_room
+room-length : (c : Bool) (cache : List ℕ) (i : ℕ) → (c ≡ true → length cache < cache_room) → length cache ≤ cache_room
+    → length (if c then cache ++ i ∷ [] else cache) ≤ cache_room
 room-length true cache i room short = let less = room refl in omega (arith, length-append cache (i ∷ []))
 room-length false cache i room short = short
 
@@ -81,7 +87,8 @@ pub zero-test : (n : ℕ) → ((n == 0) ≡ true) → n ≡ 0
 zero-test n e = ⊎_elim (λ t. t.1) (λ t. absurd (let both : true ≡ false = sym e ∙ t.0 in let none : ⊥ = cc in none)) (eqb_tells n 0)
 
 -- A buffer has a holder less at i. It is free there where none is left.
-pub once-freed : (last : Bool) (p p' f f' w n : ℕ) → f ≡ (if p == 0 then 1 else 0) → p' + w ≡ p → last ≡ (n == 0) → f' ≡ f + (if last then w else 0) → (w ≡ 0) ⊎ ((w ≡ 1) × (p' ≡ n)) → f' ≡ (if p' == 0 then 1 else 0)
+pub once-freed : (last : Bool) (p p' f f' w n : ℕ) → f ≡ (if p == 0 then 1 else 0) → p' + w ≡ p → last ≡ (n == 0)
+    → f' ≡ f + (if last then w else 0) → (w ≡ 0) ⊎ ((w ≡ 1) × (p' ≡ n)) → f' ≡ (if p' == 0 then 1 else 0)
 once-freed last p p' f f' w n e less is more which =
     ⊎_elim
     (λ none. let same : p' ≡ p = omega arith in rw same (no-more last f f' w none more ∙ e))

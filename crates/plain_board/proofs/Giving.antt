@@ -1,5 +1,6 @@
 -- A loan is given back by an entry behind all on their way: it is out no more, and owed until the card deals with the entry.
-use Rattle.std.proofs.Common.{◌≡◌, ℕ, ◌-◌, ◌<◌, true, false, List, [], ◌∷◌, ◌++◌, length, map, set, get_or, refl, ap, sym, ◌∙◌, subst, arith, inl}
+use Rattle.std.proofs.Common.{◌≡◌, ℕ, ◌-◌, ◌<◌, true, false, List, [], ◌∷◌, ◌++◌, length, map, set, get_or, refl, ap, sym, ◌∙◌}
+use Rattle.std.proofs.Common.{subst, arith, inl}
 use Rattle.std.specs.Prelude.{All, Some, count_by}
 use Rattle.std.proofs.lemmas.List.{length-set, get_or-set_same, get_or-set_other}
 use Rattle.std.proofs.lemmas.List.Elements.{All-set, All-push}
@@ -17,8 +18,9 @@ use Rattle.board_face.specs.declared.views.app.AppSide.{AppSide}
 use Rattle.board_face.proofs.Tallies.{weight}
 use Rattle.board_face.proofs.AppLemmas.{app_count-gave, user_part-gave, EndedWereReturned-abandoned}
 use Rattle.board_face.proofs.RelayLemmas.{Relayed-wrote}
-use Rattle.board_face.proofs.FilledLemmas.{IsFilledByOne-gave}
-use Rattle.board_face.proofs.FitLemmas.{FillingsFit-same}
+use Rattle.board_face.proofs.IsFilledByOneLemmas.{IsFilledByOne-gave}
+use Rattle.board_face.proofs.OwnBufferLemmas.{AppLiesInOwn-abandoned}
+use Rattle.board_face.proofs.FillingsFitLemmas.{FillingsFit-same}
 use Rattle.board_face.proofs.AreShownLemmas.{AreShown-gave}
 use Rattle.plain_parts.specs.Rings.{ring_in, pushed}
 use Rattle.plain_parts.specs.Counts.{user_at}
@@ -26,10 +28,12 @@ use Rattle.plain_board.specs.Board.{Arrays, Board, byte_of}
 use Rattle.plain_board.specs.Returns.{AreReturns, entries_on_way, loans_out, reach_of, returns, IsClear, IsOfLoan, IsNamed}
 use Rattle.plain_board.proofs.RingSlots.{IsRing-at, IsRing-pushed}
 use Rattle.plain_board.specs.Sound.{IsRing, IsSound, notes_of, refills_of, taken_of}
-use Rattle.plain_board.proofs.AppFrames.{IsSet-app, was-at_rest, has-setting, AreCounted-app, was-returned, AreRelayed-app, was-relayed, returns-app, was-returns, AreFlags-kept, AreFreeOnce-app, AreKept-app, AreDue-app, was-given, was-due, AreBooked-app, was-booked_filled, was-booked_raw, ArePhased-app, was-phased}
+use Rattle.plain_board.proofs.AppFrames.{IsSet-app, was-at_rest, has-setting, AreCounted-app, was-returned, AreRelayed-app, was-relayed, returns-app}
+use Rattle.plain_board.proofs.AppFrames.{was-returns, AreFlags-kept, AreFreeOnce-app, AreKept-app, AreDue-app, was-given, was-due, AreBooked-app}
+use Rattle.plain_board.proofs.AppFrames.{was-booked_filled, was-booked_raw, ArePhased-app, was-phased, was-own, OwnBuffers-app}
 use Rattle.plain_board.proofs.Users.{user-other}
-use Rattle.plain_board.proofs.Lying.{loan-none, loan-lies}
-use Rattle.plain_board.proofs.Owing.{loans-fewer, owed-more}
+use Rattle.plain_board.proofs.TokensLie.{loan-none, loan-lies}
+use Rattle.plain_board.proofs.Owing.{loans-fewer, returned-more, owed-more}
 use Rattle.plain_board.proofs.Abandoning.{loans-rest}
 use Rattle.plain_board.proofs.Writing.{way-longer, strays-written, reach-longer, returns-one, returns-longer, IsClear-longer}
 
@@ -75,10 +79,12 @@ module _ (board : Board) (a : ℕ) (x : AppSide) (place : Place) (sound : IsSoun
   ring-then : (e : Rqe) (n : ℕ) → refills_of (arrays_then e n) a ≡ refills_of board.arrays a ++ e ∷ []
   ring-then e n = ap (λ r. r.items) (get_or-set_same board.arrays.refills a (pushed (ring_in board.arrays.refills a) e) (buffer [] 0) there)
 
-  rooms-then : (e : Rqe) → length (ring_in board.arrays.refills a).items < (ring_in board.arrays.refills a).capacity → All (IsRing board.arrays.places) (refills_then e)
+  rooms-then : (e : Rqe) → length (ring_in board.arrays.refills a).items < (ring_in board.arrays.refills a).capacity
+      → All (IsRing board.arrays.places) (refills_then e)
   rooms-then e room =
       All-set (IsRing board.arrays.places) board.arrays.refills a (pushed (ring_in board.arrays.refills a) e)
-      (IsRing-pushed board.arrays.places (ring_in board.arrays.refills a) e room (IsRing-at board.arrays.places board.arrays.refills a there sound.relayed.refills)) sound.relayed.refills
+      (IsRing-pushed board.arrays.places (ring_in board.arrays.refills a) e room
+      (IsRing-at board.arrays.places board.arrays.refills a there sound.relayed.refills)) sound.relayed.refills
 
   way-then : entries_on_way board.nic now ≡ entries_on_way board.nic x ++ written ∷ []
   way-then = way-longer board.nic x _ _ written (was-relayed board a x now sound here)
@@ -91,7 +97,15 @@ module _ (board : Board) (a : ℕ) (x : AppSide) (place : Place) (sound : IsSoun
       let was = was-returns board a x now sound here in
       let layout = x.view.setting.layout in
       let ws = entries_on_way board.nic x in
+      let phase = was-phased board a x now sound here in
       record {
+        written = λ b. omega (
+          arith,
+          was.written b,
+          returned-more b x place,
+          returns-longer layout b x.view.written written,
+          ap weight (returns-one layout b place.buffer written refl names-own),
+        );
         owed = λ b. omega (
           arith,
           was.owed b,
@@ -100,14 +114,29 @@ module _ (board : Board) (a : ℕ) (x : AppSide) (place : Place) (sound : IsSoun
           returns-longer layout b ws written,
           ap weight (returns-one layout b place.buffer written refl names-own),
         );
-        clear = λ b. subst (IsClear layout b (loans_out b now)) (sym way-then) (IsClear-longer layout b place.buffer (loans_out b x) (loans_out b now) ws written refl names-own (loans-fewer b x place out) (was.clear b));
+        no_more = λ b. omega (
+          arith,
+          was.written b,
+          was.no_more b,
+          owed-more b board.nic x place (was-returned board a x now sound here b),
+          returned-more b x place,
+          ap (count_by (returns layout b)) way-then,
+          returns-longer layout b ws written,
+          returns-longer layout b x.view.written written,
+          ap weight (returns-one layout b place.buffer written refl names-own),
+        );
+        clear = λ b. subst (IsClear layout b (loans_out b now)) (sym way-then)
+            (IsClear-longer layout b place.buffer (loans_out b x) (loans_out b now) ws written refl names-own (loans-fewer b x place out) (was.clear b));
         named = subst (All (IsNamed layout)) (sym way-then) (All-push (IsNamed layout) ws written was.named (λ of_loan. rw names-own refl));
         settled = λ e. subst (All IsOfLoan) (sym way-then) (All-push IsOfLoan ws written (was.settled e) refl);
         quiet = λ e. absurd (let wrong : false ≡ true = e in cc);
+        scrubbed = λ e. absurd (loan-none board a x sound here place out (phase.scrubbed e).0);
         strays = strays-written board.nic x _ _ written (was-relayed board a x now sound here) was.strays;
       }
 
-  pub IsSound-gave : (e : Rqe) (n : ℕ) → e ≡ entry → n ≡ get_or board.arrays.loans user 0 - 1 → length (ring_in board.arrays.refills a).items < (ring_in board.arrays.refills a).capacity → IsSound (record { arrays = arrays_then e n; nic = board.nic; apps = set board.apps a now })
+  pub IsSound-gave : (e : Rqe) (n : ℕ) → e ≡ entry → n ≡ get_or board.arrays.loans user 0 - 1
+      → length (ring_in board.arrays.refills a).items < (ring_in board.arrays.refills a).capacity
+      → IsSound (record { arrays = arrays_then e n; nic = board.nic; apps = set board.apps a now })
   IsSound-gave e n same less room =
       let arr = arrays_then e n in
       let phase = was-phased board a x now sound here in
@@ -137,9 +166,12 @@ module _ (board : Board) (a : ℕ) (x : AppSide) (place : Place) (sound : IsSoun
             (λ k b ne app inside. refl)
             (λ b past. omega (arith, app_count-gave b board.nic x place out (ended b)))
             (λ b. let e = EndedWereReturned-abandoned b board.nic x place (ended b) in record { ended = e.ended; returning = e.returning });
-        free = AreFreeOnce-app board a x now sound here _ (record { hands = at_rest.hands; owes = at_rest.owes }) (λ b. app_count-gave b board.nic x place out (ended b)) sound.free;
+        free = AreFreeOnce-app board a x now sound here _ (record { hands = at_rest.hands; owes = at_rest.owes })
+            (λ b. app_count-gave b board.nic x place out (ended b)) sound.free;
         relayed = AreRelayed-app board a x now sound here arr refl
-            (subst (Relayed board.nic now (map taken_of (notes_of board.arrays a))) (sym (ring-then e n ∙ ap (λ r. refills_of board.arrays a ++ r ∷ []) same)) (Relayed-wrote board.nic x now.view written _ _ refl refl refl refl (was-relayed board a x now sound here)))
+            (subst (Relayed board.nic now (map taken_of (notes_of board.arrays a)))
+            (sym (ring-then e n ∙ ap (λ r. refills_of board.arrays a ++ r ∷ []) same))
+            (Relayed-wrote board.nic x now.view written _ _ refl refl refl refl (was-relayed board a x now sound here)))
             (λ k ne. refl)
             (λ k ne. ap (λ r. r.items) (get_or-set_other board.arrays.refills a k (pushed (ring_in board.arrays.refills a) e) (buffer [] 0) ne))
             sound.relayed.notes
@@ -152,6 +184,10 @@ module _ (board : Board) (a : ℕ) (x : AppSide) (place : Place) (sound : IsSoun
         by_one = λ b. IsFilledByOne-gave b board.nic board.apps a x place here out (ended b) (sound.by_one b);
         shown = AreShown-gave (byte_of board.arrays) board.nic board.apps a x place here out ended sound.shown;
         notes = sound.notes;
+        own_buffers = OwnBuffers-app board a x now sound here
+            (let own = AppLiesInOwn-abandoned x.view place out
+            (was-own board a x now sound here) in record { helds = own.helds; spares = own.spares; loans = own.loans; returned = own.returned });
+        judged = sound.judged;
         booked = AreBooked-app board a x now sound here arr refl
             (record {
               loans = loans-rest board a x place sound here out n less;

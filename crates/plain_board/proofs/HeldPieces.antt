@@ -10,6 +10,7 @@ use Rattle.board_face.specs.Counts.{pool_count}
 use Rattle.board_face.specs.Places.{places_of, ends_behind}
 use Rattle.board_face.specs.FreeOnce.{AreFreeOnce}
 use Rattle.board_face.specs.Fillings.{IsFilledByOne}
+use Rattle.board_face.specs.OwnBuffers.{AppLiesInOwn}
 use Rattle.board_face.specs.Shown.{AreShown}
 use Rattle.board_face.specs.AppCalls.{IsHere, HasHeld}
 use Rattle.board_face.specs.declared.views.app.HeldPiece.{HeldPiece}
@@ -17,17 +18,19 @@ use Rattle.board_face.specs.declared.views.app.AppSide.{AppSide}
 use Rattle.board_face.proofs.ListLemmas.{eqb_same, same_place-refl, same_place-is}
 use Rattle.board_face.proofs.Tallies.{weight, tally-without}
 use Rattle.board_face.proofs.Parts.{app_count, pool_count-parts, count-tally}
-use Rattle.board_face.proofs.PlaceParts.{in_buffer, app_places, places-parts}
+use Rattle.board_face.proofs.PlaceTallies.{in_buffer, app_places, places-parts}
 use Rattle.board_face.proofs.AppLemmas.{app_count-released}
 use Rattle.board_face.proofs.RelayLemmas.{Relayed-app}
 use Rattle.board_face.proofs.FewLemmas.{pool_count-few}
-use Rattle.board_face.proofs.FitLemmas.{FillingsFit-same}
+use Rattle.board_face.proofs.FillingsFitLemmas.{FillingsFit-same}
 use Rattle.plain_parts.specs.Free.{listed_in}
 use Rattle.plain_board.specs.Board.{Arrays, Board, byte_of}
 use Rattle.plain_board.specs.Sound.{IsSound, IsAtRest}
 use Rattle.plain_board.proofs.Lists.{total-at}
 use Rattle.plain_board.proofs.FirstNote.{in-own}
-use Rattle.plain_board.proofs.AppFrames.{IsSet-app, was-at_rest, AreCounted-app, was-returned, AreRelayed-kept, was-relayed, returns-app, was-returns, AreFlags-kept, AreKept-app, AreDue-app, was-given, was-due, AreBooked-app, was-booked_loans, was-booked_filled, was-booked_raw, ArePhased-app, was-phased}
+use Rattle.plain_board.proofs.AppFrames.{IsSet-app, was-at_rest, AreCounted-app, was-returned, AreRelayed-kept, was-relayed, returns-app, was-returns}
+use Rattle.plain_board.proofs.AppFrames.{AreFlags-kept, AreKept-app, AreDue-app, was-given, was-due, AreBooked-app, was-booked_loans, was-booked_filled}
+use Rattle.plain_board.proofs.AppFrames.{was-booked_raw, ArePhased-app, was-phased, OwnBuffers-app}
 
 -- ---- a held piece
 
@@ -43,7 +46,8 @@ module _ (board : Board) (a : ℕ) (x : AppSide) (place : Place) (sound : IsSoun
       )
 
   pub of_area : place.buffer < all_buffers board.arrays.layout
-  of_area = ⊎_elim (λ inside. inside) (λ past. absurd (omega (arith, is_held, sound.counted.beyond place.buffer past))) (cases_lt place.buffer (all_buffers board.arrays.layout))
+  of_area = ⊎_elim (λ inside. inside) (λ past. absurd (omega (arith, is_held, sound.counted.beyond place.buffer past)))
+      (cases_lt place.buffer (all_buffers board.arrays.layout))
 
   pub there-pool : place.buffer < length board.arrays.pool
   there-pool = omega (arith, of_area, sound.sizes.pool)
@@ -79,13 +83,20 @@ module _ (board : Board) (a : ℕ) (x : AppSide) (place : Place) (sound : IsSoun
       let layout = sound.sizes.layout in
       let most = layout.size.most in
       ⊎_elim
-      (λ behind. absurd (omega (arith, held-in b (ends_behind n), (sound.shown.places b).within, ap weight (in-own (ends_behind n) place), ap weight (lt-ltb n (place.offset + place.len) behind))))
+      (λ behind. absurd (omega (
+        arith,
+        held-in b (ends_behind n),
+        (sound.shown.places b).within,
+        ap weight (in-own (ends_behind n) place),
+        ap weight (lt-ltb n (place.offset + place.len) behind),
+      )))
       (λ inside. omega (arith, sizes-same))
       (cases_lt n (place.offset + place.len))
 
 -- ---- an event of held pieces alone
 
-module _ (board : Board) (a : ℕ) (x : AppSide) (helds : List HeldPiece) (pool : List ℕ) (listed : List Bool) (sound : IsSound board) (here : IsApp board.apps a x) (stays : IsHere x.view) where
+module _ (board : Board) (a : ℕ) (x : AppSide) (helds : List HeldPiece) (pool : List ℕ) (listed : List Bool) (sound : IsSound board)
+    (here : IsApp board.apps a x) (stays : IsHere x.view) where
   abbrev pub side_then : AppSide
   side_then = app_at x (record x.view { helds = helds })
 
@@ -95,12 +106,14 @@ module _ (board : Board) (a : ℕ) (x : AppSide) (helds : List HeldPiece) (pool 
   pub record IsMove : Type 0 where
     pub pool_len : length pool ≡ length board.arrays.pool
     pub listed_len : length listed ≡ length board.arrays.listed
-    pub counts : (b : ℕ) → b < all_buffers board.arrays.layout → get_or pool b 0 + app_count b board.nic x ≡ get_or board.arrays.pool b 0 + app_count b board.nic side_then
+    pub counts : (b : ℕ) → b < all_buffers board.arrays.layout
+        → get_or pool b 0 + app_count b board.nic x ≡ get_or board.arrays.pool b 0 + app_count b board.nic side_then
     pub few : (b : ℕ) → all_buffers board.arrays.layout ≤ b → app_count b board.nic side_then ≤ app_count b board.nic x
     pub free : AreFreeOnce (listed_in listed) board.nic (set board.apps a side_then)
     pub more : (b : ℕ) → weight (listed_in board.arrays.listed b) ≤ weight (listed_in listed b)
     pub by_one : (b : ℕ) → IsFilledByOne b board.nic (set board.apps a side_then)
     pub shown : AreShown (byte_of board.arrays) board.nic (set board.apps a side_then)
+    pub own_buffers : AppLiesInOwn side_then.view
 
   pub at-rest : IsAtRest side_then
   at-rest = let rest = was-at_rest board a x side_then sound here in record { hands = rest.hands; owes = rest.owes }
@@ -134,8 +147,20 @@ module _ (board : Board) (a : ℕ) (x : AppSide) (helds : List HeldPiece) (pool 
             move.few
             (λ b. let e = was-returned board a x side_then sound here b in record { ended = e.ended; returning = e.returning });
         free = move.free;
-        relayed = AreRelayed-kept board a x side_then sound here arrays_then refl refl refl (Relayed-app board.nic x side_then.view _ _ refl refl refl refl (was-relayed board a x side_then sound here));
-        returns = returns-app board a x side_then sound here (record { owed = was.owed; clear = was.clear; named = was.named; settled = was.settled; quiet = was.quiet; strays = was.strays });
+        relayed = AreRelayed-kept board a x side_then sound here arrays_then refl refl refl
+            (Relayed-app board.nic x side_then.view _ _ refl refl refl refl (was-relayed board a x side_then sound here));
+        returns = returns-app board a x side_then sound here
+            (record {
+              written = was.written;
+              owed = was.owed;
+              no_more = was.no_more;
+              clear = was.clear;
+              named = was.named;
+              settled = was.settled;
+              quiet = was.quiet;
+              scrubbed = was.scrubbed;
+              strays = was.strays;
+            });
         flags = AreFlags-kept board a x side_then sound here arrays_then refl refl refl;
         kept = AreKept-app board a x side_then sound here _ _ refl move.more sound.kept;
         due = AreDue-app board a x side_then sound here (was-given board a x side_then sound here) (was-due board a x side_then sound here);
@@ -143,10 +168,17 @@ module _ (board : Board) (a : ℕ) (x : AppSide) (helds : List HeldPiece) (pool 
         by_one = move.by_one;
         shown = move.shown;
         notes = sound.notes;
+        own_buffers = OwnBuffers-app board a x side_then sound here move.own_buffers;
+        judged = sound.judged;
         booked = AreBooked-app board a x side_then sound here arrays_then refl
-            (record { loans = was-booked_loans board a x side_then sound here; filled = was-booked_filled board a x side_then sound here; raw = was-booked_raw board a x side_then sound here })
+            (record {
+              loans = was-booked_loans board a x side_then sound here;
+              filled = was-booked_filled board a x side_then sound here;
+              raw = was-booked_raw board a x side_then sound here;
+            })
             (λ k b ne app within. refl)
             (λ k y ne it. sound.booked.filled k y it)
             (λ k ne. refl);
-        phased = ArePhased-app board a x side_then sound here (record { ended = phase.ended; unscrubbed = phase.unscrubbed; scrubbed = phase.scrubbed; left = λ gone. absurd (let none : ⊥ = cc in none) });
+        phased = ArePhased-app board a x side_then sound here
+            (record { ended = phase.ended; unscrubbed = phase.unscrubbed; scrubbed = phase.scrubbed; left = λ gone. absurd (let none : ⊥ = cc in none) });
       }

@@ -1,14 +1,17 @@
 -- An entry gives a reference back.
-use Rattle.std.proofs.Common.{◌≡◌, ℕ, ◌+◌, ◌-◌, ◌*◌, ◌<◌, ◌≤◌, Bool, true, false, List, ◌∷◌, length, set, get_or, refl, ap, sym, ◌∙◌, subst, arith, ⊎_elim, inl, inr, Some}
+use Rattle.std.proofs.Common.{◌≡◌, ℕ, ◌+◌, ◌-◌, ◌*◌, ◌<◌, ◌≤◌, Bool, true, false, List, ◌∷◌, length, set, get_or, refl, ap}
+use Rattle.std.proofs.Common.{sym, ◌∙◌, subst, arith, ⊎_elim, inl, inr, Some}
 use Rattle.std.specs.Prelude.{◌≢◌, ◌&&◌, nat_eq, nat_lt, count_by, ◌==◌, if◌then◌else◌, All}
 use Rattle.std.proofs.lemmas.List.{get_or_default, length-set, get_or-set_same, get_or-set_other}
+use Rattle.std.proofs.lemmas.List.Elements.{All-push}
 use Rattle.std.proofs.lemmas.Nat.{mul-add-lt}
-use Rattle.std.proofs.lemmas.Bool.{cases_lt, ltb-true, lt-ltb}
+use Rattle.std.proofs.lemmas.Bool.{cases_Bool, cases_lt, ltb-true, lt-ltb}
 use Rattle.std.proofs.lemmas.Bool.Decides.{eqb_tells}
 use Rattle.zr_kinds.specs.declared.ring.Rqe.{Rqe}
 use Rattle.area_layout.specs.Layout.{pool_buffers, total, judged}
 use Rattle.board_face.specs.NicEvents.{honoured, gave_up, holder_look}
 use Rattle.board_face.specs.Looks.{NicRose}
+use Rattle.board_face.specs.Judged.{IsHonouredAsNamed}
 use Rattle.board_face.specs.NicCalls.{FreedEntry, HonouredEntry}
 use Rattle.board_face.specs.declared.views.nic.NicLook.TheVariants.{Owed}
 use Rattle.board_face.proofs.LookLemmas.{NicRose-nic_saw, NicRose-before, NicRose-later, NicLooksStay-nic_saw}
@@ -25,19 +28,21 @@ use Rattle.board_face.proofs.ListLemmas.{eqb_same, not-eqb}
 use Rattle.board_face.proofs.NicLemmas.{Owes, pool_count-honoured, user_count-honoured, honoured-other, honoured-target}
 use Rattle.board_face.proofs.Parts.{returned_in-count, user_part, user_count-parts, total-only, loans_in, owed_count, count-tally}
 use Rattle.board_face.proofs.Tallies.{weight}
-use Rattle.board_face.proofs.FitLemmas.{FillingsFit-nic}
-use Rattle.board_face.proofs.FilledLemmas.{IsFilledByOne-honoured, IsFilledByOne-gave_up}
+use Rattle.board_face.proofs.FillingsFitLemmas.{FillingsFit-nic}
+use Rattle.board_face.proofs.IsFilledByOneLemmas.{IsFilledByOne-honoured, IsFilledByOne-gave_up}
+use Rattle.board_face.proofs.OwnBufferLemmas.{LieInOwn-nic}
 use Rattle.board_face.proofs.AreShownLemmas.{AreShown-honoured, AreShown-gave_up}
 use Rattle.plain_parts.specs.Free.{listed_in}
 use Rattle.plain_parts.specs.Counts.{user_at}
 use Rattle.plain_board.specs.Board.{Board, byte_of}
-use Rattle.plain_board.specs.Returns.{AreReturns, is_some_of, returns, names}
+use Rattle.plain_board.specs.Returns.{AreReturns, is_some_of, returns, names, abandoned_in}
 use Rattle.plain_board.specs.Sound.{IsSound, refills_of}
-use Rattle.plain_board.proofs.Lists.{counts-set, weight-same, weight-other, same-or-other, same-user, true-or-false}
+use Rattle.plain_board.proofs.Lists.{counts-set, weight-same, weight-other, same-or-other, same-user}
 use Rattle.plain_board.proofs.Card.{IsSet-nic}
-use Rattle.plain_board.proofs.Freeing.{All-at, and-true, and-right, cache_after, listed_after, places-after, cache-grows, cache-short, length-listed_after, once-freed}
+use Rattle.plain_board.proofs.Freeing.{All-at, and-true, and-right, cache_after, listed_after, places-after, cache-grows, cache-short, length-listed_after}
+use Rattle.plain_board.proofs.Freeing.{once-freed}
 use Rattle.plain_board.proofs.Shutting.{used-nowhere, none-listed}
-use Rattle.plain_board.proofs.Losing.{IsApp-at}
+use Rattle.board_face.proofs.SideLemmas.{IsApp-at}
 use Rattle.plain_board.proofs.Popping.{same-app, other-number, ring_then, AreRelayed-popped, AreBooked-popped}
 use Rattle.plain_board.proofs.Dealing.{HasFront, HasFront-relayed, AreReturns-dealt, AreReturns-other, ArePhased-dealt, count-first, length-owed_in}
 
@@ -71,8 +76,10 @@ and-none a c i b apart =
     (λ t. let other : (a == c) ≡ false = t.0 in ap (λ z. weight (z && (i == b))) other)
     (eqb_tells a c)
 
-module _ (board : Board) (a i : ℕ) (x : AppSide) (e : Rqe) (es : List Rqe) (sound : IsSound board) (here : IsApp board.apps a x) (found : refills_of board.arrays a ≡ e ∷ es)
-    (named : judged board.arrays.layout e ≡ Some i) (inside : i < total board.arrays.layout) (some : 0 < get_or board.arrays.users (user_at board.arrays.layout a i) 0) where
+module _ (board : Board) (a i : ℕ) (x : AppSide) (e : Rqe) (es : List Rqe) (sound : IsSound board) (here : IsApp board.apps a x)
+    (found : refills_of board.arrays a ≡ e ∷ es)
+    (named : judged board.arrays.layout e ≡ Some i) (inside : i < total board.arrays.layout)
+    (some : 0 < get_or board.arrays.users (user_at board.arrays.layout a i) 0) where
   pub same_layout : x.view.setting.layout ≡ board.arrays.layout
   same_layout = subst (λ app. app.view.setting.layout ≡ board.arrays.layout) here.is (ap (λ s. s.layout) (sound.set.roles a x here.there))
 
@@ -82,17 +89,18 @@ module _ (board : Board) (a i : ℕ) (x : AppSide) (e : Rqe) (es : List Rqe) (so
   pub returned : (b : ℕ) → EndedWereReturned b board.nic x
   returned b = subst (EndedWereReturned b board.nic) here.is (sound.counted.returned b a x here.there)
 
+  first_judged : judged x.view.setting.layout front.first.entry ≡ Some i
+  first_judged = ap (λ l. judged l front.first.entry) same_layout ∙ (ap (λ entry. judged board.arrays.layout entry) front.entry ∙ named)
+
   names_it : names x.view.setting.layout i front.first ≡ true
-  names_it =
-      ap (λ l. is_some_of (judged l front.first.entry) i) same_layout
-      ∙ (ap (λ entry. is_some_of (judged board.arrays.layout entry) i) front.entry
-      ∙ (ap (λ o. is_some_of o i) named ∙ eqb_same i))
+  names_it = ap (λ o. is_some_of o i) first_judged ∙ eqb_same i
 
   users_here : get_or board.arrays.users (user_at board.arrays.layout a i) 0 ≡ loans_in i x + owed_count i board.nic x
   users_here =
       sound.counted.users a i here.there inside
       ∙ (user_count-parts a i board.nic board.apps
-      ∙ (total-only 0 (user_part a i board.nic) a (λ app other. part-none (app.view.app == a) _ (not-eqb app.view.app a other)) board.apps sound.set.numbers a x here.there (omega arith)
+      ∙ (total-only 0 (user_part a i board.nic) a (λ app other. part-none (app.view.app == a) _
+      (not-eqb app.view.app a other)) board.apps sound.set.numbers a x here.there (omega arith)
       ∙ (ap (user_part a i board.nic) here.is ∙ part-all (x.view.app == a) _ (subst (λ n. (n == a) ≡ true) (sym here.number) (eqb_same a)))))
 
   pub owes_some : 1 ≤ owed_count i board.nic x
@@ -100,10 +108,16 @@ module _ (board : Board) (a i : ℕ) (x : AppSide) (e : Rqe) (es : List Rqe) (so
       let h = sound.returns a x here in
       ⊎_elim
       (λ of_loan. let counted : returns x.view.setting.layout i front.first ≡ true = rw of_loan names_it in
-      omega (arith, rw front.way at (h.owed i), count-first (returns x.view.setting.layout i) front.first front.others, ap weight counted, length-owed_in i board.nic x))
+      omega (
+        arith,
+        rw front.way at (h.owed i),
+        count-first (returns x.view.setting.layout i) front.first front.others,
+        ap weight counted,
+        length-owed_in i board.nic x,
+      ))
       (λ raw. let none = ((rw front.way at (h.clear i)).0 raw names_it).0 in
       omega (arith, users_here, some, none, count-tally (λ l. l.place.buffer == i) x.view.loans))
-      (true-or-false front.first.of_loan)
+      (cases_Bool front.first.of_loan)
 
   pub owes : Owes i board.nic x
   owes = record { owes = omega (arith, owes_some); returning = (returned i).returning }
@@ -128,7 +142,8 @@ module _ (board : Board) (a i : ℕ) (x : AppSide) (e : Rqe) (es : List Rqe) (so
 
   unlisted : i < pool_buffers board.arrays.layout → listed_in board.arrays.listed i ≡ false
   unlisted of_pool =
-      let nowhere = used-nowhere (pool_count i board.nic board.apps) _ (sound.free.pool i (rw pools of_pool)) (omega (arith, is_held, sound.counted.pool i inside)) in
+      let nowhere = used-nowhere (pool_count i board.nic board.apps) _ (sound.free.pool i (rw pools of_pool))
+      (omega (arith, is_held, sound.counted.pool i inside)) in
       none-listed (listed_in board.arrays.listed i) (omega (arith, nowhere))
 
   -- whether the buffer came to be free
@@ -145,12 +160,15 @@ module _ (board : Board) (a i : ℕ) (x : AppSide) (e : Rqe) (es : List Rqe) (so
   came-pool last free = let of_pool = ltb-true i (pool_buffers board.nic.view.setting.layout) (and-right last _ free) in let p = pools in omega arith
 
   places_if : (free : Bool) → (free ≡ true → i < pool_buffers board.arrays.layout) → (b : ℕ)
-      → weight (listed_in (listed_after free board.arrays.cache board.arrays.listed i) b) + count_by (nat_eq b) (cache_after free board.arrays.cache i) ≡ weight (listed_in board.arrays.listed b) + count_by (nat_eq b) board.arrays.cache + (if free then weight (i == b) else 0)
-  places_if true of_pool b = places-after true board.arrays.cache board.arrays.listed i b (omega (arith, of_pool refl, sound.sizes.listed)) (unlisted (of_pool refl))
+      → weight (listed_in (listed_after free board.arrays.cache board.arrays.listed i) b) + count_by (nat_eq b) (cache_after free board.arrays.cache i)
+      ≡ weight (listed_in board.arrays.listed b) + count_by (nat_eq b) board.arrays.cache + (if free then weight (i == b) else 0)
+  places_if true of_pool b = places-after true board.arrays.cache board.arrays.listed i b (omega (arith, of_pool refl, sound.sizes.listed))
+      (unlisted (of_pool refl))
   places_if false of_pool b = omega arith
 
   free_then : (last : Bool) → (came last ≡ true → i < pool_buffers board.arrays.layout) → (b : ℕ)
-      → free_places (listed_in (listed_after (came last) board.arrays.cache board.arrays.listed i)) b (nic_then last) board.apps ≡ free_places (listed_in board.arrays.listed) b board.nic board.apps + (if came last then weight (i == b) else 0)
+      → free_places (listed_in (listed_after (came last) board.arrays.cache board.arrays.listed i)) b (nic_then last) board.apps
+      ≡ free_places (listed_in board.arrays.listed) b board.nic board.apps + (if came last then weight (i == b) else 0)
   free_then last of_pool b = omega (
     arith,
     places_if (came last) of_pool b,
@@ -169,7 +187,8 @@ module _ (board : Board) (a i : ℕ) (x : AppSide) (e : Rqe) (es : List Rqe) (so
   returned_then : (last : Bool) (b : ℕ) → EndedWereReturned b (nic_then last) x
   returned_then last b = record {
     ended = ⊎_elim
-        (λ same. subst (λ y. ended_in y (nic_then last) x ≤ length (returned_in y x)) (sym same.1) (omega (arith, ended_then last i, weight-same i, owes.owes, returned_in-count i x)))
+        (λ same. subst (λ y. ended_in y (nic_then last) x ≤ length (returned_in y x)) (sym same.1)
+        (omega (arith, ended_then last i, weight-same i, owes.owes, returned_in-count i x)))
         (λ other. omega (arith, ended_then last b, other, (returned b).ended))
         (same-or-other b i);
     returning = omega (arith, ended_then last b, (returned b).returning);
@@ -193,19 +212,26 @@ module _ (board : Board) (a i : ℕ) (x : AppSide) (e : Rqe) (es : List Rqe) (so
   abbrev pub the_dealt : Dealt
   the_dealt = record { app = a; entry = e; fate = Honoured i }
 
-  users_then : (last : Bool) (m : ℕ) → m ≡ get_or board.arrays.users (user_at board.arrays.layout a i) 0 - 1 → (c b : ℕ) → c < length board.apps → b < total board.arrays.layout
+  -- its buffer is the one that the entry names
+  as_named : IsHonouredAsNamed board.nic.view.setting.layout the_dealt
+  as_named b honoured = ap (λ s. judged s.layout e) sound.set.card ∙ (named ∙ ap Some (let same : i ≡ b = cc in same))
+
+  users_then : (last : Bool) (m : ℕ) → m ≡ get_or board.arrays.users (user_at board.arrays.layout a i) 0 - 1 → (c b : ℕ) → c < length board.apps
+      → b < total board.arrays.layout
       → get_or (set board.arrays.users (user_at board.arrays.layout a i) m) (user_at board.arrays.layout c b) 0 ≡ user_count c b (nic_then last) board.apps
   users_then last m is c b app within =
       let users = board.arrays.users in
       let spot = user_at board.arrays.layout a i in
-      let there : spot < length users = let many = sound.set.many in let h = here.there in let size = sound.sizes.users in omega (arith, mul-add-lt a (total board.arrays.layout) i board.arrays.layout.reserves (omega arith) inside, size) in
+      let there : spot < length users = let many = sound.set.many in let h = here.there in let size = sound.sizes.users in omega
+      (arith, mul-add-lt a (total board.arrays.layout) i board.arrays.layout.reserves (omega arith) inside, size) in
       ⊎_elim
       (λ t. let both = same-user (total board.arrays.layout) c a b i within inside t.1 in
       subst (λ c'. get_or (set users spot m) (user_at board.arrays.layout c' b) 0 ≡ user_count c' b (nic_then last) board.apps) (sym both.0)
       (subst (λ b'. get_or (set users spot m) (user_at board.arrays.layout a b') 0 ≡ user_count a b' (nic_then last) board.apps) (sym both.1)
       (get_or-set_same users spot m 0 there ∙ omega (arith, is, fewer last a i, and-one a i, sound.counted.users a i here.there inside))))
       (λ t. let ne : user_at board.arrays.layout c b ≢ spot = t.1 in
-      let apart = and-none a c i b (λ both. ne (ap (λ n. n * total board.arrays.layout + b) both.0 ∙ ap (λ n. a * total board.arrays.layout + n) both.1)) in
+      let apart = and-none a c i b (λ both. ne (ap (λ n. n * total board.arrays.layout + b) both.0
+      ∙ ap (λ n. a * total board.arrays.layout + n) both.1)) in
       get_or-set_other users spot (user_at board.arrays.layout c b) m 0 ne ∙ omega (arith, fewer last c b, apart, sound.counted.users c b app within))
       (eqb_tells (user_at board.arrays.layout c b) spot)
 
@@ -218,12 +244,49 @@ module _ (board : Board) (a i : ℕ) (x : AppSide) (e : Rqe) (es : List Rqe) (so
       (λ same. ⊎_elim
       (λ of_loan. let counted : returns x.view.setting.layout i front.first ≡ true = rw of_loan names_it in
       subst (λ y. count_by (returns x.view.setting.layout y) front.others ≤ length (owed_in y (nic_then last) x)) (sym same.1)
-      (omega (arith, rw front.way at (h.owed i), count-first (returns x.view.setting.layout i) front.first front.others, ap weight counted, length-owed_in i board.nic x, length-owed_in i (nic_then last) x, ended_then last i, weight-same i)))
+      (omega (
+        arith,
+        rw front.way at (h.owed i),
+        count-first (returns x.view.setting.layout i) front.first front.others,
+        ap weight counted,
+        length-owed_in i board.nic x,
+        length-owed_in i (nic_then last) x,
+        ended_then last i,
+        weight-same i,
+      )))
       (λ raw. let none = ((rw front.way at (h.clear i)).0 raw names_it).1 in
       subst (λ y. count_by (returns x.view.setting.layout y) front.others ≤ length (owed_in y (nic_then last) x)) (sym same.1) (omega (arith, none)))
-      (true-or-false front.first.of_loan))
-      (λ other. omega (arith, before, count-first test front.first front.others, length-owed_in b board.nic x, length-owed_in b (nic_then last) x, ended_then last b, other))
+      (cases_Bool front.first.of_loan))
+      (λ other. omega (
+        arith,
+        before,
+        count-first test front.first front.others,
+        length-owed_in b board.nic x,
+        length-owed_in b (nic_then last) x,
+        ended_then last b,
+        other,
+      ))
       (same-or-other b i)
+
+  -- the entry gives back no more than one loan, in its buffer
+  gives-case : (of_loan names_b : Bool) (b : ℕ) → names_b ≡ (i == b) → weight (if of_loan then names_b else false) ≤ weight (i == b)
+  gives-case true names_b b is = omega (arith, ap weight is)
+  gives-case false names_b b is = omega arith
+
+  gives-one : (b : ℕ) → weight (returns x.view.setting.layout b front.first) ≤ weight (i == b)
+  gives-one b = gives-case front.first.of_loan (names x.view.setting.layout b front.first) b (ap (λ o. is_some_of o b) first_judged)
+
+  no_more : (last : Bool) (b : ℕ) → length (owed_in b (nic_then last) x) ≤ count_by (returns x.view.setting.layout b) front.others + abandoned_in b x
+  no_more last b =
+      omega (
+        arith,
+        rw front.way at ((sound.returns a x here).no_more b),
+        count-first (returns x.view.setting.layout b) front.first front.others,
+        gives-one b,
+        length-owed_in b board.nic x,
+        length-owed_in b (nic_then last) x,
+        ended_then last b,
+      )
 
   returns_then : (last : Bool) (k : ℕ) (y : AppSide) → IsApp board.apps k y → AreReturns (nic_then last) y
   returns_then last k y it =
@@ -231,26 +294,34 @@ module _ (board : Board) (a i : ℕ) (x : AppSide) (e : Rqe) (es : List Rqe) (so
       (λ t. let same : k ≡ a = t.1 in
       let is : y ≡ x = same-app board.apps a x y here (subst (λ n. IsApp board.apps n y) same it) in
       subst (AreReturns (nic_then last)) (sym is)
-      (AreReturns-dealt board.nic (honoured_if board.nic.view a e i last) x the_dealt refl front (sym here.number) (sound.returns a x here) (still_owed last) (λ of_loan. refl)))
+      (AreReturns-dealt board.nic (honoured_if board.nic.view a e i last) x the_dealt refl front (sym here.number) (sound.returns a x here) (still_owed last)
+      (no_more last) (λ of_loan. refl)))
       (λ t. let ne : k ≢ a = t.1 in
       let other = other-number board.apps a k y it ne in
-      AreReturns-other board.nic (honoured_if board.nic.view a e i last) y the_dealt refl (λ same. other (sym same)) (λ b. ended_others last b y other) (sound.returns k y it))
+      AreReturns-other board.nic (honoured_if board.nic.view a e i last) y the_dealt refl (λ same. other (sym same)) (λ b. ended_others last b y other)
+      (sound.returns k y it))
       (eqb_tells k a)
 
-  once_then : (last : Bool) (n : ℕ) → n ≡ pool_count i (nic_then last) board.apps → (i < pool_buffers board.arrays.layout → came last ≡ (n == 0)) → (came last ≡ true → i < pool_buffers board.arrays.layout)
-      → (b : ℕ) → b < pool_buffers board.arrays.layout → free_places (listed_in (listed_after (came last) board.arrays.cache board.arrays.listed i)) b (nic_then last) board.apps ≡ (if pool_count b (nic_then last) board.apps == 0 then 1 else 0)
+  once_then : (last : Bool) (n : ℕ) → n ≡ pool_count i (nic_then last) board.apps → (i < pool_buffers board.arrays.layout → came last ≡ (n == 0))
+      → (came last ≡ true → i < pool_buffers board.arrays.layout)
+      → (b : ℕ) → b < pool_buffers board.arrays.layout
+      → free_places (listed_in (listed_after (came last) board.arrays.cache board.arrays.listed i)) b (nic_then last) board.apps
+      ≡ (if pool_count b (nic_then last) board.apps == 0 then 1 else 0)
   once_then last n now is of_pool b within =
       let before = sound.free.pool b (rw pools within) in
       ⊎_elim
-      (λ inside. once-freed (came last) (pool_count b board.nic board.apps) _ (free_places (listed_in board.arrays.listed) b board.nic board.apps) _ (weight (i == b)) n before (less last b) (is inside) (free_then last of_pool b)
+      (λ inside. once-freed (came last) (pool_count b board.nic board.apps) _ (free_places (listed_in board.arrays.listed) b board.nic board.apps) _
+      (weight (i == b)) n before (less last b) (is inside) (free_then last of_pool b)
       (⊎_elim (λ same. inr (same.0, ap (λ y. pool_count y (nic_then last) board.apps) same.1 ∙ sym now)) (λ other. inl other) (same-or-other b i)))
       (λ beyond. let apart : weight (i == b) ≡ 0 = weight-other i b (λ e. absurd (omega arith)) in
       let kept : pool_count b (nic_then last) board.apps ≡ pool_count b board.nic board.apps = omega (arith, less last b, apart) in
       free_then last of_pool b ∙ (nothing (came last) apart ∙ (before ∙ ap (λ p. if p == 0 then 1 else 0) (sym kept))))
       (cases_lt i (pool_buffers board.arrays.layout))
 
-  pub IsSound-honoured : (last : Bool) (n m : ℕ) → n ≡ get_or board.arrays.pool i 0 - 1 → m ≡ get_or board.arrays.users (user_at board.arrays.layout a i) 0 - 1
-      → (i < pool_buffers board.arrays.layout → came last ≡ (n == 0)) → (came last ≡ true → i < pool_buffers board.arrays.layout) → IsSound (record {
+  pub IsSound-honoured : (last : Bool) (n m : ℕ) → n ≡ get_or board.arrays.pool i 0 - 1
+      → m ≡ get_or board.arrays.users (user_at board.arrays.layout a i) 0 - 1
+      → (i < pool_buffers board.arrays.layout → came last ≡ (n == 0)) → (came last ≡ true → i < pool_buffers board.arrays.layout)
+      → IsSound (record {
         arrays = record board.arrays {
           pool = set board.arrays.pool i n;
           users = set board.arrays.users (user_at board.arrays.layout a i) m;
@@ -283,7 +354,8 @@ module _ (board : Board) (a i : ℕ) (x : AppSide) (e : Rqe) (es : List Rqe) (so
         cached = ap (λ cache. cache_after (came last) cache i) sound.cached;
         set = IsSet-nic _ board.nic (honoured_if board.nic.view a e i last) board.apps refl sound.set;
         counted = record {
-          pool = counts-set (total board.arrays.layout) board.arrays.pool (λ b. pool_count b board.nic board.apps) (λ b. pool_count b (nic_then last) board.apps) i n (omega (arith, sound.sizes.pool)) sound.counted.pool now
+          pool = counts-set (total board.arrays.layout) board.arrays.pool (λ b. pool_count b board.nic board.apps)
+              (λ b. pool_count b (nic_then last) board.apps) i n (omega (arith, sound.sizes.pool)) sound.counted.pool now
               (λ b other. omega (arith, less last b, weight-other i b (λ e. other (sym e))));
           users = users_then last m some_users;
           beyond = λ b past. omega (arith, less last b, sound.counted.beyond b past);
@@ -291,7 +363,8 @@ module _ (board : Board) (a i : ℕ) (x : AppSide) (e : Rqe) (es : List Rqe) (so
         };
         free = record {
           pool = λ b within. once_then last n now is of_pool b (rw (← pools) within);
-          reserves = λ b past. let past' : pool_buffers board.arrays.layout ≤ b = rw (← pools) past in free_then last of_pool b ∙ beyond_pool (came last) of_pool b past' (sound.free.reserves b past);
+          reserves = λ b past. let past' : pool_buffers board.arrays.layout ≤ b = rw (← pools) past in free_then last of_pool b
+              ∙ beyond_pool (came last) of_pool b past' (sound.free.reserves b past);
         };
         relayed = AreRelayed-popped board a x e es sound here found (honoured_if board.nic.view a e i last) the_dealt refl refl refl refl _ refl refl refl;
         returns = returns_then last;
@@ -308,15 +381,21 @@ module _ (board : Board) (a i : ℕ) (x : AppSide) (e : Rqe) (es : List Rqe) (so
         };
         due = sound.due;
         filled = FillingsFit-nic board.nic (honoured_if board.nic.view a e i last) board.apps refl refl sound.filled;
-        by_one = λ b. IsFilledByOne-gave_up b nic_honoured board.apps i last (IsFilledByOne-honoured b board.nic board.apps a i e x sound.set.numbers here owes (sound.by_one b));
+        by_one = λ b. IsFilledByOne-gave_up b nic_honoured board.apps i last
+            (IsFilledByOne-honoured b board.nic board.apps a i e x sound.set.numbers here owes (sound.by_one b));
         shown = AreShown-gave_up (byte_of board.arrays) nic_honoured board.apps i last
-            (AreShown-honoured (byte_of board.arrays) board.nic board.apps a i e (λ b app has. (All-at (EndedWereReturned b board.nic) board.apps app (sound.counted.returned b) has).returning) sound.shown);
+            (AreShown-honoured (byte_of board.arrays) board.nic board.apps a i e
+            (λ b app has. (All-at (EndedWereReturned b board.nic) board.apps app (sound.counted.returned b) has).returning) sound.shown);
         notes = sound.notes;
-        booked = AreBooked-popped board a x e es sound here found (honoured_if board.nic.view a e i last) the_dealt refl refl refl refl _ refl refl refl refl front;
+        own_buffers = LieInOwn-nic board.nic (honoured_if board.nic.view a e i last) board.apps refl refl refl sound.own_buffers;
+        judged = All-push (IsHonouredAsNamed board.nic.view.setting.layout) board.nic.view.dealt the_dealt sound.judged as_named;
+        booked = AreBooked-popped board a x e es sound here found
+            (honoured_if board.nic.view a e i last) the_dealt refl refl refl refl _ refl refl refl refl front;
         phased = ArePhased-dealt board.nic (honoured_if board.nic.view a e i last) board.apps the_dealt refl refl refl refl refl sound.phased;
       }
     where
-      beyond_pool : (free : Bool) → (free ≡ true → i < pool_buffers board.arrays.layout) → (b : ℕ) → pool_buffers board.arrays.layout ≤ b → {f : ℕ} → f ≡ 0 → f + (if free then weight (i == b) else 0) ≡ 0
+      beyond_pool : (free : Bool) → (free ≡ true → i < pool_buffers board.arrays.layout) → (b : ℕ) → pool_buffers board.arrays.layout ≤ b
+          → {f : ℕ} → f ≡ 0 → f + (if free then weight (i == b) else 0) ≡ 0
       beyond_pool true of_pool b past empty = omega (arith, of_pool refl, empty, weight-other i b (λ e. absurd (omega (arith, of_pool refl))))
       beyond_pool false of_pool b past empty = omega (arith, empty)
 
@@ -325,15 +404,36 @@ module _ (board : Board) (a i : ℕ) (x : AppSide) (e : Rqe) (es : List Rqe) (so
 looked : (v : NicView) (a i : ℕ) (e : Rqe) (last : Bool) → NicRose (Owed a i) v (honoured_if v a e i last)
 looked v a i e last =
     let w = honoured v a e i in
-    NicRose-before v w (honoured_if v a e i last) (Owed a i) (record { rose = (NicRose-nic_saw v (Owed a i)).rose }) (record { later = λ look. (NicLooksStay-nic_saw w (holder_look last i)).later look })
+    NicRose-before v w (honoured_if v a e i last) (Owed a i) (record { rose = (NicRose-nic_saw v (Owed a i)).rose })
+    (record { later = λ look. (NicLooksStay-nic_saw w (holder_look last i)).later look })
 
 held : (v : NicView) (a i : ℕ) (e : Rqe) (last : Bool) → NicRose (holder_look last i) v (honoured_if v a e i last)
 held v a i e last =
     let w = honoured v a e i in
-    NicRose-later v w (honoured_if v a e i last) (holder_look last i) (record { later = λ look. (NicLooksStay-nic_saw v (Owed a i)).later look }) (record { rose = (NicRose-nic_saw w (holder_look last i)).rose })
+    NicRose-later v w (honoured_if v a e i last) (holder_look last i) (record { later = λ look. (NicLooksStay-nic_saw v (Owed a i)).later look })
+    (record { rose = (NicRose-nic_saw w (holder_look last i)).rose })
 
-pub FreedEntry-honoured : (v : NicView) (a i : ℕ) (e : Rqe) → judged v.setting.layout e ≡ Some i → i < pool_buffers v.setting.layout → FreedEntry v (honoured_if v a e i true) a
-FreedEntry-honoured v a i e named of_pool = record { entry = e; buffer = i; names = named; of_pool = of_pool; event = refl; look = looked v a i e true; holders = held v a i e true }
+pub FreedEntry-honoured : (v : NicView) (a i : ℕ) (e : Rqe) → judged v.setting.layout e ≡ Some i → i < pool_buffers v.setting.layout
+    → FreedEntry v (honoured_if v a e i true) a
+FreedEntry-honoured v a i e named of_pool = record {
+  entry = e;
+  buffer = i;
+  names = named;
+  of_pool = of_pool;
+  event = refl;
+  look = looked v a i e true;
+  holders = held v a i e true;
+}
 
-pub HonouredEntry-honoured : (v : NicView) (a i : ℕ) (e : Rqe) (last : Bool) → judged v.setting.layout e ≡ Some i → (last ≡ true → pool_buffers v.setting.layout ≤ i) → HonouredEntry v (honoured_if v a e i last) a
-HonouredEntry-honoured v a i e last named reserve = record { entry = e; buffer = i; last = last; names = named; reserve = reserve; event = refl; look = looked v a i e last; holders = held v a i e last }
+pub HonouredEntry-honoured : (v : NicView) (a i : ℕ) (e : Rqe) (last : Bool) → judged v.setting.layout e ≡ Some i
+    → (last ≡ true → pool_buffers v.setting.layout ≤ i) → HonouredEntry v (honoured_if v a e i last) a
+HonouredEntry-honoured v a i e last named reserve = record {
+  entry = e;
+  buffer = i;
+  last = last;
+  names = named;
+  reserve = reserve;
+  event = refl;
+  look = looked v a i e last;
+  holders = held v a i e last;
+}

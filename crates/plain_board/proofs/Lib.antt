@@ -26,14 +26,15 @@ pub mod HeldPieces
 pub mod Cutting
 pub mod Releasing
 pub mod OwnSide
+pub mod Reserves
 pub mod Sparing
 pub mod Pushing
-pub mod Filling
+pub mod SpareFilled
 pub mod Leaving
 pub mod Scrubbing
 pub mod Ending
 pub mod Users
-pub mod Lying
+pub mod TokensLie
 pub mod Owing
 pub mod Abandoning
 pub mod OnLoan

@@ -1,5 +1,6 @@
 -- Lists of counts, and the cache.
-use Rattle.std.proofs.Common.{◌≡◌, ℕ, zero, suc, ◌+◌, ◌-◌, ◌*◌, ◌<◌, ◌≤◌, Bool, true, false, List, [], ◌∷◌, ◌++◌, length, take, set, get_or, refl, ap, sym, ◌∙◌, arith, inl, inr, ⊎_elim, subst, Some}
+use Rattle.std.proofs.Common.{◌≡◌, ℕ, zero, suc, ◌+◌, ◌-◌, ◌*◌, ◌<◌, ◌≤◌, Bool, true, false, List, [], ◌∷◌, ◌++◌}
+use Rattle.std.proofs.Common.{length, take, set, get_or, refl, ap, sym, ◌∙◌, arith, inl, inr, ⊎_elim, subst, Some}
 use Rattle.std.specs.Prelude.{◌≢◌, ◌⊎◌, ◌/◌, nat_eq, count_by, ◌==◌, slice_get, All, if◌then◌else◌}
 use Rattle.std.proofs.lemmas.List.{get_or-set_same, get_or-set_other}
 use Rattle.std.proofs.lemmas.List.Elements.{All-nil, All-cons}
@@ -26,7 +27,8 @@ weight-swap a b =
     (eqb_tells a b)
 
 -- Where each count is f of its place, and g is f with n in the place i, the counts with n there are g.
-pub counts-set : (t : ℕ) (counts : List ℕ) (f g : ℕ → ℕ) (i n : ℕ) → i < length counts → ((b : ℕ) → b < t → get_or counts b 0 ≡ f b) → n ≡ g i → ((b : ℕ) → b ≢ i → g b ≡ f b)
+pub counts-set : (t : ℕ) (counts : List ℕ) (f g : ℕ → ℕ) (i n : ℕ) → i < length counts → ((b : ℕ) → b < t → get_or counts b 0 ≡ f b)
+    → n ≡ g i → ((b : ℕ) → b ≢ i → g b ≡ f b)
     → (b : ℕ) → b < t → get_or (set counts i n) b 0 ≡ g b
 counts-set t counts f g i n there are here others b within =
     ⊎_elim
@@ -38,16 +40,21 @@ pub raised : (counts : List ℕ) (i b : ℕ) → i < length counts → get_or (s
 raised counts i b there =
     ⊎_elim
     (λ t. let e : i ≡ b = t.1 in
-    let now : get_or (set counts i (get_or counts i 0 + 1)) b 0 ≡ get_or counts i 0 + 1 = subst (λ n. get_or (set counts i (get_or counts i 0 + 1)) n 0 ≡ get_or counts i 0 + 1) e (get_or-set_same counts i (get_or counts i 0 + 1) 0 there) in
+    let now : get_or (set counts i (get_or counts i 0 + 1)) b 0
+    ≡ get_or counts i 0 + 1 = subst (λ n. get_or (set counts i (get_or counts i 0 + 1)) n 0 ≡ get_or counts i 0 + 1) e
+    (get_or-set_same counts i (get_or counts i 0 + 1) 0 there) in
     omega (arith, ap weight t.0, ap (λ n. get_or counts n 0) e))
     (λ t. let ne : b ≢ i = λ e. t.1 (sym e) in omega (arith, ap weight t.0, get_or-set_other counts i b (get_or counts i 0 + 1) 0 ne))
     (eqb_tells i b)
 
-pub lowered : (counts : List ℕ) (i b : ℕ) → i < length counts → 0 < get_or counts i 0 → get_or (set counts i (get_or counts i 0 - 1)) b 0 + weight (i == b) ≡ get_or counts b 0
+pub lowered : (counts : List ℕ) (i b : ℕ) → i < length counts → 0 < get_or counts i 0
+    → get_or (set counts i (get_or counts i 0 - 1)) b 0 + weight (i == b) ≡ get_or counts b 0
 lowered counts i b there some =
     ⊎_elim
     (λ t. let e : i ≡ b = t.1 in
-    let now : get_or (set counts i (get_or counts i 0 - 1)) b 0 ≡ get_or counts i 0 - 1 = subst (λ n. get_or (set counts i (get_or counts i 0 - 1)) n 0 ≡ get_or counts i 0 - 1) e (get_or-set_same counts i (get_or counts i 0 - 1) 0 there) in
+    let now : get_or (set counts i (get_or counts i 0 - 1)) b 0
+    ≡ get_or counts i 0 - 1 = subst (λ n. get_or (set counts i (get_or counts i 0 - 1)) n 0 ≡ get_or counts i 0 - 1) e
+    (get_or-set_same counts i (get_or counts i 0 - 1) 0 there) in
     omega (arith, ap weight t.0, ap (λ n. get_or counts n 0) e))
     (λ t. let ne : b ≢ i = λ e. t.1 (sym e) in omega (arith, ap weight t.0, get_or-set_other counts i b (get_or counts i 0 - 1) 0 ne))
     (eqb_tells i b)
@@ -60,11 +67,13 @@ count-append b xs ys = omega (arith, count-tally (nat_eq b) (xs ++ ys), count-ta
 
 -- ---- a buffer with a holder more, or one less
 
-pub once-taken : (p p' f f' w : ℕ) → f ≡ (if p == 0 then 1 else 0) → f' + w ≡ f → p' ≡ p + w → (w ≡ 0) ⊎ ((w ≡ 1) × (p ≡ 0)) → f' ≡ (if p' == 0 then 1 else 0)
+pub once-taken : (p p' f f' w : ℕ) → f ≡ (if p == 0 then 1 else 0) → f' + w ≡ f → p' ≡ p + w → (w ≡ 0) ⊎ ((w ≡ 1) × (p ≡ 0))
+    → f' ≡ (if p' == 0 then 1 else 0)
 once-taken p p' f f' w e less more which =
     ⊎_elim
     (λ none. let same : p' ≡ p = omega arith in rw same (omega (arith, e)))
-    (λ one. let zero_before : p ≡ 0 = one.1 in let one_after : p' ≡ 1 = omega (arith, one.0) in let full : f ≡ 1 = rw zero_before at e in rw one_after (omega (arith, one.0)))
+    (λ one. let zero_before : p ≡ 0 = one.1 in let one_after : p' ≡ 1 = omega (arith, one.0) in let full : f
+    ≡ 1 = rw zero_before at e in rw one_after (omega (arith, one.0)))
     which
 
 pub same-or-other : (b i : ℕ) → ((weight (i == b) ≡ 1) × (b ≡ i)) ⊎ (weight (i == b) ≡ 0)
@@ -75,10 +84,6 @@ pub same-user : (t a a' b b' : ℕ) → b < t → b' < t → a * t + b ≡ a' * 
 same-user t a a' b b' less less' e =
     let same : a ≡ a' = sym (div-mul-add a t b less) ∙ (ap (λ n. n / t) e ∙ div-mul-add a' t b' less') in
     (same, omega (arith, ap (λ x. x * t) same, e))
-
-pub true-or-false : (c : Bool) → (c ≡ true) ⊎ (c ≡ false)
-true-or-false true = inl refl
-true-or-false false = inr refl
 
 -- ---- one among many
 

@@ -1,10 +1,10 @@
 -- Buffers of swept words that are neither cached nor were taken were picked as spares, of which each is for a byte of an
 -- unsplit note.
-use Rattle.std.proofs.Common.{◌≡◌, ℕ, zero, suc, ◌+◌, ◌<◌, ◌≤◌, Bool, true, false, cond, List, [], ◌∷◌, length, map, get_or, refl, ap, arith, ⊎_elim}
+use Rattle.std.proofs.Common.{◌≡◌, ℕ, zero, suc, ◌+◌, ◌<◌, ◌≤◌, Bool, true, false, cond, List, [], ◌∷◌, length, map, get_or, refl}
+use Rattle.std.proofs.Common.{ap, arith, ⊎_elim}
 use Rattle.std.specs.Prelude.{not, ◌&&◌, ◌||◌, nat_eq, count_by, ◌==◌, ◌/◌, if◌then◌else◌, filter, sum_by}
 use Rattle.std.specs.List.{list_any, flat_map}
 use Rattle.std.proofs.lemmas.List.Sums.{sum_by-cons, sum_by-append}
-use Rattle.std.proofs.lemmas.List.{get_or_default}
 use Rattle.zr_kinds.specs.declared.ring.Rqe.{Rqe}
 use Rattle.board_face.specs.NicEvents.{word_bits}
 use Rattle.std.proofs.lemmas.Bool.Decides.{eqb_tells}
@@ -12,7 +12,7 @@ use Rattle.area_layout.specs.Layout.{pool_buffers}
 use Rattle.board_face.specs.Lists.{count_below}
 use Rattle.board_face.specs.Texts.{unsplit_bytes}
 use Rattle.board_face.specs.NicCalls.{is_lost, lost_of, sent_unsplit_bytes}
-use Rattle.board_face.specs.Sides.{IsApp, AreNumbered}
+use Rattle.board_face.specs.Sides.{AreNumbered}
 use Rattle.board_face.specs.Holders.{sent_to}
 use Rattle.board_face.specs.Relay.{as_taken, Relayed}
 use Rattle.board_face.specs.declared.views.nic.SentNote.{SentNote}
@@ -22,8 +22,10 @@ use Rattle.board_face.specs.declared.views.app.AppSide.{AppSide}
 use Rattle.board_face.proofs.ListLemmas.{not-eqb}
 use Rattle.board_face.proofs.Tallies.{weight, weight-le, total, length-flat}
 use Rattle.zr_kinds.specs.declared.place.Note.{Note}
+use Rattle.board_face.proofs.SideLemmas.{IsApp-at}
 use Rattle.plain_board.specs.Board.{Board}
-use Rattle.plain_board.specs.Sound.{IsSound, times_picked}
+use Rattle.plain_board.specs.Sound.{IsSound}
+use Rattle.plain_board.proofs.AppFrames.{times_picked, times_used}
 use Rattle.plain_board.proofs.Lists.{count-push, count-append, weight-other}
 
 -- ---- counts
@@ -81,7 +83,13 @@ below-one x (suc n) =
 
 sums-counted : (xs : List ℕ) (n : ℕ) → sums (λ b. count_by (nat_eq b) xs) n ≤ length xs
 sums-counted [] n = omega (arith, sums-zero (λ b. count_by (nat_eq b) []) n (λ b. refl))
-sums-counted (x ∷ xs) n = omega (arith, sums-plus (λ b. count_by (nat_eq b) (x ∷ xs)) (λ b. weight (b == x)) (λ b. count_by (nat_eq b) xs) n (λ b. count-cons b x xs), below-one x n, sums-counted xs n)
+sums-counted (x ∷ xs) n = omega (
+  arith,
+  sums-plus (λ b. count_by (nat_eq b) (x ∷ xs)) (λ b. weight (b == x)) (λ b. count_by (nat_eq b) xs) n
+      (λ b. count-cons b x xs),
+  below-one x n,
+  sums-counted xs n,
+)
 
 -- ---- applications
 
@@ -90,12 +98,10 @@ numbered-at n [] i d h within = absurd (omega arith)
 numbered-at n (app ∷ apps) zero d h within = let e = h.0 in omega arith
 numbered-at n (app ∷ apps) (suc i) d h within = omega (arith, numbered-at (suc n) apps i d h.1 (omega arith))
 
-pub IsApp-at : (apps : List AppSide) (i : ℕ) (d : AppSide) → AreNumbered 0 apps → i < length apps → IsApp apps i (get_or apps i d)
-IsApp-at apps i d h within = record { there = within; is = get_or_default apps i (get_or apps i d) d within; number = omega (arith, numbered-at 0 apps i d h within) }
-
-total-le : {A : Type 0} (f g : A → ℕ) (xs : List A) → ((i : ℕ) (d : A) → i < length xs → f (get_or xs i d) ≤ g (get_or xs i d)) → total f xs ≤ total g xs
-total-le f g [] h = omega arith
-total-le f g (x ∷ xs) h = omega (arith, h 0 x (omega arith), total-le f g xs (λ i d within. h (suc i) d (omega arith)))
+total-le_at : {A : Type 0} (f g : A → ℕ) (xs : List A) → ((i : ℕ) (d : A) → i < length xs → f (get_or xs i d) ≤ g (get_or xs i d))
+    → total f xs ≤ total g xs
+total-le_at f g [] h = omega arith
+total-le_at f g (x ∷ xs) h = omega (arith, h 0 x (omega arith), total-le_at f g xs (λ i d within. h (suc i) d (omega arith)))
 
 total-none : {A : Type 0} (f : A → ℕ) (xs : List A) → ((x : A) → f x ≡ 0) → total f xs ≡ 0
 total-none f [] none = refl
@@ -117,7 +123,8 @@ pub sum-map : {A B : Type 0} (f : B → ℕ) (g : A → B) (xs : List A) → sum
 sum-map f g [] = refl
 sum-map f g (x ∷ xs) = omega (arith, sum_by-cons f (g x) (map g xs), sum_by-cons (λ y. f (g y)) x xs, sum-map f g xs)
 
-filter-case : (c : Bool) (s : SentNote) (rest : List SentNote) → sum_by of_sent (cond c (s ∷ rest) rest) ≡ (if c then of_sent s else 0) + sum_by of_sent rest
+filter-case : (c : Bool) (s : SentNote) (rest : List SentNote)
+    → sum_by of_sent (cond c (s ∷ rest) rest) ≡ (if c then of_sent s else 0) + sum_by of_sent rest
 filter-case true s rest = sum_by-cons of_sent s rest
 filter-case false s rest = omega arith
 
@@ -141,18 +148,21 @@ once n a w (app ∷ apps) h =
     (λ t. let none : (if a == app.view.app then w else 0) ≡ 0 = ap (λ c. if c then w else 0) t.0 in omega (arith, none, once (suc n) a w apps h.1))
     (eqb_tells a app.view.app)
 
-sent-once : (apps : List AppSide) → AreNumbered 0 apps → (sents : List SentNote) → total (λ app. sum_by of_sent (filter (λ s. s.app == app.view.app) sents)) apps ≤ sum_by of_sent sents
+sent-once : (apps : List AppSide) → AreNumbered 0 apps → (sents : List SentNote)
+    → total (λ app. sum_by of_sent (filter (λ s. s.app == app.view.app) sents)) apps ≤ sum_by of_sent sents
 sent-once apps h [] = omega (arith, total-none (λ (app : AppSide). sum_by of_sent (filter (λ s. s.app == app.view.app) [])) apps (λ app. refl))
 sent-once apps h (s ∷ rest) = omega (
   arith,
-  total-plus (λ app. sum_by of_sent (filter (λ s. s.app == app.view.app) (s ∷ rest))) (λ app. if s.app == app.view.app then of_sent s else 0) (λ app. sum_by of_sent (filter (λ s. s.app == app.view.app) rest)) apps
+  total-plus (λ app. sum_by of_sent (filter (λ s. s.app == app.view.app) (s ∷ rest))) (λ app. if s.app == app.view.app then of_sent s else 0)
+      (λ app. sum_by of_sent (filter (λ s. s.app == app.view.app) rest)) apps
       (λ app. filter-case (s.app == app.view.app) s (filter (λ s. s.app == app.view.app) rest)),
   once 0 s.app (of_sent s) apps h,
   sent-once apps h rest,
   sum_by-cons of_sent s rest,
 )
 
-taken-sent : (nic : NicSide) (app : AppSide) (ns : List TakenNote) (es : List Rqe) → Relayed nic app ns es → unsplit_bytes (map (λ t. t.note) app.view.taken) ≤ sum_by of_sent (sent_to app.view.app nic)
+taken-sent : (nic : NicSide) (app : AppSide) (ns : List TakenNote) (es : List Rqe) → Relayed nic app ns es
+    → unsplit_bytes (map (λ t. t.note) app.view.taken) ≤ sum_by of_sent (sent_to app.view.app nic)
 taken-sent nic app ns es h =
     let of_taken : TakenNote → ℕ = λ t. unsplit t.note in
     omega (
@@ -165,7 +175,8 @@ taken-sent nic app ns es h =
 
 -- ---- the bound
 
-lost-case : (s c u : Bool) (n m k : ℕ) → (weight s ≡ 1 → 1 ≤ n + m + k) → (weight c ≡ 0 → n ≡ 0) → (weight u ≡ 0 → m ≡ 0) → weight (s && not c && not u) ≤ k
+lost-case : (s c u : Bool) (n m k : ℕ) → (weight s ≡ 1 → 1 ≤ n + m + k) → (weight c ≡ 0 → n ≡ 0) → (weight u ≡ 0 → m ≡ 0)
+    → weight (s && not c && not u) ≤ k
 lost-case true true u n m k some a b = omega arith
 lost-case true false true n m k some a b = omega arith
 lost-case true false false n m k some a b = omega (arith, some refl, a refl, b refl)
@@ -175,8 +186,10 @@ module _ (board : Board) (sound : IsSound board) where
   lost-picked : (b : ℕ) → b < pool_buffers board.nic.view.setting.layout → weight (is_lost board.nic.view b) ≤ times_picked b board.apps
   lost-picked b within =
       let v = board.nic.view in
-      lost-case (list_any (nat_eq (b / word_bits)) v.swept) (list_any (nat_eq b) v.cache) (list_any (nat_eq b) v.used) (count_by (nat_eq b) v.cache) (count_by (nat_eq b) v.used) (times_picked b board.apps)
-      (λ seen. sound.kept.swept b within (omega (arith, seen, any-counted (b / word_bits) v.swept)))
+      lost-case (list_any (nat_eq (b / word_bits)) v.swept) (list_any (nat_eq b) v.cache) (list_any (nat_eq b) v.used) (count_by (nat_eq b) v.cache)
+      (count_by (nat_eq b) v.used) (times_picked b board.apps)
+      (λ seen. let kept = sound.kept.swept b within (omega (arith, seen, any-counted (b / word_bits) v.swept)) in omega
+      (arith, kept, times_used b board.nic board.apps))
       (none-counted b v.cache)
       (none-counted b v.used)
 
@@ -191,8 +204,9 @@ module _ (board : Board) (sound : IsSound board) where
         below-le (is_lost board.nic.view) (λ b. count_by (nat_eq b) picked) n lost-picked,
         sums-counted picked n,
         length-flat (λ (app : AppSide). app.view.picked) board.apps,
-        total-le (λ (app : AppSide). length app.view.picked) taken board.apps (λ i d within. omega (arith, sound.due.picked i d within, sound.due.spares i d within)),
-        total-le taken to_app board.apps (λ i d within. taken-sent board.nic (get_or board.apps i d) _ _ (sound.relayed.relayed i (get_or board.apps i d) (IsApp-at board.apps i d sound.set.numbers within))),
+        total-le_at (λ (app : AppSide). length app.view.picked) taken board.apps (λ i d within. (sound.due.few i d within).picks),
+        total-le_at taken to_app board.apps (λ i d within. taken-sent board.nic (get_or board.apps i d) _ _
+            (sound.relayed.relayed i (get_or board.apps i d) (IsApp-at board.apps i d sound.set.numbers within))),
         sent-once board.apps sound.set.numbers board.nic.view.sent,
         sum-map unsplit (λ (s : SentNote). s.note) board.nic.view.sent,
       )

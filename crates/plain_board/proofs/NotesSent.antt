@@ -1,5 +1,6 @@
 -- A note is sent.
-use Rattle.std.proofs.Common.{◌≡◌, ℕ, ◌<◌, ◌≤◌, Bool, true, false, List, [], ◌∷◌, ◌++◌, length, map, take, set, get_or, refl, ap, sym, ◌∙◌, subst, arith, ⊎_elim}
+use Rattle.std.proofs.Common.{◌≡◌, ℕ, ◌<◌, ◌≤◌, Bool, true, false, List, [], ◌∷◌, ◌++◌, length, map, take, set, get_or, refl, ap}
+use Rattle.std.proofs.Common.{sym, ◌∙◌, subst, arith, ⊎_elim}
 use Rattle.std.specs.Prelude.{◌≢◌, ◌==◌, if◌then◌else◌, Contains}
 use Rattle.std.proofs.lemmas.Bool.{false≢true}
 use Rattle.std.proofs.lemmas.List.{map-append, length-set, get_or-set_same, get_or-set_other}
@@ -11,6 +12,7 @@ use Rattle.board_face.specs.NicEvents.{sent, sent_linear, text_at}
 use Rattle.board_face.specs.NicCalls.{IsOpen, HasPiece}
 use Rattle.board_face.specs.Texts.{IsSplitNote, IsLinearNote}
 use Rattle.board_face.specs.Fillings.{IsFilledByOne}
+use Rattle.board_face.specs.OwnBuffers.{LieInOwn}
 use Rattle.board_face.specs.Shown.{AreShown}
 use Rattle.board_face.specs.Holders.{sent_to}
 use Rattle.board_face.proofs.NicLemmas.{pool_count-sent, pool_count-sent_linear}
@@ -21,8 +23,9 @@ use Rattle.board_face.specs.declared.views.nic.SentNote.{SentNote}
 use Rattle.board_face.specs.declared.views.nic.NicView.{NicView}
 use Rattle.board_face.specs.declared.views.app.AppSide.{AppSide}
 use Rattle.board_face.proofs.FreeLemmas.{free_places-nic}
-use Rattle.board_face.proofs.FitLemmas.{FillingsFit-nic}
-use Rattle.board_face.proofs.FilledLemmas.{IsFilledByOne-sent, IsFilledByOne-sent_linear}
+use Rattle.board_face.proofs.FillingsFitLemmas.{FillingsFit-nic}
+use Rattle.board_face.proofs.IsFilledByOneLemmas.{IsFilledByOne-sent, IsFilledByOne-sent_linear}
+use Rattle.board_face.proofs.OwnBufferLemmas.{LieInOwn-sent, LieInOwn-sent_linear}
 use Rattle.board_face.proofs.AreShownLemmas.{AreShown-sent, AreShown-sent_linear}
 use Rattle.board_face.proofs.RelayLemmas.{taken-within, Relayed-sent, Relayed-sent_other}
 use Rattle.plain_parts.specs.declared.slots.NoteSlot.{NoteSlot}
@@ -31,7 +34,7 @@ use Rattle.plain_board.specs.Board.{Arrays, Board, byte_of}
 use Rattle.plain_parts.specs.Rings.{pushed}
 use Rattle.plain_board.specs.Sound.{IsSound, IsRing, AreRelayed, IsProper, refills_of, notes_of, taken_of}
 use Rattle.plain_board.proofs.RingSlots.{IsRing-pushed}
-use Rattle.plain_board.proofs.Losing.{IsApp-at}
+use Rattle.board_face.proofs.SideLemmas.{IsApp-at}
 use Rattle.plain_board.proofs.Card.{IsSet-nic, AreCounted-same, AreReturns-nic, AreBooked-nic, ArePhased-open}
 use Rattle.plain_board.proofs.Popping.{same-app, other-number}
 
@@ -46,15 +49,18 @@ pub record IsPosted (old new : NicView) (s : SentNote) : Type 0 where
   pub dealt : new.dealt ≡ old.dealt
   pub sent : new.sent ≡ old.sent ++ s ∷ []
 
-module _ (board : Board) (a : ℕ) (x : AppSide) (v : NicView) (s : SentNote) (slot : NoteSlot) (sound : IsSound board) (here : IsApp board.apps a x) (room : length (get_or board.arrays.notes a (buffer [] 0)).items < (get_or board.arrays.notes a (buffer [] 0)).capacity)
-    (posted : IsPosted board.nic.view v s) (target : s.app ≡ a) (text : taken_of slot ≡ as_taken s) (same : (b : ℕ) → pool_count b (nic_at board.nic v) board.apps ≡ pool_count b board.nic board.apps) where
+module _ (board : Board) (a : ℕ) (x : AppSide) (v : NicView) (s : SentNote) (slot : NoteSlot) (sound : IsSound board) (here : IsApp board.apps a x)
+    (room : length (get_or board.arrays.notes a (buffer [] 0)).items < (get_or board.arrays.notes a (buffer [] 0)).capacity)
+    (posted : IsPosted board.nic.view v s) (target : s.app ≡ a) (text : taken_of slot ≡ as_taken s)
+    (same : (b : ℕ) → pool_count b (nic_at board.nic v) board.apps ≡ pool_count b board.nic board.apps) where
   abbrev pub notes_then : Buffer NoteSlot
   notes_then = pushed (get_or board.arrays.notes a (buffer [] 0)) slot
 
   notes_there : a < length board.arrays.notes
   notes_there = let h = here.there in let many = sound.set.many in let size = sound.sizes.notes in omega arith
 
-  relayed_then : (now : Arrays) → now.refills ≡ board.arrays.refills → now.places ≡ board.arrays.places → now.notes ≡ set board.arrays.notes a notes_then → AreRelayed now (nic_at board.nic v) board.apps
+  relayed_then : (now : Arrays) → now.refills ≡ board.arrays.refills → now.places ≡ board.arrays.places
+      → now.notes ≡ set board.arrays.notes a notes_then → AreRelayed now (nic_at board.nic v) board.apps
   relayed_then now refills places notes = record {
     relayed = λ k y it. ⊎_elim
         (λ t. let one : k ≡ a = t.1 in
@@ -69,16 +75,22 @@ module _ (board : Board) (a : ℕ) (x : AppSide) (v : NicView) (s : SentNote) (s
         (rw (more, back) (Relayed-sent board.nic v x s _ _ posted.sent posted.dealt (target ∙ sym here.number) (sound.relayed.relayed a x here))))
         (λ t. let ne : k ≢ a = t.1 in
         let rest : notes_of now k ≡ notes_of board.arrays k =
-        ap (λ (rings : List (Buffer NoteSlot)). (get_or rings k (buffer [] 0)).items) notes ∙ ap (λ (r : Buffer NoteSlot). r.items) (get_or-set_other board.arrays.notes a k notes_then (buffer [] 0) ne) in
+        ap (λ (rings : List (Buffer NoteSlot)). (get_or rings k (buffer [] 0)).items) notes
+        ∙ ap (λ (r : Buffer NoteSlot). r.items) (get_or-set_other board.arrays.notes a k notes_then (buffer [] 0) ne) in
         let back : refills_of now k ≡ refills_of board.arrays k = rw refills refl in
-        rw (rest, back) (Relayed-sent_other board.nic v y s _ _ posted.sent posted.dealt (λ e. other-number board.apps a k y it ne (sym e ∙ target)) (sound.relayed.relayed k y it)))
+        rw (rest, back) (Relayed-sent_other board.nic v y s _ _ posted.sent posted.dealt (λ e. other-number board.apps a k y it ne (sym e ∙ target))
+        (sound.relayed.relayed k y it)))
         (eqb_tells k a);
-    notes = rw (notes, places) (All-set (IsRing board.arrays.places) board.arrays.notes a notes_then (IsRing-pushed board.arrays.places (get_or board.arrays.notes a (buffer [] 0)) slot room (sound.relayed.notes a (buffer [] 0) notes_there)) sound.relayed.notes);
+    notes = rw (notes, places) (All-set (IsRing board.arrays.places) board.arrays.notes a notes_then
+        (IsRing-pushed board.arrays.places (get_or board.arrays.notes a (buffer [] 0)) slot room
+        (sound.relayed.notes a (buffer [] 0) notes_there)) sound.relayed.notes);
     refills = rw (refills, places) sound.relayed.refills;
   }
 
-  pub IsSound-posted : IsOpen board.nic.view → IsProper s → ((b : ℕ) → IsFilledByOne b (nic_at board.nic v) board.apps) → AreShown (byte_of board.arrays) (nic_at board.nic v) board.apps → IsSound (record { arrays = record board.arrays { notes = set board.arrays.notes a notes_then }; nic = nic_at board.nic v; apps = board.apps })
-  IsSound-posted running proper by_one shown = record {
+  pub IsSound-posted : IsOpen board.nic.view → IsProper s → ((b : ℕ) → IsFilledByOne b (nic_at board.nic v) board.apps)
+      → AreShown (byte_of board.arrays) (nic_at board.nic v) board.apps → LieInOwn (nic_at board.nic v) board.apps
+      → IsSound (record { arrays = record board.arrays { notes = set board.arrays.notes a notes_then }; nic = nic_at board.nic v; apps = board.apps })
+  IsSound-posted running proper by_one shown own_buffers = record {
     sizes = record {
       layout = sound.sizes.layout;
       places = sound.sizes.places;
@@ -100,7 +112,8 @@ module _ (board : Board) (a : ℕ) (x : AppSide) (v : NicView) (s : SentNote) (s
     free = record {
       pool = λ b within. free_places-nic (listed_in board.arrays.listed) b board.nic v board.apps posted.cache
           ∙ (sound.free.pool b (rw (← posted.setting) within) ∙ ap (λ p. if p == 0 then 1 else 0) (sym (same b)));
-      reserves = λ b past. free_places-nic (listed_in board.arrays.listed) b board.nic v board.apps posted.cache ∙ sound.free.reserves b (rw (← posted.setting) past);
+      reserves = λ b past. free_places-nic (listed_in board.arrays.listed) b board.nic v board.apps posted.cache
+          ∙ sound.free.reserves b (rw (← posted.setting) past);
     };
     relayed = relayed_then _ refl refl refl;
     returns = λ k y it. AreReturns-nic board.nic v y posted.dealt (sound.returns k y it);
@@ -114,6 +127,8 @@ module _ (board : Board) (a : ℕ) (x : AppSide) (v : NicView) (s : SentNote) (s
     by_one = by_one;
     shown = shown;
     notes = rw posted.sent (All-push IsProper board.nic.view.sent s sound.notes proper);
+    own_buffers = own_buffers;
+    judged = rw (posted.setting, posted.dealt) sound.judged;
     booked = AreBooked-nic board.arrays _ board.nic v board.apps posted.dealt refl refl refl refl sound.booked;
     phased = ArePhased-open board.nic v board.apps running posted.dealt posted.ended sound.phased;
   }
@@ -129,11 +144,16 @@ if-true true t u e = refl
 if-true false t u e = absurd (let none : ⊥ = cc in none)
 
 -- a split note with its piece
-pub IsSound-sent : (board : Board) (a : ℕ) (x : AppSide) (note : Note) (bytes : List ℕ) → IsSound board → IsApp board.apps a x → IsOpen board.nic.view → HasPiece board.nic.view note.place → IsSplitNote note → length (get_or board.arrays.notes a (buffer [] 0)).items < (get_or board.arrays.notes a (buffer [] 0)).capacity → IsSound (record {
-  arrays = record board.arrays { notes = set board.arrays.notes a (pushed (get_or board.arrays.notes a (buffer [] 0)) (record { note = note; bytes = bytes })) };
-  nic = nic_at board.nic (sent board.nic.view a note);
-  apps = board.apps;
-})
+pub IsSound-sent : (board : Board) (a : ℕ) (x : AppSide) (note : Note) (bytes : List ℕ) → IsSound board → IsApp board.apps a x → IsOpen board.nic.view
+    → HasPiece board.nic.view note.place → IsSplitNote note
+    → length (get_or board.arrays.notes a (buffer [] 0)).items < (get_or board.arrays.notes a (buffer [] 0)).capacity → IsSound (record {
+      arrays = record board.arrays {
+        notes = set board.arrays.notes a
+            (pushed (get_or board.arrays.notes a (buffer [] 0)) (record { note = note; bytes = bytes }));
+      };
+      nic = nic_at board.nic (sent board.nic.view a note);
+      apps = board.apps;
+    })
 IsSound-sent board a x note bytes sound here running out fields room =
     let split = fields.split in
     let v = sent board.nic.view a note in
@@ -149,17 +169,20 @@ IsSound-sent board a x note bytes sound here running out fields room =
     (record { split = λ _. fields; linear = λ not_split. absurd (false≢true (sym not_split ∙ split)) })
     (λ b. IsFilledByOne-sent b board.nic board.apps a note x out split sound.set.numbers here within (sound.by_one b))
     (AreShown-sent (byte_of board.arrays) board.nic board.apps a note x out split sound.set.numbers here (taken-few board sound) sound.shown)
+    (LieInOwn-sent board.nic board.apps a note out sound.own_buffers)
 
 if-false : (c : Bool) (t u : List ℕ) → c ≡ false → t ≡ u → (if c then [] else t) ≡ (if c then [] else u)
 if-false true t u e same = absurd (let none : ⊥ = cc in none)
 if-false false t u e same = same
 
 -- a note in which its bytes travel
-pub IsSound-sent_linear : (board : Board) (a : ℕ) (x : AppSide) (note : Note) (room bytes : List ℕ) → IsSound board → IsApp board.apps a x → IsOpen board.nic.view → IsLinearNote note → note.total ≡ length bytes → take note.total room ≡ bytes → length (get_or board.arrays.notes a (buffer [] 0)).items < (get_or board.arrays.notes a (buffer [] 0)).capacity → IsSound (record {
-  arrays = record board.arrays { notes = set board.arrays.notes a (pushed (get_or board.arrays.notes a (buffer [] 0)) (record { note = note; bytes = room })) };
-  nic = nic_at board.nic (sent_linear board.nic.view a note bytes);
-  apps = board.apps;
-})
+pub IsSound-sent_linear : (board : Board) (a : ℕ) (x : AppSide) (note : Note) (room bytes : List ℕ) → IsSound board → IsApp board.apps a x
+    → IsOpen board.nic.view → IsLinearNote note → note.total ≡ length bytes → take note.total room ≡ bytes
+    → length (get_or board.arrays.notes a (buffer [] 0)).items < (get_or board.arrays.notes a (buffer [] 0)).capacity → IsSound (record {
+      arrays = record board.arrays { notes = set board.arrays.notes a (pushed (get_or board.arrays.notes a (buffer [] 0)) (record { note = note; bytes = room })) };
+      nic = nic_at board.nic (sent_linear board.nic.view a note bytes);
+      apps = board.apps;
+    })
 IsSound-sent_linear board a x note room bytes sound here running fields many travels free =
     let split = fields.split in
     let v = sent_linear board.nic.view a note bytes in
@@ -175,3 +198,4 @@ IsSound-sent_linear board a x note room bytes sound here running fields many tra
     (record { split = λ is_split. absurd (false≢true (sym split ∙ is_split)); linear = λ _. (fields, sym many) })
     (λ b. IsFilledByOne-sent_linear b board.nic board.apps a note bytes x split sound.set.numbers here within (sound.by_one b))
     (AreShown-sent_linear (byte_of board.arrays) board.nic board.apps a note bytes x split sound.set.numbers here (taken-few board sound) sound.shown)
+    (LieInOwn-sent_linear board.nic board.apps a note bytes split sound.own_buffers)

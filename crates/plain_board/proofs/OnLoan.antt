@@ -1,5 +1,6 @@
 -- What was held or filled is on loan: one user more, and no holder more or less.
-use Rattle.std.proofs.Common.{◌≡◌, ℕ, ◌+◌, ◌<◌, ◌^◌, true, false, List, [], ◌∷◌, length, set, get_or, refl, sym, ◌∙◌, arith, inl}
+use Rattle.std.proofs.Common.{◌≡◌, ℕ, ◌+◌, ◌<◌, ◌^◌, true, false, List, [], ◌∷◌, length, set, get_or, refl, sym, ◌∙◌, arith}
+use Rattle.std.proofs.Common.{inl}
 use Rattle.std.specs.Prelude.{◌==◌, All}
 use Rattle.std.proofs.lemmas.List.{length-set}
 use Rattle.std.proofs.lemmas.List.Elements.{All-head, All-tail}
@@ -7,6 +8,7 @@ use Rattle.area_layout.specs.Layout.{Shape, total}
 use Rattle.board_face.specs.Sides.{IsApp, app_at}
 use Rattle.board_face.specs.AppCalls.{CanLend}
 use Rattle.board_face.specs.Fillings.{FillingsFit, IsFilledByOne}
+use Rattle.board_face.specs.OwnBuffers.{AppLiesInOwn}
 use Rattle.board_face.specs.Shown.{AreShown}
 use Rattle.board_face.specs.declared.views.app.HeldPiece.{HeldPiece}
 use Rattle.board_face.specs.declared.views.app.LentPiece.{LentPiece}
@@ -21,17 +23,22 @@ use Rattle.plain_parts.specs.Counts.{user_at}
 use Rattle.plain_board.specs.Board.{Arrays, Board, byte_of}
 use Rattle.plain_board.specs.Returns.{IsClear, IsOfLoan, loans_out}
 use Rattle.plain_board.specs.Sound.{IsSound}
-use Rattle.plain_board.proofs.AppFrames.{IsSet-app, was-at_rest, AreCounted-app, was-returned, AreRelayed-kept, was-relayed, returns-app, was-returns, AreFlags-kept, AreFreeOnce-app, AreKept-app, AreDue-app, was-given, was-due, AreBooked-app, was-booked_loans, was-booked_raw, ArePhased-app, was-phased}
+use Rattle.plain_board.proofs.AppFrames.{IsSet-app, was-at_rest, AreCounted-app, was-returned, AreRelayed-kept, was-relayed, returns-app, was-returns}
+use Rattle.plain_board.proofs.AppFrames.{AreFlags-kept, AreFreeOnce-app, AreKept-app, AreDue-app, was-given, was-due, AreBooked-app, was-booked_loans}
+use Rattle.plain_board.proofs.AppFrames.{was-booked_raw, ArePhased-app, was-phased, OwnBuffers-app}
 use Rattle.plain_board.proofs.Users.{loans-there, users-there, user-other, user-raised}
-use Rattle.plain_board.proofs.Lying.{part-le, pool-few}
+use Rattle.plain_board.proofs.TokensLie.{part-le, pool-few}
 
 -- where each entry came from a loan, no raw one is in front of any
 pub IsClear-of_loans : (layout : Shape) (b n : ℕ) (ws : List WrittenEntry) → All IsOfLoan ws → IsClear layout b n ws
 IsClear-of_loans layout b n [] all = tt
-IsClear-of_loans layout b n (w ∷ ws) all =
-    (λ raw named. absurd (let wrong : true ≡ false = sym (All-head IsOfLoan w ws all) ∙ raw in cc), IsClear-of_loans layout b n ws (All-tail IsOfLoan w ws all))
+IsClear-of_loans layout b n (w ∷ ws) all = (
+  λ raw named. absurd (let wrong : true ≡ false = sym (All-head IsOfLoan w ws all) ∙ raw in cc),
+  IsClear-of_loans layout b n ws (All-tail IsOfLoan w ws all),
+)
 
-module _ (board : Board) (a : ℕ) (x : AppSide) (buffer : ℕ) (sound : IsSound board) (here : IsApp board.apps a x) (within : buffer < total board.arrays.layout) where
+module _ (board : Board) (a : ℕ) (x : AppSide) (buffer : ℕ) (sound : IsSound board) (here : IsApp board.apps a x)
+    (within : buffer < total board.arrays.layout) where
   abbrev user : ℕ
   user = user_at board.arrays.layout a buffer
 
@@ -73,8 +80,9 @@ module _ (board : Board) (a : ℕ) (x : AppSide) (buffer : ℕ) (sound : IsSound
         → FillingsFit board.nic (set board.apps a loaned)
         → ((b : ℕ) → IsFilledByOne b board.nic (set board.apps a loaned))
         → AreShown (byte_of board.arrays) board.nic (set board.apps a loaned)
+        → AppLiesInOwn loaned.view
         → IsSound (record { arrays = arrays_then n m; nic = board.nic; apps = set board.apps a loaned })
-    IsSound-on_loan n m user_more loan_more holders users more filled fit by_one shown =
+    IsSound-on_loan n m user_more loan_more holders users more filled fit by_one shown own =
         let arr = arrays_then n m in
         let was = was-returns board a x loaned sound here in
         let phase = was-phased board a x loaned sound here in
@@ -105,13 +113,17 @@ module _ (board : Board) (a : ℕ) (x : AppSide) (buffer : ℕ) (sound : IsSound
               (λ b past. omega (arith, holders b))
               (λ b. let e = was-returned board a x loaned sound here b in record { ended = e.ended; returning = e.returning });
           free = AreFreeOnce-app board a x loaned sound here _ (record { hands = at_rest.hands; owes = at_rest.owes }) holders sound.free;
-          relayed = AreRelayed-kept board a x loaned sound here arr refl refl refl (Relayed-app board.nic x loaned.view _ _ refl refl refl refl (was-relayed board a x loaned sound here));
+          relayed = AreRelayed-kept board a x loaned sound here arr refl refl refl
+              (Relayed-app board.nic x loaned.view _ _ refl refl refl refl (was-relayed board a x loaned sound here));
           returns = returns-app board a x loaned sound here (record {
+            written = was.written;
             owed = was.owed;
+            no_more = was.no_more;
             clear = λ b. IsClear-of_loans _ b (loans_out b loaned) _ (was.settled can.settled);
             named = was.named;
             settled = was.settled;
             quiet = was.quiet;
+            scrubbed = was.scrubbed;
             strays = was.strays;
           });
           flags = AreFlags-kept board a x loaned sound here arr refl refl refl;
@@ -121,9 +133,16 @@ module _ (board : Board) (a : ℕ) (x : AppSide) (buffer : ℕ) (sound : IsSound
           by_one = by_one;
           shown = shown;
           notes = sound.notes;
+          own_buffers = OwnBuffers-app board a x loaned sound here own;
+          judged = sound.judged;
           booked = AreBooked-app board a x loaned sound here arr refl
               (record {
-                loans = λ b inside. omega (arith, user-raised (total board.arrays.layout) board.arrays.loans a buffer m within loan-there loan_more b inside, was-booked_loans board a x loaned sound here b inside, more b);
+                loans = λ b inside. omega (
+                  arith,
+                  user-raised (total board.arrays.layout) board.arrays.loans a buffer m within loan-there loan_more b inside,
+                  was-booked_loans board a x loaned sound here b inside,
+                  more b,
+                );
                 filled = filled;
                 raw = was-booked_raw board a x loaned sound here;
               })

@@ -1,5 +1,6 @@
 -- A board that was just opened.
-use Rattle.std.proofs.Common.{◌≡◌, ℕ, zero, suc, ◌*◌, ◌<◌, ◌≤◌, Bool, true, false, List, [], ◌∷◌, length, map, get_or, replicate, refl, ap, sym, ◌∙◌, subst, arith}
+use Rattle.std.proofs.Common.{◌≡◌, ℕ, zero, suc, ◌*◌, ◌<◌, ◌≤◌, Bool, true, false, List, [], ◌∷◌, length, map, get_or, replicate}
+use Rattle.std.proofs.Common.{refl, ap, sym, ◌∙◌, subst, arith, length-drop}
 use Rattle.std.specs.Prelude.{nat_eq, count_by, ◌==◌, if◌then◌else◌, All}
 use Rattle.std.specs.List.{flat_map}
 use Rattle.std.proofs.lemmas.Bool.{false≢true}
@@ -10,14 +11,18 @@ use Rattle.circular_buffer.specs.Buffer.{Buffer, buffer}
 use Rattle.area_layout.specs.Layout.{Shape, IsLayout, pool_buffers, total}
 use Rattle.board_face.specs.Opened.{new_nic, new_app}
 use Rattle.board_face.specs.Sides.{IsApp, AreNumbered}
+use Rattle.board_face.specs.Holders.{ended_in}
+use Rattle.zr_kinds.specs.declared.place.Place.{Place}
 use Rattle.board_face.specs.Counts.{pool_count, user_count, EndedWereReturned}
 use Rattle.board_face.specs.Relay.{Relayed}
-use Rattle.board_face.specs.Texts.{unsplit_bytes}
+use Rattle.board_face.specs.OwnBuffers.{AppLiesInOwn}
+use Rattle.board_face.specs.Judged.{IsHonouredAsNamed}
+use Rattle.board_face.specs.Used.{HasFewPicks, PicksAreGiven}
 use Rattle.board_face.specs.declared.views.parts.Setting.{Setting}
 use Rattle.board_face.specs.declared.views.app.AppSide.{AppSide}
 use Rattle.board_face.proofs.Parts.{app_count, user_part, pool_count-parts, user_count-parts}
 use Rattle.board_face.proofs.Tallies.{weight, total as sum_of}
-use Rattle.board_face.proofs.OpenedLemmas.{IsNew, FillingsFit-opened, IsFilledByOne-opened, AreShown-opened}
+use Rattle.board_face.proofs.OpenedLemmas.{all-alike, IsNew, FillingsFit-opened, IsFilledByOne-opened, AreShown-opened}
 use Rattle.zr_kinds.specs.declared.ring.Rqe.{Rqe}
 use Rattle.plain_parts.specs.declared.slots.NoteSlot.{NoteSlot}
 use Rattle.plain_board.specs.Returns.{AreReturns, entries_on_way, loans_out, reach_of}
@@ -72,11 +77,6 @@ count-new b s n = omega (arith, pool_count-parts b (new_nic s) (new_apps s 0 n),
 users-new : (a b : ℕ) (s : Setting) (n : ℕ) → user_count a b (new_nic s) (new_apps s 0 n) ≡ 0
 users-new a b s n = omega (arith, user_count-parts a b (new_nic s) (new_apps s 0 n), sum-new (user_part a b (new_nic s)) s 0 n (user-none a b s))
 
-zeros : (n i z : ℕ) → get_or (replicate n z) i z ≡ z
-zeros zero i z = refl
-zeros (suc n) zero z = refl
-zeros (suc n) (suc i) z = zeros n i z
-
 module _ (layout : Shape) (places : ℕ) (good : IsLayout layout) (some : 1 ≤ places) (few : places ≤ 256) where
   abbrev s : Setting
   s = record { layout = layout; places = places }
@@ -128,50 +128,71 @@ module _ (layout : Shape) (places : ℕ) (good : IsLayout layout) (some : 1 ≤ 
       many = length-new_apps s 0 layout.reserves;
       numbers = numbered-new_apps s 0 layout.reserves;
       roles = All-new (λ app. app.view.setting ≡ s) s 0 layout.reserves (λ a. refl);
-      roles_rest = All-new IsAtRest s 0 layout.reserves (λ a. record { hands = refl; owes = λ b. zeros (total layout) b 0 });
+      roles_rest = All-new IsAtRest s 0 layout.reserves (λ a. record { hands = refl; owes = λ b. all-alike (total layout) b 0 });
     };
     counted = record {
       pool = λ b within. get_or-replicate (total layout) b 0 0 within ∙ sym (count-new b s layout.reserves);
-      users = λ a b app within. zeros (layout.reserves * total layout) (user_at layout a b) 0 ∙ sym (users-new a b s layout.reserves);
+      users = λ a b app within. all-alike (layout.reserves * total layout) (user_at layout a b) 0 ∙ sym (users-new a b s layout.reserves);
       beyond = λ b past. count-new b s layout.reserves;
-      returned = λ b. All-new (EndedWereReturned b (new_nic s)) s 0 layout.reserves (λ a. record { ended = omega (arith, zeros (total layout) b 0); returning = omega (arith, zeros (total layout) b 0) });
+      returned = λ b. All-new (EndedWereReturned b (new_nic s)) s 0 layout.reserves
+          (λ a. record { ended = omega (arith, all-alike (total layout) b 0); returning = omega (arith, all-alike (total layout) b 0) });
     };
     free = record {
       pool = λ b within. omega (arith, listed-new b within, hands-new b s 0 layout.reserves, ap (λ n. weight (n == 0)) (count-new b s layout.reserves));
       reserves = λ b past. omega (arith, unlisted-new b past, hands-new b s 0 layout.reserves);
     };
     relayed = record {
-      relayed = λ a app here. let within : a < layout.reserves = omega (arith, here.there, length-new_apps s 0 layout.reserves) in rw (slots-new a within, slots-new a within) (relayed-new a app here);
+      relayed = λ a app here. let within : a < layout.reserves = omega (arith, here.there, length-new_apps s 0 layout.reserves) in rw
+          (slots-new a within, slots-new a within) (relayed-new a app here);
       notes = All-replicate (IsRing {X = NoteSlot} places) layout.reserves _ (record { slots = refl; within = omega arith });
       refills = All-replicate (IsRing {X = Rqe} places) layout.reserves _ (record { slots = refl; within = omega arith });
     };
-    returns = λ a app here. subst (AreReturns (new_nic s)) here.is (All-new (AreReturns (new_nic s)) s 0 layout.reserves (λ n. record { owed = λ b. omega arith; clear = λ b. tt; named = All-nil _; settled = λ e. All-nil _; quiet = λ e. refl; strays = All-nil _ }) a app here.there);
+    returns = λ a app here. subst (AreReturns (new_nic s)) here.is
+        (All-new (AreReturns (new_nic s)) s 0 layout.reserves
+        (λ n. record {
+          written = λ b. omega arith;
+          owed = λ b. omega arith;
+          no_more = λ b. omega (arith, length-drop {A = Place} (ended_in b (new_nic s) (new_app s n)) []);
+          clear = λ b. tt;
+          named = All-nil _;
+          settled = λ e. All-nil _;
+          quiet = λ e. refl;
+          scrubbed = λ e. refl;
+          strays = All-nil _;
+        }) a app here.there);
     flags = record { ended = refl; left = left-new s 0 layout.reserves };
     kept = record {
       kept = λ b within. omega (arith, listed-new b within);
       swept = λ b within gone. absurd (omega (arith, gone));
     };
     due = record {
-      picked = All-new (λ app. length app.view.picked ≤ app.view.spares) s 0 layout.reserves (λ a. omega arith);
-      spares = All-new (λ app. app.view.spares ≤ unsplit_bytes (map (λ t. t.note) app.view.taken)) s 0 layout.reserves (λ a. omega arith);
+      picked = All-new PicksAreGiven s 0 layout.reserves (λ a. omega arith);
+      few = All-new HasFewPicks s 0 layout.reserves (λ a. record { picks = omega arith; spares = omega arith });
     };
     filled = FillingsFit-opened s apps news;
     by_one = λ b. IsFilledByOne-opened b s apps news;
     shown = AreShown-opened (byte_of (new_board layout places).arrays) s apps news;
     notes = All-nil IsProper;
+    own_buffers = record {
+      card = record { pieces = All-nil _; sent = All-nil _ };
+      sides = All-new (λ app. AppLiesInOwn app.view) s 0 layout.reserves
+          (λ n. record { helds = All-nil _; spares = All-nil _; loans = All-nil _; returned = All-nil _ });
+    };
+    judged = All-nil (IsHonouredAsNamed layout);
     booked = record {
-      loans = λ a b app here within. zeros (layout.reserves * total layout) (user_at layout a b) 0
+      loans = λ a b app here within. all-alike (layout.reserves * total layout) (user_at layout a b) 0
           ∙ subst (λ x. 0 ≡ loans_out b x) here.is (All-new (λ x. 0 ≡ loans_out b x) s 0 layout.reserves (λ n. refl) a app here.there);
       filled = λ a app here. subst AreLengths here.is (All-new AreLengths s 0 layout.reserves (λ n. All-nil _) a app here.there);
-      raw = λ a app here. zeros layout.reserves a 0
-          ∙ subst (λ x. 0 ≡ reach_of (entries_on_way (new_nic s) x)) here.is (All-new (λ x. 0 ≡ reach_of (entries_on_way (new_nic s) x)) s 0 layout.reserves (λ n. refl) a app here.there);
+      raw = λ a app here. all-alike layout.reserves a 0
+          ∙ subst (λ x. 0 ≡ reach_of (entries_on_way (new_nic s) x)) here.is
+          (All-new (λ x. 0 ≡ reach_of (entries_on_way (new_nic s) x)) s 0 layout.reserves (λ n. refl) a app here.there);
     };
     phased = record {
       card = λ e. absurd (false≢true e);
       sides = All-new (IsPhased (new_nic s)) s 0 layout.reserves
           (λ n. record {
             ended = λ e. absurd (false≢true e);
-            unscrubbed = λ _ b. zeros (total layout) b 0;
+            unscrubbed = λ _ b. all-alike (total layout) b 0;
             scrubbed = λ e. absurd (false≢true e);
             left = λ e. absurd (false≢true e);
           });

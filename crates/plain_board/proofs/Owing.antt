@@ -19,7 +19,8 @@ use Rattle.board_face.proofs.Parts.{count-tally, came_back_in, returned_in-count
 use Rattle.plain_board.specs.Returns.{IsClear, loans_out}
 
 -- the loans out in a buffer are one fewer in the loan's own
-pub loans-fewer : (b : ℕ) (x : AppSide) (place : Place) → HasLoan x.view place → loans_out b (app_at x (abandoned x.view place)) + weight (place.buffer == b) ≡ loans_out b x
+pub loans-fewer : (b : ℕ) (x : AppSide) (place : Place) → HasLoan x.view place
+    → loans_out b (app_at x (abandoned x.view place)) + weight (place.buffer == b) ≡ loans_out b x
 loans-fewer b x place out =
     omega (
       arith,
@@ -31,8 +32,20 @@ loans-fewer b x place out =
 owed-many : (b : ℕ) (nic : NicSide) (x : AppSide) → length (owed_in b nic x) ≡ came_back_in b x - ended_in b nic x
 owed-many b nic x = length-drop (ended_in b nic x) (returned_in b x) ∙ ap (λ n. n - ended_in b nic x) (returned_in-count b x)
 
+-- those that were given back or abandoned one more
+pub returned-more : (b : ℕ) (x : AppSide) (place : Place) → length (returned_in b (app_at x (abandoned x.view place)))
+    ≡ length (returned_in b x) + weight (place.buffer == b)
+returned-more b x place =
+    omega (
+      arith,
+      returned_in-count b (app_at x (abandoned x.view place)),
+      returned_in-count b x,
+      tally-push (λ (l : LentPiece). l.place.buffer == b) x.view.returned (record { place = place; origin = loan_origin x.view place }),
+    )
+
 -- and those owed one more
-pub owed-more : (b : ℕ) (nic : NicSide) (x : AppSide) (place : Place) → EndedWereReturned b nic x → length (owed_in b nic (app_at x (abandoned x.view place))) ≡ length (owed_in b nic x) + weight (place.buffer == b)
+pub owed-more : (b : ℕ) (nic : NicSide) (x : AppSide) (place : Place) → EndedWereReturned b nic x
+    → length (owed_in b nic (app_at x (abandoned x.view place))) ≡ length (owed_in b nic x) + weight (place.buffer == b)
 owed-more b nic x place ended =
     let now = app_at x (abandoned x.view place) in
     omega (
@@ -47,4 +60,7 @@ owed-more b nic x place ended =
 -- where no loan is out, none is after fewer are
 pub IsClear-fewer : (layout : Shape) (b n m : ℕ) (ws : List WrittenEntry) → m ≤ n → IsClear layout b n ws → IsClear layout b m ws
 IsClear-fewer layout b n m [] less clear = clear
-IsClear-fewer layout b n m (w ∷ ws) less clear = (λ raw named. let were = clear.0 raw named in (let e = were.0 in omega arith, were.1), IsClear-fewer layout b n m ws less clear.1)
+IsClear-fewer layout b n m (w ∷ ws) less clear = (
+  λ raw named. let were = clear.0 raw named in (let e = were.0 in omega arith, were.1),
+  IsClear-fewer layout b n m ws less clear.1,
+)

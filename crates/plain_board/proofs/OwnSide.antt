@@ -1,34 +1,27 @@
 -- What an application knows of itself counts as its side does: before its scrub nothing was taken by one, and then it owes nothing.
-use Rattle.std.proofs.Common.{◌≡◌, ℕ, ◌-◌, Bool, true, false, List, [], ◌∷◌, get_or, set, replicate, refl, ap, sym, ◌∙◌, arith, ⊎_elim, length-drop}
+use Rattle.std.proofs.Common.{◌≡◌, ℕ, ◌+◌, ◌-◌, Bool, true, false, List, [], ◌∷◌, set, refl, ap, sym, ◌∙◌, arith}
+use Rattle.std.proofs.Common.{length-drop}
 use Rattle.std.specs.Prelude.{◌==◌, nat_eq, count_by, if◌then◌else◌, All}
 use Rattle.std.specs.List.{flat_map}
-use Rattle.std.proofs.lemmas.Bool.{cases_lt}
-use Rattle.std.proofs.Math.ListN.{get_or-eq_default}
-use Rattle.std.proofs.lemmas.List.{length-replicate, get_or-replicate, set-set}
+use Rattle.std.proofs.lemmas.List.{set-set}
 use Rattle.std.proofs.lemmas.List.Elements.{All-head, All-tail}
 use Rattle.area_layout.specs.Layout.{total as all_buffers}
 use Rattle.board_face.specs.Sides.{IsApp}
 use Rattle.board_face.specs.Holders.{returning_in_hand, returned_in, ended_in}
-use Rattle.board_face.specs.Counts.{pool_count}
+use Rattle.board_face.specs.Counts.{pool_count, user_count}
 use Rattle.board_face.specs.AppEvents.{app_gist}
 use Rattle.board_face.specs.declared.views.app.LentPiece.{LentPiece}
 use Rattle.board_face.specs.declared.views.app.AppSide.{AppSide}
 use Rattle.board_face.proofs.Tallies.{weight, tally, total, tally-flat}
-use Rattle.board_face.proofs.Parts.{app_count, owed_count, returned_in-count, count-tally}
-use Rattle.board_face.proofs.AppLemmas.{pool_count-app}
+use Rattle.board_face.proofs.Parts.{app_count, user_part, loans_in, owed_count, returned_in-count, count-tally}
+use Rattle.board_face.proofs.AppLemmas.{pool_count-app, user_count-app}
 use Rattle.plain_parts.specs.Blank.{blank_app}
 use Rattle.plain_parts.specs.Free.{HasNoneListed}
+use Rattle.board_face.proofs.OpenedLemmas.{all-alike}
 use Rattle.plain_board.specs.Board.{Board, others_of}
 use Rattle.plain_board.specs.Seen.{self_of, all_of, HasNothingListed}
 use Rattle.plain_board.specs.Sound.{IsSound, IsAtRest}
 use Rattle.plain_board.proofs.AppFrames.{has-setting, was-at_rest, was-phased}
-
-zeros : (n b : ℕ) → get_or {A = ℕ} (replicate n 0) b 0 ≡ 0
-zeros n b =
-    ⊎_elim
-    (λ inside. get_or-replicate n b 0 0 inside)
-    (λ past. get_or-eq_default (replicate n 0) 0 (omega (arith, length-replicate {A = ℕ} n 0)))
-    (cases_lt b n)
 
 -- applications at rest have no buffer in hand
 hands-none : (b : ℕ) (apps : List AppSide) → All IsAtRest apps → total (λ app. tally (nat_eq b) app.inside.hands) apps ≡ 0
@@ -45,22 +38,32 @@ module _ (board : Board) (a : ℕ) (x : AppSide) (sound : IsSound board) (here :
   no-returning b = ap (λ inside. returning_in_hand x.view.app b inside.entry) sound.set.card_rest
 
   ended-same : (b : ℕ) → x.view.scrubbed ≡ false → ended_in b board.nic self ≡ ended_in b board.nic x
-  ended-same b is = let phase = was-phased board a x x sound here in omega (arith, phase.unscrubbed is b, zeros (all_buffers x.view.setting.layout) b)
+  ended-same b is = let phase = was-phased board a x x sound here in omega (arith, phase.unscrubbed is b, all-alike (all_buffers x.view.setting.layout) b 0)
 
-  owed-by : (b : ℕ) (c : Bool) → x.view.scrubbed ≡ c → tally (λ (l : LentPiece). l.place.buffer == b) (if c then [] else x.view.returned) - ended_in b board.nic self ≡ owed_count b board.nic x
-  owed-by b true is = let phase = was-phased board a x x sound here in omega (arith, (phase.scrubbed is).1 b, length-drop (ended_in b board.nic x) (returned_in b x), returned_in-count b x)
+  owed-by : (b : ℕ) (c : Bool) → x.view.scrubbed ≡ c → tally (λ (l : LentPiece). l.place.buffer == b)
+      (if c then [] else x.view.returned) - ended_in b board.nic self ≡ owed_count b board.nic x
+  owed-by b true is = let phase = was-phased board a x x sound here in omega
+      (arith, (phase.scrubbed is).1 b, length-drop (ended_in b board.nic x) (returned_in b x), returned_in-count b x)
   owed-by b false is = omega (arith, ended-same b is)
 
   self-count : (b : ℕ) → app_count b board.nic self ≡ app_count b board.nic x
   self-count b =
       let rest = was-at_rest board a x x sound here in
-      omega (arith, owed-by b x.view.scrubbed refl, no-returning b, rest.owes b, zeros (all_buffers x.view.setting.layout) b)
+      omega (arith, owed-by b x.view.scrubbed refl, no-returning b, rest.owes b, all-alike (all_buffers x.view.setting.layout) b 0)
+
+  sides : all_of (app_gist x.view) (others_of board a) ≡ set board.apps a self
+  sides = ap (λ n. set (set board.apps a blank_app) n self) here.number ∙ set-set board.apps a blank_app self
 
   -- a buffer has as many holders as the application knows of, with the others
   pub seen-count : (b : ℕ) → pool_count b board.nic (all_of (app_gist x.view) (others_of board a)) ≡ pool_count b board.nic board.apps
-  seen-count b =
-      let sides : all_of (app_gist x.view) (others_of board a) ≡ set board.apps a self = ap (λ n. set (set board.apps a blank_app) n self) here.number ∙ set-set board.apps a blank_app self in
-      omega (arith, ap (pool_count b board.nic) sides, pool_count-app b board.nic board.apps a x self here, self-count b)
+  seen-count b = omega (arith, ap (pool_count b board.nic) sides, pool_count-app b board.nic board.apps a x self here, self-count b)
+
+  self-part : (k b : ℕ) → user_part k b board.nic self ≡ user_part k b board.nic x
+  self-part k b = ap (λ n. if x.view.app == k then loans_in b x + n else 0) (owed-by b x.view.scrubbed refl)
+
+  -- and as many users
+  pub seen-users : (k b : ℕ) → user_count k b board.nic (all_of (app_gist x.view) (others_of board a)) ≡ user_count k b board.nic board.apps
+  seen-users k b = omega (arith, ap (user_count k b board.nic) sides, user_count-app k b board.nic board.apps a x self here, self-part k b)
 
   -- where no buffer is listed, one without holder is cached
   pub nothing-listed : HasNoneListed board.arrays.listed → HasNothingListed (app_gist x.view) (others_of board a)

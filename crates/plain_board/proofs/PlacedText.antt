@@ -1,8 +1,9 @@
 -- A text is placed: its buffer has one holder more, and the area has the text where the buffer's next bytes go.
-use Rattle.std.proofs.Common.{◌≡◌, ℕ, ◌+◌, ◌^◌, ◌<◌, ◌≤◌, List, length, set, get_or, refl, ap, sym, ◌∙◌, subst, arith, ⊎_elim, inl, inr}
+use Rattle.std.proofs.Common.{◌≡◌, ℕ, ◌+◌, ◌^◌, ◌<◌, ◌≤◌, List, length, set, get_or, refl, ap, sym, ◌∙◌, subst, arith, ⊎_elim}
+use Rattle.std.proofs.Common.{inl, inr}
 use Rattle.std.specs.Prelude.{◌⊎◌, ◌==◌, if◌then◌else◌}
 use Rattle.std.proofs.lemmas.List.{length-set}
-use Rattle.area_layout.specs.Layout.{total, size_of, off_of}
+use Rattle.area_layout.specs.Layout.{pool_buffers, total, size_of, off_of}
 use Rattle.board_face.specs.Tokens.{next_place}
 use Rattle.board_face.specs.NicEvents.{placed}
 use Rattle.board_face.specs.NicCalls.{IsOpen, HasOwn}
@@ -14,8 +15,9 @@ use Rattle.board_face.proofs.Tallies.{weight}
 use Rattle.board_face.proofs.NicLemmas.{pool_count-placed}
 use Rattle.board_face.proofs.FreeLemmas.{free_places-nic}
 use Rattle.board_face.proofs.FewLemmas.{pool_count-few}
-use Rattle.board_face.proofs.FitLemmas.{FillingsFit-own, FillingsFit-placed}
-use Rattle.board_face.proofs.FilledLemmas.{IsFilledByOne-placed}
+use Rattle.board_face.proofs.FillingsFitLemmas.{FillingsFit-own, FillingsFit-placed}
+use Rattle.board_face.proofs.IsFilledByOneLemmas.{IsFilledByOne-placed}
+use Rattle.board_face.proofs.OwnBufferLemmas.{LieInOwn-placed}
 use Rattle.board_face.proofs.AreShownLemmas.{AreShown-placed}
 use Rattle.plain_parts.specs.Area.{stored}
 use Rattle.plain_parts.specs.Free.{listed_in}
@@ -34,7 +36,8 @@ once-placed p p' f w e more which =
     (λ some. used-nowhere p f e some ∙ sym (used-nowhere p' (if p' == 0 then 1 else 0) refl (omega arith)))
     which
 
-module _ (board : Board) (own : Filling) (bytes : List ℕ) (sound : IsSound board) (out : HasOwn board.nic.view own) (fits : own.start + length bytes ≤ own.size) where
+module _ (board : Board) (own : Filling) (bytes : List ℕ) (sound : IsSound board) (out : HasOwn board.nic.view own)
+    (fits : own.start + length bytes ≤ own.size) where
   pub inside : own.buffer < total board.arrays.layout
   inside = let p = of_pool board own sound out in omega arith
 
@@ -50,7 +53,8 @@ module _ (board : Board) (own : Filling) (bytes : List ℕ) (sound : IsSound boa
       let few = pool_count-few own.buffer board.nic board.apps (sound.shown.places own.buffer) (sound.by_one own.buffer) in
       omega (arith, few, ap (λ s. size_of s.layout own.buffer) sound.set.card, sound.sizes.layout.size.most, sound.counted.pool own.buffer inside)
 
-  more : (b : ℕ) → pool_count b (nic_at board.nic (placed board.nic.view own bytes)) board.apps ≡ pool_count b board.nic board.apps + weight (own.buffer == b)
+  more : (b : ℕ) → pool_count b (nic_at board.nic (placed board.nic.view own bytes)) board.apps
+      ≡ pool_count b board.nic board.apps + weight (own.buffer == b)
   more b = pool_count-placed b board.nic board.apps own bytes out
 
   holds : 0 < pool_count own.buffer board.nic board.apps
@@ -85,14 +89,17 @@ module _ (board : Board) (own : Filling) (bytes : List ℕ) (sound : IsSound boa
         };
         cached = sound.cached;
         set = IsSet-nic _ board.nic v board.apps refl sound.set;
-        counted = AreCounted-nic board.arrays _ board.nic v board.apps own.buffer (get_or board.arrays.pool own.buffer 0 + 1) refl refl refl refl inside sound.sizes.pool
+        counted = AreCounted-nic board.arrays _ board.nic v board.apps own.buffer
+            (get_or board.arrays.pool own.buffer 0 + 1) refl refl refl refl inside sound.sizes.pool
             (omega (arith, more own.buffer, weight-same own.buffer, sound.counted.pool own.buffer inside))
             (λ b other. omega (arith, more b, weight-other own.buffer b (λ e. other (sym e))))
             sound.counted;
         free = record {
           pool = λ b within. free_places-nic (listed_in board.arrays.listed) b board.nic v board.apps refl
-              ∙ once-placed (pool_count b board.nic board.apps) _ (free_places (listed_in board.arrays.listed) b board.nic board.apps) (weight (own.buffer == b)) (sound.free.pool b within) (more b)
-              (⊎_elim (λ same. inr (subst (λ x. 0 < pool_count x board.nic board.apps) (sym same.1) holds)) (λ other. inl other) (same-or-other b own.buffer));
+              ∙ once-placed (pool_count b board.nic board.apps) _ (free_places (listed_in board.arrays.listed) b board.nic board.apps)
+              (weight (own.buffer == b)) (sound.free.pool b within) (more b)
+              (⊎_elim (λ same. inr (subst (λ x. 0 < pool_count x board.nic board.apps) (sym same.1) holds)) (λ other. inl other)
+              (same-or-other b own.buffer));
           reserves = λ b past. free_places-nic (listed_in board.arrays.listed) b board.nic v board.apps refl ∙ sound.free.reserves b past;
         };
         relayed = AreRelayed-nic board.arrays _ board.nic v board.apps refl refl refl refl refl sound.relayed;
@@ -102,10 +109,15 @@ module _ (board : Board) (own : Filling) (bytes : List ℕ) (sound : IsSound boa
         due = sound.due;
         filled = FillingsFit-placed board.nic board.apps own bytes out fits sound.filled;
         by_one = λ b. IsFilledByOne-placed b board.nic board.apps own bytes out (sound.by_one b);
-        shown = AreShown-placed (byte_upto board.arrays own.buffer own.start bytes sound.sizes inside lies own.buffer) (byte_of (stored_then board.arrays own.buffer own.start bytes sound.sizes inside lies)) board.nic board.apps own bytes
-            (StoresAt-last board.arrays own.buffer own.start bytes sound.sizes inside lies) (IsShown-stored board.arrays own.buffer own.start bytes sound.sizes inside lies) out some fits sound.filled sound.by_one
+        shown = AreShown-placed (byte_upto board.arrays own.buffer own.start bytes sound.sizes inside lies own.buffer)
+            (byte_of (stored_then board.arrays own.buffer own.start bytes sound.sizes inside lies)) board.nic board.apps own bytes
+            (StoresAt-last board.arrays own.buffer own.start bytes sound.sizes inside lies)
+            (IsShown-stored board.arrays own.buffer own.start bytes sound.sizes inside lies) out some fits sound.filled sound.by_one
             (AreShown-before board.arrays own.buffer own.start bytes sound.sizes inside lies board.nic board.apps layout sound.shown);
         notes = sound.notes;
+        own_buffers = LieInOwn-placed board.nic board.apps own bytes
+            (rw (ap (λ s. pool_buffers s.layout) sound.set.card) (of_pool board own sound out)) sound.own_buffers;
+        judged = sound.judged;
         booked = AreBooked-nic board.arrays _ board.nic v board.apps refl refl refl refl refl sound.booked;
         phased = ArePhased-open board.nic v board.apps running refl refl sound.phased;
       }

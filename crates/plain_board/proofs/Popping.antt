@@ -1,5 +1,6 @@
 -- An entry leaves its slot.
-use Rattle.std.proofs.Common.{◌≡◌, ℕ, ◌-◌, ◌<◌, List, [], ◌∷◌, ◌++◌, length, map, drop, set, get_or, refl, ap, sym, ◌∙◌, subst, arith, ⊎_elim, Some, None}
+use Rattle.std.proofs.Common.{◌≡◌, ℕ, ◌-◌, ◌<◌, List, [], ◌∷◌, ◌++◌, length, map, drop, set, get_or, refl, ap, sym, ◌∙◌, subst}
+use Rattle.std.proofs.Common.{arith, ⊎_elim, Some, None}
 use Rattle.std.specs.Prelude.{◌≢◌, slice_get}
 use Rattle.std.proofs.lemmas.List.{set-get_or, get_or_default, get_or-set_same, get_or-set_other}
 use Rattle.std.proofs.lemmas.List.Elements.{All-set}
@@ -29,12 +30,15 @@ other-number apps a k y it ne e = ne (sym it.number ∙ e)
 abbrev pub ring_then : Board → ℕ → Buffer Rqe
 ring_then board a = popped (get_or board.arrays.refills a (buffer [] 0))
 
-module _ (board : Board) (a : ℕ) (x : AppSide) (e : Rqe) (es : List Rqe) (sound : IsSound board) (here : IsApp board.apps a x) (found : refills_of board.arrays a ≡ e ∷ es)
-    (v : NicView) (d : Dealt) (sents : v.sent ≡ board.nic.view.sent) (deals : v.dealt ≡ board.nic.view.dealt ++ d ∷ []) (mine : d.app ≡ a) (its : d.entry ≡ e) where
+module _ (board : Board) (a : ℕ) (x : AppSide) (e : Rqe) (es : List Rqe) (sound : IsSound board) (here : IsApp board.apps a x)
+    (found : refills_of board.arrays a ≡ e ∷ es)
+    (v : NicView) (d : Dealt) (sents : v.sent ≡ board.nic.view.sent) (deals : v.dealt ≡ board.nic.view.dealt ++ d ∷ []) (mine : d.app ≡ a)
+    (its : d.entry ≡ e) where
   ring_there : a < length board.arrays.refills
   ring_there = let h = here.there in let many = sound.set.many in let size = sound.sizes.refills in omega arith
 
-  pub AreRelayed-popped : (now : Arrays) → now.notes ≡ board.arrays.notes → now.places ≡ board.arrays.places → now.refills ≡ set board.arrays.refills a (ring_then board a) → AreRelayed now (nic_at board.nic v) board.apps
+  pub AreRelayed-popped : (now : Arrays) → now.notes ≡ board.arrays.notes → now.places ≡ board.arrays.places
+      → now.refills ≡ set board.arrays.refills a (ring_then board a) → AreRelayed now (nic_at board.nic v) board.apps
   AreRelayed-popped now notes places refills = record {
     relayed = λ k y it. ⊎_elim
         (λ t. let same : k ≡ a = t.1 in
@@ -42,25 +46,31 @@ module _ (board : Board) (a : ℕ) (x : AppSide) (e : Rqe) (es : List Rqe) (soun
         let rest : refills_of now k ≡ es =
         ap (λ (rings : List (Buffer Rqe)). (get_or rings k (buffer [] 0)).items) refills
         ∙ (ap (λ (n : ℕ). (get_or (set board.arrays.refills a (ring_then board a)) n (buffer [] 0)).items) same
-        ∙ (ap (λ (r : Buffer Rqe). r.items) (get_or-set_same board.arrays.refills a (ring_then board a) (buffer [] 0) ring_there) ∙ ap (λ (es : List Rqe). drop 1 es) found)) in
+        ∙ (ap (λ (r : Buffer Rqe). r.items) (get_or-set_same board.arrays.refills a (ring_then board a) (buffer [] 0) ring_there)
+        ∙ ap (λ (es : List Rqe). drop 1 es) found)) in
         let slots : notes_of now k ≡ notes_of board.arrays a = rw (notes, same) refl in
         subst (λ app. Relayed (nic_at board.nic v) app (map taken_of (notes_of now k)) (refills_of now k)) (sym is)
         (rw (rest, slots) (Relayed-dealt board.nic v x d _ es sents deals (mine ∙ sym here.number) (rw its (rw found at (sound.relayed.relayed a x here))))))
         (λ t. let ne : k ≢ a = t.1 in
         let rest : refills_of now k ≡ refills_of board.arrays k =
-        ap (λ (rings : List (Buffer Rqe)). (get_or rings k (buffer [] 0)).items) refills ∙ ap (λ (r : Buffer Rqe). r.items) (get_or-set_other board.arrays.refills a k (ring_then board a) (buffer [] 0) ne) in
+        ap (λ (rings : List (Buffer Rqe)). (get_or rings k (buffer [] 0)).items) refills
+        ∙ ap (λ (r : Buffer Rqe). r.items) (get_or-set_other board.arrays.refills a k (ring_then board a) (buffer [] 0) ne) in
         let slots : notes_of now k ≡ notes_of board.arrays k = rw notes refl in
-        rw (rest, slots) (Relayed-dealt_other board.nic v y d _ _ sents deals (λ same. other-number board.apps a k y it ne (sym same ∙ mine)) (sound.relayed.relayed k y it)))
+        rw (rest, slots) (Relayed-dealt_other board.nic v y d _ _ sents deals (λ same. other-number board.apps a k y it ne (sym same ∙ mine))
+        (sound.relayed.relayed k y it)))
         (eqb_tells k a);
     notes = rw (notes, places) sound.relayed.notes;
-    refills = rw (refills, places) (All-set (IsRing board.arrays.places) board.arrays.refills a (ring_then board a) (IsRing-popped board.arrays.places (get_or board.arrays.refills a (buffer [] 0)) (sound.relayed.refills a (buffer [] 0) ring_there)) sound.relayed.refills);
+    refills = rw (refills, places) (All-set (IsRing board.arrays.places) board.arrays.refills a (ring_then board a)
+        (IsRing-popped board.arrays.places (get_or board.arrays.refills a (buffer [] 0))
+        (sound.relayed.refills a (buffer [] 0) ring_there)) sound.relayed.refills);
   }
 
   raw_there : a < length board.arrays.raw
   raw_there = let h = here.there in let many = sound.set.many in let size = sound.sizes.raw in omega arith
 
   -- the last raw entry lies one less far back
-  pub AreBooked-popped : (now : Arrays) → now.layout ≡ board.arrays.layout → now.loans ≡ board.arrays.loans → now.filled ≡ board.arrays.filled → now.raw ≡ set board.arrays.raw a (get_or board.arrays.raw a 0 - 1) → HasFront board.nic x d.entry
+  pub AreBooked-popped : (now : Arrays) → now.layout ≡ board.arrays.layout → now.loans ≡ board.arrays.loans → now.filled ≡ board.arrays.filled
+      → now.raw ≡ set board.arrays.raw a (get_or board.arrays.raw a 0 - 1) → HasFront board.nic x d.entry
       → AreBooked now (nic_at board.nic v) board.apps
   AreBooked-popped now layout loans filled raw front = record {
     loans = λ k b app it within. rw (loans, layout) (sound.booked.loans k b app it (rw (← layout) within));
@@ -70,12 +80,15 @@ module _ (board : Board) (a : ℕ) (x : AppSide) (e : Rqe) (es : List Rqe) (soun
         let is : y ≡ x = same-app board.apps a x y here (subst (λ n. IsApp board.apps n y) same it) in
         let less : get_or now.raw k 0 ≡ get_or board.arrays.raw a 0 - 1 =
         ap (λ counts. get_or counts k 0) raw
-        ∙ (ap (λ n. get_or (set board.arrays.raw a (get_or board.arrays.raw a 0 - 1)) n 0) same ∙ get_or-set_same board.arrays.raw a (get_or board.arrays.raw a 0 - 1) 0 raw_there) in
+        ∙ (ap (λ n. get_or (set board.arrays.raw a (get_or board.arrays.raw a 0 - 1)) n 0) same
+        ∙ get_or-set_same board.arrays.raw a (get_or board.arrays.raw a 0 - 1) 0 raw_there) in
         let was : get_or board.arrays.raw a 0 ≡ reach_of (front.first ∷ front.others) = sound.booked.raw a x here ∙ ap reach_of front.way in
         subst (λ app. get_or now.raw k 0 ≡ reach_of (entries_on_way (nic_at board.nic v) app)) (sym is)
-        (less ∙ (ap (λ n. n - 1) was ∙ (reach-popped front.first front.others ∙ sym (ap reach_of (way-after board.nic v x d deals front (mine ∙ sym here.number)))))))
+        (less ∙ (ap (λ n. n - 1) was ∙ (reach-popped front.first front.others
+        ∙ sym (ap reach_of (way-after board.nic v x d deals front (mine ∙ sym here.number)))))))
         (λ t. let ne : k ≢ a = t.1 in
-        let rest : get_or now.raw k 0 ≡ get_or board.arrays.raw k 0 = ap (λ counts. get_or counts k 0) raw ∙ get_or-set_other board.arrays.raw a k (get_or board.arrays.raw a 0 - 1) 0 ne in
+        let rest : get_or now.raw k 0 ≡ get_or board.arrays.raw k 0 = ap (λ counts. get_or counts k 0) raw
+        ∙ get_or-set_other board.arrays.raw a k (get_or board.arrays.raw a 0 - 1) 0 ne in
         let others = dealt-same board.nic v y.view.app d deals (λ same. other-number board.apps a k y it ne (sym same ∙ mine)) in
         rest ∙ rw others (sound.booked.raw k y it))
         (eqb_tells k a);
@@ -92,7 +105,9 @@ front-none [] e = refl
 front-none (y ∷ ys) e = absurd (let none : ⊥ = cc in none)
 
 -- nothing leaves an empty ring
-pub rings-same : {A : Type 0} (rings : List (Buffer A)) (a : ℕ) → (get_or rings a (buffer [] 0)).items ≡ [] → set rings a (popped (get_or rings a (buffer [] 0))) ≡ rings
+pub rings-same : {A : Type 0} (rings : List (Buffer A)) (a : ℕ) → (get_or rings a (buffer [] 0)).items ≡ []
+    → set rings a (popped (get_or rings a (buffer [] 0))) ≡ rings
 rings-same {A} rings a empty =
     let n = (get_or rings a (buffer [] 0)).capacity in
-    ap (λ (xs : List A). set rings a (buffer (drop 1 xs) n)) empty ∙ (ap (λ (xs : List A). set rings a (buffer xs n)) (sym empty) ∙ set-get_or rings a (buffer [] 0))
+    ap (λ (xs : List A). set rings a (buffer (drop 1 xs) n)) empty
+    ∙ (ap (λ (xs : List A). set rings a (buffer xs n)) (sym empty) ∙ set-get_or rings a (buffer [] 0))

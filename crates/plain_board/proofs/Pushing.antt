@@ -1,5 +1,6 @@
 -- A raw entry is the last on its way: it came from no loan, and names no buffer in which one is out.
-use Rattle.std.proofs.Common.{◌≡◌, ℕ, suc, ◌+◌, ◌<◌, ◌≤◌, Bool, true, false, List, [], ◌∷◌, ◌++◌, length, map, set, get_or, refl, ap, sym, ◌∙◌, subst, arith, ⊎_elim, Option, Some, None, length-append, length-drop}
+use Rattle.std.proofs.Common.{◌≡◌, ℕ, suc, ◌+◌, ◌<◌, ◌≤◌, Bool, true, false, List, [], ◌∷◌, ◌++◌, length, map, set, get_or}
+use Rattle.std.proofs.Common.{refl, ap, sym, ◌∙◌, subst, arith, ⊎_elim, Option, Some, None, length-append, length-drop}
 use Rattle.std.specs.Prelude.{◌≢◌, ◌==◌, All, Contains, IfSome, count_by, filter}
 use Rattle.std.specs.List.{zip}
 use Rattle.std.proofs.lemmas.List.{drop-append-le, length-set, length-map, get_or-set_same, get_or-set_other}
@@ -26,8 +27,8 @@ use Rattle.board_face.proofs.Tallies.{weight, tally, tally-push}
 use Rattle.board_face.proofs.LookLemmas.{AppTold-one}
 use Rattle.board_face.proofs.AppLemmas.{SameHoldings, app_count-same, user_part-same}
 use Rattle.board_face.proofs.RelayLemmas.{Relayed-wrote}
-use Rattle.board_face.proofs.FilledLemmas.{IsFilledByOne-same}
-use Rattle.board_face.proofs.FitLemmas.{FillingsFit-same}
+use Rattle.board_face.proofs.IsFilledByOneLemmas.{IsFilledByOne-same}
+use Rattle.board_face.proofs.FillingsFitLemmas.{FillingsFit-same}
 use Rattle.board_face.proofs.AreShownLemmas.{AreShown-same}
 use Rattle.plain_parts.specs.Rings.{ring_in, pushed}
 use Rattle.plain_board.specs.Board.{Board, byte_of, others_of}
@@ -35,7 +36,9 @@ use Rattle.plain_board.specs.Returns.{AreReturns, entries_on_way, names, is_some
 use Rattle.plain_board.specs.Seen.{IsSeenBy}
 use Rattle.plain_board.proofs.RingSlots.{IsRing-pushed}
 use Rattle.plain_board.specs.Sound.{IsRing, IsSound, refills_of}
-use Rattle.plain_board.proofs.AppFrames.{has-setting, IsSet-app, was-at_rest, AreCounted-app, was-returned, AreRelayed-app, was-relayed, returns-app, was-returns, AreFlags-kept, AreFreeOnce-app, AreKept-app, AreDue-app, was-given, was-due, AreBooked-app, was-booked_loans, was-booked_filled, ArePhased-app, was-phased}
+use Rattle.plain_board.proofs.AppFrames.{has-setting, IsSet-app, was-at_rest, AreCounted-app, was-returned, AreRelayed-app, was-relayed, returns-app}
+use Rattle.plain_board.proofs.AppFrames.{was-returns, AreFlags-kept, AreFreeOnce-app, AreKept-app, AreDue-app, was-given, was-due, AreBooked-app}
+use Rattle.plain_board.proofs.AppFrames.{was-booked_loans, was-booked_filled, ArePhased-app, was-phased, OwnBuffers-kept}
 use Rattle.plain_board.proofs.Settling.{reach_with}
 
 -- ---- lists that grow by one at the end
@@ -46,13 +49,15 @@ zip-within [] (y ∷ ys) x few = absurd (omega arith)
 zip-within (z ∷ xs) [] x few = refl
 zip-within (z ∷ xs) (y ∷ ys) x few = ap (λ ps. (z, y) ∷ ps) (zip-within xs ys x (omega arith))
 
-returns-raw : (layout : Shape) (b : ℕ) (ws : List WrittenEntry) (w : WrittenEntry) → w.of_loan ≡ false → count_by (returns layout b) (ws ++ w ∷ []) ≡ count_by (returns layout b) ws
+returns-raw : (layout : Shape) (b : ℕ) (ws : List WrittenEntry) (w : WrittenEntry) → w.of_loan ≡ false
+    → count_by (returns layout b) (ws ++ w ∷ []) ≡ count_by (returns layout b) ws
 returns-raw layout b ws w raw =
     let none : weight (returns layout b w) ≡ 0 = rw raw refl in
     omega (arith, none, count-tally (returns layout b) (ws ++ w ∷ []), count-tally (returns layout b) ws, tally-push (returns layout b) ws w)
 
 -- an entry that came from no loan is clear where none is out, and leaves those before it clear
-IsClear-push : (layout : Shape) (b loans : ℕ) (ws : List WrittenEntry) (w : WrittenEntry) → w.of_loan ≡ false → (names layout b w ≡ true → loans ≡ 0) → IsClear layout b loans ws → IsClear layout b loans (ws ++ w ∷ [])
+IsClear-push : (layout : Shape) (b loans : ℕ) (ws : List WrittenEntry) (w : WrittenEntry) → w.of_loan ≡ false
+    → (names layout b w ≡ true → loans ≡ 0) → IsClear layout b loans ws → IsClear layout b loans (ws ++ w ∷ [])
 IsClear-push layout b loans [] w raw idle clear = (λ is named. (idle named, refl), tt)
 IsClear-push layout b loans (v ∷ ws) w raw idle clear =
     (λ is named. let was = clear.0 is named in (was.0, returns-raw layout b ws w raw ∙ was.1), IsClear-push layout b loans ws w raw idle clear.1)
@@ -88,8 +93,14 @@ idle-case (Some i) x b idle named =
 -- ---- what is on its way
 
 -- the card has dealt with no more entries than were written
-pub dealt-within : (nic : NicSide) (app : AppSide) (ns : List TakenNote) (es : List Rqe) → Relayed nic app ns es → length (dealt_entries app.view.app nic) + length es ≡ length app.view.written
-dealt-within nic app ns es relayed = omega (arith, length-append (dealt_entries app.view.app nic) es, ap length relayed.entries, length-map app.view.written (λ w. w.entry))
+pub dealt-within : (nic : NicSide) (app : AppSide) (ns : List TakenNote) (es : List Rqe) → Relayed nic app ns es
+    → length (dealt_entries app.view.app nic) + length es ≡ length app.view.written
+dealt-within nic app ns es relayed = omega (
+  arith,
+  length-append (dealt_entries app.view.app nic) es,
+  ap length relayed.entries,
+  length-map app.view.written (λ w. w.entry),
+)
 
 module _ (board : Board) (a : ℕ) (x : AppSide) (entry : Rqe) (sound : IsSound board) (here : IsApp board.apps a x) where
   abbrev one : WrittenEntry
@@ -102,7 +113,8 @@ module _ (board : Board) (a : ℕ) (x : AppSide) (entry : Rqe) (sound : IsSound 
   ring_then = pushed (ring_in board.arrays.refills a) entry
 
   way-then : entries_on_way board.nic raw_then ≡ entries_on_way board.nic x ++ one ∷ []
-  way-then = drop-append-le (length (dealt_entries x.view.app board.nic)) x.view.written (one ∷ []) (omega (arith, dealt-within board.nic x _ _ (was-relayed board a x x sound here)))
+  way-then = drop-append-le (length (dealt_entries x.view.app board.nic)) x.view.written (one ∷ [])
+      (omega (arith, dealt-within board.nic x _ _ (was-relayed board a x x sound here)))
 
   same : SameHoldings x.view (pushed_raw x.view entry)
   same = record { app = refl; taken = refl; helds = refl; owns = refl; loans = refl; returned = refl }
@@ -114,9 +126,11 @@ module _ (board : Board) (a : ℕ) (x : AppSide) (entry : Rqe) (sound : IsSound 
   refills-mine = ap (λ (r : Buffer Rqe). r.items) (get_or-set_same board.arrays.refills a ring_then (buffer [] 0) ring_there)
 
   -- how many lie in the ring then
-  pub ring-length : (rings : List (Buffer Rqe)) (r : Buffer Rqe) (n : ℕ) → rings ≡ set board.arrays.refills a ring_then → r ≡ get_or rings a r → n ≡ length r.items → n ≡ length ring_then.items
+  pub ring-length : (rings : List (Buffer Rqe)) (r : Buffer Rqe) (n : ℕ) → rings ≡ set board.arrays.refills a ring_then → r ≡ get_or rings a r
+      → n ≡ length r.items → n ≡ length ring_then.items
   ring-length rings r n are read many =
-      let is : r ≡ ring_then = read ∙ (ap (λ (rs : List (Buffer Rqe)). get_or rs a r) are ∙ get_or-set_same board.arrays.refills a ring_then r ring_there) in
+      let is : r ≡ ring_then = read ∙ (ap (λ (rs : List (Buffer Rqe)). get_or rs a r) are
+      ∙ get_or-set_same board.arrays.refills a ring_then r ring_there) in
       many ∙ ap (λ (r : Buffer Rqe). length r.items) is
 
   refills-others : (k : ℕ) → k ≢ a → (get_or (set board.arrays.refills a ring_then) k (buffer [] 0)).items ≡ refills_of board.arrays k
@@ -125,18 +139,31 @@ module _ (board : Board) (a : ℕ) (x : AppSide) (entry : Rqe) (sound : IsSound 
   strays-then : All IsNoLoanStray (zip (x.view.written ++ one ∷ []) (filter (λ (d : Dealt). d.app == x.view.app) board.nic.view.dealt))
   strays-then =
       let mine = filter (λ (d : Dealt). d.app == x.view.app) board.nic.view.dealt in
-      rw (zip-within x.view.written mine one (omega (arith, length-map mine (λ d. d.entry), dealt-within board.nic x _ _ (was-relayed board a x x sound here)))) (was-returns board a x x sound here).strays
+      rw (zip-within x.view.written mine one (omega (
+        arith,
+        length-map mine (λ d. d.entry),
+        dealt-within board.nic x _ _ (was-relayed board a x x sound here),
+      ))) (was-returns board a x x sound here).strays
 
-  AreReturns-raw : NamesNoLoan x.view entry → AreReturns board.nic raw_then
-  AreReturns-raw idle =
+  AreReturns-raw : NamesNoLoan x.view entry → x.view.scrubbed ≡ false → AreReturns board.nic raw_then
+  AreReturns-raw idle counted =
       let layout = x.view.setting.layout in
       let was = was-returns board a x x sound here in
       record {
+        written = λ b. omega (arith, was.written b, returns-raw layout b x.view.written one refl);
         owed = λ b. rw way-then (omega (arith, was.owed b, returns-raw layout b (entries_on_way board.nic x) one refl));
-        clear = λ b. rw way-then (IsClear-push layout b (loans_out b x) (entries_on_way board.nic x) one refl (idle-case (judged layout entry) x b idle) (was.clear b));
+        no_more = λ b. rw way-then (omega (
+          arith,
+          was.no_more b,
+          returns-raw layout b (entries_on_way board.nic x) one refl,
+          returns-raw layout b x.view.written one refl,
+        ));
+        clear = λ b. rw way-then (IsClear-push layout b (loans_out b x) (entries_on_way board.nic x) one refl (idle-case (judged layout entry) x b idle)
+            (was.clear b));
         named = rw way-then (All-push (IsNamed layout) (entries_on_way board.nic x) one was.named (λ e. absurd (let wrong : false ≡ true = e in cc)));
         settled = λ e. absurd (let wrong : false ≡ true = e in cc);
         quiet = λ e. absurd (let wrong : false ≡ true = e in cc);
+        scrubbed = λ e. absurd (let wrong : false ≡ true = sym counted ∙ e in cc);
         strays = strays-then;
       }
 
@@ -153,9 +180,14 @@ module _ (board : Board) (a : ℕ) (x : AppSide) (entry : Rqe) (sound : IsSound 
       )
       )
 
-  pub IsSound-pushed : NamesNoLoan x.view entry → length (ring_in board.arrays.refills a).items < (ring_in board.arrays.refills a).capacity → (n : ℕ) → n ≡ length ring_then.items
-      → IsSound (record { arrays = record board.arrays { refills = set board.arrays.refills a ring_then; raw = set board.arrays.raw a n }; nic = board.nic; apps = set board.apps a raw_then })
-  IsSound-pushed idle room n many =
+  pub IsSound-pushed : NamesNoLoan x.view entry → x.view.scrubbed ≡ false
+      → length (ring_in board.arrays.refills a).items < (ring_in board.arrays.refills a).capacity → (n : ℕ) → n ≡ length ring_then.items
+      → IsSound (record {
+        arrays = record board.arrays { refills = set board.arrays.refills a ring_then; raw = set board.arrays.raw a n };
+        nic = board.nic;
+        apps = set board.apps a raw_then;
+      })
+  IsSound-pushed idle counted room n many =
       let v = pushed_raw x.view entry in
       let rest = was-at_rest board a x raw_then sound here in
       let phase = was-phased board a x raw_then sound here in
@@ -184,12 +216,15 @@ module _ (board : Board) (a : ℕ) (x : AppSide) (entry : Rqe) (sound : IsSound 
             (λ k b ne app within. refl)
             (λ b past. omega (arith, app_count-same b board.nic x v same))
             (λ b. let e = was-returned board a x raw_then sound here b in record { ended = e.ended; returning = e.returning });
-        free = AreFreeOnce-app board a x raw_then sound here _ (record { hands = rest.hands; owes = rest.owes }) (λ b. app_count-same b board.nic x v same) sound.free;
+        free = AreFreeOnce-app board a x raw_then sound here _ (record { hands = rest.hands; owes = rest.owes })
+            (λ b. app_count-same b board.nic x v same) sound.free;
         relayed = AreRelayed-app board a x raw_then sound here _ refl
             (rw refills-mine (Relayed-wrote board.nic x v one _ _ refl refl refl refl (was-relayed board a x raw_then sound here)))
             (λ k ne. refl) refills-others sound.relayed.notes
-            (All-set (IsRing board.arrays.places) board.arrays.refills a ring_then (IsRing-pushed board.arrays.places (ring_in board.arrays.refills a) entry room (sound.relayed.refills a (buffer [] 0) ring_there)) sound.relayed.refills);
-        returns = returns-app board a x raw_then sound here (AreReturns-raw idle);
+            (All-set (IsRing board.arrays.places) board.arrays.refills a ring_then
+            (IsRing-pushed board.arrays.places (ring_in board.arrays.refills a) entry room
+            (sound.relayed.refills a (buffer [] 0) ring_there)) sound.relayed.refills);
+        returns = returns-app board a x raw_then sound here (AreReturns-raw idle counted);
         flags = AreFlags-kept board a x raw_then sound here _ refl refl refl;
         kept = AreKept-app board a x raw_then sound here _ _ refl (λ b. omega arith) sound.kept;
         due = AreDue-app board a x raw_then sound here (was-given board a x raw_then sound here) (was-due board a x raw_then sound here);
@@ -197,6 +232,8 @@ module _ (board : Board) (a : ℕ) (x : AppSide) (entry : Rqe) (sound : IsSound 
         by_one = λ b. IsFilledByOne-same b board.nic board.apps a x v here same (sound.by_one b);
         shown = AreShown-same (byte_of board.arrays) board.nic board.apps a x v here same sound.shown;
         notes = sound.notes;
+        own_buffers = OwnBuffers-kept board a x raw_then sound here refl refl refl refl refl refl;
+        judged = sound.judged;
         booked = AreBooked-app board a x raw_then sound here _ refl
             (record {
               loans = was-booked_loans board a x raw_then sound here;
@@ -210,7 +247,13 @@ module _ (board : Board) (a : ℕ) (x : AppSide) (entry : Rqe) (sound : IsSound 
           ended = phase.ended;
           unscrubbed = phase.unscrubbed;
           scrubbed = phase.scrubbed;
-          left = λ e. let can = phase.left e in record { scrubbed = can.scrubbed; ended = can.ended; helds = can.helds; loans = can.loans; spares = can.spares };
+          left = λ e. let can = phase.left e in record {
+            scrubbed = can.scrubbed;
+            ended = can.ended;
+            helds = can.helds;
+            loans = can.loans;
+            spares = can.spares;
+          };
         });
       }
 
@@ -228,5 +271,7 @@ module _ (board : Board) (a : ℕ) (x : AppSide) (entry : Rqe) (sound : IsSound 
         dealt-within board.nic x _ _ (was-relayed board a x x sound here),
       )
 
-  pub told-full : (ring_in board.arrays.refills a).capacity ≤ length (ring_in board.arrays.refills a).items → AppTold (λ look. IsSeenBy look (app_gist x.view) (others_of board a)) x.view (app_saw x.view RefillInUse)
-  told-full no_room = AppTold-one (λ look. IsSeenBy look (app_gist x.view) (others_of board a)) x.view (app_saw x.view RefillInUse) RefillInUse refl (full no_room)
+  pub told-full : (ring_in board.arrays.refills a).capacity ≤ length (ring_in board.arrays.refills a).items
+      → AppTold (λ look. IsSeenBy look (app_gist x.view) (others_of board a)) x.view (app_saw x.view RefillInUse)
+  told-full no_room = AppTold-one (λ look. IsSeenBy look (app_gist x.view) (others_of board a)) x.view (app_saw x.view RefillInUse) RefillInUse refl
+      (full no_room)

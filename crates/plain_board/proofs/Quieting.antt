@@ -22,7 +22,8 @@ use Rattle.plain_board.proofs.AppTold.{IsSound-told, IsSound-looked}
 use Rattle.plain_board.proofs.Settling.{is-zero, is-some}
 
 -- as many entries lie in the slots as are on their way
-pub entries-many : (nic : NicSide) (app : AppSide) (ns : List TakenNote) (es : List Rqe) → Relayed nic app ns es → length (entries_on_way nic app) ≡ length es
+pub entries-many : (nic : NicSide) (app : AppSide) (ns : List TakenNote) (es : List Rqe) → Relayed nic app ns es
+    → length (entries_on_way nic app) ≡ length es
 entries-many nic app ns es relayed =
     let e = simp (length-append, length-map) at (ap length relayed.entries) in
     simp (length-drop, length-map) (omega (arith, e))
@@ -34,13 +35,16 @@ module _ (board : Board) (a : ℕ) (x : AppSide) (sound : IsSound board) (here :
   many : length (entries_on_way board.nic x) ≡ length (refills_of board.arrays a)
   many = entries-many board.nic x _ _ (sound.relayed.relayed a x here)
 
-  pub IsSound-quiet : (quiet : Bool) → quiet ≡ (length (refills_of board.arrays a) == 0) → IsSound (record { arrays = board.arrays; nic = board.nic; apps = set board.apps a (app_at x (quiet_if x.view quiet)) })
+  pub IsSound-quiet : (quiet : Bool) → quiet ≡ (length (refills_of board.arrays a) == 0)
+      → IsSound (record { arrays = board.arrays; nic = board.nic; apps = set board.apps a (app_at x (quiet_if x.view quiet)) })
   IsSound-quiet true is =
       let none = nil_from_length (entries_on_way board.nic x) (many ∙ is-zero (length (refills_of board.arrays a)) (sym is)) in
-      IsSound-told board a x sound here x.view.settled true x.view.ended x.view.looks (sound.returns a x here).settled (λ e. none) (was-phased board a x x sound here).ended (λ e. e)
+      IsSound-told board a x sound here x.view.settled true x.view.ended x.view.looks (sound.returns a x here).settled (λ e. none)
+      (was-phased board a x x sound here).ended (λ e. e)
   IsSound-quiet false is = IsSound-looked board a x NotQuiet sound here
 
-  pub told-quiet : (quiet : Bool) → quiet ≡ (length (refills_of board.arrays a) == 0) → AppTold (λ look. IsSeenBy look (app_gist x.view) (others_of board a)) x.view (quiet_if x.view quiet)
+  pub told-quiet : (quiet : Bool) → quiet ≡ (length (refills_of board.arrays a) == 0)
+      → AppTold (λ look. IsSeenBy look (app_gist x.view) (others_of board a)) x.view (quiet_if x.view quiet)
   told-quiet true is = AppTold-none (λ look. IsSeenBy look (app_gist x.view) (others_of board a)) x.view (fell_quiet x.view) refl
   told-quiet false is =
       AppTold-one (λ look. IsSeenBy look (app_gist x.view) (others_of board a)) x.view (app_saw x.view NotQuiet) NotQuiet refl

@@ -1,5 +1,6 @@
 -- A loan is read: the area has its text at its place, so the bytes are those that were sent, or copied.
-use Rattle.std.proofs.Common.{◌≡◌, ℕ, ◌+◌, ◌<◌, ◌≤◌, List, [], ◌∷◌, length, map, take, drop, set, get_or, refl, ap, sym, ◌∙◌, subst, arith}
+use Rattle.std.proofs.Common.{◌≡◌, ℕ, ◌+◌, ◌<◌, ◌≤◌, List, [], ◌∷◌, length, map, take, drop, set, get_or, refl, ap, sym, ◌∙◌}
+use Rattle.std.proofs.Common.{subst, arith}
 use Rattle.std.proofs.lemmas.List.{length-take, length-take-le, length-drop, get_or-take, get_or-drop, ext_get_or, drop-drop}
 use Rattle.std.proofs.lemmas.Nat.{row_fits}
 use Rattle.zr_kinds.specs.declared.place.Place.{Place}
@@ -20,20 +21,23 @@ use Rattle.board_face.specs.declared.views.app.TakenNote.{TakenNote}
 use Rattle.board_face.specs.declared.views.app.AppSide.{AppSide}
 use Rattle.board_face.proofs.AppLemmas.{SameHoldings, app_count-same, user_part-same}
 use Rattle.board_face.proofs.RelayLemmas.{Relayed-app, Relayed-read}
-use Rattle.board_face.proofs.ShownLemmas.{IsShown-loan}
-use Rattle.board_face.proofs.FilledLemmas.{IsFilledByOne-same}
-use Rattle.board_face.proofs.FitLemmas.{FillingsFit-same}
+use Rattle.board_face.proofs.TextsByEvent.{IsShown-loan}
+use Rattle.board_face.proofs.IsFilledByOneLemmas.{IsFilledByOne-same}
+use Rattle.board_face.proofs.FillingsFitLemmas.{FillingsFit-same}
 use Rattle.board_face.proofs.AreShownLemmas.{AreShown-same}
 use Rattle.plain_parts.specs.Area.{loaded}
 use Rattle.plain_board.specs.Board.{Board, byte_of}
 use Rattle.plain_board.specs.Sound.{IsSound, taken_of, notes_of, refills_of}
-use Rattle.plain_board.proofs.AppFrames.{IsSet-app, was-at_rest, AreCounted-app, was-returned, AreRelayed-kept, was-relayed, returns-app, was-returns, AreFlags-kept, AreFreeOnce-app, AreKept-app, AreDue-app, was-given, was-due, AreBooked-app, was-booked_loans, was-booked_filled, was-booked_raw, ArePhased-app, was-phased}
-use Rattle.plain_board.proofs.Lying.{loan-lies}
+use Rattle.plain_board.proofs.AppFrames.{IsSet-app, was-at_rest, AreCounted-app, was-returned, AreRelayed-kept, was-relayed, returns-app, was-returns}
+use Rattle.plain_board.proofs.AppFrames.{AreFlags-kept, AreFreeOnce-app, AreKept-app, AreDue-app, was-given, was-due, AreBooked-app, was-booked_loans}
+use Rattle.plain_board.proofs.AppFrames.{was-booked_filled, was-booked_raw, ArePhased-app, was-phased, OwnBuffers-kept}
+use Rattle.plain_board.proofs.TokensLie.{loan-lies}
 
 -- ---- the bytes that are read
 
 -- where the area has a text from a place on, it has each part of it
-part-is : (area : List ℕ) (at from n len : ℕ) (text : List ℕ) → at + from + n ≤ length area → from + n ≤ len → length (take len text) ≡ len → ((i : ℕ) → i < len → get_or area (at + i) 0 ≡ get_or (take len text) i 0)
+part-is : (area : List ℕ) (at from n len : ℕ) (text : List ℕ) → at + from + n ≤ length area → from + n ≤ len → length (take len text) ≡ len
+    → ((i : ℕ) → i < len → get_or area (at + i) 0 ≡ get_or (take len text) i 0)
     → loaded area (at + from) n ≡ take n (drop from text)
 part-is area at from n len text there within long shows =
     let text_len : len ≤ length text = omega (arith, long, length-take len text) in
@@ -52,23 +56,27 @@ part-is area at from n len text there within long shows =
     ∙ sym (get_or-take n (drop from text) i 0 less ∙ get_or-drop from text i 0))))))
 
 -- whatever the text comes from
-origin-is : (area : List ℕ) (at from n len : ℕ) (notes : List SentNote) (o : Origin) → at + from + n ≤ length area → from + n ≤ len → length (origin_bytes notes o len) ≡ len → ((i : ℕ) → i < len → get_or area (at + i) 0 ≡ get_or (origin_bytes notes o len) i 0)
+origin-is : (area : List ℕ) (at from n len : ℕ) (notes : List SentNote) (o : Origin) → at + from + n ≤ length area → from + n ≤ len
+    → length (origin_bytes notes o len) ≡ len → ((i : ℕ) → i < len → get_or area (at + i) 0 ≡ get_or (origin_bytes notes o len) i 0)
     → loaded area (at + from) n ≡ origin_bytes notes (further o from) n
 origin-is area at from n len notes (of_note k first) there within long shows =
     part-is area at from n len (drop first (bytes_sent k notes)) there within long shows ∙ ap (take n) (drop-drop from first (bytes_sent k notes))
 origin-is area at from n len notes (of_copy text) there within long shows = part-is area at from n len text there within long shows
 
-copy-is : (notes : List SentNote) (o : Origin) (from n : ℕ) (bytes : List ℕ) → length bytes ≡ n → bytes ≡ origin_bytes notes (further o from) n → ShowsCopy o from bytes
+copy-is : (notes : List SentNote) (o : Origin) (from n : ℕ) (bytes : List ℕ) → length bytes ≡ n → bytes ≡ origin_bytes notes (further o from) n
+    → ShowsCopy o from bytes
 copy-is notes (of_note k first) from n bytes many is = tt
 copy-is notes (of_copy text) from n bytes many is = is ∙ ap (λ m. take m (drop from text)) (sym many)
 
 -- ---- what was read is kept
 
-Relayed-reads : (nic : NicSide) (x : AppSide) (place : Place) (from : ℕ) (bytes : List ℕ) (ns : List TakenNote) (es : List Rqe) → bytes ≡ origin_bytes (sent_to x.view.app nic) (further (loan_origin x.view place) from) (length bytes) → Relayed nic x ns es
+Relayed-reads : (nic : NicSide) (x : AppSide) (place : Place) (from : ℕ) (bytes : List ℕ) (ns : List TakenNote) (es : List Rqe)
+    → bytes ≡ origin_bytes (sent_to x.view.app nic) (further (loan_origin x.view place) from) (length bytes) → Relayed nic x ns es
     → Relayed nic (app_at x (has_read x.view place from bytes)) ns es
 Relayed-reads nic x place from [] ns es is relayed = Relayed-app nic x (has_read x.view place from []) ns es refl refl refl refl relayed
 Relayed-reads nic x place from (b ∷ bytes) ns es is relayed =
-    Relayed-read nic x (has_read x.view place from (b ∷ bytes)) (record { origin = further (loan_origin x.view place) from; bytes = b ∷ bytes }) ns es refl refl refl refl is relayed
+    Relayed-read nic x (has_read x.view place from (b ∷ bytes))
+    (record { origin = further (loan_origin x.view place) from; bytes = b ∷ bytes }) ns es refl refl refl refl is relayed
 
 module _ (board : Board) (a : ℕ) (x : AppSide) (place : Place) (sound : IsSound board) (here : IsApp board.apps a x) (out : HasLoan x.view place) where
   pub lies : LiesIn board.arrays.layout place
@@ -87,13 +95,16 @@ module _ (board : Board) (a : ℕ) (x : AppSide) (place : Place) (sound : IsSoun
   module _ (from n : ℕ) (within : from + n ≤ place.len) where
     pub bytes-are : loaded board.arrays.area (at + from) n ≡ origin_bytes (sent_to x.view.app board.nic) (further (loan_origin x.view place) from) n
     bytes-are =
-        let mine : AppIsShown (byte_of board.arrays) board.nic x = subst (AppIsShown (byte_of board.arrays) board.nic) here.is (sound.shown.apps a x here.there) in
+        let mine : AppIsShown (byte_of board.arrays) board.nic x = subst (AppIsShown (byte_of board.arrays) board.nic) here.is
+        (sound.shown.apps a x here.there) in
         let shown = IsShown-loan (byte_of board.arrays) board.nic x place out mine in
         origin-is board.arrays.area at from n place.len (sent_to x.view.app board.nic) (loan_origin x.view place) (bytes-there from n within) within shown.len
-        (λ i small. let moved : at + i ≡ begin_of board.arrays.layout place.buffer + (place.offset + i) = omega arith in ap (λ k. get_or board.arrays.area k 0) moved ∙ shown.bytes i small)
+        (λ i small. let moved : at + i ≡ begin_of board.arrays.layout place.buffer + (place.offset + i) = omega arith in ap
+        (λ k. get_or board.arrays.area k 0) moved ∙ shown.bytes i small)
 
     pub bytes-many : length (loaded board.arrays.area (at + from) n) ≡ n
-    bytes-many = let there = bytes-there from n within in length-take-le n (drop (at + from) board.arrays.area) (omega (arith, length-drop (at + from) board.arrays.area))
+    bytes-many = let there = bytes-there from n within in length-take-le n (drop (at + from) board.arrays.area)
+        (omega (arith, length-drop (at + from) board.arrays.area))
 
     pub shows-copy : ShowsCopy (loan_origin x.view place) from (loaded board.arrays.area (at + from) n)
     shows-copy = copy-is (sent_to x.view.app board.nic) (loan_origin x.view place) from n _ bytes-many bytes-are
@@ -129,9 +140,20 @@ module _ (board : Board) (a : ℕ) (x : AppSide) (place : Place) (sound : IsSoun
               (λ k b ne app inside. refl)
               (λ b past. omega (arith, app_count-same b board.nic x v same))
               (λ b. let e = was-returned board a x now sound here b in record { ended = e.ended; returning = e.returning });
-          free = AreFreeOnce-app board a x now sound here _ (record { hands = at_rest.hands; owes = at_rest.owes }) (λ b. app_count-same b board.nic x v same) sound.free;
+          free = AreFreeOnce-app board a x now sound here _ (record { hands = at_rest.hands; owes = at_rest.owes })
+              (λ b. app_count-same b board.nic x v same) sound.free;
           relayed = AreRelayed-kept board a x now sound here board.arrays refl refl refl kept;
-          returns = returns-app board a x now sound here (record { owed = was.owed; clear = was.clear; named = was.named; settled = was.settled; quiet = was.quiet; strays = was.strays });
+          returns = returns-app board a x now sound here (record {
+            written = was.written;
+            owed = was.owed;
+            no_more = was.no_more;
+            clear = was.clear;
+            named = was.named;
+            settled = was.settled;
+            quiet = was.quiet;
+            scrubbed = was.scrubbed;
+            strays = was.strays;
+          });
           flags = AreFlags-kept board a x now sound here board.arrays refl refl refl;
           kept = AreKept-app board a x now sound here _ _ refl (λ b. omega arith) sound.kept;
           due = AreDue-app board a x now sound here (was-given board a x now sound here) (was-due board a x now sound here);
@@ -139,8 +161,14 @@ module _ (board : Board) (a : ℕ) (x : AppSide) (place : Place) (sound : IsSoun
           by_one = λ b. IsFilledByOne-same b board.nic board.apps a x v here same (sound.by_one b);
           shown = AreShown-same (byte_of board.arrays) board.nic board.apps a x v here same sound.shown;
           notes = sound.notes;
+          own_buffers = OwnBuffers-kept board a x now sound here refl refl refl refl refl refl;
+          judged = sound.judged;
           booked = AreBooked-app board a x now sound here board.arrays refl
-              (record { loans = was-booked_loans board a x now sound here; filled = was-booked_filled board a x now sound here; raw = was-booked_raw board a x now sound here })
+              (record {
+                loans = was-booked_loans board a x now sound here;
+                filled = was-booked_filled board a x now sound here;
+                raw = was-booked_raw board a x now sound here;
+              })
               (λ k b ne app inside. refl)
               (λ k y ne it. sound.booked.filled k y it)
               (λ k ne. refl);
@@ -148,6 +176,12 @@ module _ (board : Board) (a : ℕ) (x : AppSide) (place : Place) (sound : IsSoun
             ended = phase.ended;
             unscrubbed = phase.unscrubbed;
             scrubbed = phase.scrubbed;
-            left = λ e. let can = phase.left e in record { scrubbed = can.scrubbed; ended = can.ended; helds = can.helds; loans = can.loans; spares = can.spares };
+            left = λ e. let can = phase.left e in record {
+              scrubbed = can.scrubbed;
+              ended = can.ended;
+              helds = can.helds;
+              loans = can.loans;
+              spares = can.spares;
+            };
           });
         }

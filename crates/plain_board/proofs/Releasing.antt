@@ -1,5 +1,6 @@
 -- A piece is given up: its buffer has one holder less, and is listed where that was the last and it is one of the pool.
-use Rattle.std.proofs.Common.{◌≡◌, ℕ, ◌+◌, ◌-◌, ◌<◌, ◌≤◌, Bool, true, false, List, length, set, get_or, refl, ap, sym, ◌∙◌, arith, inl, inr, ⊎_elim}
+use Rattle.std.proofs.Common.{◌≡◌, ℕ, ◌+◌, ◌-◌, ◌<◌, ◌≤◌, Bool, true, false, List, length, set, get_or, refl, ap, sym, ◌∙◌}
+use Rattle.std.proofs.Common.{arith, inl, inr, ⊎_elim}
 use Rattle.std.specs.Prelude.{◌==◌, ◌&&◌, ◌⊎◌, nat_lt, if◌then◌else◌}
 use Rattle.std.proofs.lemmas.List.{length-set}
 use Rattle.std.proofs.lemmas.Bool.{lt-ltb, ltb-true}
@@ -14,14 +15,15 @@ use Rattle.board_face.specs.declared.views.app.AppSide.{AppSide}
 use Rattle.board_face.proofs.ListLemmas.{not-eqb}
 use Rattle.board_face.proofs.Tallies.{weight}
 use Rattle.board_face.proofs.AppLemmas.{pool_count-app, app_count-released}
-use Rattle.board_face.proofs.FilledLemmas.{IsFilledByOne-released}
+use Rattle.board_face.proofs.IsFilledByOneLemmas.{IsFilledByOne-released}
+use Rattle.board_face.proofs.OwnBufferLemmas.{AppLiesInOwn-released}
 use Rattle.board_face.proofs.AreShownLemmas.{AreShown-released}
 use Rattle.plain_parts.specs.Free.{listed_in}
 use Rattle.plain_board.specs.Board.{Board, byte_of}
 use Rattle.plain_board.specs.Sound.{IsSound}
 use Rattle.plain_board.proofs.Lists.{weight-other, weight-none, same-or-other, lowered}
 use Rattle.plain_board.proofs.Freeing.{and-right, and-true, listed-set}
-use Rattle.plain_board.proofs.AppFrames.{free_places-side}
+use Rattle.plain_board.proofs.AppFrames.{free_places-side, was-own}
 use Rattle.plain_board.proofs.HeldPieces.{is_held, there-pool, held-count, at-rest, IsSound-helds}
 
 -- ---- the free list
@@ -39,7 +41,8 @@ length-then true listed i = length-set listed i true
 length-then false listed i = refl
 
 -- a buffer that has a holder less is free where none is left
-pub once-less : (came : Bool) (p p' f f' w n : ℕ) → f ≡ (if p == 0 then 1 else 0) → p' + w ≡ p → f' ≡ f + (if came then w else 0) → (w ≡ 0) ⊎ ((w ≡ 1) × (p' ≡ n) × (came ≡ (n == 0))) → f' ≡ (if p' == 0 then 1 else 0)
+pub once-less : (came : Bool) (p p' f f' w n : ℕ) → f ≡ (if p == 0 then 1 else 0) → p' + w ≡ p → f' ≡ f + (if came then w else 0)
+    → (w ≡ 0) ⊎ ((w ≡ 1) × (p' ≡ n) × (came ≡ (n == 0))) → f' ≡ (if p' == 0 then 1 else 0)
 once-less came p p' f f' w n e less more which =
     ⊎_elim
     (λ none. let same : p' ≡ p = omega arith in rw same (no-more came f f' w none more ∙ e))
@@ -60,7 +63,8 @@ past-pool : (came : Bool) (i b m : ℕ) → (came ≡ true → i < m) → m ≤ 
 past-pool true i b m inside past = weight-other i b (λ e. absurd (let less = inside refl in omega arith))
 past-pool false i b m inside past = refl
 
-module _ (board : Board) (a : ℕ) (x : AppSide) (place : Place) (sound : IsSound board) (here : IsApp board.apps a x) (stays : IsHere x.view) (out : HasHeld x.view place) where
+module _ (board : Board) (a : ℕ) (x : AppSide) (place : Place) (sound : IsSound board) (here : IsApp board.apps a x) (stays : IsHere x.view)
+    (out : HasHeld x.view place) where
   abbrev released_side : AppSide
   released_side = app_at x (released x.view place)
 
@@ -85,7 +89,8 @@ module _ (board : Board) (a : ℕ) (x : AppSide) (place : Place) (sound : IsSoun
       let none = ap weight (not-eqb (pool_count place.buffer board.nic board.apps) 0 (λ z. absurd (omega (arith, some)))) in
       weight-none (listed_in board.arrays.listed place.buffer) (omega (arith, once, none))
 
-  lists : (b : ℕ) → weight (listed_in (listed_then came board.arrays.listed place.buffer) b) ≡ weight (listed_in board.arrays.listed b) + (if came then weight (place.buffer == b) else 0)
+  lists : (b : ℕ) → weight (listed_in (listed_then came board.arrays.listed place.buffer) b)
+      ≡ weight (listed_in board.arrays.listed b) + (if came then weight (place.buffer == b) else 0)
   lists b = listed-then came board.arrays.listed place.buffer b (λ e. let inside = came-pool e in (omega (arith, sound.sizes.listed), unlisted inside))
 
   some : 0 < get_or board.arrays.pool place.buffer 0
@@ -97,10 +102,17 @@ module _ (board : Board) (a : ℕ) (x : AppSide) (place : Place) (sound : IsSoun
   free-then : AreFreeOnce (listed_in (listed_then came board.arrays.listed place.buffer)) board.nic (set board.apps a released_side)
   free-then =
       let resting = at-rest board a x released_side.view.helds board.arrays.pool board.arrays.listed sound here stays in
-      let places : (b : ℕ) → free_places (listed_in (listed_then came board.arrays.listed place.buffer)) b board.nic (set board.apps a released_side) ≡ free_places (listed_in board.arrays.listed) b board.nic board.apps + (if came then weight (place.buffer == b) else 0) =
-      λ b. omega (arith, free_places-side board a x released_side sound here (listed_in board.arrays.listed) (listed_in (listed_then came board.arrays.listed place.buffer)) b resting, lists b) in
+      let places : (b : ℕ) → free_places (listed_in (listed_then came board.arrays.listed place.buffer)) b board.nic (set board.apps a released_side)
+      ≡ free_places (listed_in board.arrays.listed) b board.nic board.apps + (if came then weight (place.buffer == b) else 0) =
+      λ b. omega (
+        arith,
+        free_places-side board a x released_side sound here (listed_in board.arrays.listed)
+            (listed_in (listed_then came board.arrays.listed place.buffer)) b resting,
+        lists b,
+      ) in
       record {
-        pool = λ b within. once-less came (pool_count b board.nic board.apps) _ (free_places (listed_in board.arrays.listed) b board.nic board.apps) _ (weight (place.buffer == b)) left (sound.free.pool b within)
+        pool = λ b within. once-less came (pool_count b board.nic board.apps) _ (free_places (listed_in board.arrays.listed) b board.nic board.apps) _
+            (weight (place.buffer == b)) left (sound.free.pool b within)
             (less b)
             (places b)
             (⊎_elim
@@ -124,7 +136,8 @@ module _ (board : Board) (a : ℕ) (x : AppSide) (place : Place) (sound : IsSoun
   })
   IsSound-released =
       let there = there-pool board a x place sound here out in
-      IsSound-helds board a x released_side.view.helds (set board.arrays.pool place.buffer left) (listed_then came board.arrays.listed place.buffer) sound here stays (record {
+      IsSound-helds board a x released_side.view.helds (set board.arrays.pool place.buffer left)
+      (listed_then came board.arrays.listed place.buffer) sound here stays (record {
         pool_len = length-set board.arrays.pool place.buffer left;
         listed_len = length-then came board.arrays.listed place.buffer;
         counts = λ b within. omega (arith, lowered board.arrays.pool place.buffer b there some, app_count-released b board.nic x place out);
@@ -133,4 +146,5 @@ module _ (board : Board) (a : ℕ) (x : AppSide) (place : Place) (sound : IsSoun
         more = λ b. omega (arith, lists b);
         by_one = λ b. IsFilledByOne-released b board.nic board.apps a x place here out (sound.by_one b);
         shown = AreShown-released (byte_of board.arrays) board.nic board.apps a x place here out sound.shown;
+        own_buffers = AppLiesInOwn-released x.view place (was-own board a x released_side sound here);
       })

@@ -1,5 +1,6 @@
 -- All that an application owes is taken back: it has no loan and no entry on its way, so it is left with no user reference.
-use Rattle.std.proofs.Common.{◌≡◌, ℕ, zero, suc, ◌+◌, ◌<◌, ◌≤◌, Bool, true, false, List, length, drop, set, get_or, refl, ap, sym, ◌∙◌, arith, ⊎_elim, length-take, length-drop}
+use Rattle.std.proofs.Common.{◌≡◌, ℕ, zero, suc, ◌+◌, ◌<◌, ◌≤◌, Bool, true, false, List, length, drop, set, get_or, refl, ap, sym}
+use Rattle.std.proofs.Common.{◌∙◌, arith, ⊎_elim, length-take, length-drop}
 use Rattle.std.specs.Prelude.{◌==◌, ◌&&◌, nat_lt, if◌then◌else◌}
 use Rattle.std.proofs.lemmas.List.{get_or-take, get_or-drop, get_or_past}
 use Rattle.std.proofs.lemmas.Bool.{cases_lt, lt-ltb}
@@ -14,15 +15,17 @@ use Rattle.board_face.proofs.ListLemmas.{eqb_same, not-eqb}
 use Rattle.board_face.proofs.Tallies.{weight}
 use Rattle.board_face.proofs.Parts.{app_count, user_part, loans_in, owed_count, returned_in-count, pool_count-parts, user_count-parts, total-only}
 use Rattle.board_face.proofs.AppLemmas.{scrubbed_side, pool_count-app, app_count-scrubbed, user_part-scrubbed, EndedWereReturned-scrubbed}
-use Rattle.board_face.proofs.FilledLemmas.{IsFilledByOne-scrubbed}
-use Rattle.board_face.proofs.FitLemmas.{FillingsFit-same}
+use Rattle.board_face.proofs.IsFilledByOneLemmas.{IsFilledByOne-scrubbed}
+use Rattle.board_face.proofs.FillingsFitLemmas.{FillingsFit-same}
 use Rattle.board_face.proofs.AreShownLemmas.{AreShown-scrubbed}
 use Rattle.plain_parts.specs.Area.{loaded}
 use Rattle.plain_parts.specs.Counts.{user_at, HasFewUsers, came_back, TakesBack}
 use Rattle.plain_parts.specs.Free.{listed_in}
 use Rattle.plain_board.specs.Board.{Board, byte_of}
 use Rattle.plain_board.specs.Sound.{IsSound, IsAtRest}
-use Rattle.plain_board.proofs.AppFrames.{has-setting, IsSet-app, was-at_rest, AreCounted-app, was-returned, AreRelayed-kept, was-relayed, returns-app, was-returns, AreFlags-kept, free_places-side, AreKept-app, AreDue-app, was-given, was-due, AreBooked-app, was-booked_loans, was-booked_filled, was-booked_raw, ArePhased-app, was-phased}
+use Rattle.plain_board.proofs.AppFrames.{has-setting, IsSet-app, was-at_rest, AreCounted-app, was-returned, AreRelayed-kept, was-relayed, returns-app}
+use Rattle.plain_board.proofs.AppFrames.{was-returns, AreFlags-kept, free_places-side, AreKept-app, AreDue-app, was-given, was-due, AreBooked-app}
+use Rattle.plain_board.proofs.AppFrames.{was-booked_loans, was-booked_filled, was-booked_raw, ArePhased-app, was-phased, OwnBuffers-kept}
 use Rattle.plain_board.proofs.Lists.{total-of}
 
 -- the user counts of an application
@@ -30,7 +33,8 @@ abbrev pub took_of : Shape → ℕ → List ℕ → List ℕ
 took_of layout a users = loaded users (user_at layout a 0) (all_buffers layout)
 
 -- Of a buffer of the pool so many references were taken back and so many are left. It is free once where none is left.
-once-back : (owed left f f' : ℕ) (inside was now : Bool) → inside ≡ true → now ≡ (if nat_lt 0 owed && (left == 0) && inside then true else was) → f ≡ (if (left + owed) == 0 then 1 else 0) → weight was ≤ f → f' + weight was ≡ f + weight now
+once-back : (owed left f f' : ℕ) (inside was now : Bool) → inside ≡ true → now ≡ (if nat_lt 0 owed && (left == 0) && inside then true else was)
+    → f ≡ (if (left + owed) == 0 then 1 else 0) → weight was ≤ f → f' + weight was ≡ f + weight now
     → f' ≡ (if left == 0 then 1 else 0)
 once-back zero left f f' inside was now is lists e in_places change =
     let same : left + 0 ≡ left = omega arith in
@@ -53,7 +57,8 @@ more-case false was now e = omega (arith, ap weight e)
 module _ (board : Board) (a : ℕ) (x : AppSide) (sound : IsSound board) (here : IsApp board.apps a x) where
   -- its holdings are among those of all
   app-few : (b : ℕ) → app_count b board.nic x ≤ pool_count b board.nic board.apps
-  app-few b = let all = total-of (app_count b board.nic) board.apps a x here.there in omega (arith, pool_count-parts b board.nic board.apps, all, ap (app_count b board.nic) here.is)
+  app-few b = let all = total-of (app_count b board.nic) board.apps a x here.there in omega
+      (arith, pool_count-parts b board.nic board.apps, all, ap (app_count b board.nic) here.is)
 
   same_layout : x.view.setting.layout ≡ board.arrays.layout
   same_layout = ap (λ s. s.layout) (has-setting board a x x sound here)
@@ -67,11 +72,13 @@ module _ (board : Board) (a : ℕ) (x : AppSide) (sound : IsSound board) (here :
         let mine : user_part a b board.nic x ≡ loans_in b x + owed_count b board.nic x = rw (here.number, eqb_same a) refl in
         omega (arith, mine, no-loans b)
 
-    users-mine : (b : ℕ) → b < all_buffers board.arrays.layout → get_or board.arrays.users (user_at board.arrays.layout a b) 0 ≡ owed_count b board.nic x
+    users-mine : (b : ℕ) → b < all_buffers board.arrays.layout
+        → get_or board.arrays.users (user_at board.arrays.layout a b) 0 ≡ owed_count b board.nic x
     users-mine b within =
         sound.counted.users a b here.there within
         ∙ (user_count-parts a b board.nic board.apps
-        ∙ (total-only 0 (user_part a b board.nic) a (λ app other. rw (not-eqb app.view.app a other) refl) board.apps sound.set.numbers a x here.there (omega arith) ∙ (ap (user_part a b board.nic) here.is ∙ part-mine b)))
+        ∙ (total-only 0 (user_part a b board.nic) a (λ app other. rw (not-eqb app.view.app a other) refl) board.apps sound.set.numbers a x here.there
+        (omega arith) ∙ (ap (user_part a b board.nic) here.is ∙ part-mine b)))
 
     pub few-users : HasFewUsers board.arrays.layout a board.arrays.users board.arrays.pool
     few-users b within = omega (arith, users-mine b within, app-few b, sound.counted.pool b within)
@@ -92,14 +99,16 @@ module _ (board : Board) (a : ℕ) (x : AppSide) (sound : IsSound board) (here :
         ⊎_elim
         (λ within.
         let there : at + b ≡ user_at layout a b = omega arith in
-        let got : get_or (took_of layout a users) b 0 ≡ get_or users (user_at layout a b) 0 = get_or-take (all_buffers layout) (drop at users) b 0 within ∙ (get_or-drop at users b 0 ∙ ap (λ n. get_or users n 0) there) in
+        let got : get_or (took_of layout a users) b 0 ≡ get_or users (user_at layout a b) 0 = get_or-take (all_buffers layout) (drop at users) b 0 within
+        ∙ (get_or-drop at users b 0 ∙ ap (λ n. get_or users n 0) there) in
         omega (arith, ap (λ (us : List ℕ). get_or us b 0) is, got, users-mine b within, none))
         (λ past.
         let short : length (took_of layout a users) ≤ b = simp length-take (omega (arith, past)) in
         omega (arith, ap (λ (us : List ℕ). get_or us b 0) is, get_or_past (took_of layout a users) b 0 short, none, app-few b, sound.counted.beyond b past))
         (cases_lt b (all_buffers layout))
 
-    module _ (users' pool' : List ℕ) (listed' : List Bool) (back : TakesBack board.arrays.layout a board.arrays.users users' board.arrays.pool pool' board.arrays.listed listed') where
+    module _ (users' pool' : List ℕ) (listed' : List Bool)
+        (back : TakesBack board.arrays.layout a board.arrays.users users' board.arrays.pool pool' board.arrays.listed listed') where
       fewer : (b : ℕ) → app_count b board.nic scrubbed_then + owed_count b board.nic x ≡ app_count b board.nic x
       fewer b = app_count-scrubbed b board.nic x took (was-returned board a x x sound here b) (takes b)
 
@@ -110,7 +119,13 @@ module _ (board : Board) (a : ℕ) (x : AppSide) (sound : IsSound board) (here :
       pool-then b within = omega (arith, back.less b within, users-mine b within, app-few b, sound.counted.pool b within)
 
       holders-then : (b : ℕ) → b < all_buffers board.arrays.layout → get_or pool' b 0 ≡ pool_count b board.nic (set board.apps a scrubbed_then)
-      holders-then b within = omega (arith, pool-then b within, fewer b, sound.counted.pool b within, pool_count-app b board.nic board.apps a x scrubbed_then here)
+      holders-then b within = omega (
+        arith,
+        pool-then b within,
+        fewer b,
+        sound.counted.pool b within,
+        pool_count-app b board.nic board.apps a x scrubbed_then here,
+      )
 
       at-rest : IsAtRest scrubbed_then
       at-rest = let rest = was-at_rest board a x scrubbed_then sound here in record { hands = rest.hands; owes = rest.owes }
@@ -124,24 +139,35 @@ module _ (board : Board) (a : ℕ) (x : AppSide) (sound : IsSound board) (here :
             let of_pool : b < pool_buffers board.arrays.layout = rw (← pools) inside in
             let within : b < all_buffers board.arrays.layout = omega arith in
             let owed = get_or board.arrays.users (user_at board.arrays.layout a b) 0 in
-            let before : pool_count b board.nic board.apps ≡ get_or pool' b 0 + owed = omega (arith, pool-then b within, users-mine b within, sound.counted.pool b within) in
-            let was : free_places (listed_in board.arrays.listed) b board.nic board.apps ≡ (if (get_or pool' b 0 + owed) == 0 then 1 else 0) = rw (← before) (sound.free.pool b inside) in
+            let before : pool_count b board.nic board.apps ≡ get_or pool' b 0 + owed = omega
+            (arith, pool-then b within, users-mine b within, sound.counted.pool b within) in
+            let was : free_places (listed_in board.arrays.listed) b board.nic board.apps
+            ≡ (if (get_or pool' b 0 + owed) == 0 then 1 else 0) = rw (← before) (sound.free.pool b inside) in
             let some : weight (listed_in board.arrays.listed b) ≤ free_places (listed_in board.arrays.listed) b board.nic board.apps = omega arith in
             let kept : pool_count b board.nic (set board.apps a scrubbed_then) ≡ get_or pool' b 0 = sym (holders-then b within) in
             let change = free_places-side board a x scrubbed_then sound here (listed_in board.arrays.listed) (listed_in listed') b at-rest in
             rw kept
-            (once-back owed (get_or pool' b 0) _ _ (nat_lt b (pool_buffers board.arrays.layout)) (listed_in board.arrays.listed b) (listed_in listed' b) (lt-ltb b (pool_buffers board.arrays.layout) of_pool) (back.lists b within) was some change);
+            (once-back owed (get_or pool' b 0) _ _ (nat_lt b (pool_buffers board.arrays.layout)) (listed_in board.arrays.listed b) (listed_in listed' b)
+            (lt-ltb b (pool_buffers board.arrays.layout) of_pool) (back.lists b within) was some change);
         reserves = λ b past.
             let past' : pool_buffers board.arrays.layout ≤ b = rw (← pools) past in
             let none : listed_in listed' b ≡ false = get_or_past listed' b false (omega (arith, back.listed_len, sound.sizes.listed)) in
-            omega (arith, sound.free.reserves b past, free_places-side board a x scrubbed_then sound here (listed_in board.arrays.listed) (listed_in listed') b at-rest, ap weight none);
+            omega (
+              arith,
+              sound.free.reserves b past,
+              free_places-side board a x scrubbed_then sound here (listed_in board.arrays.listed)
+                  (listed_in listed') b at-rest,
+              ap weight none,
+            );
       }
 
       listed-more : (b : ℕ) → weight (listed_in board.arrays.listed b) ≤ weight (listed_in listed' b)
       listed-more b =
           ⊎_elim
-          (λ within. more-case (came_back board.arrays.layout b (get_or board.arrays.users (user_at board.arrays.layout a b) 0) (get_or pool' b 0)) _ _ (back.lists b within))
-          (λ past. let none : listed_in board.arrays.listed b ≡ false = get_or_past board.arrays.listed b false (omega (arith, sound.sizes.listed)) in omega (arith, ap weight none))
+          (λ within. more-case (came_back board.arrays.layout b (get_or board.arrays.users (user_at board.arrays.layout a b) 0) (get_or pool' b 0)) _ _
+          (back.lists b within))
+          (λ past. let none : listed_in board.arrays.listed b
+          ≡ false = get_or_past board.arrays.listed b false (omega (arith, sound.sizes.listed)) in omega (arith, ap weight none))
           (cases_lt b (all_buffers board.arrays.layout))
 
       owed-none : (b : ℕ) → length (owed_in b board.nic scrubbed_then) ≡ 0
@@ -149,7 +175,11 @@ module _ (board : Board) (a : ℕ) (x : AppSide) (sound : IsSound board) (here :
           let ends : ended_in b board.nic scrubbed_then ≡ ended_in b board.nic x + owed_count b board.nic x = omega (arith, takes b) in
           omega (arith, length-drop (ended_in b board.nic scrubbed_then) (returned_in b x), returned_in-count b x, ends)
 
-      pub IsSound-scrubbed : IsSound (record { arrays = record board.arrays { users = users'; pool = pool'; listed = listed' }; nic = board.nic; apps = set board.apps a scrubbed_then })
+      pub IsSound-scrubbed : IsSound (record {
+        arrays = record board.arrays { users = users'; pool = pool'; listed = listed' };
+        nic = board.nic;
+        apps = set board.apps a scrubbed_then;
+      })
       IsSound-scrubbed =
           let phase = was-phased board a x scrubbed_then sound here in
           let was = was-returns board a x scrubbed_then sound here in
@@ -179,24 +209,36 @@ module _ (board : Board) (a : ℕ) (x : AppSide) (sound : IsSound board) (here :
                 (λ b past. omega (arith, fewer b))
                 (λ b. EndedWereReturned-scrubbed b board.nic x took (takes b) (was-returned board a x scrubbed_then sound here b));
             free = free-then;
-            relayed = AreRelayed-kept board a x scrubbed_then sound here _ refl refl refl (record { notes = sent.notes; reads = sent.reads; entries = sent.entries });
+            relayed = AreRelayed-kept board a x scrubbed_then sound here _ refl refl refl
+                (record { notes = sent.notes; reads = sent.reads; entries = sent.entries });
             returns = returns-app board a x scrubbed_then sound here (record {
+              written = was.written;
               owed = λ b. rw (was.quiet can.quiet) (omega arith);
+              no_more = λ b. omega (arith, owed-none b);
               clear = was.clear;
               named = was.named;
               settled = was.settled;
               quiet = was.quiet;
+              scrubbed = λ e. was.quiet can.quiet;
               strays = was.strays;
             });
             flags = AreFlags-kept board a x scrubbed_then sound here _ refl refl refl;
             kept = AreKept-app board a x scrubbed_then sound here _ _ refl listed-more sound.kept;
             due = AreDue-app board a x scrubbed_then sound here (was-given board a x scrubbed_then sound here) (was-due board a x scrubbed_then sound here);
             filled = FillingsFit-same board.nic board.apps a x scrubbed_then here refl sound.filled;
-            by_one = λ b. IsFilledByOne-scrubbed b board.nic board.apps a x took here (was-returned board a x scrubbed_then sound here b) (takes b) (sound.by_one b);
-            shown = AreShown-scrubbed (byte_of board.arrays) board.nic board.apps a x took (λ b. owed_count b board.nic x) here takes (λ b. (was-returned board a x scrubbed_then sound here b).returning) sound.shown;
+            by_one = λ b. IsFilledByOne-scrubbed b board.nic board.apps a x took here (was-returned board a x scrubbed_then sound here b) (takes b)
+                (sound.by_one b);
+            shown = AreShown-scrubbed (byte_of board.arrays) board.nic board.apps a x took (λ b. owed_count b board.nic x) here takes
+                (λ b. (was-returned board a x scrubbed_then sound here b).returning) sound.shown;
             notes = sound.notes;
+            own_buffers = OwnBuffers-kept board a x scrubbed_then sound here refl refl refl refl refl refl;
+            judged = sound.judged;
             booked = AreBooked-app board a x scrubbed_then sound here _ refl
-                (record { loans = was-booked_loans board a x scrubbed_then sound here; filled = was-booked_filled board a x scrubbed_then sound here; raw = was-booked_raw board a x scrubbed_then sound here })
+                (record {
+                  loans = was-booked_loans board a x scrubbed_then sound here;
+                  filled = was-booked_filled board a x scrubbed_then sound here;
+                  raw = was-booked_raw board a x scrubbed_then sound here;
+                })
                 (λ k b ne app within. refl)
                 (λ k y ne it. sound.booked.filled k y it)
                 (λ k ne. refl);

@@ -1,5 +1,6 @@
 -- An application asks whether a raw entry is on its way.
-use Rattle.std.proofs.Common.{◌≡◌, ℕ, zero, suc, ◌+◌, ◌<◌, Bool, true, false, List, [], ◌∷◌, length, set, get_or, refl, sym, ◌∙◌, arith, ⊎_elim}
+use Rattle.std.proofs.Common.{◌≡◌, ℕ, zero, suc, ◌+◌, ◌<◌, Bool, true, false, List, [], ◌∷◌, length, set, get_or, refl, sym, ◌∙◌}
+use Rattle.std.proofs.Common.{arith, ⊎_elim}
 use Rattle.std.specs.Prelude.{All, ◌==◌, not, nat_lt, count_by, if◌then◌else◌}
 use Rattle.std.proofs.lemmas.List.Elements.{All-nil, All-cons, All-head, All-tail}
 use Rattle.std.proofs.lemmas.Bool.{cases_lt, lt-ltb}
@@ -29,7 +30,11 @@ reach_with of_loan r = if nat_lt 0 r then suc r else if of_loan then 0 else 1
 
 rest-case : (c of_loan : Bool) (r : ℕ) → nat_lt 0 r ≡ c → (if c then suc r else if of_loan then 0 else 1) ≡ 0 → (r ≡ 0) × (of_loan ≡ true)
 rest-case true of_loan r is e = absurd (omega (arith, e))
-rest-case false true r is e = (⊎_elim (λ some. absurd (let wrong : true ≡ false = sym (lt-ltb 0 r some) ∙ is in cc)) (λ none. omega arith) (cases_lt 0 r), refl)
+rest-case false true r is e = (
+  ⊎_elim (λ some. absurd (let wrong : true ≡ false = sym (lt-ltb 0 r some) ∙ is in cc)) (λ none. omega arith)
+      (cases_lt 0 r),
+  refl,
+)
 rest-case false false r is e = absurd (omega (arith, e))
 
 pub reach-rest : (ws : List WrittenEntry) → reach_of ws ≡ 0 → All IsOfLoan ws
@@ -47,7 +52,12 @@ some-case true (suc r) n h e = omega (arith, h (omega arith))
 
 pub reach-some : (ws : List WrittenEntry) → 0 < reach_of ws → 0 < count_by is_raw ws
 reach-some [] e = absurd (omega (arith, e))
-reach-some (w ∷ ws) e = omega (arith, some-case w.of_loan (reach_of ws) (count_by is_raw ws) (reach-some ws) e, count-tally is_raw (w ∷ ws), count-tally is_raw ws)
+reach-some (w ∷ ws) e = omega (
+  arith,
+  some-case w.of_loan (reach_of ws) (count_by is_raw ws) (reach-some ws) e,
+  count-tally is_raw (w ∷ ws),
+  count-tally is_raw ws,
+)
 
 -- ---- the answer
 
@@ -62,14 +72,17 @@ abbrev pub settled_if : AppView → Bool → AppView
 settled_if v settled = if settled then came_to_rest v else app_saw v RawOnItsWay
 
 module _ (board : Board) (a : ℕ) (x : AppSide) (sound : IsSound board) (here : IsApp board.apps a x) where
-  pub IsSound-settled : (settled : Bool) → settled ≡ (get_or board.arrays.raw a 0 == 0) → IsSound (record { arrays = board.arrays; nic = board.nic; apps = set board.apps a (app_at x (settled_if x.view settled)) })
+  pub IsSound-settled : (settled : Bool) → settled ≡ (get_or board.arrays.raw a 0 == 0)
+      → IsSound (record { arrays = board.arrays; nic = board.nic; apps = set board.apps a (app_at x (settled_if x.view settled)) })
   IsSound-settled true is =
       let was = sound.returns a x here in
       let none = sym (sound.booked.raw a x here) ∙ is-zero (get_or board.arrays.raw a 0) (sym is) in
-      IsSound-told board a x sound here true x.view.quiet x.view.ended x.view.looks (λ e. reach-rest _ none) was.quiet (was-phased board a x x sound here).ended (λ e. e)
+      IsSound-told board a x sound here true x.view.quiet x.view.ended x.view.looks (λ e. reach-rest _ none) was.quiet
+      (was-phased board a x x sound here).ended (λ e. e)
   IsSound-settled false is = IsSound-looked board a x RawOnItsWay sound here
 
-  pub told-settled : (settled : Bool) → settled ≡ (get_or board.arrays.raw a 0 == 0) → AppTold (λ look. IsSeenBy look (app_gist x.view) (others_of board a)) x.view (settled_if x.view settled)
+  pub told-settled : (settled : Bool) → settled ≡ (get_or board.arrays.raw a 0 == 0)
+      → AppTold (λ look. IsSeenBy look (app_gist x.view) (others_of board a)) x.view (settled_if x.view settled)
   told-settled true is = AppTold-none (λ look. IsSeenBy look (app_gist x.view) (others_of board a)) x.view (came_to_rest x.view) refl
   told-settled false is =
       AppTold-one (λ look. IsSeenBy look (app_gist x.view) (others_of board a)) x.view (app_saw x.view RawOnItsWay) RawOnItsWay refl

@@ -12,8 +12,9 @@ use Rattle.board_face.specs.FreeOnce.{free_places}
 use Rattle.board_face.specs.declared.views.parts.Filling.{Filling}
 use Rattle.board_face.proofs.NicLemmas.{pool_count-shut}
 use Rattle.board_face.proofs.ListLemmas.{not-eqb}
-use Rattle.board_face.proofs.FitLemmas.{FillingsFit-shut}
-use Rattle.board_face.proofs.FilledLemmas.{IsFilledByOne-shut}
+use Rattle.board_face.proofs.FillingsFitLemmas.{FillingsFit-shut}
+use Rattle.board_face.proofs.IsFilledByOneLemmas.{IsFilledByOne-shut}
+use Rattle.board_face.proofs.OwnBufferLemmas.{LieInOwn-nic}
 use Rattle.board_face.proofs.AreShownLemmas.{AreShown-shut}
 use Rattle.board_face.proofs.Tallies.{weight}
 use Rattle.plain_parts.specs.Free.{listed_in}
@@ -41,7 +42,8 @@ module _ (board : Board) (own : Filling) (sound : IsSound board) (out : HasOwn b
   pub of_pool : own.buffer < pool_buffers board.arrays.layout
   of_pool = rw (← pools) (All-at (λ (o : Filling). o.buffer < pool_buffers board.nic.view.setting.layout) board.nic.view.owns own sound.filled.of_pool out)
 
-  pub less : (last : Bool) (b : ℕ) → pool_count b (nic_at board.nic (shut board.nic.view own last)) board.apps + weight (own.buffer == b) ≡ pool_count b board.nic board.apps
+  pub less : (last : Bool) (b : ℕ) → pool_count b (nic_at board.nic (shut board.nic.view own last)) board.apps + weight (own.buffer == b)
+      ≡ pool_count b board.nic board.apps
   less last b = pool_count-shut b board.nic board.apps own last out
 
   pub is_held : 0 < get_or board.arrays.pool own.buffer 0
@@ -50,7 +52,8 @@ module _ (board : Board) (own : Filling) (sound : IsSound board) (out : HasOwn b
   nowhere : free_places (listed_in board.arrays.listed) own.buffer board.nic board.apps ≡ 0
   nowhere =
       let p = of_pool in
-      used-nowhere (pool_count own.buffer board.nic board.apps) _ (sound.free.pool own.buffer (rw pools p)) (omega (arith, is_held, sound.counted.pool own.buffer (omega arith)))
+      used-nowhere (pool_count own.buffer board.nic board.apps) _ (sound.free.pool own.buffer (rw pools p))
+      (omega (arith, is_held, sound.counted.pool own.buffer (omega arith)))
 
   unlisted : listed_in board.arrays.listed own.buffer ≡ false
   unlisted = none-listed (listed_in board.arrays.listed own.buffer) (omega (arith, nowhere))
@@ -65,7 +68,8 @@ module _ (board : Board) (own : Filling) (sound : IsSound board) (out : HasOwn b
   pub came-zero : (last : Bool) (n : ℕ) → last ≡ (n == 0) → came last ≡ (n == 0)
   came-zero last n is = let p = of_pool in and-true last _ (lt-ltb own.buffer (pool_buffers board.nic.view.setting.layout) (rw pools p)) ∙ is
 
-  free_after : (last : Bool) (b : ℕ) → free_places (listed_in (listed_after (came last) board.arrays.cache board.arrays.listed own.buffer)) b (nic_at board.nic (shut board.nic.view own last)) board.apps
+  free_after : (last : Bool) (b : ℕ) → free_places (listed_in (listed_after (came last) board.arrays.cache board.arrays.listed own.buffer)) b
+      (nic_at board.nic (shut board.nic.view own last)) board.apps
       ≡ free_places (listed_in board.arrays.listed) b board.nic board.apps + (if came last then weight (own.buffer == b) else 0)
   free_after last b =
       let p = of_pool in
@@ -76,19 +80,21 @@ module _ (board : Board) (own : Filling) (sound : IsSound board) (out : HasOwn b
         ap (λ cache. count_by (nat_eq b) (cache_after (came last) cache own.buffer)) sound.cached,
       )
 
-  pub IsSound-shut : IsOpen board.nic.view → (n : ℕ) (last : Bool) → n ≡ get_or board.arrays.pool own.buffer 0 - 1 → came last ≡ (n == 0) → IsSound (record {
-    arrays = record board.arrays {
-      pool = set board.arrays.pool own.buffer n;
-      cache = cache_after (came last) board.arrays.cache own.buffer;
-      listed = listed_after (came last) board.arrays.cache board.arrays.listed own.buffer;
-    };
-    nic = nic_at board.nic (shut board.nic.view own last);
-    apps = board.apps;
-  })
+  pub IsSound-shut : IsOpen board.nic.view → (n : ℕ) (last : Bool) → n ≡ get_or board.arrays.pool own.buffer 0 - 1 → came last ≡ (n == 0)
+      → IsSound (record {
+        arrays = record board.arrays {
+          pool = set board.arrays.pool own.buffer n;
+          cache = cache_after (came last) board.arrays.cache own.buffer;
+          listed = listed_after (came last) board.arrays.cache board.arrays.listed own.buffer;
+        };
+        nic = nic_at board.nic (shut board.nic.view own last);
+        apps = board.apps;
+      })
   IsSound-shut running n last many is =
       let p = of_pool in
       let there : own.buffer < total board.arrays.layout = omega arith in
-      let now : n ≡ pool_count own.buffer (nic_at board.nic (shut board.nic.view own last)) board.apps = omega (arith, less last own.buffer, weight-same own.buffer, sound.counted.pool own.buffer there) in
+      let now : n ≡ pool_count own.buffer (nic_at board.nic (shut board.nic.view own last)) board.apps = omega
+      (arith, less last own.buffer, weight-same own.buffer, sound.counted.pool own.buffer there) in
       record {
         sizes = record {
           layout = sound.sizes.layout;
@@ -111,9 +117,13 @@ module _ (board : Board) (own : Filling) (sound : IsSound board) (out : HasOwn b
             (λ b other. omega (arith, less last b, weight-other own.buffer b (λ e. other (sym e))))
             sound.counted;
         free = record {
-          pool = λ b within. once-freed (came last) (pool_count b board.nic board.apps) _ (free_places (listed_in board.arrays.listed) b board.nic board.apps) _ (weight (own.buffer == b)) n (sound.free.pool b within) (less last b) is (free_after last b)
-              (⊎_elim (λ same. inr (same.0, ap (λ x. pool_count x (nic_at board.nic (shut board.nic.view own last)) board.apps) same.1 ∙ sym now)) (λ other. inl other) (same-or-other b own.buffer));
-          reserves = λ b past. let past' : pool_buffers board.arrays.layout ≤ b = rw (← pools) past in free_after last b ∙ outside (came last) _ _ (sound.free.reserves b past) (weight-other own.buffer b (λ e. absurd (omega arith)));
+          pool = λ b within. once-freed (came last) (pool_count b board.nic board.apps) _
+              (free_places (listed_in board.arrays.listed) b board.nic board.apps) _ (weight (own.buffer == b)) n (sound.free.pool b within) (less last b) is
+              (free_after last b)
+              (⊎_elim (λ same. inr (same.0, ap (λ x. pool_count x (nic_at board.nic (shut board.nic.view own last)) board.apps) same.1 ∙ sym now))
+              (λ other. inl other) (same-or-other b own.buffer));
+          reserves = λ b past. let past' : pool_buffers board.arrays.layout ≤ b = rw (← pools) past in free_after last b
+              ∙ outside (came last) _ _ (sound.free.reserves b past) (weight-other own.buffer b (λ e. absurd (omega arith)));
         };
         relayed = AreRelayed-nic board.arrays _ board.nic (shut board.nic.view own last) board.apps refl refl refl refl refl sound.relayed;
         returns = λ a app here. AreReturns-nic board.nic (shut board.nic.view own last) app refl (sound.returns a app here);
@@ -133,6 +143,8 @@ module _ (board : Board) (own : Filling) (sound : IsSound board) (out : HasOwn b
         by_one = λ b. IsFilledByOne-shut b board.nic board.apps own last out (sound.by_one b);
         shown = AreShown-shut (byte_of board.arrays) board.nic board.apps own last sound.shown;
         notes = sound.notes;
+        own_buffers = LieInOwn-nic board.nic (shut board.nic.view own last) board.apps refl refl refl sound.own_buffers;
+        judged = sound.judged;
         booked = AreBooked-nic board.arrays _ board.nic (shut board.nic.view own last) board.apps refl refl refl refl refl sound.booked;
         phased = ArePhased-open board.nic (shut board.nic.view own last) board.apps running refl refl sound.phased;
       }

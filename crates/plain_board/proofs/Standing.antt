@@ -1,5 +1,6 @@
 -- A loan's text is what was sent with its note, which later notes don't change, and both boards show it.
-use Rattle.std.proofs.Common.{◌≡◌, ℕ, zero, suc, ◌<◌, List, [], ◌∷◌, ◌++◌, length, take, drop, get_or, refl, ap, sym, ◌∙◌, subst, arith, ⊎_elim}
+use Rattle.std.proofs.Common.{◌≡◌, ℕ, zero, suc, ◌<◌, List, [], ◌∷◌, ◌++◌, length, take, drop, get_or, refl, ap, sym, ◌∙◌, subst}
+use Rattle.std.proofs.Common.{arith, ⊎_elim}
 use Rattle.std.specs.Prelude.{All, Contains}
 use Rattle.std.proofs.lemmas.Bool.{cases_lt}
 use Rattle.board_face.specs.Holders.{sent_to}
@@ -21,7 +22,8 @@ bytes_sent-more zero (n ∷ notes) more within = refl
 bytes_sent-more (suc k) (n ∷ notes) more within = bytes_sent-more k notes more (omega arith)
 
 -- bytes that were sent are the same however many notes follow
-origin-more : (notes more : List SentNote) (o : Origin) (n : ℕ) → length (origin_bytes notes o n) ≡ n → 0 < n → origin_bytes (notes ++ more) o n ≡ origin_bytes notes o n
+origin-more : (notes more : List SentNote) (o : Origin) (n : ℕ) → length (origin_bytes notes o n) ≡ n → 0 < n
+    → origin_bytes (notes ++ more) o n ≡ origin_bytes notes o n
 origin-more notes more (of_copy text) n whole some = refl
 origin-more notes more (of_note k at) n whole some =
     ⊎_elim
@@ -35,12 +37,15 @@ All-of : {A : Type 0} (P : A → Type 0) (xs : List A) (x : A) → All P xs → 
 All-of P xs x all (k, within, e) = subst P e (all k x within)
 
 -- a loan that is out or owed is shown
-lent-shown : (board : Board) (a : ℕ) (app : AppSide) (l : LentPiece) → IsSound board → IsApp board.apps a app → IsLent board.nic app l → IsShown (byte_of board.arrays) l.place (text_of board.nic app l.origin l.place)
+lent-shown : (board : Board) (a : ℕ) (app : AppSide) (l : LentPiece) → IsSound board → IsApp board.apps a app → IsLent board.nic app l
+    → IsShown (byte_of board.arrays) l.place (text_of board.nic app l.origin l.place)
 lent-shown board a app l sound here lent =
-    let shown : AppIsShown (byte_of board.arrays) board.nic app = subst (AppIsShown (byte_of board.arrays) board.nic) here.is (sound.shown.apps a app here.there) in
+    let shown : AppIsShown (byte_of board.arrays) board.nic app = subst (AppIsShown (byte_of board.arrays) board.nic) here.is
+    (sound.shown.apps a app here.there) in
     ⊎_elim
     (λ out. All-of (λ m. IsShown (byte_of board.arrays) m.place (text_of board.nic app m.origin m.place)) app.view.loans l shown.loans out)
-    (λ owed. All-of (λ m. IsShown (byte_of board.arrays) m.place (text_of board.nic app m.origin m.place)) (owed_loans l.place.buffer board.nic app) l (shown.owed l.place.buffer) owed)
+    (λ owed. All-of (λ m. IsShown (byte_of board.arrays) m.place (text_of board.nic app m.origin m.place)) (owed_loans l.place.buffer board.nic app) l
+    (shown.owed l.place.buffer) owed)
     lent
 
 pub texts-stand : LentTextsStand

@@ -13,8 +13,9 @@ use Rattle.board_face.specs.declared.views.app.AppSide.{AppSide}
 use Rattle.board_face.proofs.NicLemmas.{pool_count-nic}
 use Rattle.board_face.proofs.FreeLemmas.{free_places-nic}
 use Rattle.board_face.proofs.Parts.{nic_count}
-use Rattle.board_face.proofs.FitLemmas.{FillingsFit-nic}
-use Rattle.board_face.proofs.FilledLemmas.{IsFilledByOne-nic}
+use Rattle.board_face.proofs.FillingsFitLemmas.{FillingsFit-nic}
+use Rattle.board_face.proofs.IsFilledByOneLemmas.{IsFilledByOne-nic}
+use Rattle.board_face.proofs.OwnBufferLemmas.{LieInOwn-nic}
 use Rattle.board_face.proofs.AreShownLemmas.{AreShown-nic}
 use Rattle.plain_parts.specs.Free.{listed_in}
 use Rattle.plain_board.specs.Board.{Board, byte_of}
@@ -32,12 +33,18 @@ pub record IsStill (old new : NicView) : Type 0 where
   pub sent : new.sent ≡ old.sent
   pub dealt : new.dealt ≡ old.dealt
 
-pub pool_count-still : (b : ℕ) (nic : NicSide) (v : NicView) (apps : List AppSide) → IsStill nic.view v → pool_count b (nic_at nic v) apps ≡ pool_count b nic apps
+pub pool_count-still : (b : ℕ) (nic : NicSide) (v : NicView) (apps : List AppSide) → IsStill nic.view v
+    → pool_count b (nic_at nic v) apps ≡ pool_count b nic apps
 pool_count-still b nic v apps still =
     let same : nic_count b (nic_at nic v) ≡ nic_count b nic = rw (still.owns, still.pieces) refl in
     omega (arith, pool_count-nic b nic v apps still.sent still.dealt)
 
-pub IsSound-still : (board : Board) (v : NicView) → IsSound board → IsStill board.nic.view v → (board.nic.view.ended ≡ true → v.ended ≡ true) → (v.ended ≡ true → HasNoToken v) → IsSound (record { arrays = record board.arrays { ended = v.ended }; nic = nic_at board.nic v; apps = board.apps })
+pub IsSound-still : (board : Board) (v : NicView) → IsSound board → IsStill board.nic.view v → (board.nic.view.ended ≡ true → v.ended ≡ true)
+    → (v.ended ≡ true → HasNoToken v) → IsSound (record {
+      arrays = record board.arrays { ended = v.ended };
+      nic = nic_at board.nic v;
+      apps = board.apps;
+    })
 IsSound-still board v sound still ends none = record {
   sizes = record {
     layout = sound.sizes.layout;
@@ -56,11 +63,13 @@ IsSound-still board v sound still ends none = record {
   };
   cached = sound.cached ∙ sym still.cache;
   set = IsSet-nic _ board.nic v board.apps still.setting sound.set;
-  counted = AreCounted-same board.arrays _ board.nic v board.apps still.dealt refl refl refl (λ b. pool_count-still b board.nic v board.apps still) sound.counted;
+  counted = AreCounted-same board.arrays _ board.nic v board.apps still.dealt refl refl refl
+      (λ b. pool_count-still b board.nic v board.apps still) sound.counted;
   free = record {
     pool = λ b within. free_places-nic (listed_in board.arrays.listed) b board.nic v board.apps still.cache
         ∙ (sound.free.pool b (rw (← still.setting) within) ∙ ap (λ p. if p == 0 then 1 else 0) (sym (pool_count-still b board.nic v board.apps still)));
-    reserves = λ b past. free_places-nic (listed_in board.arrays.listed) b board.nic v board.apps still.cache ∙ sound.free.reserves b (rw (← still.setting) past);
+    reserves = λ b past. free_places-nic (listed_in board.arrays.listed) b board.nic v board.apps still.cache
+        ∙ sound.free.reserves b (rw (← still.setting) past);
   };
   relayed = AreRelayed-nic board.arrays _ board.nic v board.apps still.sent still.dealt refl refl refl sound.relayed;
   returns = λ a app here. AreReturns-nic board.nic v app still.dealt (sound.returns a app here);
@@ -74,29 +83,44 @@ IsSound-still board v sound still ends none = record {
   by_one = λ b. IsFilledByOne-nic b board.nic v board.apps still.setting still.owns still.pieces still.sent still.dealt (sound.by_one b);
   shown = AreShown-nic (byte_of board.arrays) board.nic v board.apps still.setting still.owns still.pieces still.sent still.dealt sound.shown;
   notes = rw still.sent sound.notes;
+  own_buffers = LieInOwn-nic board.nic v board.apps still.setting still.pieces still.sent sound.own_buffers;
+  judged = rw (still.setting, still.dealt) sound.judged;
   booked = AreBooked-nic board.arrays _ board.nic v board.apps still.dealt refl refl refl refl sound.booked;
   phased = ArePhased-nic board.nic v board.apps still.sent still.dealt ends none sound.phased;
 }
 
 -- the same where the card didn't end
-pub IsSound-seen : (board : Board) (v : NicView) → IsSound board → IsStill board.nic.view v → v.ended ≡ board.nic.view.ended → IsSound (record { arrays = board.arrays; nic = nic_at board.nic v; apps = board.apps })
+pub IsSound-seen : (board : Board) (v : NicView) → IsSound board → IsStill board.nic.view v → v.ended ≡ board.nic.view.ended
+    → IsSound (record { arrays = board.arrays; nic = nic_at board.nic v; apps = board.apps })
 IsSound-seen board v sound still same =
     let now : v.ended ≡ board.arrays.ended = same ∙ sym sound.flags.ended in
-    let none : v.ended ≡ true → HasNoToken v = λ e. let h = sound.phased.card (sym same ∙ e) in record { owns = still.owns ∙ h.owns; pieces = still.pieces ∙ h.pieces } in
-    subst (λ ended. IsSound (record { arrays = record board.arrays { ended = ended }; nic = nic_at board.nic v; apps = board.apps })) now (IsSound-still board v sound still (λ e. same ∙ e) none)
+    let none : v.ended ≡ true → HasNoToken v = λ e. let h = sound.phased.card
+    (sym same ∙ e) in record { owns = still.owns ∙ h.owns; pieces = still.pieces ∙ h.pieces } in
+    subst (λ ended. IsSound (record { arrays = record board.arrays { ended = ended }; nic = nic_at board.nic v; apps = board.apps })) now
+    (IsSound-still board v sound still (λ e. same ∙ e) none)
 
 -- ---- the events
 
 pub still : (v : NicView) (ended : Bool) (gone : List ℕ) (looks : List NicLook) → IsStill v (record v { ended = ended; gone = gone; looks = looks })
 still v ended gone looks = record { setting = refl; cache = refl; swept = refl; used = refl; owns = refl; pieces = refl; sent = refl; dealt = refl }
 
-pub IsSound-ended : (board : Board) → IsSound board → HasNoToken board.nic.view → IsSound (record { arrays = record board.arrays { ended = true }; nic = nic_at board.nic (nic_ended board.nic.view); apps = board.apps })
-IsSound-ended board sound none = IsSound-still board (nic_ended board.nic.view) sound (still board.nic.view true board.nic.view.gone board.nic.view.looks) (λ e. refl) (λ e. record { owns = none.owns; pieces = none.pieces })
+pub IsSound-ended : (board : Board) → IsSound board → HasNoToken board.nic.view
+    → IsSound (record { arrays = record board.arrays { ended = true }; nic = nic_at board.nic (nic_ended board.nic.view); apps = board.apps })
+IsSound-ended board sound none = IsSound-still board (nic_ended board.nic.view) sound (still board.nic.view true board.nic.view.gone board.nic.view.looks)
+    (λ e. refl) (λ e. record { owns = none.owns; pieces = none.pieces })
 
-pub IsSound-saw : (board : Board) (look : NicLook) → IsSound board → IsSound (record { arrays = board.arrays; nic = nic_at board.nic (nic_saw board.nic.view look); apps = board.apps })
-IsSound-saw board look sound = IsSound-seen board (nic_saw board.nic.view look) sound (still board.nic.view board.nic.view.ended board.nic.view.gone (look ∷ board.nic.view.looks)) refl
+pub IsSound-saw : (board : Board) (look : NicLook) → IsSound board
+    → IsSound (record { arrays = board.arrays; nic = nic_at board.nic (nic_saw board.nic.view look); apps = board.apps })
+IsSound-saw board look sound = IsSound-seen board (nic_saw board.nic.view look) sound
+    (still board.nic.view board.nic.view.ended board.nic.view.gone (look ∷ board.nic.view.looks)) refl
 
 pub IsSound-asked : (board : Board) (a : ℕ) (gone : Bool) → IsSound board
-    → IsSound (record { arrays = board.arrays; nic = if gone then nic_at board.nic (saw_leave board.nic.view a) else nic_at board.nic (nic_saw board.nic.view (NotLeft a)); apps = board.apps })
-IsSound-asked board a true sound = IsSound-seen board (saw_leave board.nic.view a) sound (still board.nic.view board.nic.view.ended (board.nic.view.gone ++ a ∷ []) (HasLeft a ∷ board.nic.view.looks)) refl
+    → IsSound (record {
+      arrays = board.arrays;
+      nic = if gone then nic_at board.nic (saw_leave board.nic.view a) else nic_at board.nic
+          (nic_saw board.nic.view (NotLeft a));
+      apps = board.apps;
+    })
+IsSound-asked board a true sound = IsSound-seen board (saw_leave board.nic.view a) sound
+    (still board.nic.view board.nic.view.ended (board.nic.view.gone ++ a ∷ []) (HasLeft a ∷ board.nic.view.looks)) refl
 IsSound-asked board a false sound = IsSound-saw board (NotLeft a) sound

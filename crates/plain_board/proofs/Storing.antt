@@ -1,6 +1,7 @@
 -- Bytes that are stored at a place of a buffer lie there alone. The area is one list, so the same bytes are also named from
 -- each buffer before, past its end. No text lies there: so all texts stay shown, one buffer after another.
-use Rattle.std.proofs.Common.{◌≡◌, ℕ, zero, suc, ◌+◌, ◌-◌, ◌<◌, ◌≤◌, List, ◌++◌, length, take, drop, get_or, refl, ap, sym, ◌∙◌, arith, ⊎_elim, inl, inr, append_assoc, length-append, length-take, length-drop}
+use Rattle.std.proofs.Common.{◌≡◌, ℕ, zero, suc, ◌+◌, ◌-◌, ◌<◌, ◌≤◌, List, ◌++◌, length, take, drop, get_or, refl, ap, sym}
+use Rattle.std.proofs.Common.{◌∙◌, arith, ⊎_elim, inl, inr, append_assoc, length-append, length-take, length-drop}
 use Rattle.std.specs.Prelude.{◌⊎◌, nat_lt, if◌then◌else◌}
 use Rattle.std.proofs.lemmas.Nat.{mul-le}
 use Rattle.std.proofs.lemmas.Bool.{cases_lt, lt-ltb, le-ltb}
@@ -10,7 +11,7 @@ use Rattle.area_layout.specs.Layout.{total, size_of, begin_of}
 use Rattle.board_face.specs.Shown.{IsShown, AreShown}
 use Rattle.board_face.specs.declared.views.nic.NicSide.{NicSide}
 use Rattle.board_face.specs.declared.views.app.AppSide.{AppSide}
-use Rattle.board_face.proofs.StoredLemmas.{StoresAt, HasNoText, HasNoText-behind}
+use Rattle.board_face.proofs.StoresAtLemmas.{StoresAt, HasNoText, HasNoText-behind}
 use Rattle.board_face.proofs.AreShownLemmas.{AreShown-stored_at}
 use Rattle.plain_parts.specs.Area.{stored}
 use Rattle.plain_board.specs.Board.{Arrays, byte_of}
@@ -29,10 +30,12 @@ module _ (area bytes : List ℕ) (at : ℕ) (fits : at + length bytes ≤ length
   length-stored = simp length-append (omega (arith, length-front, length-drop (at + length bytes) area))
 
   pub stored-before : (k : ℕ) → k < at → get_or (stored area at bytes) k 0 ≡ get_or area k 0
-  stored-before k less = ap (λ xs. get_or xs k 0) in_parts ∙ (get_or_append_left (take at area) (bytes ++ drop (at + length bytes) area) 0 k (omega (arith, length-front)) ∙ get_or-take at area k 0 less)
+  stored-before k less = ap (λ xs. get_or xs k 0) in_parts ∙
+      (get_or_append_left (take at area) (bytes ++ drop (at + length bytes) area) 0 k (omega (arith, length-front)) ∙ get_or-take at area k 0 less)
 
   after-front : (k : ℕ) → at ≤ k → get_or (stored area at bytes) k 0 ≡ get_or (bytes ++ drop (at + length bytes) area) (k - at) 0
-  after-front k past = ap (λ xs. get_or xs k 0) in_parts ∙ get_or-append_right (take at area) (bytes ++ drop (at + length bytes) area) at k 0 length-front past
+  after-front k past = ap (λ xs. get_or xs k 0) in_parts ∙ get_or-append_right (take at area)
+      (bytes ++ drop (at + length bytes) area) at k 0 length-front past
 
   pub stored-here : (k i : ℕ) → k ≡ at + i → i < length bytes → get_or (stored area at bytes) k 0 ≡ get_or bytes i 0
   stored-here k i is small =
@@ -49,7 +52,8 @@ module _ (area bytes : List ℕ) (at : ℕ) (fits : at + length bytes ≤ length
 
 -- ---- a place in a buffer
 
-module _ (arrays : Arrays) (b offset : ℕ) (bytes : List ℕ) (sizes : HasSizes arrays) (inside : b < total arrays.layout) (lies : offset + length bytes ≤ size_of arrays.layout b) where
+module _ (arrays : Arrays) (b offset : ℕ) (bytes : List ℕ) (sizes : HasSizes arrays) (inside : b < total arrays.layout)
+    (lies : offset + length bytes ≤ size_of arrays.layout b) where
   abbrev spot : ℕ
   spot = begin_of arrays.layout b + offset
 
@@ -62,8 +66,10 @@ module _ (arrays : Arrays) (b offset : ℕ) (bytes : List ℕ) (sizes : HasSizes
   abbrev place_then : Place
   place_then = record { buffer = b; offset = offset; len = length bytes }
 
-  kept : (c x : ℕ) → (begin_of arrays.layout c + x < spot) ⊎ (spot + length bytes ≤ begin_of arrays.layout c + x) → byte_of stored_then c x ≡ byte_of arrays c x
-  kept c x where_ = ⊎_elim (λ before. stored-before arrays.area bytes spot in_area (begin_of arrays.layout c + x) before) (λ behind. stored-behind arrays.area bytes spot in_area (begin_of arrays.layout c + x) behind) where_
+  kept : (c x : ℕ) → (begin_of arrays.layout c + x < spot) ⊎ (spot + length bytes ≤ begin_of arrays.layout c + x)
+      → byte_of stored_then c x ≡ byte_of arrays c x
+  kept c x where_ = ⊎_elim (λ before. stored-before arrays.area bytes spot in_area (begin_of arrays.layout c + x) before)
+      (λ behind. stored-behind arrays.area bytes spot in_area (begin_of arrays.layout c + x) behind) where_
 
   pub IsShown-stored : IsShown (byte_of stored_then) place_then bytes
   IsShown-stored = record {
@@ -96,7 +102,8 @@ module _ (arrays : Arrays) (b offset : ℕ) (bytes : List ℕ) (sizes : HasSizes
       (λ above. upto-from (suc k) c x (omega arith) ∙ sym (upto-from k c x from))
       (λ at. let same : c ≡ k = omega arith in
       let here : byte_of stored_then c x ≡ byte_of arrays c x =
-      kept c x (⊎_elim (λ other. absurd (other same)) (λ there. ⊎_elim (λ before. inl (omega (arith, ends-before c b (omega arith)))) (λ behind. inr (omega (arith, in_area))) there) where_) in
+      kept c x (⊎_elim (λ other. absurd (other same)) (λ there. ⊎_elim (λ before. inl (omega (arith, ends-before c b (omega arith))))
+      (λ behind. inr (omega (arith, in_area))) there) where_) in
       upto-below (suc k) c x (omega arith) ∙ (here ∙ sym (upto-from k c x from)))
       (cases_lt k c))
       (cases_lt c k)
@@ -119,7 +126,8 @@ module _ (arrays : Arrays) (b offset : ℕ) (bytes : List ℕ) (sizes : HasSizes
     no_text k shown = HasNoText-behind nic apps (past_end k) (rw layout at (shown.places k).within)
 
     AreShown-upto : (k : ℕ) → k ≤ b → AreShown (byte_of arrays) nic apps → AreShown (byte_upto k) nic apps
-    AreShown-upto zero some shown = AreShown-stored_at (byte_of arrays) (byte_upto 0) nic apps (record { buffer = 0; offset = 0; len = 0 }) (λ c x _. upto-from 0 c x (omega arith)) (λ x from less. absurd (omega arith)) shown
+    AreShown-upto zero some shown = AreShown-stored_at (byte_of arrays) (byte_upto 0) nic apps (record { buffer = 0; offset = 0; len = 0 })
+        (λ c x _. upto-from 0 c x (omega arith)) (λ x from less. absurd (omega arith)) shown
     AreShown-upto (suc k) some shown =
         let before = AreShown-upto k (omega arith) shown in
         AreShown-stored_at (byte_upto k) (byte_upto (suc k)) nic apps (past_end k) (StoresAt-next k (omega arith)) (no_text k before) before

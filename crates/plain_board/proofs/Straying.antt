@@ -1,15 +1,17 @@
 -- An entry is a stray.
-use Rattle.std.proofs.Common.{◌≡◌, ℕ, ◌+◌, ◌-◌, ◌≤◌, true, false, List, [], ◌∷◌, ◌++◌, length, set, get_or, refl, ap, sym, ◌∙◌, subst, arith, ⊎_elim, Option, Some, None}
+use Rattle.std.proofs.Common.{◌≡◌, ℕ, ◌+◌, ◌-◌, ◌≤◌, true, false, List, [], ◌∷◌, ◌++◌, length, set, get_or, refl, ap, sym}
+use Rattle.std.proofs.Common.{◌∙◌, subst, arith, ⊎_elim, Option, Some, None}
 use Rattle.std.specs.Prelude.{◌≢◌, count_by, ◌==◌, if◌then◌else◌, IsSome, IfSome}
 use Rattle.std.proofs.lemmas.List.{length-set}
-use Rattle.std.proofs.lemmas.List.Elements.{All-head, All-weaker}
-use Rattle.std.proofs.lemmas.Bool.{cases_lt}
+use Rattle.std.proofs.lemmas.List.Elements.{All-head, All-push, All-weaker}
+use Rattle.std.proofs.lemmas.Bool.{cases_Bool, cases_lt}
 use Rattle.std.proofs.lemmas.Bool.Decides.{eqb_tells}
 use Rattle.zr_kinds.specs.declared.ring.Rqe.{Rqe}
 use Rattle.area_layout.specs.Layout.{total, judged}
 use Rattle.board_face.specs.NicEvents.{passed_over, looks_by_stray}
 use Rattle.board_face.specs.NicCalls.{PassedOver}
 use Rattle.board_face.specs.Looks.{NicRose}
+use Rattle.board_face.specs.Judged.{IsHonouredAsNamed}
 use Rattle.board_face.specs.declared.views.nic.NicLook.TheVariants.{NotOwed}
 use Rattle.board_face.specs.declared.views.nic.NicView.{NicView}
 use Rattle.board_face.proofs.LookLemmas.{NicRose-nic_saw}
@@ -20,42 +22,36 @@ use Rattle.board_face.specs.declared.views.nic.Dealt.{Dealt}
 use Rattle.board_face.specs.declared.views.nic.Fate.TheVariants.{Stray}
 use Rattle.board_face.specs.declared.views.nic.NicSide.{NicSide}
 use Rattle.board_face.specs.declared.views.app.AppSide.{AppSide}
-use Rattle.board_face.proofs.ListLemmas.{eqb_same, not-eqb}
+use Rattle.board_face.proofs.ListLemmas.{eqb_same}
 use Rattle.board_face.proofs.NicLemmas.{pool_count-passed_over, user_count-passed_over, ended_in-passed_over}
 use Rattle.board_face.proofs.FreeLemmas.{user_count-le}
-use Rattle.board_face.proofs.FitLemmas.{FillingsFit-nic}
-use Rattle.board_face.proofs.FilledLemmas.{IsFilledByOne-passed_over}
+use Rattle.board_face.proofs.FillingsFitLemmas.{FillingsFit-nic}
+use Rattle.board_face.proofs.IsFilledByOneLemmas.{IsFilledByOne-passed_over}
+use Rattle.board_face.proofs.OwnBufferLemmas.{LieInOwn-nic}
 use Rattle.board_face.proofs.AreShownLemmas.{AreShown-passed_over}
-use Rattle.board_face.proofs.Parts.{user_part, user_count-parts, total-only, loans_in, owed_count}
 use Rattle.board_face.proofs.Tallies.{weight}
 use Rattle.plain_parts.specs.Counts.{user_at}
 use Rattle.plain_board.specs.Board.{Board, byte_of}
-use Rattle.plain_board.specs.Returns.{AreReturns, returns, is_some_of, IsNamed}
+use Rattle.plain_board.specs.Returns.{AreReturns, returns, abandoned_in, is_some_of, IsNamed}
 use Rattle.plain_board.specs.Sound.{IsSound, refills_of}
-use Rattle.plain_board.proofs.Lists.{true-or-false}
 use Rattle.plain_board.proofs.Card.{IsSet-nic}
 use Rattle.plain_board.proofs.Freeing.{All-at}
 use Rattle.plain_board.proofs.Popping.{same-app, other-number, ring_then, AreRelayed-popped, AreBooked-popped}
 use Rattle.plain_board.proofs.Dealing.{HasFront, HasFront-relayed, AreReturns-dealt, AreReturns-other, ArePhased-dealt, count-first, length-owed_in}
-use Rattle.plain_board.proofs.Honouring.{part-none, part-all}
+use Rattle.plain_board.proofs.Reserves.{own-users}
 
 some-of : (o : Option ℕ) → IsSome o → (i : ℕ) × (o ≡ Some i)
 some-of None h = absurd (let none : ⊥ = cc in none)
 some-of (Some i) h = (i, refl)
 
-module _ (board : Board) (a : ℕ) (x : AppSide) (e : Rqe) (es : List Rqe) (sound : IsSound board) (here : IsApp board.apps a x) (found : refills_of board.arrays a ≡ e ∷ es)
+module _ (board : Board) (a : ℕ) (x : AppSide) (e : Rqe) (es : List Rqe) (sound : IsSound board) (here : IsApp board.apps a x)
+    (found : refills_of board.arrays a ≡ e ∷ es)
     (none : IfSome (judged board.arrays.layout e) (λ i. get_or board.arrays.users (user_at board.arrays.layout a i) 0 ≡ 0)) where
   same_layout : x.view.setting.layout ≡ board.arrays.layout
   same_layout = subst (λ app. app.view.setting.layout ≡ board.arrays.layout) here.is (ap (λ s. s.layout) (sound.set.roles a x here.there))
 
   front : HasFront board.nic x e
   front = HasFront-relayed board.nic x _ e es (rw found at (sound.relayed.relayed a x here))
-
-  users_of : (i : ℕ) → user_count a i board.nic board.apps ≡ loans_in i x + owed_count i board.nic x
-  users_of i =
-      user_count-parts a i board.nic board.apps
-      ∙ (total-only 0 (user_part a i board.nic) a (λ app other. part-none (app.view.app == a) _ (not-eqb app.view.app a other)) board.apps sound.set.numbers a x here.there (omega arith)
-      ∙ (ap (user_part a i board.nic) here.is ∙ part-all (x.view.app == a) _ (subst (λ n. (n == a) ≡ true) (sym here.number) (eqb_same a))))
 
   -- the entry came from no loan: of a loan something would be owed
   is_raw : front.first.of_loan ≡ false
@@ -69,7 +65,14 @@ module _ (board : Board) (a : ℕ) (x : AppSide) (e : Rqe) (es : List Rqe) (soun
       let names_it : is_some_of (judged x.view.setting.layout front.first.entry) i ≡ true = ap (λ o. is_some_of o i) it.1 ∙ eqb_same i in
       let counted : returns x.view.setting.layout i front.first ≡ true = rw of_loan names_it in
       let owed : 1 ≤ user_count a i board.nic board.apps =
-      omega (arith, users_of i, rw front.way at (h.owed i), count-first (returns x.view.setting.layout i) front.first front.others, ap weight counted, length-owed_in i board.nic x) in
+      omega (
+        arith,
+        own-users board a x sound here i,
+        rw front.way at (h.owed i),
+        count-first (returns x.view.setting.layout i) front.first front.others,
+        ap weight counted,
+        length-owed_in i board.nic x,
+      ) in
       let is : judged board.arrays.layout e ≡ Some i =
       ap (λ l. judged l e) (sym same_layout) ∙ (ap (λ entry. judged x.view.setting.layout entry) (sym front.entry) ∙ it.1) in
       let unowed : get_or board.arrays.users (user_at board.arrays.layout a i) 0 ≡ 0 = rw is at none in
@@ -78,7 +81,7 @@ module _ (board : Board) (a : ℕ) (x : AppSide) (e : Rqe) (es : List Rqe) (soun
       (λ past. omega (arith, owed, user_count-le a i board.nic board.apps, sound.counted.beyond i past))
       (cases_lt i (total board.arrays.layout))))
       (λ raw. raw)
-      (true-or-false front.first.of_loan)
+      (cases_Bool front.first.of_loan)
 
   abbrev pub stray_dealt : Dealt
   stray_dealt = record { app = a; entry = e; fate = Stray }
@@ -96,23 +99,45 @@ module _ (board : Board) (a : ℕ) (x : AppSide) (e : Rqe) (es : List Rqe) (soun
     ended_in-passed_over b board.nic a e x,
   )
 
+  no_more : (b : ℕ) → length (owed_in b nic_passed x) ≤ count_by (returns x.view.setting.layout b) front.others + abandoned_in b x
+  no_more b =
+      let raw : returns x.view.setting.layout b front.first ≡ false = rw is_raw refl in
+      omega (
+        arith,
+        rw front.way at ((sound.returns a x here).no_more b),
+        count-first (returns x.view.setting.layout b) front.first front.others,
+        ap weight raw,
+        length-owed_in b board.nic x,
+        length-owed_in b nic_passed x,
+        ended_in-passed_over b board.nic a e x,
+      )
+
   returns_then : (k : ℕ) (y : AppSide) → IsApp board.apps k y → AreReturns nic_passed y
   returns_then k y it =
       ⊎_elim
       (λ t. let same : k ≡ a = t.1 in
       let is : y ≡ x = same-app board.apps a x y here (subst (λ n. IsApp board.apps n y) same it) in
       subst (AreReturns nic_passed) (sym is)
-      (AreReturns-dealt board.nic (passed_over board.nic.view a e) x stray_dealt refl front (sym here.number) (sound.returns a x here) still_owed
+      (AreReturns-dealt board.nic (passed_over board.nic.view a e) x stray_dealt refl front (sym here.number) (sound.returns a x here) still_owed no_more
       (λ of_loan. absurd (let raw = is_raw in let none : ⊥ = cc in none))))
       (λ t. let ne : k ≢ a = t.1 in
       let other = other-number board.apps a k y it ne in
-      AreReturns-other board.nic (passed_over board.nic.view a e) y stray_dealt refl (λ same. other (sym same)) (λ b. ended_in-passed_over b board.nic a e y) (sound.returns k y it))
+      AreReturns-other board.nic (passed_over board.nic.view a e) y stray_dealt refl (λ same. other (sym same)) (λ b. ended_in-passed_over b board.nic a e y)
+      (sound.returns k y it))
       (eqb_tells k a)
 
-  pub IsSound-passed_over : IsSound (record { arrays = record board.arrays { refills = set board.arrays.refills a (ring_then board a); raw = set board.arrays.raw a (get_or board.arrays.raw a 0 - 1) }; nic = nic_passed; apps = board.apps })
+  pub IsSound-passed_over : IsSound (record {
+    arrays = record board.arrays {
+      refills = set board.arrays.refills a (ring_then board a);
+      raw = set board.arrays.raw a (get_or board.arrays.raw a 0 - 1);
+    };
+    nic = nic_passed;
+    apps = board.apps;
+  })
   IsSound-passed_over =
       let v = passed_over board.nic.view a e in
-      let same : (b : ℕ) → pool_count b nic_passed board.apps ≡ pool_count b board.nic board.apps = λ b. pool_count-passed_over b board.nic board.apps a e in
+      let same : (b : ℕ) → pool_count b nic_passed board.apps
+      ≡ pool_count b board.nic board.apps = λ b. pool_count-passed_over b board.nic board.apps a e in
       record {
         sizes = record {
           layout = sound.sizes.layout;
@@ -136,7 +161,10 @@ module _ (board : Board) (a : ℕ) (x : AppSide) (e : Rqe) (es : List Rqe) (soun
           users = λ c b app within. sound.counted.users c b app within ∙ sym (user_count-passed_over c b board.nic board.apps a e);
           beyond = λ b past. same b ∙ sound.counted.beyond b past;
           returned = λ b. All-weaker (EndedWereReturned b board.nic) (EndedWereReturned b nic_passed)
-              (λ app h. record { ended = rw (ended_in-passed_over b board.nic a e app) h.ended; returning = rw (ended_in-passed_over b board.nic a e app) h.returning }) board.apps (sound.counted.returned b);
+              (λ app h. record {
+                ended = rw (ended_in-passed_over b board.nic a e app) h.ended;
+                returning = rw (ended_in-passed_over b board.nic a e app) h.returning;
+              }) board.apps (sound.counted.returned b);
         };
         free = record {
           pool = λ b within. sound.free.pool b within ∙ ap (λ p. if p == 0 then 1 else 0) (sym (same b));
@@ -149,15 +177,23 @@ module _ (board : Board) (a : ℕ) (x : AppSide) (e : Rqe) (es : List Rqe) (soun
         due = sound.due;
         filled = FillingsFit-nic board.nic v board.apps refl refl sound.filled;
         by_one = λ b. IsFilledByOne-passed_over b board.nic board.apps a e (sound.by_one b);
-        shown = AreShown-passed_over (byte_of board.arrays) board.nic board.apps a e (λ b app has. (All-at (EndedWereReturned b board.nic) board.apps app (sound.counted.returned b) has).returning) sound.shown;
+        shown = AreShown-passed_over (byte_of board.arrays) board.nic board.apps a e
+            (λ b app has. (All-at (EndedWereReturned b board.nic) board.apps app (sound.counted.returned b) has).returning) sound.shown;
         notes = sound.notes;
+        own_buffers = LieInOwn-nic board.nic v board.apps refl refl refl sound.own_buffers;
+        judged = All-push (IsHonouredAsNamed board.nic.view.setting.layout) board.nic.view.dealt stray_dealt sound.judged
+            (λ b honoured. absurd (let none : ⊥ = cc in none));
         booked = AreBooked-popped board a x e es sound here found v stray_dealt refl refl refl refl _ refl refl refl refl front;
         phased = ArePhased-dealt board.nic v board.apps stray_dealt refl refl refl refl refl sound.phased;
       }
 
 -- ---- what the answer says
 
-look-case : (v : NicView) (a : ℕ) (e : Rqe) (o : Option ℕ) → IfSome o (λ i. NicRose (NotOwed a i) v (record v { dealt = v.dealt ++ record { app = a; entry = e; fate = Stray } ∷ []; looks = looks_by_stray o a v.looks }))
+look-case : (v : NicView) (a : ℕ) (e : Rqe) (o : Option ℕ)
+    → IfSome o (λ i. NicRose (NotOwed a i) v (record v {
+      dealt = v.dealt ++ record { app = a; entry = e; fate = Stray } ∷ [];
+      looks = looks_by_stray o a v.looks;
+    }))
 look-case v a e None = tt
 look-case v a e (Some i) = record { rose = (NicRose-nic_saw v (NotOwed a i)).rose }
 

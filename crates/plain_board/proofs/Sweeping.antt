@@ -1,5 +1,6 @@
 -- A word of the free list is swept.
-use Rattle.std.proofs.Common.{◌≡◌, ℕ, zero, suc, ◌+◌, ◌*◌, ◌<◌, ◌≤◌, Bool, true, false, List, [], ◌∷◌, ◌++◌, length, refl, ap, sym, ◌∙◌, subst, arith, ⊎_elim, inl, inr, length-append}
+use Rattle.std.proofs.Common.{◌≡◌, ℕ, zero, suc, ◌+◌, ◌*◌, ◌<◌, ◌≤◌, Bool, true, false, List, [], ◌∷◌, ◌++◌, length, refl}
+use Rattle.std.proofs.Common.{ap, sym, ◌∙◌, subst, arith, ⊎_elim, inl, inr, length-append}
 use Rattle.std.specs.Prelude.{◌⊎◌, nat_eq, count_by, ◌==◌, ◌/◌, if◌then◌else◌, All, AllPairs}
 use Rattle.std.proofs.lemmas.List.Elements.{All-nil, All-cons, All-weaker}
 use Rattle.std.proofs.lemmas.List.Kept.{AllPairs-cons}
@@ -13,8 +14,9 @@ use Rattle.board_face.specs.FreeOnce.{free_places}
 use Rattle.area_layout.specs.Layout.{pool_buffers}
 use Rattle.board_face.proofs.NicLemmas.{pool_count-swept}
 use Rattle.board_face.proofs.FreeLemmas.{free_places-swept}
-use Rattle.board_face.proofs.FitLemmas.{FillingsFit-nic}
-use Rattle.board_face.proofs.FilledLemmas.{IsFilledByOne-swept}
+use Rattle.board_face.proofs.FillingsFitLemmas.{FillingsFit-nic}
+use Rattle.board_face.proofs.IsFilledByOneLemmas.{IsFilledByOne-swept}
+use Rattle.board_face.proofs.OwnBufferLemmas.{LieInOwn-nic}
 use Rattle.board_face.proofs.AreShownLemmas.{AreShown-swept}
 use Rattle.board_face.proofs.LookLemmas.{NicRose-nic_saw}
 use Rattle.board_face.proofs.Tallies.{weight}
@@ -29,7 +31,8 @@ use Rattle.plain_parts.proofs.Moving.{length-listed_from}
 -- ---- the buffers found
 
 module _ (listed : List Bool) (first : ℕ) where
-  found-case : (c : Bool) (b x : ℕ) (rest : List ℕ) → count_by (nat_eq b) ((if c then x ∷ [] else []) ++ rest) ≡ (if c then weight (b == x) else 0) + count_by (nat_eq b) rest
+  found-case : (c : Bool) (b x : ℕ) (rest : List ℕ) → count_by (nat_eq b) ((if c then x ∷ [] else []) ++ rest)
+      ≡ (if c then weight (b == x) else 0) + count_by (nat_eq b) rest
   found-case true b x rest = omega (arith, count-append b (x ∷ []) rest, count-push b x [])
   found-case false b x rest = omega arith
 
@@ -38,7 +41,8 @@ module _ (listed : List Bool) (first : ℕ) where
   found-outside (suc n) b where_ = omega (
     arith,
     found-case (listed_in listed (first + n)) b (first + n) (listed_from listed first n),
-    nothing (listed_in listed (first + n)) (weight-other b (first + n) (λ e. ⊎_elim (λ under. absurd (omega arith)) (λ over. absurd (omega arith)) where_)),
+    nothing (listed_in listed (first + n)) (weight-other b (first + n)
+        (λ e. ⊎_elim (λ under. absurd (omega arith)) (λ over. absurd (omega arith)) where_)),
     found-outside n b (⊎_elim (λ under. inl under) (λ over. inr (omega arith)) where_),
   )
     where
@@ -50,7 +54,12 @@ module _ (listed : List Bool) (first : ℕ) where
   found-inside zero b from to = absurd (omega arith)
   found-inside (suc n) b from to =
       ⊎_elim
-      (λ less. omega (arith, found-case (listed_in listed (first + n)) b (first + n) (listed_from listed first n), nothing (listed_in listed (first + n)) (weight-other b (first + n) (λ e. absurd (omega arith))), found-inside n b from less))
+      (λ less. omega (
+        arith,
+        found-case (listed_in listed (first + n)) b (first + n) (listed_from listed first n),
+        nothing (listed_in listed (first + n)) (weight-other b (first + n) (λ e. absurd (omega arith))),
+        found-inside n b from less,
+      ))
       (λ more. let same : b ≡ first + n = omega arith in
       subst (λ x. count_by (nat_eq x) (listed_from listed first (suc n)) ≡ weight (listed_in listed x)) (sym same) (omega (
         arith,
@@ -72,16 +81,20 @@ abbrev pub IsBetween : ℕ → ℕ → ℕ → Type 0
 IsBetween first n b = (first ≤ b) × (b < first + n)
 
 module _ (listed : List Bool) (first : ℕ) where
-  between-case : (c : Bool) (n : ℕ) → All (IsBetween first n) (listed_from listed first n) → All (IsBetween first (suc n)) ((if c then (first + n) ∷ [] else []) ++ listed_from listed first n)
-  between-case true n rest = All-cons (IsBetween first (suc n)) (first + n) (listed_from listed first n) (omega arith, omega arith) (All-weaker (IsBetween first n) (IsBetween first (suc n)) (λ b h. (h.0, omega arith)) (listed_from listed first n) rest)
+  between-case : (c : Bool) (n : ℕ) → All (IsBetween first n) (listed_from listed first n)
+      → All (IsBetween first (suc n)) ((if c then (first + n) ∷ [] else []) ++ listed_from listed first n)
+  between-case true n rest = All-cons (IsBetween first (suc n)) (first + n) (listed_from listed first n) (omega arith, omega arith)
+      (All-weaker (IsBetween first n) (IsBetween first (suc n)) (λ b h. (h.0, omega arith)) (listed_from listed first n) rest)
   between-case false n rest = All-weaker (IsBetween first n) (IsBetween first (suc n)) (λ b h. (h.0, omega arith)) (listed_from listed first n) rest
 
   pub found-between : (n : ℕ) → All (IsBetween first n) (listed_from listed first n)
   found-between zero = All-nil (IsBetween first zero)
   found-between (suc n) = between-case (listed_in listed (first + n)) n (found-between n)
 
-  falling-case : (c : Bool) (n : ℕ) → AllPairs (λ a b. b < a) (listed_from listed first n) → AllPairs (λ a b. b < a) ((if c then (first + n) ∷ [] else []) ++ listed_from listed first n)
-  falling-case true n rest = AllPairs-cons (λ a b. b < a) (first + n) (listed_from listed first n) (All-weaker (IsBetween first n) (λ b. b < first + n) (λ b h. h.1) (listed_from listed first n) (found-between n)) rest
+  falling-case : (c : Bool) (n : ℕ) → AllPairs (λ a b. b < a) (listed_from listed first n)
+      → AllPairs (λ a b. b < a) ((if c then (first + n) ∷ [] else []) ++ listed_from listed first n)
+  falling-case true n rest = AllPairs-cons (λ a b. b < a) (first + n) (listed_from listed first n)
+      (All-weaker (IsBetween first n) (λ b. b < first + n) (λ b h. h.1) (listed_from listed first n) (found-between n)) rest
   falling-case false n rest = rest
 
   pub found-falling : (n : ℕ) → AllPairs (λ a b. b < a) (listed_from listed first n)
@@ -110,7 +123,8 @@ module _ (board : Board) (word : ℕ) (sound : IsSound board) (inside : word < f
       (cases_lt b (first + n)))
       (cases_lt b first)
 
-  pub found-of_word : (listed' : List Bool) → ((b : ℕ) → word_bits * word ≤ b → b < word_end board.arrays.listed word → listed_in listed' b ≡ false)
+  pub found-of_word : (listed' : List Bool) → ((b : ℕ) → word_bits * word ≤ b → b < word_end board.arrays.listed word
+      → listed_in listed' b ≡ false)
       → (b : ℕ) → b < pool_buffers board.arrays.layout → b / word_bits ≡ word → weight (listed_in listed' b) ≡ 0
   found-of_word listed' gone b within same = let l = sound.sizes.listed in ap weight (gone b (omega arith) (omega arith))
 
@@ -133,7 +147,11 @@ module _ (board : Board) (word : ℕ) (sound : IsSound board) (inside : word < f
           pool = sound.sizes.pool;
           users = sound.sizes.users;
           listed = same ∙ sound.sizes.listed;
-          cache = omega (arith, length-append board.arrays.cache found, length-listed_from board.arrays.listed (word_bits * word) (word_len board.arrays.listed word));
+          cache = omega (
+            arith,
+            length-append board.arrays.cache found,
+            length-listed_from board.arrays.listed (word_bits * word) (word_len board.arrays.listed word),
+          );
           notes = sound.sizes.notes;
           refills = sound.sizes.refills;
           loans = sound.sizes.loans;
@@ -143,9 +161,11 @@ module _ (board : Board) (word : ℕ) (sound : IsSound board) (inside : word < f
         };
         cached = ap (λ cache. cache ++ found) sound.cached;
         set = IsSet-nic _ board.nic v board.apps refl sound.set;
-        counted = AreCounted-same board.arrays _ board.nic v board.apps refl refl refl refl (λ b. pool_count-swept b board.nic board.apps word found) sound.counted;
+        counted = AreCounted-same board.arrays _ board.nic v board.apps refl refl refl refl
+            (λ b. pool_count-swept b board.nic board.apps word found) sound.counted;
         free = record {
-          pool = λ b within. free-same b ∙ (sound.free.pool b within ∙ ap (λ p. if p == 0 then 1 else 0) (sym (pool_count-swept b board.nic board.apps word found)));
+          pool = λ b within. free-same b ∙ (sound.free.pool b within
+              ∙ ap (λ p. if p == 0 then 1 else 0) (sym (pool_count-swept b board.nic board.apps word found)));
           reserves = λ b past. free-same b ∙ sound.free.reserves b past;
         };
         relayed = AreRelayed-nic board.arrays _ board.nic v board.apps refl refl refl refl refl sound.relayed;
@@ -156,8 +176,15 @@ module _ (board : Board) (word : ℕ) (sound : IsSound board) (inside : word < f
           swept = λ b within seen.
               ⊎_elim
               (λ t. let here : b / word_bits ≡ word = t.1 in
-              omega (arith, sound.kept.kept b within, found-times listed' gone others b, found-of_word listed' gone b (rw (← pools) within) here, count-append b board.nic.view.cache found))
-              (λ t. let before : 1 ≤ count_by (nat_eq (b / word_bits)) board.nic.view.swept = omega (arith, seen, count-push (b / word_bits) word board.nic.view.swept, ap weight t.0) in
+              omega (
+                arith,
+                sound.kept.kept b within,
+                found-times listed' gone others b,
+                found-of_word listed' gone b (rw (← pools) within) here,
+                count-append b board.nic.view.cache found,
+              ))
+              (λ t. let before : 1 ≤ count_by (nat_eq (b / word_bits)) board.nic.view.swept = omega
+              (arith, seen, count-push (b / word_bits) word board.nic.view.swept, ap weight t.0) in
               omega (arith, sound.kept.swept b within before, count-append b board.nic.view.cache found))
               (eqb_tells (b / word_bits) word);
         };
@@ -166,14 +193,23 @@ module _ (board : Board) (word : ℕ) (sound : IsSound board) (inside : word < f
         by_one = λ b. IsFilledByOne-swept b board.nic board.apps word found (sound.by_one b);
         shown = AreShown-swept (byte_of board.arrays) board.nic board.apps word found sound.shown;
         notes = sound.notes;
+        own_buffers = LieInOwn-nic board.nic v board.apps refl refl refl sound.own_buffers;
+        judged = sound.judged;
         booked = AreBooked-nic board.arrays _ board.nic v board.apps refl refl refl refl refl sound.booked;
-        phased = ArePhased-nic board.nic v board.apps refl refl (λ e. e) (λ e. let h = sound.phased.card e in record { owns = h.owns; pieces = h.pieces }) sound.phased;
+        phased = ArePhased-nic board.nic v board.apps refl refl (λ e. e)
+            (λ e. let h = sound.phased.card e in record { owns = h.owns; pieces = h.pieces }) sound.phased;
       }
     where
-      free-same : (b : ℕ) → free_places (listed_in listed') b (nic_at board.nic (swept board.nic.view word (found_in board.arrays.listed word))) board.apps ≡ free_places (listed_in board.arrays.listed) b board.nic board.apps
-      free-same b = omega (arith, found-times listed' gone others b, free_places-swept (listed_in listed') b board.nic board.apps word (found_in board.arrays.listed word))
+      free-same : (b : ℕ) → free_places (listed_in listed') b (nic_at board.nic (swept board.nic.view word (found_in board.arrays.listed word))) board.apps
+          ≡ free_places (listed_in board.arrays.listed) b board.nic board.apps
+      free-same b = omega (
+        arith,
+        found-times listed' gone others b,
+        free_places-swept (listed_in listed') b board.nic board.apps word (found_in board.arrays.listed word),
+      )
 
-  pub SweptWord-swept : (count : ℕ) (found : List ℕ) → found ≡ found_in board.arrays.listed word → count ≡ length found → SweptWord board.nic.view (swept board.nic.view word found) word count
+  pub SweptWord-swept : (count : ℕ) (found : List ℕ) → found ≡ found_in board.arrays.listed word → count ≡ length found
+      → SweptWord board.nic.view (swept board.nic.view word found) word count
   SweptWord-swept count found is many =
       let first = word_bits * word in
       let n = word_len board.arrays.listed word in
@@ -184,6 +220,8 @@ module _ (board : Board) (word : ℕ) (sound : IsSound board) (inside : word < f
         event = refl;
         look = record { rose = (NicRose-nic_saw board.nic.view (Swept word)).rose };
         many = sym many;
-        within = rw is (All-weaker (IsBetween first n) (λ b. (b / word_bits ≡ word) × (b < pool_buffers board.nic.view.setting.layout)) (λ b h. let from = h.0 in let to = h.1 in (omega arith, omega arith)) (found_in board.arrays.listed word) (found-between board.arrays.listed first n));
+        within = rw is (All-weaker (IsBetween first n) (λ b. (b / word_bits ≡ word) × (b < pool_buffers board.nic.view.setting.layout))
+            (λ b h. let from = h.0 in let to = h.1 in (omega arith, omega arith)) (found_in board.arrays.listed word)
+            (found-between board.arrays.listed first n));
         falling = rw is (found-falling board.arrays.listed first n);
       }

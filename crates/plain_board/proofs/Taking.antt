@@ -1,5 +1,6 @@
 -- A buffer is taken.
-use Rattle.std.proofs.Common.{◌≡◌, ℕ, ◌+◌, ◌-◌, ◌<◌, ◌≤◌, Bool, true, false, [], ◌∷◌, ◌++◌, length, take, set, get_or, refl, ap, sym, ◌∙◌, arith, inl, inr, ⊎_elim, length-take, Some}
+use Rattle.std.proofs.Common.{◌≡◌, ℕ, ◌+◌, ◌-◌, ◌<◌, ◌≤◌, Bool, true, false, [], ◌∷◌, ◌++◌, length, take, set, get_or, refl}
+use Rattle.std.proofs.Common.{ap, sym, ◌∙◌, arith, inl, inr, ⊎_elim, length-take, Some}
 use Rattle.std.specs.Prelude.{nat_eq, count_by, ◌==◌, if◌then◌else◌}
 use Rattle.std.proofs.lemmas.List.{length-set}
 use Rattle.std.proofs.lemmas.Bool.{cases_lt}
@@ -14,8 +15,9 @@ use Rattle.board_face.specs.FreeOnce.{free_places, AreFreeOnce}
 use Rattle.board_face.proofs.NicLemmas.{pool_count-took}
 use Rattle.board_face.proofs.FreeLemmas.{free_places-took}
 use Rattle.board_face.proofs.Parts.{pool_count-parts}
-use Rattle.board_face.proofs.FitLemmas.{FillingsFit-took}
-use Rattle.board_face.proofs.FilledLemmas.{IsFilledByOne-took}
+use Rattle.board_face.proofs.FillingsFitLemmas.{FillingsFit-took}
+use Rattle.board_face.proofs.IsFilledByOneLemmas.{IsFilledByOne-took}
+use Rattle.board_face.proofs.OwnBufferLemmas.{LieInOwn-nic}
 use Rattle.board_face.proofs.AreShownLemmas.{AreShown-took}
 use Rattle.board_face.proofs.Tallies.{weight}
 use Rattle.plain_parts.specs.Free.{listed_in}
@@ -23,6 +25,7 @@ use Rattle.plain_board.specs.Board.{Board, byte_of}
 use Rattle.plain_board.specs.Sound.{IsSound}
 use Rattle.plain_board.proofs.Lists.{take-last, once-taken, same-or-other, count-push, weight-same, weight-other, weight-swap, All-none}
 use Rattle.plain_board.proofs.Freeing.{zero-test}
+use Rattle.plain_board.proofs.AppFrames.{times_used}
 use Rattle.plain_board.proofs.Card.{IsSet-nic, AreCounted-nic, AreRelayed-nic, AreReturns-nic, AreBooked-nic, ArePhased-open}
 
 -- how many elements of the free places one count stands for
@@ -53,7 +56,8 @@ module _ (board : Board) (buffer : ℕ) (sound : IsSound board) (found : last_it
   is_spare =
       ⊎_elim
       (λ inside. let once = sound.free.pool buffer (rw pools inside) in
-      let both = free-case (pool_count buffer board.nic board.apps == 0) (free_places (listed_in board.arrays.listed) buffer board.nic board.apps) once in_cache in
+      let both = free-case (pool_count buffer board.nic board.apps == 0)
+      (free_places (listed_in board.arrays.listed) buffer board.nic board.apps) once in_cache in
       let zero_count = zero-test (pool_count buffer board.nic board.apps) both.0 in
       record {
         of_pool = inside;
@@ -75,19 +79,25 @@ module _ (board : Board) (buffer : ℕ) (sound : IsSound board) (found : last_it
         pieces = All-none (λ p. p.place.buffer) buffer board.nic.view.pieces (omega (arith, parts, none));
       }
 
-  taken_counts : (b : ℕ) → pool_count b (nic_at board.nic (took board.nic.view buffer)) board.apps ≡ pool_count b board.nic board.apps + weight (buffer == b)
+  taken_counts : (b : ℕ) → pool_count b (nic_at board.nic (took board.nic.view buffer)) board.apps
+      ≡ pool_count b board.nic board.apps + weight (buffer == b)
   taken_counts b = pool_count-took b board.nic board.apps buffer
 
   free_after : AreFreeOnce (listed_in board.arrays.listed) (nic_at board.nic (took board.nic.view buffer)) board.apps
   free_after = record {
-    pool = λ b within. once-taken (pool_count b board.nic board.apps) _ (free_places (listed_in board.arrays.listed) b board.nic board.apps) _ (weight (buffer == b)) (sound.free.pool b within)
+    pool = λ b within. once-taken (pool_count b board.nic board.apps) _ (free_places (listed_in board.arrays.listed) b board.nic board.apps) _
+        (weight (buffer == b)) (sound.free.pool b within)
         (omega (arith, free_places-took (listed_in board.arrays.listed) b board.nic board.apps buffer last, weight-swap b buffer)) (taken_counts b)
-        (⊎_elim (λ same. inr (same.0, ap (λ x. pool_count x board.nic board.apps) same.1 ∙ is_spare.none)) (λ other. inl other) (same-or-other b buffer));
+        (⊎_elim (λ same. inr (same.0, ap (λ x. pool_count x board.nic board.apps) same.1 ∙ is_spare.none)) (λ other. inl other)
+        (same-or-other b buffer));
     reserves = λ b past. omega (arith, sound.free.reserves b past, free_places-took (listed_in board.arrays.listed) b board.nic board.apps buffer last);
   }
 
   pub IsSound-took : IsOpen board.nic.view → IsSound (record {
-    arrays = record board.arrays { pool = set board.arrays.pool buffer (get_or board.arrays.pool buffer 0 + 1); cache = take (length board.arrays.cache - 1) board.arrays.cache };
+    arrays = record board.arrays {
+      pool = set board.arrays.pool buffer (get_or board.arrays.pool buffer 0 + 1);
+      cache = take (length board.arrays.cache - 1) board.arrays.cache;
+    };
     nic = nic_at board.nic (took board.nic.view buffer);
     apps = board.apps;
   })
@@ -119,14 +129,32 @@ module _ (board : Board) (buffer : ℕ) (sound : IsSound board) (found : last_it
     returns = λ a app here. AreReturns-nic board.nic (took board.nic.view buffer) app refl (sound.returns a app here);
     flags = record { ended = sound.flags.ended; left = sound.flags.left };
     kept = record {
-      kept = λ b within. omega (arith, sound.kept.kept b within, ap (count_by (nat_eq b)) last, count-push b buffer (took board.nic.view buffer).cache, count-push b buffer board.nic.view.used);
-      swept = λ b within gone. omega (arith, sound.kept.swept b within gone, ap (count_by (nat_eq b)) last, count-push b buffer (took board.nic.view buffer).cache, count-push b buffer board.nic.view.used);
+      kept = λ b within. omega (
+        arith,
+        sound.kept.kept b within,
+        ap (count_by (nat_eq b)) last,
+        count-push b buffer (took board.nic.view buffer).cache,
+        count-push b buffer board.nic.view.used,
+        times_used b board.nic board.apps,
+        times_used b (nic_at board.nic (took board.nic.view buffer)) board.apps,
+      );
+      swept = λ b within gone. omega (
+        arith,
+        sound.kept.swept b within gone,
+        ap (count_by (nat_eq b)) last,
+        count-push b buffer (took board.nic.view buffer).cache,
+        count-push b buffer board.nic.view.used,
+        times_used b board.nic board.apps,
+        times_used b (nic_at board.nic (took board.nic.view buffer)) board.apps,
+      );
     };
     due = sound.due;
     filled = FillingsFit-took board.nic board.apps buffer (rw sound.set.card sound.sizes.layout) (rw pools is_spare.of_pool) sound.filled;
     by_one = λ b. IsFilledByOne-took b board.nic board.apps buffer (let p = is_spare.of_pool in let l = pools in omega arith) is_spare.none (sound.by_one b);
     shown = AreShown-took (byte_of board.arrays) board.nic board.apps buffer is_spare.none sound.shown;
     notes = sound.notes;
+    own_buffers = LieInOwn-nic board.nic (took board.nic.view buffer) board.apps refl refl refl sound.own_buffers;
+    judged = sound.judged;
     booked = AreBooked-nic board.arrays _ board.nic (took board.nic.view buffer) board.apps refl refl refl refl refl sound.booked;
     phased = ArePhased-open board.nic (took board.nic.view buffer) board.apps running refl refl sound.phased;
   }

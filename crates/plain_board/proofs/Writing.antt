@@ -1,9 +1,9 @@
 -- An entry of a loan is written behind all that are on their way: it names the loan's buffer, and nothing before it changes.
-use Rattle.std.proofs.Common.{◌≡◌, ℕ, ◌+◌, ◌<◌, ◌≤◌, Bool, true, false, List, [], ◌∷◌, ◌++◌, length, map, drop, refl, ap, sym, ◌∙◌, arith, length-append}
+use Rattle.std.proofs.Common.{◌≡◌, ℕ, ◌+◌, ◌<◌, ◌≤◌, Bool, true, false, List, [], ◌∷◌, ◌++◌, length, drop, refl, ap, sym}
+use Rattle.std.proofs.Common.{◌∙◌, arith, length-append}
 use Rattle.std.specs.Prelude.{◌==◌, count_by, filter, All, Some}
 use Rattle.std.specs.List.{zip}
-use Rattle.std.proofs.lemmas.List.{drop-append-le, drop-map, length-map}
-use Rattle.std.proofs.Math.Seq.{drop-append_seam}
+use Rattle.std.proofs.lemmas.List.{drop-append-le, length-map}
 use Rattle.circular_buffer.specs.Buffer.{buffer}
 use Rattle.zr_kinds.specs.declared.ring.Rqe.{Rqe}
 use Rattle.area_layout.specs.Layout.{Shape, judged}
@@ -26,25 +26,26 @@ use Rattle.plain_board.specs.Seen.{IsSeenBy}
 use Rattle.plain_board.specs.Sound.{IsSound}
 use Rattle.plain_board.proofs.AppFrames.{has-setting, was-relayed}
 use Rattle.plain_board.specs.Returns.{entries_on_way, returns, reach_of, IsOfLoan, IsClear}
+use Rattle.plain_board.proofs.Dealing.{entries-relayed}
 
 -- ---- what is on its way
 
 -- no more entries were dealt with than were written
-pub dealt-within : (nic : NicSide) (x : AppSide) (ns : List TakenNote) (es : List Rqe) → Relayed nic x ns es → length (dealt_entries x.view.app nic) ≤ length x.view.written
-dealt-within nic x ns es relayed = omega (arith, ap length relayed.entries, length-append (dealt_entries x.view.app nic) es, length-map x.view.written (λ (w : WrittenEntry). w.entry))
-
--- the entries on their way are those in the slots
-pub way-written : (nic : NicSide) (x : AppSide) (ns : List TakenNote) (es : List Rqe) → Relayed nic x ns es → map (λ w. w.entry) (entries_on_way nic x) ≡ es
-way-written nic x ns es relayed =
-    let dealt = dealt_entries x.view.app nic in
-    let rest : drop (length dealt) (map (λ w. w.entry) x.view.written) ≡ es = rw (← relayed.entries) (drop-append_seam dealt es) in
-    sym (drop-map (λ (w : WrittenEntry). w.entry) (length dealt) x.view.written) ∙ rest
+pub dealt-within : (nic : NicSide) (x : AppSide) (ns : List TakenNote) (es : List Rqe) → Relayed nic x ns es
+    → length (dealt_entries x.view.app nic) ≤ length x.view.written
+dealt-within nic x ns es relayed = omega (
+  arith,
+  ap length relayed.entries,
+  length-append (dealt_entries x.view.app nic) es,
+  length-map x.view.written (λ (w : WrittenEntry). w.entry),
+)
 
 pub way-many : (nic : NicSide) (x : AppSide) (ns : List TakenNote) (es : List Rqe) → Relayed nic x ns es → length (entries_on_way nic x) ≡ length es
-way-many nic x ns es relayed = sym (length-map (entries_on_way nic x) (λ (w : WrittenEntry). w.entry)) ∙ ap length (way-written nic x ns es relayed)
+way-many nic x ns es relayed = sym (length-map (entries_on_way nic x) (λ (w : WrittenEntry). w.entry)) ∙ ap length (entries-relayed nic x ns es relayed)
 
 -- an entry that is written is the last on its way
-pub way-longer : (nic : NicSide) (x : AppSide) (ns : List TakenNote) (es : List Rqe) (w : WrittenEntry) → Relayed nic x ns es → drop (length (dealt_entries x.view.app nic)) (x.view.written ++ w ∷ []) ≡ entries_on_way nic x ++ w ∷ []
+pub way-longer : (nic : NicSide) (x : AppSide) (ns : List TakenNote) (es : List Rqe) (w : WrittenEntry) → Relayed nic x ns es
+    → drop (length (dealt_entries x.view.app nic)) (x.view.written ++ w ∷ []) ≡ entries_on_way nic x ++ w ∷ []
 way-longer nic x ns es w relayed = drop-append-le (length (dealt_entries x.view.app nic)) x.view.written (w ∷ []) (dealt-within nic x ns es relayed)
 
 -- ---- and none of those that were dealt with
@@ -69,27 +70,40 @@ reach-longer (v ∷ ws) w of_loan = rw (reach-longer ws w of_loan) refl
 
 -- ---- what the entry gives back
 
-pub returns-one : (layout : Shape) (b buffer : ℕ) (w : WrittenEntry) → IsOfLoan w → judged layout w.entry ≡ Some buffer → returns layout b w ≡ (buffer == b)
+pub returns-one : (layout : Shape) (b buffer : ℕ) (w : WrittenEntry) → IsOfLoan w → judged layout w.entry ≡ Some buffer
+    → returns layout b w ≡ (buffer == b)
 returns-one layout b buffer w of_loan judges = rw (of_loan, judges) refl
 
-pub returns-longer : (layout : Shape) (b : ℕ) (ws : List WrittenEntry) (w : WrittenEntry) → count_by (returns layout b) (ws ++ w ∷ []) ≡ count_by (returns layout b) ws + weight (returns layout b w)
-returns-longer layout b ws w = omega (arith, count-tally (returns layout b) (ws ++ w ∷ []), count-tally (returns layout b) ws, tally-push (returns layout b) ws w)
+pub returns-longer : (layout : Shape) (b : ℕ) (ws : List WrittenEntry) (w : WrittenEntry)
+    → count_by (returns layout b) (ws ++ w ∷ []) ≡ count_by (returns layout b) ws + weight (returns layout b w)
+returns-longer layout b ws w = omega (
+  arith,
+  count-tally (returns layout b) (ws ++ w ∷ []),
+  count-tally (returns layout b) ws,
+  tally-push (returns layout b) ws w,
+)
 
 -- Where a loan is out in a buffer, no raw entry on its way names it, so whatever follows is clear there.
-IsClear-live : (layout : Shape) (b n m : ℕ) (ws : List WrittenEntry) (w : WrittenEntry) → 0 < n → IsOfLoan w → IsClear layout b n ws → IsClear layout b m (ws ++ w ∷ [])
+IsClear-live : (layout : Shape) (b n m : ℕ) (ws : List WrittenEntry) (w : WrittenEntry) → 0 < n → IsOfLoan w → IsClear layout b n ws
+    → IsClear layout b m (ws ++ w ∷ [])
 IsClear-live layout b n m [] w some of_loan clear = (λ raw named. absurd (let wrong : true ≡ false = sym of_loan ∙ raw in cc), tt)
 IsClear-live layout b n m (v ∷ ws) w some of_loan clear =
     (λ raw named. absurd (let none = (clear.0 raw named).0 in omega arith), IsClear-live layout b n m ws w some of_loan clear.1)
 
 -- An entry that names another buffer is behind the others, and changes nothing there.
-IsClear-elsewhere : (layout : Shape) (b n m : ℕ) (ws : List WrittenEntry) (w : WrittenEntry) → m ≤ n → IsOfLoan w → returns layout b w ≡ false → IsClear layout b n ws → IsClear layout b m (ws ++ w ∷ [])
+IsClear-elsewhere : (layout : Shape) (b n m : ℕ) (ws : List WrittenEntry) (w : WrittenEntry) → m ≤ n → IsOfLoan w → returns layout b w ≡ false
+    → IsClear layout b n ws → IsClear layout b m (ws ++ w ∷ [])
 IsClear-elsewhere layout b n m [] w less of_loan other clear = (λ raw named. absurd (let wrong : true ≡ false = sym of_loan ∙ raw in cc), tt)
 IsClear-elsewhere layout b n m (v ∷ ws) w less of_loan other clear = (
-  λ raw named. let were = clear.0 raw named in (let none = were.0 in omega arith, let none = were.1 in omega (arith, returns-longer layout b ws w, ap weight other)),
+  λ raw named. let were = clear.0 raw named in (
+    let none = were.0 in omega arith,
+    let none = were.1 in omega (arith, returns-longer layout b ws w, ap weight other),
+  ),
   IsClear-elsewhere layout b n m ws w less of_loan other clear.1,
 )
 
-pub IsClear-longer : (layout : Shape) (b buffer n m : ℕ) (ws : List WrittenEntry) (w : WrittenEntry) → IsOfLoan w → judged layout w.entry ≡ Some buffer → m + weight (buffer == b) ≡ n → IsClear layout b n ws → IsClear layout b m (ws ++ w ∷ [])
+pub IsClear-longer : (layout : Shape) (b buffer n m : ℕ) (ws : List WrittenEntry) (w : WrittenEntry) → IsOfLoan w → judged layout w.entry ≡ Some buffer
+    → m + weight (buffer == b) ≡ n → IsClear layout b n ws → IsClear layout b m (ws ++ w ∷ [])
 IsClear-longer layout b buffer n m ws w of_loan judges less clear = by (buffer == b) refl
   where
     by : (c : Bool) → (buffer == b) ≡ c → IsClear layout b m (ws ++ w ∷ [])
@@ -99,7 +113,8 @@ IsClear-longer layout b buffer n m ws w of_loan judges less clear = by (buffer =
 -- ---- where the ring is full
 
 -- as many entries are on their way as the ring has slots
-pub told-in_use : (board : Board) (a : ℕ) (x : AppSide) → IsSound board → IsApp board.apps a x → (ring_in board.arrays.refills a).capacity ≤ length (ring_in board.arrays.refills a).items
+pub told-in_use : (board : Board) (a : ℕ) (x : AppSide) → IsSound board → IsApp board.apps a x
+    → (ring_in board.arrays.refills a).capacity ≤ length (ring_in board.arrays.refills a).items
     → AppTold (λ look. IsSeenBy look (app_gist x.view) (others_of board a)) x.view (app_saw x.view RefillInUse)
 told-in_use board a x sound here full =
     let there : a < length board.arrays.refills = let many = sound.set.many in let t = here.there in omega (arith, sound.sizes.refills) in

@@ -4,7 +4,6 @@ use Rattle.circular_buffer.specs.Buffer.{Buffer, buffer}
 use Rattle.zr_kinds.specs.declared.ring.Rqe.{Rqe}
 use Rattle.area_layout.specs.Layout.{Shape, pool_buffers, total, begin_of}
 use Rattle.board_face.specs.Opened.{new_nic}
-use Rattle.board_face.specs.NicEvents.{cache_room}
 use Rattle.board_face.specs.declared.views.parts.Setting.{Setting}
 use Rattle.board_face.specs.declared.views.nic.NicSide.{NicSide}
 use Rattle.board_face.specs.declared.views.app.AppSide.{AppSide}
@@ -107,8 +106,7 @@ new_board layout places = record {
   apps = new_apps (record { layout = layout; places = places }) 0 layout.reserves;
 }
 
--- The memory that was taken at opening: that of the cache, and that in which `finish` lists the free buffers.
-pub record HasRoom (layout : Shape) (cache : ℕ) (free : List ℕ) (room : ℕ) : Type 0 where
-  pub cache_full : cache ≡ cache_room
+-- The memory that was taken at opening, in which `finish` lists the free buffers.
+pub record HasRoom (layout : Shape) (free : List ℕ) (room : ℕ) : Type 0 where
   pub empty : free ≡ []
   pub free_room : pool_buffers layout ≤ room

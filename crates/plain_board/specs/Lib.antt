@@ -4,3 +4,4 @@ pub mod Sound
 pub mod Seen
 pub mod Finish
 pub mod Lent
+pub mod Users

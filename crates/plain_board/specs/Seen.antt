@@ -1,12 +1,15 @@
 -- A look is exact on this board: what a role saw is so. It is said of the board before the call that saw it.
-use Rattle.std.specs.Prelude.{◌≡◌, ℕ, ◌<◌, ◌≤◌, true, false, if◌then◌else◌, List, [], ◌∷◌, ◌++◌, length, nat_eq, count_by, slice_set, ⊤}
+use Rattle.std.specs.Prelude.{◌≡◌, ℕ, ◌+◌, ◌<◌, ◌≤◌, ◌==◌, true, false, if◌then◌else◌, List, [], ◌∷◌, ◌++◌, length}
+use Rattle.std.specs.Prelude.{nat_eq, count_by, slice_set, ⊤}
 use Rattle.zr_kinds.specs.declared.ring.Rqe.{Rqe}
 use Rattle.area_layout.specs.Layout.{pool_buffers}
+use Rattle.board_face.specs.Looks.{NicTold, AppTold}
+use Rattle.board_face.specs.NicEvents.{nic_gist}
 use Rattle.board_face.specs.Opened.{new_nic, new_app}
 use Rattle.board_face.specs.Holders.{on_way}
 use Rattle.board_face.specs.Counts.{pool_count, user_count}
 use Rattle.board_face.specs.Judged.{fate_of}
-use Rattle.board_face.specs.AppEvents.{reserve_of}
+use Rattle.board_face.specs.AppEvents.{app_gist, reserve_of}
 use Rattle.board_face.specs.declared.views.nic.NicLook.{NicLook}
 use Rattle.board_face.specs.declared.views.nic.NicLook.TheVariants.{RingEmpty, NoteInUse, Swept, NotLeft, HasLeft, NotOwed, Owed, LastHolder, StillHeld}
 use Rattle.board_face.specs.declared.views.nic.NicView.{NicView}
@@ -16,7 +19,7 @@ use Rattle.board_face.specs.declared.views.app.AppLook.TheVariants.{NoNote, Card
 use Rattle.board_face.specs.declared.views.app.AppView.{AppView}
 use Rattle.board_face.specs.declared.views.app.AppSide.{AppSide}
 use Rattle.plain_board.specs.declared.others.Others.{Others}
-use Rattle.plain_board.specs.Board.{Board, side_in}
+use Rattle.plain_board.specs.Board.{Board, side_in, side_of, others_of}
 use Rattle.plain_board.specs.Returns.{entries_on_way, is_raw}
 
 -- ---- the card
@@ -41,7 +44,11 @@ IsSeenByCard (StillHeld b) v apps = 2 ≤ pool_count b (card_of v) apps
 pub record IsJudged (old new : Board) (a : ℕ) : Type 0 where
   pub entry : Rqe
   pub dealt : new.nic.view.dealt
-      ≡ old.nic.view.dealt ++ record { app = a; entry = entry; fate = fate_of old.nic.view.setting.layout (λ b. user_count a b old.nic old.apps) entry } ∷ []
+      ≡ old.nic.view.dealt ++ record {
+        app = a;
+        entry = entry;
+        fate = fate_of old.nic.view.setting.layout (λ b. user_count a b old.nic old.apps) entry;
+      } ∷ []
 
 -- ---- an application
 
@@ -61,6 +68,12 @@ abbrev pub HasNothingListed : AppView → Others → Type 0
 HasNothingListed v others =
     (b : ℕ) → b < pool_buffers v.setting.layout → pool_count b others.card (all_of v others) ≡ 0 → 1 ≤ count_by (nat_eq b) others.card.view.cache
 
+-- The application's reserve is held, and by nobody but itself: by its loans there, out or owed, and by its spares.
+pub record HoldsReserve (v : AppView) (others : Others) : Type 0 where
+  pub held : 0 < pool_count (reserve_of v) others.card (all_of v others)
+  pub own : pool_count (reserve_of v) others.card (all_of v others)
+      ≡ user_count v.app (reserve_of v) others.card (all_of v others) + count_by (λ s. s.own.buffer == reserve_of v) v.owns
+
 -- What an application sees is so.
 abbrev pub IsSeenBy : AppLook → AppView → Others → Type 0
 IsSeenBy NoNote v others = (others.card.view.ended ≡ false) × (on_way others.card (self_of v) ≡ [])
@@ -68,5 +81,16 @@ IsSeenBy CardEnded v others = (others.card.view.ended ≡ true) × (on_way other
 IsSeenBy RefillInUse v others = v.setting.places ≤ length (entries_on_way others.card (self_of v))
 IsSeenBy RawOnItsWay v others = 0 < count_by is_raw (entries_on_way others.card (self_of v))
 IsSeenBy NoneListed v others = HasNothingListed v others
-IsSeenBy NoSpare v others = HasNothingListed v others × (0 < pool_count (reserve_of v) others.card (all_of v others))
+IsSeenBy NoSpare v others = HasNothingListed v others × HoldsReserve v others
 IsSeenBy NotQuiet v others = 0 < length (entries_on_way others.card (self_of v))
+
+-- ---- what a call saw
+
+-- Each look whose count rose for the card is so of the board before.
+abbrev pub CardSawSo : Board → Board → Type 0
+CardSawSo old new = NicTold (λ look. IsSeenByCard look (nic_gist old.nic.view) old.apps) old.nic.view new.nic.view
+
+-- Each look whose count rose for the application is so of the board before.
+abbrev pub AppSawSo : Board → Board → ℕ → Type 0
+AppSawSo old new app =
+    AppTold (λ look. IsSeenBy look (app_gist (side_of old app).view) (others_of old app)) (side_of old app).view (side_of new app).view

@@ -1,5 +1,6 @@
 -- What holds of a board between any two calls: the arrays say what the roles did.
-use Rattle.std.specs.Prelude.{◌≡◌, ℕ, ◌+◌, ◌*◌, ◌/◌, ◌<◌, ◌≤◌, Bool, true, false, if◌then◌else◌, List, [], length, map, take, All, nat_eq, count_by, slice_index, slice_index_or}
+use Rattle.std.specs.Prelude.{◌≡◌, ℕ, ◌+◌, ◌*◌, ◌/◌, ◌<◌, ◌≤◌, Bool, true, false, if◌then◌else◌, List, [], length, map}
+use Rattle.std.specs.Prelude.{take, All, nat_eq, count_by, slice_index, slice_index_or}
 use Rattle.circular_buffer.specs.Buffer.{Buffer, buffer}
 use Rattle.zr_kinds.specs.declared.ring.Rqe.{Rqe}
 use Rattle.area_layout.specs.Layout.{IsLayout, pool_buffers, total}
@@ -8,14 +9,16 @@ use Rattle.board_face.specs.Sides.{IsApp, AreNumbered}
 use Rattle.board_face.specs.Counts.{pool_count, user_count, EndedWereReturned}
 use Rattle.board_face.specs.FreeOnce.{AreFreeOnce}
 use Rattle.board_face.specs.Relay.{Relayed}
-use Rattle.board_face.specs.Texts.{unsplit_bytes, IsSplitNote, IsLinearNote}
+use Rattle.board_face.specs.Texts.{IsSplitNote, IsLinearNote}
 use Rattle.board_face.specs.Fillings.{FillingsFit, IsFilledByOne}
 use Rattle.board_face.specs.Shown.{AreShown}
 use Rattle.board_face.specs.Holders.{on_way, owed_in}
 use Rattle.board_face.specs.NicCalls.{HasNoToken}
 use Rattle.board_face.specs.AppCalls.{CanLeave}
-use Rattle.board_face.specs.Used.{picked_buffers, PicksAreGiven}
+use Rattle.board_face.specs.Used.{used_buffers, HasFewPicks, PicksAreGiven}
 use Rattle.board_face.specs.Opened.{new_nic}
+use Rattle.board_face.specs.OwnBuffers.{LieInOwn}
+use Rattle.board_face.specs.Judged.{IsHonouredAsNamed}
 use Rattle.board_face.specs.declared.views.parts.Setting.{Setting}
 use Rattle.board_face.specs.declared.views.nic.SentNote.{SentNote}
 use Rattle.board_face.specs.declared.views.nic.NicSide.{NicSide}
@@ -91,22 +94,17 @@ pub record AreFlags (arrays : Arrays) (nic : NicSide) (apps : List AppSide) : Ty
   pub ended : arrays.ended ≡ nic.view.ended
   pub left : arrays.left ≡ map (λ app. app.view.left) apps
 
--- how often a buffer was picked as a spare
-abbrev pub times_picked : ℕ → List AppSide → ℕ
-times_picked b apps = count_by (nat_eq b) (picked_buffers apps)
-
--- Each pool buffer is free as it was at the opening, or it was taken or picked. One whose word was swept is cached, or was
--- taken or picked.
+-- Each pool buffer is free as it was at the opening, or it was used. One whose word was swept is cached, or was used.
 pub record AreKept (listed : ℕ → Bool) (nic : NicSide) (apps : List AppSide) : Type 0 where
   pub kept : (b : ℕ) → b < pool_buffers nic.view.setting.layout
-      → 1 ≤ (if listed b then 1 else 0) + count_by (nat_eq b) nic.view.cache + count_by (nat_eq b) nic.view.used + times_picked b apps
+      → 1 ≤ (if listed b then 1 else 0) + count_by (nat_eq b) nic.view.cache + count_by (nat_eq b) (used_buffers nic apps)
   pub swept : (b : ℕ) → b < pool_buffers nic.view.setting.layout → 1 ≤ count_by (nat_eq (b / word_bits)) nic.view.swept
-      → 1 ≤ count_by (nat_eq b) nic.view.cache + count_by (nat_eq b) nic.view.used + times_picked b apps
+      → 1 ≤ count_by (nat_eq b) nic.view.cache + count_by (nat_eq b) (used_buffers nic apps)
 
--- Each spare is for a byte of an unsplit note that was taken.
+-- Each buffer that was picked was given, and each spare is for a byte of an unsplit note that was taken.
 pub record AreDue (apps : List AppSide) : Type 0 where
   pub picked : All PicksAreGiven apps
-  pub spares : All (λ app. app.view.spares ≤ unsplit_bytes (map (λ t. t.note) app.view.taken)) apps
+  pub few : All HasFewPicks apps
 
 -- a note as it may be sent, with as many bytes as it tells of
 pub record IsProper (s : SentNote) : Type 0 where
@@ -116,7 +114,8 @@ pub record IsProper (s : SentNote) : Type 0 where
 -- What the arrays keep beside the counts: the loans that are out, the lengths of filled spares, and how far back the last
 -- raw entry lies.
 pub record AreBooked (arrays : Arrays) (nic : NicSide) (apps : List AppSide) : Type 0 where
-  pub loans : (a b : ℕ) (app : AppSide) → IsApp apps a app → b < total arrays.layout → slice_index arrays.loans (user_at arrays.layout a b) ≡ loans_out b app
+  pub loans : (a b : ℕ) (app : AppSide) → IsApp apps a app → b < total arrays.layout
+      → slice_index arrays.loans (user_at arrays.layout a b) ≡ loans_out b app
   pub filled : (a : ℕ) (app : AppSide) → IsApp apps a app → All (λ s. slice_index arrays.filled s.own.buffer ≡ length s.bytes) app.view.owns
   pub raw : (a : ℕ) (app : AppSide) → IsApp apps a app → slice_index arrays.raw a ≡ reach_of (entries_on_way nic app)
 
@@ -147,5 +146,7 @@ pub record IsSound (board : Board) : Type 0 where
   pub by_one : (b : ℕ) → IsFilledByOne b board.nic board.apps
   pub shown : AreShown (byte_of board.arrays) board.nic board.apps
   pub notes : All IsProper board.nic.view.sent
+  pub own_buffers : LieInOwn board.nic board.apps
+  pub judged : All (IsHonouredAsNamed board.nic.view.setting.layout) board.nic.view.dealt
   pub booked : AreBooked board.arrays board.nic board.apps
   pub phased : ArePhased board.nic board.apps

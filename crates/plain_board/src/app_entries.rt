@@ -1,10 +1,9 @@
 ghost use Rattle.std.specs.Prelude.{◌≡◌, ◌<◌, true, false, IsTrue, MatchBool, MatchResult};
 ghost use Rattle.board_face.specs.declared.views.app.AppLook.TheVariants.{RefillInUse, RawOnItsWay, NotQuiet};
 ghost use Rattle.board_face.specs.AppCalls.{IsHere, NamesNoLoan, AppOnlySaw};
-ghost use Rattle.board_face.specs.AppEvents.{app_gist, pushed_raw, came_to_rest, fell_quiet};
-ghost use Rattle.board_face.specs.Looks.{AppTold};
+ghost use Rattle.board_face.specs.AppEvents.{pushed_raw, came_to_rest, fell_quiet};
 ghost use Rattle.plain_board.specs.Board.{side_of, others_of};
-ghost use Rattle.plain_board.specs.Seen.{IsSeenBy};
+ghost use Rattle.plain_board.specs.Seen.{AppSawSo};
 
 use crate::PlainBoard;
 use plain_parts::{note_at, put, put_back, ring_len};
@@ -21,7 +20,7 @@ impl PlainBoard {
         ensures view { MatchResult result
             (λ _. (side_of self.new app).view ≡ pushed_raw (side_of self.old app).view entry)
             (λ back. (back ≡ entry) × AppOnlySaw RefillInUse (side_of self.old app).view (side_of self.new app).view) }
-        ensures told { AppTold (λ look. IsSeenBy look (app_gist (side_of self.old app).view) (others_of self.old app)) (side_of self.old app).view (side_of self.new app).view }
+        ensures told { AppSawSo self.old self.new app }
         ensures others { others_of self.new app ≡ others_of self.old app }
         ensures layout { self.new.arrays.layout ≡ self.old.arrays.layout }
     {
@@ -42,7 +41,7 @@ impl PlainBoard {
         ensures view { MatchBool result
             ((side_of self.new app).view ≡ came_to_rest (side_of self.old app).view)
             (AppOnlySaw RawOnItsWay (side_of self.old app).view (side_of self.new app).view) }
-        ensures told { AppTold (λ look. IsSeenBy look (app_gist (side_of self.old app).view) (others_of self.old app)) (side_of self.old app).view (side_of self.new app).view }
+        ensures told { AppSawSo self.old self.new app }
         ensures still { (side_of self.old app).view.settled ≡ true → IsTrue result }
         ensures others { others_of self.new app ≡ others_of self.old app }
         ensures layout { self.new.arrays.layout ≡ self.old.arrays.layout }
@@ -59,7 +58,7 @@ impl PlainBoard {
         ensures view { MatchBool result
             ((side_of self.new app).view ≡ fell_quiet (side_of self.old app).view)
             (AppOnlySaw NotQuiet (side_of self.old app).view (side_of self.new app).view) }
-        ensures told { AppTold (λ look. IsSeenBy look (app_gist (side_of self.old app).view) (others_of self.old app)) (side_of self.old app).view (side_of self.new app).view }
+        ensures told { AppSawSo self.old self.new app }
         ensures others { others_of self.new app ≡ others_of self.old app }
         ensures layout { self.new.arrays.layout ≡ self.old.arrays.layout }
     {

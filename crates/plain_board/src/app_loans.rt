@@ -1,10 +1,9 @@
 ghost use Rattle.std.specs.Prelude.{◌≡◌, ◌+◌, ◌<◌, ◌≤◌, ◌↔◌, length, IsTrue, MatchResult};
 ghost use Rattle.board_face.specs.declared.views.app.AppLook.TheVariants.{RefillInUse};
 ghost use Rattle.board_face.specs.AppCalls.{IsHere, HasLoan, IsLive, AppOnlySaw, ShowsCopy};
-ghost use Rattle.board_face.specs.AppEvents.{app_gist, has_read, loan_origin, gave, abandoned};
-ghost use Rattle.board_face.specs.Looks.{AppTold};
+ghost use Rattle.board_face.specs.AppEvents.{has_read, loan_origin, gave, abandoned};
 ghost use Rattle.plain_board.specs.Board.{side_of, others_of};
-ghost use Rattle.plain_board.specs.Seen.{IsSeenBy};
+ghost use Rattle.plain_board.specs.Seen.{AppSawSo};
 
 use crate::PlainBoard;
 use board_face::Loan;
@@ -38,7 +37,7 @@ impl PlainBoard {
         ensures view { MatchResult result
             (λ _. (side_of self.new app).view ≡ gave (side_of self.old app).view loan)
             (λ back. (back ≡ loan) × AppOnlySaw RefillInUse (side_of self.old app).view (side_of self.new app).view) }
-        ensures told { AppTold (λ look. IsSeenBy look (app_gist (side_of self.old app).view) (others_of self.old app)) (side_of self.old app).view (side_of self.new app).view }
+        ensures told { AppSawSo self.old self.new app }
         ensures others { others_of self.new app ≡ others_of self.old app }
         ensures layout { self.new.arrays.layout ≡ self.old.arrays.layout }
     {

@@ -1,9 +1,7 @@
 ghost use Rattle.std.specs.Prelude.{◌≡◌, ◌<◌};
 ghost use Rattle.board_face.specs.AppCalls.{IsHere, Looked};
-ghost use Rattle.board_face.specs.AppEvents.{app_gist};
-ghost use Rattle.board_face.specs.Looks.{AppTold};
 ghost use Rattle.plain_board.specs.Board.{side_of, others_of};
-ghost use Rattle.plain_board.specs.Seen.{IsSeenBy};
+ghost use Rattle.plain_board.specs.Seen.{AppSawSo};
 
 use crate::PlainBoard;
 use board_face::{Held, Polled};
@@ -17,7 +15,7 @@ impl PlainBoard {
         requires app { app < self.old.arrays.layout.reserves }
         requires here { IsHere (side_of self.old app).view }
         ensures view { Looked (side_of self.old app).view (side_of self.new app).view linear.new result }
-        ensures told { AppTold (λ look. IsSeenBy look (app_gist (side_of self.old app).view) (others_of self.old app)) (side_of self.old app).view (side_of self.new app).view }
+        ensures told { AppSawSo self.old self.new app }
         ensures others { others_of self.new app ≡ others_of self.old app }
         ensures layout { self.new.arrays.layout ≡ self.old.arrays.layout }
     {

@@ -2,10 +2,9 @@ ghost use Rattle.std.specs.Prelude.{◌≡◌, ◌<◌, ◌≤◌, length, IfSom
 ghost use Rattle.board_face.specs.declared.views.app.AppLook.TheVariants.{NoSpare};
 ghost use Rattle.board_face.specs.Tokens.{filled_by};
 ghost use Rattle.board_face.specs.AppCalls.{IsHere, HasSpare, CanLend, MaySpare, IsFilled, AppOnlySaw, GotSpare};
-ghost use Rattle.board_face.specs.AppEvents.{app_gist, filled, own_bytes, begin_place, lent_own};
-ghost use Rattle.board_face.specs.Looks.{AppTold};
+ghost use Rattle.board_face.specs.AppEvents.{filled, own_bytes, begin_place, lent_own};
 ghost use Rattle.plain_board.specs.Board.{side_of, others_of, IsLowestFree};
-ghost use Rattle.plain_board.specs.Seen.{IsSeenBy};
+ghost use Rattle.plain_board.specs.Seen.{AppSawSo};
 
 use crate::PlainBoard;
 use board_face::{Filling, Loan, Own};
@@ -23,7 +22,7 @@ impl PlainBoard {
             (AppOnlySaw NoSpare (side_of self.old app).view (side_of self.new app).view)
             (λ own. GotSpare (side_of self.old app).view (side_of self.new app).view own) }
         ensures lowest { IfSome result (λ own. IsLowestFree self.old.arrays own.buffer) }
-        ensures told { AppTold (λ look. IsSeenBy look (app_gist (side_of self.old app).view) (others_of self.old app)) (side_of self.old app).view (side_of self.new app).view }
+        ensures told { AppSawSo self.old self.new app }
         ensures others { others_of self.new app ≡ others_of self.old app }
         ensures layout { self.new.arrays.layout ≡ self.old.arrays.layout }
     {

@@ -1,23 +1,22 @@
-ghost use Rattle.std.specs.Prelude.{◌≡◌, ℕ, ◌/◌, ◌<◌, ◌≤◌, [], ◌∷◌, ◌++◌, false, length, slice_index, ◌==◌, MatchOption, MatchBool, IfOk};
+ghost use Rattle.std.specs.Prelude.{◌≡◌, ℕ, ◌/◌, ◌<◌, ◌≤◌, [], ◌∷◌, ◌++◌, false, length, slice_index, ◌==◌, MatchOption};
+ghost use Rattle.std.specs.Prelude.{MatchBool, IfOk};
 ghost use Rattle.board_face.specs.NicCalls.{apps_of, IsOpen, HasOwn, HasNoToken, TookBuffer, SweptWord, free_words_of, lost_of, sent_unsplit_bytes};
-ghost use Rattle.board_face.specs.NicEvents.{word_bits, shut, nic_ended, saw_leave, nic_saw, nic_gist};
-ghost use Rattle.board_face.specs.Looks.{NicTold};
+ghost use Rattle.board_face.specs.NicEvents.{word_bits, shut, nic_ended, saw_leave, nic_saw};
 ghost use Rattle.board_face.specs.declared.views.nic.NicLook.TheVariants.{NotLeft};
 ghost use Rattle.board_face.specs.Sides.{nic_at};
 ghost use Rattle.plain_parts.specs.Free.{listed_in};
 ghost use Rattle.plain_board.specs.Board.{new_board};
-ghost use Rattle.plain_board.specs.Seen.{IsSeenByCard};
+ghost use Rattle.plain_board.specs.Seen.{CardSawSo};
 
 use area_layout::Layout;
 use board_face::{AppSide, NicSide, Own};
 use circular_buffer::HeapCircularBuffer;
-use plain_parts::{Diary, NoteSlot, came_free, diaries, free_if, lower, move_word, raise, rings};
+use plain_parts::{
+    Cache, Diary, NoteSlot, came_free, diaries, free_if, lower, move_word, raise, rings,
+};
 use std::alloc::{AllocError, Global};
 use std::marker::{Brand, Model};
 use zr_kinds::Rqe;
-
-/// How many buffers the cache holds at most.
-const CACHE_ROOM: usize = 128;
 
 /// A board for one thread: counts, rings and free buffers in plain arrays. All its memory is taken at opening.
 #[derive(Drop)]
@@ -36,7 +35,7 @@ pub struct PlainBoard {
     pub(crate) filled: Vec<u32>,
     /// Whether a pool buffer is on the free list.
     pub(crate) listed: Vec<bool>,
-    pub(crate) cache: HeapCircularBuffer<u32>,
+    pub(crate) cache: Cache,
     pub(crate) notes: Vec<HeapCircularBuffer<NoteSlot>>,
     pub(crate) refills: Vec<HeapCircularBuffer<Rqe>>,
     /// How many refill entries on their way don't stand behind the last raw one, by application.
@@ -77,26 +76,7 @@ impl Model for PlainBoard {
       apps = s.apps.items;
     } };
 
-    ghost invariant = { λ s. IsSound (record {
-      arrays = record {
-        layout = s.layout;
-        places = s.places;
-        area = s.area.items;
-        pool = s.pool.items;
-        users = s.users.items;
-        loans = s.loans.items;
-        filled = s.filled.items;
-        listed = s.listed.items;
-        cache = s.cache.items;
-        notes = s.notes.items;
-        refills = s.refills.items;
-        raw = s.raw.items;
-        ended = s.ended;
-        left = s.left.items;
-      };
-      nic = s.nic;
-      apps = s.apps.items;
-    }) × HasRoom s.layout s.cache.capacity s.free.items (vec_capacity s.free) };
+    ghost invariant = { λ s. IsSound (view s) × HasRoom s.layout s.free.items (vec_capacity s.free) };
 }
 
 impl PlainBoard {
@@ -128,7 +108,7 @@ impl PlainBoard {
             loans: vec![in alloc; 0; count * total]?,
             filled: vec![in alloc; 0; total]?,
             listed: vec![in alloc; true; buffers]?,
-            cache: HeapCircularBuffer::with_capacity(alloc, CACHE_ROOM)?,
+            cache: Cache::new(),
             notes: rings(alloc, count, places as usize)?,
             refills: rings(alloc, count, places as usize)?,
             raw: vec![in alloc; 0; count]?,
@@ -157,7 +137,7 @@ impl PlainBoard {
             (λ own. TookBuffer self.old.nic.view self.new.nic.view own) }
         ensures apps { self.new.apps ≡ self.old.apps }
     {
-        let Some(buffer) = self.cache.pop_back() else {
+        let Some(buffer) = self.cache.pop() else {
             let nic = &mut self.nic;
             nic.note::<Brand, ()>(());
             return None;
@@ -175,7 +155,7 @@ impl PlainBoard {
         requires out { HasOwn self.old.nic.view own }
         ensures view { self.new.nic ≡ nic_at self.old.nic
             (shut self.old.nic.view own (slice_index self.new.arrays.pool own.buffer == 0)) }
-        ensures told { NicTold (λ look. IsSeenByCard look (nic_gist self.old.nic.view) self.old.apps) self.old.nic.view self.new.nic.view }
+        ensures told { CardSawSo self.old self.new }
         ensures apps { self.new.apps ≡ self.old.apps }
     {
         let buffer = own.buffer();
@@ -193,13 +173,13 @@ impl PlainBoard {
         ensures view { SweptWord self.old.nic.view self.new.nic.view word result }
         ensures bound { lost_of self.new.nic.view ≤ sent_unsplit_bytes self.new.nic.view }
         ensures emptied { (b : ℕ) → b / word_bits ≡ word → listed_in self.new.arrays.listed b ≡ false }
-        ensures told { NicTold (λ look. IsSeenByCard look (nic_gist self.old.nic.view) self.old.apps) self.old.nic.view self.new.nic.view }
+        ensures told { CardSawSo self.old self.new }
         ensures apps { self.new.apps ≡ self.old.apps }
     {
         let count = move_word(word, &mut self.cache, &mut self.listed);
         let nic = &mut self.nic;
         let cache = &self.cache;
-        nic.note::<Brand, (u32, &HeapCircularBuffer<u32>)>((word, cache));
+        nic.note::<Brand, (u32, &Cache)>((word, cache));
         count
     }
 
@@ -220,7 +200,7 @@ impl PlainBoard {
         ensures view { MatchBool result
             (self.new.nic ≡ nic_at self.old.nic (saw_leave self.old.nic.view app))
             (self.new.nic ≡ nic_at self.old.nic (nic_saw self.old.nic.view (NotLeft app))) }
-        ensures told { NicTold (λ look. IsSeenByCard look (nic_gist self.old.nic.view) self.old.apps) self.old.nic.view self.new.nic.view }
+        ensures told { CardSawSo self.old self.new }
         ensures apps { self.new.apps ≡ self.old.apps }
     {
         let gone = self.left[app as usize];

@@ -2,6 +2,7 @@
 //! through a part that holds the whole board and gives it back.
 #![tactic(auto)]
 
+mod app;
 mod app_end;
 mod app_entries;
 mod app_loans;
@@ -9,21 +10,20 @@ mod app_notes;
 mod app_pieces;
 mod app_spares;
 mod board;
+mod card_entries;
+mod card_notes;
+mod card_places;
 mod finish;
 mod laws;
 mod nic;
 mod others;
-mod part;
-mod placing;
-mod posting;
 mod readers;
-mod refill;
 
+pub use app::PlainApp;
 pub use board::PlainBoard;
-pub use laws::lent_texts_stand;
+pub use laws::{boards_end_well, lent_texts_stand, users_are_loans};
 pub use nic::PlainNic;
 pub use others::Others;
-pub use part::PlainApp;
 
 #[cfg(test)]
 mod tests;

@@ -1,11 +1,10 @@
 ghost use Rattle.std.specs.Prelude.{◌≡◌, ◌≢◌, ℕ, ◌/◌, ◌<◌, ◌≤◌, false, length};
 ghost use Rattle.board_face.specs.NicCalls.{apps_of, free_words_of, lost_of, sent_unsplit_bytes, SweptWord, DealtWith};
-ghost use Rattle.board_face.specs.NicEvents.{word_bits, nic_gist};
-ghost use Rattle.board_face.specs.Looks.{NicTold};
+ghost use Rattle.board_face.specs.NicEvents.{word_bits};
 ghost use Rattle.plain_parts.specs.Free.{listed_in};
 ghost use Rattle.plain_board.specs.Board.{IsUntouched};
 ghost use Rattle.plain_board.specs.Sound.{IsSound};
-ghost use Rattle.plain_board.specs.Seen.{IsSeenByCard, IsJudged};
+ghost use Rattle.plain_board.specs.Seen.{IsSeenByCard, IsJudged, CardSawSo};
 
 use crate::PlainBoard;
 use board_face::{AppSide, Entry, NicFace, Own, Piece};
@@ -53,7 +52,7 @@ impl PlainBoard {
 }
 
 impl NicFace for PlainNic {
-    ghost use Rattle.plain_board.specs.Seen.{IsSeenByCard, IsJudged};
+    ghost use Rattle.plain_board.specs.Seen.{IsSeenByCard, IsJudged, CardSawSo};
 
     type Beside = LinkedList<AppSide>;
 
@@ -93,7 +92,7 @@ impl NicFace for PlainNic {
         requires word { word < free_words_of self.old.nic.view.setting }
         ensures view { SweptWord self.old.nic.view self.new.nic.view word result }
         ensures bound { lost_of self.new.nic.view ≤ sent_unsplit_bytes self.new.nic.view }
-        ensures told { NicTold (λ look. IsSeenByCard look (nic_gist self.old.nic.view) self.old.apps) self.old.nic.view self.new.nic.view }
+        ensures told { CardSawSo self.old self.new }
         ensures beside { self.new.apps ≡ self.old.apps }
         ensures emptied { (b : ℕ) → b / word_bits ≡ word → listed_in self.new.arrays.listed b ≡ false }
     {
@@ -105,7 +104,7 @@ impl NicFace for PlainNic {
     fn entry(&mut self, app: u32) -> Entry
         requires app { app < apps_of self.old.nic.view.setting }
         ensures view { DealtWith self.old.nic.view self.new.nic.view app result }
-        ensures told { NicTold (λ look. IsSeenByCard look (nic_gist self.old.nic.view) self.old.apps) self.old.nic.view self.new.nic.view }
+        ensures told { CardSawSo self.old self.new }
         ensures beside { self.new.apps ≡ self.old.apps }
         ensures stray { result ≡ Entry.Stray → IsUntouched self.old.arrays self.new.arrays }
         ensures judged { result ≢ Entry.Empty → IsJudged self.old self.new app }

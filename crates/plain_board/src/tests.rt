@@ -3,6 +3,9 @@ ghost use Rattle.face_table.specs.CardHand.{IsCardHand};
 ghost use Rattle.face_table.specs.AppHand.{IsAppHand};
 ghost use Rattle.plain_board.specs.Board.{side_of};
 
+mod areas;
+mod tokens;
+
 use super::PlainBoard;
 use area_layout::Layout;
 use board_face::{Entry, NicFace};

@@ -1,5 +1,6 @@
 -- A word of the free list is moved into the cache, the highest buffer first.
-use Rattle.std.proofs.Common.{◌≡◌, ℕ, zero, suc, ◌+◌, ◌<◌, ◌≤◌, Bool, true, false, List, [], ◌∷◌, ◌++◌, length, set, refl, ap, sym, ◌∙◌, subst, arith, ⊎_elim, inl, inr, length-append, append_assoc}
+use Rattle.std.proofs.Common.{◌≡◌, ℕ, zero, suc, ◌+◌, ◌<◌, ◌≤◌, Bool, true, false, List, [], ◌∷◌, ◌++◌, length, set, refl, ap}
+use Rattle.std.proofs.Common.{sym, ◌∙◌, subst, arith, ⊎_elim, inl, inr, length-append, append_assoc}
 use Rattle.std.specs.Prelude.{◌≢◌, ◌⊎◌, if◌then◌else◌}
 use Rattle.std.proofs.lemmas.List.{get_or-set_same, get_or-set_other, length-set}
 use Rattle.std.proofs.lemmas.Bool.Decides.{eqb_tells}
@@ -16,7 +17,8 @@ pub record IsMoved (before now : List Bool) (cache0 cache : List ℕ) (first n l
   pub below : (b : ℕ) → (b < first + left) ⊎ (first + n ≤ b) → listed_in now b ≡ listed_in before b
   pub moved : (b : ℕ) → first + left ≤ b → b < first + n → listed_in now b ≡ false
 
-at-true : (before : List Bool) (first m : ℕ) → listed_in before (first + m) ≡ true → listed_from before first (suc m) ≡ (first + m) ∷ listed_from before first m
+at-true : (before : List Bool) (first m : ℕ) → listed_in before (first + m) ≡ true
+    → listed_from before first (suc m) ≡ (first + m) ∷ listed_from before first m
 at-true before first m e = rw e refl
 
 at-false : (before : List Bool) (first m : ℕ) → listed_in before (first + m) ≡ false → listed_from before first (suc m) ≡ listed_from before first m
@@ -30,7 +32,8 @@ length-listed_from before first (suc n) = case (listed_in before (first + n)) (l
     case true h = omega arith
     case false h = omega arith
 
-module _ (before now : List Bool) (cache0 cache : List ℕ) (first n left m count : ℕ) (h : IsMoved before now cache0 cache first n left count) (e : left ≡ suc m) where
+module _ (before now : List Bool) (cache0 cache : List ℕ) (first n left m count : ℕ) (h : IsMoved before now cache0 cache first n left count)
+    (e : left ≡ suc m) where
   pub same_here : listed_in now (first + m) ≡ listed_in before (first + m)
   same_here = h.below (first + m) (inl (omega arith))
 
@@ -49,7 +52,8 @@ module _ (before now : List Bool) (cache0 cache : List ℕ) (first n left m coun
         within = h.within;
         counts = omega (arith, ap length front, at_next.counts);
         moves = append_assoc cache (x ∷ []) (listed_from before first m) ∙ (ap (λ ys. cache ++ ys) (sym front) ∙ at_next.moves);
-        below = λ b where_. get_or-set_other now x b false false (λ same. ⊎_elim (λ under. absurd (omega arith)) (λ over. absurd (omega arith)) where_) ∙ at_next.below b (⊎_elim (λ under. inl (omega arith)) (λ over. inr over) where_);
+        below = λ b where_. get_or-set_other now x b false false (λ same. ⊎_elim (λ under. absurd (omega arith)) (λ over. absurd (omega arith)) where_)
+            ∙ at_next.below b (⊎_elim (λ under. inl (omega arith)) (λ over. inr over) where_);
         moved = λ b from to. ⊎_elim
             (λ t. let same : b ≡ x = t.1 in subst (λ y. listed_in (set now x false) y ≡ false) (sym same) (get_or-set_same now x false false there))
             (λ t. let ne : b ≢ x = t.1 in get_or-set_other now x b false false ne ∙ at_next.moved b (omega arith) to)
@@ -78,7 +82,14 @@ module _ (before now : List Bool) (cache0 cache : List ℕ) (first n left m coun
   pub has-room : (room : ℕ) → length cache0 + n ≤ room → listed_in now (first + m) ≡ true → length cache < room
   has-room room enough is =
       let front = at-true before first m (sym same_here ∙ is) in
-      omega (arith, ap length front, ap length at_next.moves, length-append cache (listed_from before first (suc m)), length-append cache0 (listed_from before first n), length-listed_from before first n)
+      omega (
+        arith,
+        ap length front,
+        ap length at_next.moves,
+        length-append cache (listed_from before first (suc m)),
+        length-append cache0 (listed_from before first n),
+        length-listed_from before first n,
+      )
 
   pub few-moved : count ≤ n
   few-moved = omega (arith, h.counts, length-listed_from before first n)

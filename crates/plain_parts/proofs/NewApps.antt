@@ -6,4 +6,5 @@ use Rattle.plain_parts.specs.Opened.{new_apps}
 
 pub new_apps-push : (s : Setting) (first n : ℕ) → new_apps s first (suc n) ≡ new_apps s first n ++ new_app s (first + n) ∷ []
 new_apps-push s first zero = rw (add-zero first) refl
-new_apps-push s first (suc n) = let next : first + suc n ≡ suc first + n = omega arith in rw next (ap (λ apps. new_app s first ∷ apps) (new_apps-push s (suc first) n))
+new_apps-push s first (suc n) = let next : first + suc n ≡ suc first + n = omega arith in rw next
+    (ap (λ apps. new_app s first ∷ apps) (new_apps-push s (suc first) n))

@@ -1,5 +1,6 @@
 -- Where counts stand, and what a scrub does to them.
-use Rattle.std.specs.Prelude.{◌≡◌, ◌≢◌, ℕ, ◌*◌, ◌+◌, ◌-◌, ◌<◌, ◌≤◌, Bool, true, ◌&&◌, ◌==◌, nat_lt, if◌then◌else◌, List, length, slice_index}
+use Rattle.std.specs.Prelude.{◌≡◌, ◌≢◌, ℕ, ◌*◌, ◌+◌, ◌-◌, ◌<◌, ◌≤◌, Bool, true, ◌&&◌, ◌==◌, nat_lt}
+use Rattle.std.specs.Prelude.{if◌then◌else◌, List, length, slice_index}
 use Rattle.area_layout.specs.Layout.{Shape, pool_buffers, total}
 use Rattle.plain_parts.specs.Free.{listed_in}
 
@@ -24,4 +25,5 @@ pub record TakesBack (layout : Shape) (app : ℕ) (users users' pool pool' : Lis
   pub none : (b : ℕ) → b < total layout → slice_index users' (user_at layout app b) ≡ 0
   pub others : (a b : ℕ) → a ≢ app → b < total layout → slice_index users' (user_at layout a b) ≡ slice_index users (user_at layout a b)
   pub less : (b : ℕ) → b < total layout → slice_index pool' b ≡ slice_index pool b - slice_index users (user_at layout app b)
-  pub lists : (b : ℕ) → b < total layout → listed_in listed' b ≡ (if came_back layout b (slice_index users (user_at layout app b)) (slice_index pool' b) then true else listed_in listed b)
+  pub lists : (b : ℕ) → b < total layout → listed_in listed' b
+      ≡ (if came_back layout b (slice_index users (user_at layout app b)) (slice_index pool' b) then true else listed_in listed b)

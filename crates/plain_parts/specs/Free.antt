@@ -1,5 +1,6 @@
 -- The free list, once a buffer came to be free.
-use Rattle.std.specs.Prelude.{◌≡◌, ◌<◌, ◌⊎◌, slice_index, ℕ, zero, suc, ◌+◌, ◌-◌, ◌*◌, min, Bool, true, false, slice_index_or, [], ◌∷◌, ◌++◌, if◌then◌else◌, nat_lt, List, length, slice_set}
+use Rattle.std.specs.Prelude.{◌≡◌, ◌<◌, ◌⊎◌, slice_index, ℕ, zero, suc, ◌+◌, ◌-◌, ◌*◌, min, Bool, true, false, slice_index_or, []}
+use Rattle.std.specs.Prelude.{◌∷◌, ◌++◌, if◌then◌else◌, nat_lt, List, length, slice_set}
 use Rattle.board_face.specs.NicEvents.{cache_room, word_bits}
 
 -- whether a buffer is on the free list

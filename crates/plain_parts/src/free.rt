@@ -1,23 +1,26 @@
-ghost use Rattle.std.specs.Prelude.{◌≡◌, ℕ, ◌+◌, ◌*◌, ◌<◌, ◌≤◌, ◌++◌, ◌⊎◌, true, false, [], length, slice_index, slice_set, IsTrue, MatchOption, vec_capacity, ◌&&◌, nat_lt, if◌then◌else◌};
-ghost use Rattle.circular_buffer.specs.Buffer.{buffer as with_items};
+ghost use Rattle.std.specs.Prelude.{◌≡◌, ℕ, ◌+◌, ◌*◌, ◌<◌, ◌≤◌, ◌++◌, ◌⊎◌, true, false, [], length, slice_index, slice_set};
+ghost use Rattle.std.specs.Prelude.{IsTrue, MatchOption, vec_capacity, ◌&&◌, nat_lt, if◌then◌else◌};
 ghost use Rattle.area_layout.specs.Layout.{pool_buffers};
 ghost use Rattle.board_face.specs.NicEvents.{cached, cache_room, word_bits};
 ghost use Rattle.plain_parts.specs.Free.{listed_in, relisted, word_end, found_in, listed_below, HasNoneListed, IsLowest, IsPicked};
 
 use area_layout::Layout;
-use circular_buffer::HeapCircularBuffer;
+use arrayvec::ArrayVec;
+
+/// How many buffers the cache holds at most.
+pub const CACHE_ROOM: usize = 128;
+
+/// The card's cache, in the order in which buffers entered.
+pub type Cache = ArrayVec<u32, CACHE_ROOM>;
 
 /// Where a pool buffer came to be free, puts it into the cache, or onto the free list where the cache is full.
-pub fn free_if(free: bool, buffer: u32, cache: &mut HeapCircularBuffer<u32>, listed: &mut Vec<bool>)
+pub fn free_if(free: bool, buffer: u32, cache: &mut Cache, listed: &mut Vec<bool>)
     requires there { IsTrue free → buffer < length listed.old.items }
-    requires room { cache.old.capacity ≡ cache_room }
-    ensures cache { cache.new ≡ with_items
-        (if free then cached cache.old.items buffer else cache.old.items)
-        cache.old.capacity }
+    ensures cache { cache.new.items ≡ (if free then cached cache.old.items buffer else cache.old.items) }
     ensures listed { listed.new.items ≡
         (if free then relisted cache.old.items listed.old.items buffer else listed.old.items) }
 {
-    if free && cache.try_push_back(buffer).is_err() {
+    if free && cache.try_push(buffer).is_err() {
         listed[buffer as usize] = true;
     }
 }
@@ -43,17 +46,16 @@ pub fn came_free(last: bool, buffer: u32, layout: &Layout) -> bool
 const WORD_BITS: usize = 64;
 
 /// Moves the listed buffers of a word into the cache, the highest first, and says how many.
-pub fn move_word(word: u32, cache: &mut HeapCircularBuffer<u32>, listed: &mut Vec<bool>) -> u32
+pub fn move_word(word: u32, cache: &mut Cache, listed: &mut Vec<bool>) -> u32
     requires word { word_bits * word < length listed.old.items }
     requires few { length listed.old.items ≤ 4096 }
-    requires room { length cache.old.items + word_bits ≤ cache.old.capacity }
-    ensures cache { cache.new ≡ with_items
-        (cache.old.items ++ found_in listed.old.items word)
-        cache.old.capacity }
+    requires room { length cache.old.items + word_bits ≤ cache_room }
+    ensures cache { cache.new.items ≡ cache.old.items ++ found_in listed.old.items word }
     ensures count { result ≡ length (found_in listed.old.items word) }
     ensures len { length listed.new.items ≡ length listed.old.items }
     ensures taken { (b : ℕ) → word_bits * word ≤ b → b < word_end listed.old.items word → listed_in listed.new.items b ≡ false }
-    ensures others { (b : ℕ) → (b < word_bits * word) ⊎ (word_end listed.old.items word ≤ b) → listed_in listed.new.items b ≡ listed_in listed.old.items b }
+    ensures others { (b : ℕ) → (b < word_bits * word) ⊎ (word_end listed.old.items word ≤ b)
+        → listed_in listed.new.items b ≡ listed_in listed.old.items b }
 {
     let first = word as usize * WORD_BITS;
     let mut left = WORD_BITS.min(listed.len() - first);
@@ -63,7 +65,7 @@ pub fn move_word(word: u32, cache: &mut HeapCircularBuffer<u32>, listed: &mut Ve
         let buffer = first + left;
         if listed[buffer] {
             listed[buffer] = false;
-            let _ = cache.try_push_back(buffer as u32);
+            cache.push(buffer as u32);
             count += 1;
         }
     }
@@ -100,12 +102,12 @@ pub fn pick_spare(listed: &mut Vec<bool>, pool: &[u64], reserve: u32) -> Option<
 }
 
 /// Puts the cached buffers behind those that are there.
-fn append_cached(cache: &HeapCircularBuffer<u32>, free: &mut Vec<u32>)
+fn append_cached(cache: &Cache, free: &mut Vec<u32>)
     requires room { length free.old.items + length cache.now.items ≤ vec_capacity free.old }
     ensures items { free.new.items ≡ free.old.items ++ cache.now.items }
     ensures room { vec_capacity free.new ≡ vec_capacity free.old }
 {
-    for buffer in cache.iter() {
+    for buffer in cache.as_slice() {
         free.push_reserved(*buffer);
     }
 }
@@ -125,7 +127,7 @@ fn append_listed(listed: &[bool], free: &mut Vec<u32>)
 }
 
 /// The free buffers: those of the cache in its order, and then the listed ones from the lowest.
-pub fn all_free(cache: &HeapCircularBuffer<u32>, listed: &[bool], free: &mut Vec<u32>)
+pub fn all_free(cache: &Cache, listed: &[bool], free: &mut Vec<u32>)
     requires empty { free.old.items ≡ [] }
     requires few { length listed.now ≤ 4096 }
     requires room { length cache.now.items + length (listed_below listed.now (length listed.now)) ≤ vec_capacity free.old }

@@ -17,7 +17,7 @@ pub use counts::{lower, lower_if_some, put, raise, user_index};
 pub use diary::{AnyState, Diary, Next, Turn, diaries, note_at};
 pub use entries::owed_buffer;
 pub use filling::{filled_up, filling_of};
-pub use free::{all_free, came_free, free_if, list_if, move_word, pick_spare};
+pub use free::{CACHE_ROOM, Cache, all_free, came_free, free_if, list_if, move_word, pick_spare};
 pub use ring_list::{put_back, ring_len, rings, take_front};
 pub use scrubbing::take_back;
 pub use slots::{NoteSlot, with_room};

@@ -7,7 +7,8 @@ pub returns-in-Err-clause-serves : goal.returns-in-Err-clause-serves
 returns-in-Err-clause-serves g c =
     let inv = c.loop.invariant in
     let took = c.in-Note.ensures.view in
-    let back = CameBack-turn_abandoned _ _ _ _ _ _ _ inv.nothing took c.lend-loan.ensures.view c.lend-loan.ensures.place c.read_whole.ensures.reads _ _ _ c.in-Err.ensures.view.0 c.in-Err.ensures.view.1 c.abandon.ensures.view in
+    let back = CameBack-turn_abandoned _ _ _ _ _ _ _ inv.nothing took c.lend-loan.ensures.view c.lend-loan.ensures.place c.read_whole.ensures.reads _ _ _
+    c.in-Err.ensures.view.0 c.in-Err.ensures.view.1 c.abandon.ensures.view in
     Serves-CameBack _ _ _ _ took.fields inv.serves back
 
 pub returns-in-Ended-clause-serves : goal.returns-in-Ended-clause-serves
@@ -19,7 +20,8 @@ loop-preserved g c =
     elim c.match-poll.branch [
       | in-Note+in_default w ↦
           let took = w.in-Note.ensures.view in
-          let back = CameBack-turn_gave _ _ _ _ _ _ _ inv.nothing took w.lend-loan.ensures.view w.lend-loan.ensures.place w.read_whole.ensures.reads _ w.in_default.ensures.view in
+          let back = CameBack-turn_gave _ _ _ _ _ _ _ inv.nothing took w.lend-loan.ensures.view w.lend-loan.ensures.place w.read_whole.ensures.reads _
+          w.in_default.ensures.view in
           rw w.face-is (record {
             here = back.here ∙ inv.here;
             can = record { settled = back.settled ∙ inv.can.settled; counted = back.scrubbed ∙ inv.can.counted };

@@ -8,5 +8,6 @@ use Rattle.face_table.proofs.app.cut.Goals as goal
 pub returns-in-Some-clause-hand : goal.returns-in-Some-clause-hand
 returns-in-Some-clause-hand g c =
     let held = c.in-Some.held in
-    let both : map (λ h. h.place) (cut (g.F.AppFace.seen c.args.face.now) held c.args.at).helds ≡ front_place held c.args.at ∷ rest_place held c.args.at ∷ [] = helds-cut _ _ c.requires _ _ (search rules) (search rules) in
+    let both : map (λ h. h.place) (cut (g.F.AppFace.seen c.args.face.now) held c.args.at).helds
+    ≡ front_place held c.args.at ∷ rest_place held c.args.at ∷ [] = helds-cut _ _ c.requires _ _ (search rules) (search rules) in
     search (rules, both)

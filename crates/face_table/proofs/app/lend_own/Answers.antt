@@ -6,7 +6,8 @@ use Rattle.face_table.proofs.app.lend_own.Goals as goal
 
 pub lend_own-loan-requires-clause-filled : goal.lend_own-loan-requires-clause-filled
 lend_own-loan-requires-clause-filled g c =
-    let many : length (own_bytes (g.F.AppFace.seen c.args.face.now) c.in-Some.own) ≡ c.args.hand.now.filled = own_bytes-spare _ _ _ c.requires (search rules) in
+    let many : length (own_bytes (g.F.AppFace.seen c.args.face.now) c.in-Some.own)
+    ≡ c.args.hand.now.filled = own_bytes-spare _ _ _ c.requires (search rules) in
     omega (arith, many)
 
 pub returns-clause-hand : goal.returns-clause-hand
@@ -17,5 +18,6 @@ returns-clause-hand g c =
 
 pub returns-clause-tells : goal.returns-clause-tells
 returns-clause-tells g c =
-    let many : length (own_bytes (g.F.AppFace.seen c.args.face.now) c.in-Some.own) ≡ c.args.hand.now.filled = own_bytes-spare _ _ _ c.requires (search rules) in
+    let many : length (own_bytes (g.F.AppFace.seen c.args.face.now) c.in-Some.own)
+    ≡ c.args.hand.now.filled = own_bytes-spare _ _ _ c.requires (search rules) in
     search (rules, many)

@@ -6,5 +6,6 @@ use Rattle.face_table.proofs.app.release.Goals as goal
 
 pub returns-clause-hand : goal.returns-clause-hand
 returns-clause-hand g c =
-    let left : map (λ h. h.place) (helds_without (g.F.AppFace.seen c.args.face.now) c.in-Some.held) ≡ option_to_list c.args.hand.now.rest = helds-front _ _ c.requires _ (search rules) in
+    let left : map (λ h. h.place) (helds_without (g.F.AppFace.seen c.args.face.now) c.in-Some.held)
+    ≡ option_to_list c.args.hand.now.rest = helds-front _ _ c.requires _ (search rules) in
     search (rules, left)

@@ -20,8 +20,10 @@ loop-buffer-preserved c =
     let place : n < total layout = omega arith in
     let user_there : at < length users = let row = mul-add-lt c.args.app (total layout) n layout.reserves c.requires.app place in omega (arith, h.users_len) in
     let count_there : n < length pool = omega (arith, h.pool_len) in
-    let owed : c.index-owed.result.now ≡ get_or users at 0 = get_or_read users at c.index-owed.result.now user_there (rw c.user_index-user.ensures at c.index-owed.ensures) 0 in
-    let had : c.index_mut-in-loop-buffer.result.now ≡ get_or pool n 0 = get_or_read pool n c.index_mut-in-loop-buffer.result.now count_there c.index_mut-in-loop-buffer.ensures.value 0 in
+    let owed : c.index-owed.result.now ≡ get_or users at 0 = get_or_read users at c.index-owed.result.now user_there
+    (rw c.user_index-user.ensures at c.index-owed.ensures) 0 in
+    let had : c.index_mut-in-loop-buffer.result.now ≡ get_or pool n 0 = get_or_read pool n c.index_mut-in-loop-buffer.result.now count_there
+    c.index_mut-in-loop-buffer.ensures.value 0 in
     let left = c.index_mut-in-loop-buffer.result.now - c.index-owed.result.now in
     let is : c.came_free.result ≡ came_back layout n c.index-owed.result.now left = c.came_free.ensures ∙ elim c.if-owed-gt0.branch [
       | then-owed-gt0 w ↦
@@ -29,5 +31,6 @@ loop-buffer-preserved c =
           rw (w.last-is, now, lt-ltb 0 c.index-owed.result.now w.if-owed-gt0.true) refl
       | else-owed-gt0 w ↦ rw (w.last-is, le-ltb 0 c.index-owed.result.now w.if-owed-gt0.false) refl
     ] in
-    let more = IsTakenBelow-more _ _ _ _ _ _ _ c.loop-buffer.listed.items n h place user_there count_there (h.listed_len ∙ c.requires.listed) c.came_free.result (rw (owed, had) at is) in
+    let more = IsTakenBelow-more _ _ _ _ _ _ _ c.loop-buffer.listed.items n h place user_there count_there
+    (h.listed_len ∙ c.requires.listed) c.came_free.result (rw (owed, had) at is) in
     rw (c.list_if.ensures, c.user_index-user.ensures, owed, had) more

@@ -23,7 +23,8 @@ invariant_of-self c =
     let within = rw (← c.self.view_is) at c.requires.app in
     let out = rw (← c.self.view_is) at c.requires.out in
     let here = here-of _ c.args.app c.self.invariant.0 within in
-    rw (c.note_at.ensures, c.lower.ensures.counts, c.user_index-user.ensures, c.place-place.ensures) (IsSound-abandoned _ c.args.app _ c.args.loan c.self.invariant.0 here out _ refl, c.self.invariant.1)
+    rw (c.note_at.ensures, c.lower.ensures.counts, c.user_index-user.ensures, c.place-place.ensures)
+    (IsSound-abandoned _ c.args.app _ c.args.loan c.self.invariant.0 here out _ refl, c.self.invariant.1)
 
 pub returns-clause-others : goal.returns-clause-others
 returns-clause-others c = rw (← c.self.view_is, c.note_at.ensures) (others-then c.self.inside.nic c.self.inside.apps.items c.args.app _)

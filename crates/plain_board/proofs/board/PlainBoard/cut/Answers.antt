@@ -32,7 +32,8 @@ invariant_of-self c =
     let here = here-of _ c.args.app c.self.invariant.0 within in
     let stays = rw (← c.self.view_is) at c.requires.here in
     let out = rw (← c.self.view_is) at c.requires.out in
-    rw (c.note_at.ensures, c.raise.ensures, c.place-place.ensures) (IsSound-cut _ c.args.app _ c.args.held c.args.at c.self.invariant.0 here stays out c.requires.front c.requires.rest, c.self.invariant.1)
+    rw (c.note_at.ensures, c.raise.ensures, c.place-place.ensures)
+    (IsSound-cut _ c.args.app _ c.args.held c.args.at c.self.invariant.0 here stays out c.requires.front c.requires.rest, c.self.invariant.1)
 
 pub returns-clause-view : goal.returns-clause-view
 returns-clause-view c =

@@ -10,7 +10,7 @@ use Rattle.std.proofs.lemmas.Bool.{ltb-true, lt-ltb, cases_lt}
 use Rattle.plain_board.proofs.Card.{within-setting}
 use Rattle.plain_board.proofs.Freeing.{and-right}
 use Rattle.plain_board.proofs.Still.{IsSound-saw}
-use Rattle.plain_board.proofs.Losing.{IsApp-at}
+use Rattle.board_face.proofs.SideLemmas.{IsApp-at}
 use Rattle.plain_board.proofs.Popping.{front-some, front-none, rings-same}
 use Rattle.plain_board.proofs.Straying.{IsSound-passed_over, PassedOver-passed_over}
 use Rattle.plain_board.proofs.Honouring.{is_held, IsSound-honoured, came-zero, came-pool, came-code, FreedEntry-honoured, HonouredEntry-honoured}
@@ -27,7 +27,8 @@ and-of true d is e = e
 and-of false d is e = absurd (let none : ⊥ = cc in none)
 
 not-below : (c : Bool) (i n : ℕ) → c ≡ true → (c && nat_lt i n) ≡ false → n ≤ i
-not-below c i n is e = ⊎_elim (λ less. absurd (let one = lt-ltb i n less in let zero_is = and-of c (nat_lt i n) is e in let none : ⊥ = cc in none)) (λ past. past) (cases_lt i n)
+not-below c i n is e = ⊎_elim (λ less. absurd (let one = lt-ltb i n less in let zero_is = and-of c (nat_lt i n) is e in let none : ⊥ = cc in none))
+    (λ past. past) (cases_lt i n)
 
 pub invariant_of-self : goal.invariant_of-self
 invariant_of-self c =
@@ -36,7 +37,10 @@ invariant_of-self c =
 
 pub returns-in_default-clause-view : goal.returns-in_default-clause-view
 returns-in_default-clause-view c =
-    rw (← c.self.view_is, c.note.ensures) record { event = refl; rose = record { rose = (NicRose-nic_saw c.self.inside.nic.view (RingEmpty c.args.app)).rose } }
+    rw (← c.self.view_is, c.note.ensures) record {
+      event = refl;
+      rose = record { rose = (NicRose-nic_saw c.self.inside.nic.view (RingEmpty c.args.app)).rose };
+    }
 
 pub returns-in_default-clause-told : goal.returns-in_default-clause-told
 returns-in_default-clause-told c =
@@ -52,7 +56,8 @@ invariant_of-self-in_default-owed_buffer c =
     let here = IsApp-at c.self.inside.apps.items c.args.app blank_app sound.set.numbers (let many = sound.set.many in omega arith) in
     let found = front-some _ c.in-Some.entry (sym c.take_front.ensures.front ∙ c.in-Some.is) in
     let none = rw c.as_slice.ensures.value at c.in_default-owed_buffer.ensures in
-    rw (c.note-in_default-owed_buffer.ensures, c.take_front.ensures.rings, c.lower_if_some.ensures) (IsSound-passed_over _ c.args.app _ c.in-Some.entry _ sound here found none, c.self.invariant.1)
+    rw (c.note-in_default-owed_buffer.ensures, c.take_front.ensures.rings, c.lower_if_some.ensures)
+    (IsSound-passed_over _ c.args.app _ c.in-Some.entry _ sound here found none, c.self.invariant.1)
 
 pub returns-in_default-owed_buffer-clause-view : goal.returns-in_default-owed_buffer-clause-view
 returns-in_default-owed_buffer-clause-view c =
@@ -63,14 +68,16 @@ returns-in_default-owed_buffer-clause-told c =
     let sound = c.self.invariant.0 in
     let few = within-setting _ _ c.self.invariant.0 (rw (← c.self.view_is) at c.requires) in
     let none = rw c.as_slice.ensures.value at c.in_default-owed_buffer.ensures in
-    rw (← c.self.view_is, c.note-in_default-owed_buffer.ensures) (NicTold-passed_over _ sound c.args.app c.in-Some.entry (let many = sound.set.many in omega arith) none)
+    rw (← c.self.view_is, c.note-in_default-owed_buffer.ensures)
+    (NicTold-passed_over _ sound c.args.app c.in-Some.entry (let many = sound.set.many in omega arith) none)
 
 pub returns-in_default-owed_buffer-clause-judged : goal.returns-in_default-owed_buffer-clause-judged
 returns-in_default-owed_buffer-clause-judged c = λ some.
     let sound = c.self.invariant.0 in
     let few = within-setting _ _ c.self.invariant.0 (rw (← c.self.view_is) at c.requires) in
     let none = rw c.as_slice.ensures.value at c.in_default-owed_buffer.ensures in
-    rw (← c.self.view_is, c.note-in_default-owed_buffer.ensures) (IsJudged-passed_over _ sound c.args.app c.in-Some.entry _ (let many = sound.set.many in omega arith) none)
+    rw (← c.self.view_is, c.note-in_default-owed_buffer.ensures)
+    (IsJudged-passed_over _ sound c.args.app c.in-Some.entry _ (let many = sound.set.many in omega arith) none)
 
 pub lower-left-requires-clause-some : goal.lower-left-requires-clause-some
 lower-left-requires-clause-some c =
@@ -94,7 +101,17 @@ invariant_of-self-2 c =
     (came-zero _ c.args.app b _ c.in-Some.entry _ sound here found owed.0 owed.1 owed.2 (c.lower-left.result == 0) _ zero_is)
     (came-pool _ c.args.app b _ c.in-Some.entry _ sound here found owed.0 owed.1 owed.2 (c.lower-left.result == 0)) in
     let came = c.came_free-free.ensures ∙ came-code _ c.args.app b _ c.in-Some.entry _ sound here found owed.0 owed.1 owed.2 (c.lower-left.result == 0) in
-    rw (c.note-2.ensures, c.free_if.ensures.cache, c.free_if.ensures.listed, c.lower.ensures.counts, c.lower-left.ensures.counts, c.take_front.ensures.rings, c.lower_if_some.ensures, c.user_index-user.ensures, came) (after, c.self.invariant.1)
+    rw (
+      c.note-2.ensures,
+      c.free_if.ensures.cache,
+      c.free_if.ensures.listed,
+      c.lower.ensures.counts,
+      c.lower-left.ensures.counts,
+      c.take_front.ensures.rings,
+      c.lower_if_some.ensures,
+      c.user_index-user.ensures,
+      came,
+    ) (after, c.self.invariant.1)
 
 pub returns-clause-view : goal.returns-clause-view
 returns-clause-view c =
@@ -108,10 +125,12 @@ returns-clause-view c =
       | then-free w ↦
           let both = sym c.came_free-free.ensures ∙ w.if-free.true in
           let of_pool : i < pool_buffers v.setting.layout = rw pools (ltb-true i (pool_buffers c.self.inside.layout) (and-right _ _ both)) in
-          rw (← c.self.view_is, c.note-2.ensures, w.result-is, and-left (c.lower-left.result == 0) _ both) (FreedEntry-honoured v c.args.app i c.in-Some.entry named of_pool)
+          rw (← c.self.view_is, c.note-2.ensures, w.result-is, and-left (c.lower-left.result == 0) _ both)
+          (FreedEntry-honoured v c.args.app i c.in-Some.entry named of_pool)
       | else-free w ↦
           let both = sym c.came_free-free.ensures ∙ w.if-free.false in
-          rw (← c.self.view_is, c.note-2.ensures, w.result-is) (HonouredEntry-honoured v c.args.app i c.in-Some.entry _ named (λ last. rw pools (not-below _ i (pool_buffers c.self.inside.layout) last both)))
+          rw (← c.self.view_is, c.note-2.ensures, w.result-is)
+          (HonouredEntry-honoured v c.args.app i c.in-Some.entry _ named (λ last. rw pools (not-below _ i (pool_buffers c.self.inside.layout) last both)))
     ]
 
 pub returns-clause-told : goal.returns-clause-told
@@ -123,11 +142,13 @@ returns-clause-told c =
     let owed = rw c.as_slice.ensures.value at c.in-Some-owed_buffer.ensures in
     let i = c.in-Some-owed_buffer.buffer in
     let held = is_held _ c.args.app i _ c.in-Some.entry _ sound here found owed.0 owed.1 owed.2 in
-    rw (← c.self.view_is, c.note-2.ensures) (NicTold-honoured _ sound c.args.app i c.lower-left.result c.in-Some.entry (let many = sound.set.many in omega arith) owed.1 owed.2 held c.lower-left.ensures.left)
+    rw (← c.self.view_is, c.note-2.ensures) (NicTold-honoured _ sound c.args.app i c.lower-left.result c.in-Some.entry
+    (let many = sound.set.many in omega arith) owed.1 owed.2 held c.lower-left.ensures.left)
 
 pub returns-clause-judged : goal.returns-clause-judged
 returns-clause-judged c = λ some.
     let sound = c.self.invariant.0 in
     let few = within-setting _ _ c.self.invariant.0 (rw (← c.self.view_is) at c.requires) in
     let owed = rw c.as_slice.ensures.value at c.in-Some-owed_buffer.ensures in
-    rw (← c.self.view_is, c.note-2.ensures) (IsJudged-honoured _ sound c.args.app c.in-Some-owed_buffer.buffer c.in-Some.entry _ _ (let many = sound.set.many in omega arith) owed.0 owed.1 owed.2)
+    rw (← c.self.view_is, c.note-2.ensures) (IsJudged-honoured _ sound c.args.app c.in-Some-owed_buffer.buffer c.in-Some.entry _ _
+    (let many = sound.set.many in omega arith) owed.0 owed.1 owed.2)

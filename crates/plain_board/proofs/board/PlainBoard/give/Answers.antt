@@ -39,7 +39,8 @@ pub returns-then-not-put_back-clause-told : goal.returns-then-not-put_back-claus
 returns-then-not-put_back-clause-told c =
     let within = rw (← c.self.view_is) at c.requires.app in
     let here = here-of _ c.args.app c.self.invariant.0 within in
-    rw (← c.self.view_is, c.note_at.ensures, side-then c.self.inside.apps.items c.args.app _ _ here) (told-in_use _ c.args.app _ c.self.invariant.0 here c.if-not-put_back.ensures.slots.1)
+    rw (← c.self.view_is, c.note_at.ensures, side-then c.self.inside.apps.items c.args.app _ _ here)
+    (told-in_use _ c.args.app _ c.self.invariant.0 here c.if-not-put_back.ensures.slots.1)
 
 pub returns-then-not-put_back-clause-others : goal.returns-then-not-put_back-clause-others
 returns-then-not-put_back-clause-others c = rw (← c.self.view_is, c.note_at.ensures) (others-then c.self.inside.nic c.self.inside.apps.items c.args.app _)
@@ -49,8 +50,11 @@ invariant_of-self-2 c =
     let within = rw (← c.self.view_is) at c.requires.app in
     let out = rw (← c.self.view_is) at c.requires.out in
     let here = here-of _ c.args.app c.self.invariant.0 within in
-    rw (c.note_at-2.ensures, c.lower.ensures.counts, c.user_index-user.ensures, c.if-not-put_back.ensures.slots, c.off_of.ensures.value, c.place-place.ensures)
-    (IsSound-gave _ c.args.app _ c.args.loan c.self.invariant.0 here out _ _ (same-entry _ c.args.app _ c.args.loan c.self.invariant.0 here out) refl (c.if-not-put_back.ensures.room refl), c.self.invariant.1)
+    rw (c.note_at-2.ensures, c.lower.ensures.counts, c.user_index-user.ensures, c.if-not-put_back.ensures.slots, c.off_of.ensures.value, c.place-place.ensures) (
+      IsSound-gave _ c.args.app _ c.args.loan c.self.invariant.0 here out _ _ (same-entry _ c.args.app _ c.args.loan c.self.invariant.0 here out) refl
+          (c.if-not-put_back.ensures.room refl),
+      c.self.invariant.1,
+    )
 
 pub returns-clause-others : goal.returns-clause-others
 returns-clause-others c = rw (← c.self.view_is, c.note_at-2.ensures) (others-then c.self.inside.nic c.self.inside.apps.items c.args.app _)

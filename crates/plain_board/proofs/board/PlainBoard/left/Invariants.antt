@@ -6,4 +6,7 @@ use Rattle.board_face.specs.declared.views.nic.NicLook.TheVariants.{NotLeft}
 use Rattle.plain_board.proofs.board.PlainBoard.left.Given as goal
 
 abbrev pub ghosts-note : goal.ghosts-note
-ghosts-note a = record { next = if a.about.1 then nic_at a.self.now (saw_leave a.self.now.view a.about.0) else nic_at a.self.now (nic_saw a.self.now.view (NotLeft a.about.0)) }
+ghosts-note a = record {
+  next = if a.about.1 then nic_at a.self.now (saw_leave a.self.now.view a.about.0) else nic_at a.self.now
+      (nic_saw a.self.now.view (NotLeft a.about.0));
+}

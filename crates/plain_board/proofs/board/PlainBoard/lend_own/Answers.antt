@@ -3,7 +3,7 @@ use Rattle.std.proofs.Common.{◌∙◌, ap, refl, arith}
 use Rattle.std.proofs.lemmas.List.{get_or_read}
 use Rattle.board_face.specs.AppEvents.{begin_place}
 use Rattle.plain_board.proofs.AppFrames.{here-of, others-then}
-use Rattle.plain_board.proofs.Lying.{spare-within}
+use Rattle.plain_board.proofs.TokensLie.{spare-within}
 use Rattle.plain_board.proofs.OnLoan.{user-there, loan-there, user-few, loan-few}
 use Rattle.plain_board.proofs.OwnLending.{IsSound-lent_own, own-there, own-filled}
 use Rattle.plain_board.proofs.board.PlainBoard.lend_own.Goals as goal
@@ -20,28 +20,32 @@ raise-requires-clause-there c =
     let within = rw (← c.self.view_is) at c.requires.app in
     let out = rw (← c.self.view_is) at c.requires.out in
     let here = here-of _ c.args.app c.self.invariant.0 within in
-    rw (c.user_index-user.ensures, c.filling_of-filling.ensures) (user-there _ c.args.app _ c.args.own.buffer c.self.invariant.0 here (spare-within _ c.args.app _ c.self.invariant.0 here c.args.own out))
+    rw (c.user_index-user.ensures, c.filling_of-filling.ensures)
+    (user-there _ c.args.app _ c.args.own.buffer c.self.invariant.0 here (spare-within _ c.args.app _ c.self.invariant.0 here c.args.own out))
 
 pub raise-requires-clause-fits : goal.raise-requires-clause-fits
 raise-requires-clause-fits c =
     let within = rw (← c.self.view_is) at c.requires.app in
     let out = rw (← c.self.view_is) at c.requires.out in
     let here = here-of _ c.args.app c.self.invariant.0 within in
-    rw (c.user_index-user.ensures, c.filling_of-filling.ensures) (user-few _ c.args.app _ c.args.own.buffer c.self.invariant.0 here (spare-within _ c.args.app _ c.self.invariant.0 here c.args.own out))
+    rw (c.user_index-user.ensures, c.filling_of-filling.ensures)
+    (user-few _ c.args.app _ c.args.own.buffer c.self.invariant.0 here (spare-within _ c.args.app _ c.self.invariant.0 here c.args.own out))
 
 pub raise-requires-2-clause-there : goal.raise-requires-2-clause-there
 raise-requires-2-clause-there c =
     let within = rw (← c.self.view_is) at c.requires.app in
     let out = rw (← c.self.view_is) at c.requires.out in
     let here = here-of _ c.args.app c.self.invariant.0 within in
-    rw (c.user_index-user.ensures, c.filling_of-filling.ensures) (loan-there _ c.args.app _ c.args.own.buffer c.self.invariant.0 here (spare-within _ c.args.app _ c.self.invariant.0 here c.args.own out))
+    rw (c.user_index-user.ensures, c.filling_of-filling.ensures)
+    (loan-there _ c.args.app _ c.args.own.buffer c.self.invariant.0 here (spare-within _ c.args.app _ c.self.invariant.0 here c.args.own out))
 
 pub raise-requires-2-clause-fits : goal.raise-requires-2-clause-fits
 raise-requires-2-clause-fits c =
     let within = rw (← c.self.view_is) at c.requires.app in
     let out = rw (← c.self.view_is) at c.requires.out in
     let here = here-of _ c.args.app c.self.invariant.0 within in
-    rw (c.user_index-user.ensures, c.filling_of-filling.ensures) (loan-few _ c.args.app _ c.args.own.buffer c.self.invariant.0 here (spare-within _ c.args.app _ c.self.invariant.0 here c.args.own out))
+    rw (c.user_index-user.ensures, c.filling_of-filling.ensures)
+    (loan-few _ c.args.app _ c.args.own.buffer c.self.invariant.0 here (spare-within _ c.args.app _ c.self.invariant.0 here c.args.own out))
 
 pub invariant_of-self : goal.invariant_of-self
 invariant_of-self c =
@@ -50,7 +54,8 @@ invariant_of-self c =
     let can = rw (← c.self.view_is) at c.requires.can in
     let some = rw (← c.self.view_is) at c.requires.filled in
     let here = here-of _ c.args.app c.self.invariant.0 within in
-    rw (c.note_at.ensures, c.raise.ensures, c.raise-2.ensures, c.user_index-user.ensures, c.filling_of-filling.ensures) (IsSound-lent_own _ c.args.app _ c.args.own c.self.invariant.0 here out can some _ _ refl refl, c.self.invariant.1)
+    rw (c.note_at.ensures, c.raise.ensures, c.raise-2.ensures, c.user_index-user.ensures, c.filling_of-filling.ensures)
+    (IsSound-lent_own _ c.args.app _ c.args.own c.self.invariant.0 here out can some _ _ refl refl, c.self.invariant.1)
 
 pub returns-clause-place : goal.returns-clause-place
 returns-clause-place c =

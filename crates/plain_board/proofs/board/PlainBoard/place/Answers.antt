@@ -16,4 +16,5 @@ pub invariant_of-self : goal.invariant_of-self
 invariant_of-self c =
     let out = rw (← c.self.view_is) at c.requires.out in
     let running = rw (← c.self.view_is) at c.requires.open in
-    rw (c.note.ensures, c.store.ensures, c.raise.ensures, c.off_of-at.ensures.value, c.filling_of-filling.ensures) (IsSound-placed _ c.args.own.now c.args.bytes.now c.self.invariant.0 out c.requires.fits running c.requires.some, c.self.invariant.1)
+    rw (c.note.ensures, c.store.ensures, c.raise.ensures, c.off_of-at.ensures.value, c.filling_of-filling.ensures)
+    (IsSound-placed _ c.args.own.now c.args.bytes.now c.self.invariant.0 out c.requires.fits running c.requires.some, c.self.invariant.1)

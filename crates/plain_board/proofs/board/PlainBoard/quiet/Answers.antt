@@ -17,7 +17,8 @@ returns-clause-told c =
     let within = rw (← c.self.view_is) at c.requires.app in
     let here = here-of _ c.args.app c.self.invariant.0 within in
     let many = rw c.as_slice.ensures.value at c.ring_len-quiet.ensures in
-    rw (← c.self.view_is, c.note_at.ensures, side-then c.self.inside.apps.items c.args.app _ _ here) (told-quiet _ c.args.app _ c.self.invariant.0 here _ (ap (λ n. n == 0) many))
+    rw (← c.self.view_is, c.note_at.ensures, side-then c.self.inside.apps.items c.args.app _ _ here)
+    (told-quiet _ c.args.app _ c.self.invariant.0 here _ (ap (λ n. n == 0) many))
 
 pub returns-clause-others : goal.returns-clause-others
 returns-clause-others c = rw (← c.self.view_is, c.note_at.ensures) (others-then c.self.inside.nic c.self.inside.apps.items c.args.app _)

@@ -16,7 +16,8 @@ load-requires c =
     let within = rw (← c.self.view_is) at c.requires.app in
     let out = rw (← c.self.view_is) at c.requires.out in
     let here = here-of _ c.args.app c.self.invariant.0 within in
-    rw (c.as_slice.ensures.value, c.off_of.ensures.value, c.place-place.ensures) (bytes-there _ c.args.app _ c.args.loan.now c.self.invariant.0 here out c.args.from (length c.args.into.now) c.requires.within)
+    rw (c.as_slice.ensures.value, c.off_of.ensures.value, c.place-place.ensures)
+    (bytes-there _ c.args.app _ c.args.loan.now c.self.invariant.0 here out c.args.from (length c.args.into.now) c.requires.within)
 
 pub invariant_of-self : goal.invariant_of-self
 invariant_of-self c =

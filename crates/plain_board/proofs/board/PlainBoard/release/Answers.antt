@@ -17,7 +17,11 @@ lower-left-requires-clause-some c =
     let within = rw (← c.self.view_is) at c.requires.app in
     let here = here-of _ c.args.app c.self.invariant.0 within in
     let out = rw (← c.self.view_is) at c.requires.out in
-    rw c.place-place.ensures (omega (arith, held-count _ c.args.app _ c.args.held c.self.invariant.0 here out, is_held _ c.args.app _ c.args.held c.self.invariant.0 here out))
+    rw c.place-place.ensures (omega (
+      arith,
+      held-count _ c.args.app _ c.args.held c.self.invariant.0 here out,
+      is_held _ c.args.app _ c.args.held c.self.invariant.0 here out,
+    ))
 
 pub invariant_of-self : goal.invariant_of-self
 invariant_of-self c =
@@ -25,7 +29,8 @@ invariant_of-self c =
     let here = here-of _ c.args.app c.self.invariant.0 within in
     let stays = rw (← c.self.view_is) at c.requires.here in
     let out = rw (← c.self.view_is) at c.requires.out in
-    rw (c.note_at.ensures, c.list_if.ensures, c.came_free-free.ensures, c.lower-left.ensures.left, c.lower-left.ensures.counts, c.place-place.ensures) (IsSound-released _ c.args.app _ c.args.held c.self.invariant.0 here stays out, c.self.invariant.1)
+    rw (c.note_at.ensures, c.list_if.ensures, c.came_free-free.ensures, c.lower-left.ensures.left, c.lower-left.ensures.counts, c.place-place.ensures)
+    (IsSound-released _ c.args.app _ c.args.held c.self.invariant.0 here stays out, c.self.invariant.1)
 
 pub returns-clause-view : goal.returns-clause-view
 returns-clause-view c =

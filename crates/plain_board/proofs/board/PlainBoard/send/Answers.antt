@@ -4,7 +4,7 @@ use Rattle.board_face.specs.declared.views.nic.NicLook.TheVariants.{NoteInUse}
 use Rattle.plain_parts.specs.Blank.{blank_app}
 use Rattle.plain_board.proofs.Card.{within-setting}
 use Rattle.plain_board.proofs.Still.{IsSound-saw}
-use Rattle.plain_board.proofs.Losing.{IsApp-at}
+use Rattle.board_face.proofs.SideLemmas.{IsApp-at}
 use Rattle.plain_board.proofs.NotesSent.{IsSound-sent}
 use Rattle.plain_board.proofs.Seeing.{NicTold-full}
 use Rattle.plain_board.proofs.board.PlainBoard.send.Goals as goal
@@ -19,7 +19,11 @@ invariant_of-self-2 c =
     let here = IsApp-at c.self.inside.apps.items c.args.app blank_app sound.set.numbers (let many = sound.set.many in omega arith) in
     let out = rw (← c.self.view_is, ← c.requires.place) at c.requires.out in
     let running = rw (← c.self.view_is) at c.requires.open in
-    rw (c.note-2.ensures, c.if-not-put_back.ensures.slots) (IsSound-sent _ c.args.app _ c.args.note _ sound here running out c.requires.fields (c.if-not-put_back.ensures.room refl), c.self.invariant.1)
+    rw (c.note-2.ensures, c.if-not-put_back.ensures.slots) (
+      IsSound-sent _ c.args.app _ c.args.note _ sound here running out c.requires.fields
+          (c.if-not-put_back.ensures.room refl),
+      c.self.invariant.1,
+    )
 
 pub returns-then-not-put_back-clause-told : goal.returns-then-not-put_back-clause-told
 returns-then-not-put_back-clause-told c =

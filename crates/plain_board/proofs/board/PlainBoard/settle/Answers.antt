@@ -18,7 +18,8 @@ returns-clause-told c =
     let within = rw (← c.self.view_is) at c.requires.app in
     let here = here-of _ c.args.app c.self.invariant.0 within in
     let raw = get_or_read c.self.inside.raw.items c.args.app c.index.result.now (there-raw _ c.args.app c.self.invariant.0 within) c.index.ensures 0 in
-    rw (← c.self.view_is, c.note_at.ensures, side-then c.self.inside.apps.items c.args.app _ _ here) (told-settled _ c.args.app _ c.self.invariant.0 here _ (ap (λ n. n == 0) raw))
+    rw (← c.self.view_is, c.note_at.ensures, side-then c.self.inside.apps.items c.args.app _ _ here)
+    (told-settled _ c.args.app _ c.self.invariant.0 here _ (ap (λ n. n == 0) raw))
 
 pub returns-clause-still : goal.returns-clause-still
 returns-clause-still c = λ settled.

@@ -16,14 +16,17 @@ invariant_of-self c =
     let left = rw c.buffer-buffer.ensures at c.lower-last.ensures.left in
     let last = ap (λ n. n == 0) left in
     let running = rw (← c.self.view_is) at c.requires.open in
-    let sound = IsSound-shut _ c.args.own c.self.invariant.0 out running _ (c.lower-last.result == 0) refl (came-zero _ c.args.own c.self.invariant.0 out (c.lower-last.result == 0) _ last) in
+    let sound = IsSound-shut _ c.args.own c.self.invariant.0 out running _ (c.lower-last.result == 0) refl
+    (came-zero _ c.args.own c.self.invariant.0 out (c.lower-last.result == 0) _ last) in
     let free = rw c.buffer-buffer.ensures at c.came_free-free.ensures in
     let came = free ∙ came-code _ c.args.own c.self.invariant.0 out (c.lower-last.result == 0) in
-    rw (c.note.ensures, c.free_if.ensures.cache, c.free_if.ensures.listed, c.lower-last.ensures.counts, c.buffer-buffer.ensures, came) (sound, c.self.invariant.1)
+    rw (c.note.ensures, c.free_if.ensures.cache, c.free_if.ensures.listed, c.lower-last.ensures.counts, c.buffer-buffer.ensures, came)
+    (sound, c.self.invariant.1)
 
 pub returns-clause-told : goal.returns-clause-told
 returns-clause-told c =
     let out = rw (← c.self.view_is) at c.requires.out in
     let left = rw c.buffer-buffer.ensures at c.lower-last.ensures.left in
     let p = of_pool _ c.args.own c.self.invariant.0 out in
-    rw (← c.self.view_is, c.note.ensures) (NicTold-shut _ c.self.invariant.0 c.args.own c.lower-last.result (omega arith) (is_held _ c.args.own c.self.invariant.0 out) left)
+    rw (← c.self.view_is, c.note.ensures) (NicTold-shut _ c.self.invariant.0 c.args.own c.lower-last.result (omega arith)
+    (is_held _ c.args.own c.self.invariant.0 out) left)

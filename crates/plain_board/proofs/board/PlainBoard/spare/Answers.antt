@@ -27,7 +27,8 @@ returns-in_default-clause-told c =
     let within = rw (← c.self.view_is) at c.requires.app in
     let here = here-of _ c.args.app c.self.invariant.0 within in
     let none = rw (c.as_slice.ensures.value, c.buffers.ensures.value) at c.in_default.ensures in
-    rw (← c.self.view_is, c.note_at.ensures, side-then c.self.inside.apps.items c.args.app _ _ here) (told-none _ c.args.app _ c.self.invariant.0 here none.0 none.1)
+    rw (← c.self.view_is, c.note_at.ensures, side-then c.self.inside.apps.items c.args.app _ _ here)
+    (told-none _ c.args.app _ c.self.invariant.0 here none.0 none.1)
 
 pub returns-in_default-clause-others : goal.returns-in_default-clause-others
 returns-in_default-clause-others c = rw (← c.self.view_is, c.note_at.ensures) (others-then c.self.inside.nic c.self.inside.apps.items c.args.app _)
@@ -49,7 +50,8 @@ raise-requires-clause-fits c =
     omega (arith, none-count _ c.args.app c.in-Some.buffer _ c.self.invariant.0 (is_unheld _ c.args.app c.in-Some.buffer _ _ c.self.invariant.0 here picked))
 
 pub new-requires : goal.new-requires
-new-requires c = rw c.size_of-size.ensures.value (FitsBuffer-fresh (record { layout = c.self.inside.layout; places = 0 }) c.in-Some.buffer c.self.invariant.0.sizes.layout)
+new-requires c = rw c.size_of-size.ensures.value (FitsBuffer-fresh
+    (record { layout = c.self.inside.layout; places = 0 }) c.in-Some.buffer c.self.invariant.0.sizes.layout)
 
 pub invariant_of-self-2 : goal.invariant_of-self-2
 invariant_of-self-2 c =
@@ -59,7 +61,8 @@ invariant_of-self-2 c =
     let due = rw (← c.self.view_is) at c.requires.due in
     let picked = rw (c.as_slice.ensures.value, c.buffers.ensures.value) at c.in-Some.ensures in
     let free = is_unheld _ c.args.app c.in-Some.buffer _ _ c.self.invariant.0 here picked in
-    rw (c.note_at-2.ensures, c.put.ensures, c.raise.ensures) (IsSound-got_spare _ c.args.app c.in-Some.buffer _ _ c.self.invariant.0 here stays due free, c.self.invariant.1)
+    rw (c.note_at-2.ensures, c.put.ensures, c.raise.ensures)
+    (IsSound-got_spare _ c.args.app c.in-Some.buffer _ _ c.self.invariant.0 here stays due free, c.self.invariant.1)
 
 pub returns-clause-view : goal.returns-clause-view
 returns-clause-view c =
@@ -69,7 +72,8 @@ returns-clause-view c =
     let due = rw (← c.self.view_is) at c.requires.due in
     let picked = rw (c.as_slice.ensures.value, c.buffers.ensures.value) at c.in-Some.ensures in
     let free = is_unheld _ c.args.app c.in-Some.buffer _ _ c.self.invariant.0 here picked in
-    rw (← c.self.view_is, c.note_at-2.ensures, side-then c.self.inside.apps.items c.args.app _ _ here, c.new.ensures) (GotSpare-got _ c.args.app c.in-Some.buffer _ _ c.self.invariant.0 here stays due free _ c.size_of-size.ensures.value)
+    rw (← c.self.view_is, c.note_at-2.ensures, side-then c.self.inside.apps.items c.args.app _ _ here, c.new.ensures)
+    (GotSpare-got _ c.args.app c.in-Some.buffer _ _ c.self.invariant.0 here stays due free _ c.size_of-size.ensures.value)
 
 pub returns-clause-told : goal.returns-clause-told
 returns-clause-told c =
@@ -79,7 +83,8 @@ returns-clause-told c =
     let due = rw (← c.self.view_is) at c.requires.due in
     let picked = rw (c.as_slice.ensures.value, c.buffers.ensures.value) at c.in-Some.ensures in
     let free = is_unheld _ c.args.app c.in-Some.buffer _ _ c.self.invariant.0 here picked in
-    rw (← c.self.view_is, c.note_at-2.ensures, side-then c.self.inside.apps.items c.args.app _ _ here) (told-got _ c.args.app c.in-Some.buffer _ _ c.self.invariant.0 here stays due free)
+    rw (← c.self.view_is, c.note_at-2.ensures, side-then c.self.inside.apps.items c.args.app _ _ here)
+    (told-got _ c.args.app c.in-Some.buffer _ _ c.self.invariant.0 here stays due free)
 
 pub returns-clause-others : goal.returns-clause-others
 returns-clause-others c = rw (← c.self.view_is, c.note_at-2.ensures) (others-then c.self.inside.nic c.self.inside.apps.items c.args.app _)

@@ -14,16 +14,18 @@ invariant_of-self c =
     let room = rw (← c.self.view_is) at c.requires.room in
     let moved = c.move_word-count.ensures in
     let cached = c.self.invariant.0.cached in
-    let sound = IsSound-swept _ c.args.word c.self.invariant.0 inside c.move_word-count.new.listed.items (omega (arith, room, ap length cached)) moved.len moved.taken moved.others in
-    let found = seam _ _ _ _ cached (ap (λ cache. cache.items) moved.cache) in
+    let sound = IsSound-swept _ c.args.word c.self.invariant.0 inside c.move_word-count.new.listed.items
+    (omega (arith, room, ap length cached)) moved.len moved.taken moved.others in
+    let found = seam _ _ _ _ cached moved.cache in
     rw (c.note.ensures, found, moved.cache) (sound, c.self.invariant.1)
 
 pub returns-clause-view : goal.returns-clause-view
 returns-clause-view c =
     let inside = rw (← c.self.view_is) at c.requires.word in
     let moved = c.move_word-count.ensures in
-    let found = seam _ _ _ _ c.self.invariant.0.cached (ap (λ cache. cache.items) moved.cache) in
-    rw (← c.self.view_is, c.note.ensures) (SweptWord-swept _ c.args.word c.self.invariant.0 inside c.move_word-count.result _ found (moved.count ∙ ap length (sym found)))
+    let found = seam _ _ _ _ c.self.invariant.0.cached moved.cache in
+    rw (← c.self.view_is, c.note.ensures) (SweptWord-swept _ c.args.word c.self.invariant.0 inside c.move_word-count.result _ found
+    (moved.count ∙ ap length (sym found)))
 
 pub returns-clause-bound : goal.returns-clause-bound
 returns-clause-bound c =
@@ -31,6 +33,7 @@ returns-clause-bound c =
     let room = rw (← c.self.view_is) at c.requires.room in
     let moved = c.move_word-count.ensures in
     let cached = c.self.invariant.0.cached in
-    let sound = IsSound-swept _ c.args.word c.self.invariant.0 inside c.move_word-count.new.listed.items (omega (arith, room, ap length cached)) moved.len moved.taken moved.others in
-    let found = seam _ _ _ _ cached (ap (λ cache. cache.items) moved.cache) in
+    let sound = IsSound-swept _ c.args.word c.self.invariant.0 inside c.move_word-count.new.listed.items
+    (omega (arith, room, ap length cached)) moved.len moved.taken moved.others in
+    let found = seam _ _ _ _ cached moved.cache in
     rw (c.note.ensures, found) (lost-bound _ sound)

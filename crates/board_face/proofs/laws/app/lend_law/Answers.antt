@@ -1,0 +1,5 @@
+use Rattle.board_face.proofs.CountLaws.{lend_law}
+use Rattle.board_face.proofs.laws.app.lend_law.Goals as goal
+
+pub returns : goal.returns
+returns c = lend_law

@@ -1,0 +1,43 @@
+ghost use Rattle.std.specs.Prelude.{◌≡◌, ◌≢◌, ◌<◌};
+ghost use Rattle.board_face.specs.NicCalls.{apps_of, DealtWith};
+ghost use Rattle.plain_board.specs.Board.{IsUntouched};
+ghost use Rattle.plain_board.specs.Seen.{IsJudged, CardSawSo};
+
+use crate::PlainBoard;
+use board_face::Entry;
+use plain_parts::{came_free, free_if, lower, lower_if_some, owed_buffer, take_front, user_index};
+use std::marker::Brand;
+use zr_kinds::Rqe;
+
+impl PlainBoard {
+    /// Deals with the next refill entry of an application.
+    pub(crate) fn entry(&mut self, app: u32) -> Entry
+        requires { app < apps_of self.old.nic.view.setting }
+        ensures view { DealtWith self.old.nic.view self.new.nic.view app result }
+        ensures stray { result ≡ Entry.Stray → IsUntouched self.old.arrays self.new.arrays }
+        ensures judged { result ≢ Entry.Empty → IsJudged self.old self.new app }
+        ensures told { CardSawSo self.old self.new }
+        ensures apps { self.new.apps ≡ self.old.apps }
+    {
+        let Some(entry) = take_front(&mut self.refills, app as usize) else {
+            let nic = &mut self.nic;
+            nic.note::<Brand, u32>(app);
+            return Entry::Empty;
+        };
+        lower_if_some(&mut self.raw, app as usize);
+        let Some(buffer) = owed_buffer(&self.layout, self.users.as_slice(), app, &entry) else {
+            let nic = &mut self.nic;
+            nic.note::<Brand, (u32, Rqe)>((app, entry));
+            return Entry::Stray;
+        };
+        let user = user_index(&self.layout, app, buffer);
+        lower(&mut self.users, user);
+        let left = lower(&mut self.pool, buffer as usize);
+        let last = left == 0;
+        let free = came_free(last, buffer, &self.layout);
+        free_if(free, buffer, &mut self.cache, &mut self.listed);
+        let nic = &mut self.nic;
+        nic.note::<Brand, (u32, Rqe, u32, bool)>((app, entry, buffer, last));
+        if free { Entry::Freed } else { Entry::Honoured }
+    }
+}
