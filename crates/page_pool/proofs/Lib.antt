@@ -1,0 +1,13 @@
+pub mod Stored
+pub mod Entries
+pub mod Packed
+pub mod PlacedParts
+pub mod Playing
+pub mod Rings
+pub mod Searching
+pub mod Sending
+pub mod Offering
+pub mod Accepting
+pub mod FramesShown
+pub mod OffersShown
+pub mod PackingLaws

@@ -1,0 +1,89 @@
+-- The parts of a packing.
+use Rattle.std.proofs.Common.{◌≡◌, ℕ, suc, ◌+◌, ◌-◌, ◌*◌, ◌<◌, ◌≤◌, min, List, [], ◌∷◌, ◌++◌}
+use Rattle.std.proofs.Common.{length, append_assoc, length-append, refl, sym, ap, arith, true, false, Option, Some, None, All, sum_by, ⊎_elim}
+use Rattle.std.specs.Prelude.{slice_get}
+use Rattle.std.proofs.lemmas.Bool.{cases_Bool, leb-true}
+use Rattle.std.proofs.lemmas.Grind.{div_ceil_times}
+use Rattle.std.proofs.Math.Nat.{lt_of_mul-lt-mul_right}
+use Rattle.std.proofs.lemmas.List.Sums.{sum_by-cons}
+use Rattle.std.proofs.lemmas.List.Elements.{All-nil, All-cons, All-head, All-tail}
+use Rattle.page_pool.specs.Packing.{Current, Part, fresh, fits, buffers_for, fresh_parts, packing}
+use Rattle.page_pool.specs.Laws.{AreNeeded, LiesWell, PackingIsWhole, PackingIsShort}
+
+-- ---- fresh buffers
+
+-- they have room for all
+room : (least : ℕ) (sizes : List ℕ) → All (λ size. least ≤ size) sizes → length sizes * least ≤ sum_by (λ (s : ℕ). s) sizes
+room least [] each = omega arith
+room least (size ∷ sizes) each =
+    let first = All-head (λ s. least ≤ s) size sizes each in
+    let others = room least sizes (All-tail (λ s. least ≤ s) size sizes each) in
+    simp sum_by-cons (omega (arith, first, others))
+
+fresh_sum : (number : ℕ) (sizes : List ℕ) (len : ℕ) → len ≤ sum_by (λ (s : ℕ). s) sizes
+    → sum_by (λ (p : Part). p.len) (fresh_parts number sizes len) ≡ len
+fresh_sum number [] len within = omega (arith, within)
+fresh_sum number (size ∷ sizes) len within =
+    let later = fresh_sum (suc number) sizes (len - size) (omega (arith, simp sum_by-cons at within)) in
+    simp sum_by-cons (grind (arith, later))
+
+index_seam : (pre sizes : List ℕ) (size : ℕ) → slice_get (pre ++ size ∷ sizes) (length pre) ≡ Some size
+index_seam [] sizes size = refl
+index_seam (p ∷ pre) sizes size = index_seam pre sizes size
+
+fresh_lie : (own : Option Current) (pre sizes : List ℕ) (len : ℕ) → All (LiesWell own (pre ++ sizes)) (fresh_parts (length pre) sizes len)
+fresh_lie own pre [] len = All-nil _
+fresh_lie own pre (size ∷ sizes) len =
+    let next : suc (length pre) ≡ length (pre ++ size ∷ []) = simp length-append (omega arith) in
+    let all : (pre ++ size ∷ []) ++ sizes ≡ pre ++ size ∷ sizes = append_assoc pre (size ∷ []) sizes in
+    let later : All (LiesWell own (pre ++ size ∷ sizes)) (fresh_parts (suc (length pre)) sizes (len - size)) = rw (next, sym all) (fresh_lie own
+    (pre ++ size ∷ []) sizes (len - size)) in
+    All-cons (LiesWell own (pre ++ size ∷ sizes)) (record { target = fresh (length pre); offset = 0; len = min size len }) (fresh_parts (suc
+    (length pre)) sizes (len - size))
+    (record { size = size; size_is = index_seam pre sizes size; within = omega arith; aligned = refl })
+    later
+
+fresh_length : (number : ℕ) (sizes : List ℕ) (len : ℕ) → length (fresh_parts number sizes len) ≡ length sizes
+fresh_length number [] len = refl
+fresh_length number (size ∷ sizes) len = ap suc (fresh_length (suc number) sizes (len - size))
+
+-- ---- the laws
+
+abbrev pub IsWhole : Option Current → List ℕ → ℕ → Type 0
+IsWhole own sizes len = (sum_by (λ (p : Part). p.len) (packing own sizes len) ≡ len) × All (LiesWell own sizes) (packing own sizes len)
+
+fresh_whole : (least : ℕ) (own : Option Current) (sizes : List ℕ) (len : ℕ) → 0 < least → AreNeeded least own sizes len → fits own len ≡ false
+    → IsWhole own sizes len
+fresh_whole least own sizes len some are long =
+    let many : length sizes ≡ buffers_for least len = rw long at are.many in
+    let enough : len ≤ buffers_for least len * least = (div_ceil_times len least some).0 in
+    let all : length sizes * least ≤ sum_by (λ (s : ℕ). s) sizes = room least sizes are.each in
+    rw long (fresh_sum 0 sizes len (omega (arith, all, rw (sym many) at enough)), fresh_lie own [] sizes len)
+
+current_whole : (own : Option Current) (sizes : List ℕ) (len : ℕ) → fits own len ≡ true → IsWhole own sizes len
+current_whole None sizes len there = absurd (grind arith)
+current_whole (Some own) sizes len there =
+    rw there (
+      omega arith,
+      All-cons (LiesWell (Some own) sizes) _ []
+          (record { size = own.size; size_is = refl; within = leb-true _ _ there; aligned = omega arith }) (All-nil _),
+    )
+
+pub packing_whole : PackingIsWhole
+packing_whole least own sizes len some are = ⊎_elim (current_whole own sizes len) (fresh_whole least own sizes len some are) (cases_Bool (fits own len))
+
+current_short : (own : Option Current) (sizes : List ℕ) (len : ℕ) → fits own len ≡ true → length (packing own sizes len) ≤ 64
+current_short None sizes len there = absurd (grind arith)
+current_short (Some own) sizes len there = rw there (omega arith)
+
+fresh_short : (least : ℕ) (own : Option Current) (sizes : List ℕ) (len : ℕ) → 1024 ≤ least → len ≤ 65515 → AreNeeded least own sizes len
+    → fits own len ≡ false → length (packing own sizes len) ≤ 64
+fresh_short least own sizes len size most are long =
+    let many : length sizes ≡ buffers_for least len = rw long at are.many in
+    let close : buffers_for least len * least < len + least = (div_ceil_times len least (omega (arith, size))).1 in
+    let few : buffers_for least len < 65 = lt_of_mul-lt-mul_right least {m = buffers_for least len} {n = 65} (omega (arith, close, size, most)) in
+    rw (long, fresh_length 0 sizes len, many) (omega (arith, few))
+
+pub packing_short : PackingIsShort
+packing_short least own sizes len size most are = ⊎_elim (current_short own sizes len) (fresh_short least own sizes len size most are) (cases_Bool
+    (fits own len))

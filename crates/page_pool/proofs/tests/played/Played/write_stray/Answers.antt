@@ -1,0 +1,22 @@
+use Rattle.std.proofs.Common.{rules, ◌≡◌}
+use Rattle.plain_board.specs.Board.{others_of}
+use Rattle.page_pool.proofs.Playing.{IsPlayed, IsPlayed-app}
+use Rattle.page_pool.proofs.tests.played.Played.write_stray.Goals as goal
+
+pub invariant_of-result : goal.invariant_of-result
+invariant_of-result c =
+    let old : IsPlayed c.args.self.board = record {
+      card = c.args.self.card;
+      going = c.args.self.going;
+      idle = λ a. record { nothing = c.args.self.apps a; here = c.args.self.here a; counted = c.args.self.counted a };
+    } in
+    let beside : others_of c.push_void.new.face.board c.push_void.new.face.app ≡ others_of c.args.self.board c.args.app = search rules in
+    let now = IsPlayed-app c.args.self.board c.push_void.new.face.board c.args.app c.push_void.new.face.app beside old
+    (record { nothing = c.push_void.ensures.nothing; here = c.push_void.ensures.here; counted = c.push_void.ensures.counted }) in
+    rw c.back-2.ensures (record {
+      card = now.card;
+      going = now.going;
+      apps = λ a. (now.idle a).nothing;
+      here = λ a. (now.idle a).here;
+      counted = λ a. (now.idle a).counted;
+    })

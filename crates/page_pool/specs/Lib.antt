@@ -1,0 +1,10 @@
+pub mod Dealing
+pub mod Frames
+pub mod Gathering
+pub mod Laws
+pub mod Offer
+pub mod Packing
+pub mod Pieces
+pub mod Placing
+pub mod Pool
+pub mod Searching

@@ -1,0 +1,196 @@
+-- What becomes of a frame that is offered.
+use Rattle.std.specs.Prelude.{◌≡◌, ◌≢◌, ℕ, ◌+◌, ◌-◌, ◌<◌, nat_le, true, false, if◌then◌else◌, List, [], ◌∷◌, ◌++◌}
+use Rattle.std.specs.Prelude.{length, map, take, drop, slice_index, Option, Some, None}
+use Rattle.zr_kinds.specs.declared.place.Note.{Note}
+use Rattle.zr_kinds.specs.declared.place.Place.{Place}
+use Rattle.zr_kinds.specs.declared.outcome.PoolStats.{PoolStats}
+use Rattle.area_layout.specs.Layout.{least_size, size_of}
+use Rattle.board_face.specs.Looks.{NicRose, NicLooksStay}
+use Rattle.board_face.specs.NicEvents.{fresh}
+use Rattle.board_face.specs.NicCalls.{Closed}
+use Rattle.board_face.specs.Tokens.{filled_by}
+use Rattle.board_face.specs.declared.views.parts.Setting.{Setting}
+use Rattle.board_face.specs.declared.views.parts.Filling.{Filling}
+use Rattle.board_face.specs.declared.views.nic.NicLook.TheVariants.{NoteInUse}
+use Rattle.board_face.specs.declared.views.nic.SentNote.{SentNote}
+use Rattle.board_face.specs.declared.views.nic.NicView.{NicView}
+use Rattle.page_pool.specs.declared.offer.Offer.{Offer}
+use Rattle.page_pool.specs.declared.offer.Verdict.{Verdict}
+use Rattle.page_pool.specs.declared.offer.Verdict.TheVariants.{Accepted, NoRoom, Busy}
+use Rattle.page_pool.specs.Frames.{offered, ShowsFrame}
+use Rattle.page_pool.specs.Packing.{Current, Target, Part, fits, needed, packing}
+use Rattle.page_pool.specs.Packing.{current as in_current, fresh as in_fresh}
+use Rattle.page_pool.specs.Pool.{PoolState, OnlySends, IsNextApp, all_notes}
+use Rattle.page_pool.specs.Searching.{SearchEnd, empty, Searches}
+
+-- ---- the notes of a frame
+
+abbrev pub payload_of : Offer → List ℕ
+payload_of o = o.payload.now
+
+abbrev pub len_of : Offer → ℕ
+len_of o = length (payload_of o)
+
+-- the note of the part of a payload that begins at this byte and lies at this place
+abbrev pub split_note : Offer → ℕ → Place → Note
+split_note o at place = record {
+  frame = o.frame;
+  flow = o.flow;
+  base = o.base;
+  seq = o.seq;
+  at = at;
+  total = len_of o;
+  place = place;
+  split = true;
+  fin = o.fin;
+}
+
+-- the note in which the whole payload travels
+abbrev pub short_note : Offer → Note
+short_note o = record {
+  frame = o.frame;
+  flow = o.flow;
+  base = o.base;
+  seq = o.seq;
+  at = 0;
+  total = len_of o;
+  place = record { buffer = 0; offset = 0; len = len_of o };
+  split = false;
+  fin = o.fin;
+}
+
+-- the notes of a payload from a byte on, whose parts lie at these places, in order
+abbrev pub split_notes : Offer → ℕ → List Place → List SentNote
+split_notes o at [] = []
+split_notes o at (p ∷ ps) =
+    record { app = o.app; note = split_note o at p; bytes = take p.len (drop at (payload_of o)) } ∷ split_notes o (at + p.len) ps
+
+-- The notes of a frame: one with its bytes in it, where it has `split` bytes or fewer, or else one for each place.
+abbrev pub frame_notes : ℕ → Offer → List Place → List SentNote
+frame_notes split o places =
+    if nat_le (len_of o) split then record { app = o.app; note = short_note o; bytes = payload_of o } ∷ [] else split_notes o 0 places
+
+-- ---- the buffers of a frame
+
+-- the current buffer as packing sees it
+abbrev pub packed : Option Filling → Option Current
+packed None = None
+packed (Some own) = Some (record { used = own.start; size = own.size })
+
+-- how many fresh buffers an offer needs
+abbrev pub needed_for : PoolState → NicView → Offer → ℕ
+needed_for pool v o =
+    if nat_le (len_of o) pool.split then 0 else needed (least_size v.setting.layout) (packed pool.current) (len_of o)
+
+abbrev pub number_in : Option Filling → ℕ
+number_in None = 0
+number_in (Some own) = own.buffer
+
+-- the number of a part's buffer, where the fresh buffers have these numbers
+abbrev pub number_of : Option Filling → List ℕ → Target → ℕ
+number_of own buffers in_current = number_in own
+number_of own buffers (in_fresh i) = slice_index buffers i
+
+abbrev pub place_of : Option Filling → List ℕ → Part → Place
+place_of own buffers part = record { buffer = number_of own buffers part.target; offset = part.offset; len = part.len }
+
+-- where the parts of a payload lie, where the fresh buffers have these numbers
+abbrev pub places_for : PoolState → NicView → List ℕ → Offer → List Place
+places_for pool v buffers o =
+    map (place_of pool.current buffers) (packing (packed pool.current) (map (size_of v.setting.layout) buffers) (len_of o))
+
+-- the last of the fresh buffers, filled with what the others leave of `len` bytes
+abbrev pub last_of : Setting → List ℕ → ℕ → Option Filling
+last_of setting [] len = None
+last_of setting (b ∷ []) len = Some (filled_by (fresh setting b) len)
+last_of setting (b ∷ c ∷ more) len = last_of setting (c ∷ more) (len - size_of setting.layout b)
+
+-- the current buffer once so many bytes were packed: as before, or the last of the fresh ones
+abbrev pub packed_into : Setting → Option Filling → List ℕ → ℕ → Option Filling
+packed_into setting None buffers len = last_of setting buffers len
+packed_into setting (Some own) buffers len = if fits (packed (Some own)) len then Some (filled_by own len) else last_of setting buffers len
+
+-- the current buffer afterwards
+abbrev pub current_after : PoolState → NicView → List ℕ → Offer → Option Filling
+current_after pool v buffers o =
+    if nat_le (len_of o) pool.split then pool.current else packed_into v.setting pool.current buffers (len_of o)
+
+-- ---- before a byte is placed
+
+-- The pending notes were sent, all of them.
+pub record Flushes (was : PoolState) (old new : NicView) : Type 0 where
+  pub view : new ≡ record old { pieces = []; sent = all_notes was old; looks = new.looks }
+  pub looks : NicLooksStay old new
+
+-- The current buffer, if there is one, was closed.
+abbrev pub ClosesCurrent : Option Filling → NicView → NicView → Type 0
+ClosesCurrent None old new = new ≡ old
+ClosesCurrent (Some own) old new = Closed old new own
+
+-- Where fresh buffers are needed, the current buffer was closed and then a search was made; where none are, nothing was done.
+pub data LooksFor (need : ℕ) (current : Option Filling) (was now : PoolStats) (old new : NicView) : Option SearchEnd → Type 0 where
+  not_needed : need ≡ 0 → now ≡ was → new ≡ old → LooksFor need current was now old new None
+  searched : (begin : NicView) (how : SearchEnd) → 0 < need → ClosesCurrent current old begin → Searches need was now begin new how
+      → LooksFor need current was now old new (Some how)
+
+-- ---- the verdict
+
+-- The pending notes were sent and the buffers that the frame needs were found, and then its payload was placed where packing
+-- says. Its notes, which show it, were sent or are pending behind the earlier ones, and no other.
+pub record Accepts (was now : PoolState) (old new : NicView) (o : Offer) : Type 0 where
+  pub flushed : NicView
+  pub flush : Flushes was old flushed
+  -- the view as the first byte was placed
+  pub found : NicView
+  pub how : Option SearchEnd
+  pub search : LooksFor (needed_for was old o) was.current was.stats now.stats flushed found how
+  pub enough : how ≢ Some empty
+  -- the fresh buffers, in the order of taking
+  pub buffers : List ℕ
+  pub many : length buffers ≡ needed_for was old o
+  pub used : new.used ≡ old.used ++ buffers
+  pub notes : all_notes now new ≡ all_notes was old ++ frame_notes was.split o (places_for was old buffers o)
+  pub shows : ShowsFrame was.split (offered o) (frame_notes was.split o (places_for was old buffers o))
+  pub current : now.current ≡ current_after was old buffers o
+  pub split : now.split ≡ was.split
+  pub placing : new ≡ record found { cache = new.cache; used = new.used; owns = new.owns; pieces = new.pieces; sent = new.sent; looks = new.looks }
+  pub looks : NicLooksStay found new
+
+-- The pending notes were sent, and the buffers that the frame needs were looked for and not found. Nothing of it was placed,
+-- and the current buffer stays closed.
+pub record Refuses (was now : PoolState) (old new : NicView) (o : Offer) (cached need : ℕ) : Type 0 where
+  pub cached_is : length new.cache ≡ cached
+  pub need_is : needed_for was old o ≡ need
+  pub too_few : cached < need
+  pub flushed : NicView
+  pub flush : Flushes was old flushed
+  pub search : LooksFor need was.current was.stats now.stats flushed new (Some empty)
+  pub pool : now ≡ record was { current = None; short = None; pieces = []; stats = now.stats }
+  pub notes : all_notes now new ≡ all_notes was old
+  pub used : new.used ≡ old.used
+
+-- Notes of an earlier frame are pending, and the slot for the next of them was seen in use. Nothing else changed.
+pub record PutsOff (was now : PoolState) (old new : NicView) : Type 0 where
+  pub sends : OnlySends was now old new
+  pub app : ℕ
+  pub next : IsNextApp now app
+  pub in_use : NicRose (NoteInUse app) old new
+
+abbrev pub Offers : PoolState → PoolState → NicView → NicView → Offer → Verdict → Type 0
+Offers was now old new o Accepted = Accepts was now old new o
+Offers was now old new o (NoRoom cached need) = Refuses was now old new o cached need
+Offers was now old new o Busy = PutsOff was now old new
+
+-- No offer does more than a flush, a search and placing do.
+pub record KeepsRest (old new : NicView) : Type 0 where
+  pub view : new ≡ record old {
+    cache = new.cache;
+    swept = new.swept;
+    used = new.used;
+    owns = new.owns;
+    pieces = new.pieces;
+    sent = new.sent;
+    dealt = new.dealt;
+    looks = new.looks;
+  }
+  pub looks : NicLooksStay old new

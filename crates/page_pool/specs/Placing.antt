@@ -1,0 +1,107 @@
+-- Parts of a payload that were placed.
+use Rattle.std.specs.Prelude.{◌≡◌, ◌≢◌, ℕ, ◌+◌, ◌-◌, ◌*◌, ◌%◌, ◌<◌, ◌≤◌, min, true, false, List, [], ◌∷◌}
+use Rattle.std.specs.Prelude.{◌++◌, length, map, take, All, Option, Some, None}
+use Rattle.zr_kinds.specs.declared.place.Place.{Place}
+use Rattle.board_face.specs.Looks.{NicLooksStay}
+use Rattle.board_face.specs.Texts.{IsSplitNote}
+use Rattle.board_face.specs.Tokens.{next_place, filled_by}
+use Rattle.board_face.specs.NicCalls.{apps_of}
+use Rattle.board_face.specs.declared.views.parts.Filling.{Filling}
+use Rattle.board_face.specs.declared.views.nic.NicView.{NicView}
+use Rattle.page_pool.specs.declared.pool.Pending.{Pending}
+use Rattle.page_pool.specs.declared.offer.Offer.{Offer}
+use Rattle.area_layout.specs.Layout.{least_size, size_of}
+use Rattle.board_face.specs.NicEvents.{placed}
+use Rattle.page_pool.specs.declared.pool.Short.{Short}
+use Rattle.page_pool.specs.Pool.{PoolState, PoolStands, piece_notes}
+use Rattle.page_pool.specs.Searching.{SearchEnd, empty}
+use Rattle.page_pool.specs.Frames.{offered, ShowRest}
+use Rattle.page_pool.specs.Offer.{payload_of, len_of, short_note, split_note, split_notes, packed, place_of, packed_into, LooksFor}
+use Rattle.page_pool.specs.Packing.{buffers_for, fits, needed, packing}
+
+-- the pieces that are out are those of the pending notes, in order, and each note may be sent
+pub record PiecesStand (pieces : List Pending) (v : NicView) : Type 0 where
+  pub places_are : map (λ p. p.place) v.pieces ≡ map (λ p. p.piece) pieces
+  pub apps : All (λ p. p.app < apps_of v.setting) pieces
+  pub fields : All (λ p. IsSplitNote p.note) pieces
+  pub places : All (λ p. p.note.place ≡ p.piece) pieces
+
+-- the note of a part, with its piece
+abbrev pub part_of : Offer → ℕ → Place → Pending
+part_of o at place = record { app = o.app; note = split_note o at place; piece = place }
+
+-- where the parts of so many bytes lie in these fresh buffers
+abbrev pub fresh_places : ℕ → List ℕ → ℕ → List Place
+fresh_places size [] len = []
+fresh_places size (b ∷ bs) len = record { buffer = b; offset = 0; len = min size len } ∷ fresh_places size bs (len - size)
+
+-- The first parts lie in fresh buffers, each of which but the last is closed.
+pub record FreshParts (o : Offer) (size : ℕ) (buffers : List ℕ) (old v : NicView) (pieces : List Pending) : Type 0 where
+  pub used : v.used ≡ old.used ++ buffers
+  pub many : length pieces ≡ length buffers
+  pub notes : piece_notes pieces v.pieces ≡ split_notes o 0 (fresh_places size buffers (length (payload_of o)))
+  pub stand : PiecesStand pieces v
+  pub view : v ≡ record old { cache = v.cache; used = v.used; owns = v.owns; pieces = v.pieces; looks = v.looks }
+  pub looks : NicLooksStay old v
+  pub enough : buffers_for size (length (payload_of o)) ≤ length buffers + length v.cache
+
+-- So far: each fresh buffer that was taken is full and closed.
+pub record FreshSoFar (o : Offer) (size : ℕ) (old v : NicView) (pieces : List Pending) (at : ℕ) : Type 0 where
+  pub buffers : List ℕ
+  pub parts : FreshParts o size buffers old v pieces
+  pub reached : at ≡ length buffers * size
+  pub owns : v.owns ≡ []
+
+-- ---- an offer's steps
+
+-- The payload was placed whole in the current buffer, behind what is used there.
+pub record FillsCurrent (o : Offer) (was now : Option Filling) (old new : NicView) (pieces : List Pending) : Type 0 where
+  pub own : Filling
+  pub was_is : was ≡ Some own
+  pub now_is : now ≡ Some (filled_by own (len_of o))
+  pub fits_there : fits (packed was) (len_of o) ≡ true
+  pub aligned : own.start % 64 ≡ 0
+  pub pieces_are : pieces ≡ part_of o 0 (next_place own (len_of o)) ∷ []
+  pub event : new ≡ placed old own (payload_of o)
+
+-- It doesn't fit there, and nothing was done.
+pub record LeavesCurrent (o : Offer) (was now : Option Filling) (old new : NicView) (pieces : List Pending) : Type 0 where
+  pub too_long : fits (packed was) (len_of o) ≡ false
+  pub current : now ≡ was
+  pub pieces_are : pieces ≡ []
+  pub view : new ≡ old
+
+-- A payload that is split was placed where packing says, and its notes are pending.
+pub record PlacesSplit (was now : PoolState) (old new : NicView) (o : Offer) : Type 0 where
+  pub found : NicView
+  pub how : Option SearchEnd
+  pub search : LooksFor (needed (least_size old.setting.layout) (packed was.current) (len_of o)) was.current was.stats now.stats old found how
+  pub enough : how ≢ Some empty
+  pub buffers : List ℕ
+  pub many : length buffers ≡ needed (least_size old.setting.layout) (packed was.current) (len_of o)
+  pub used : new.used ≡ old.used ++ buffers
+  pub notes : piece_notes now.pieces new.pieces
+      ≡ split_notes o 0 (map (place_of was.current buffers) (packing (packed was.current) (map (size_of old.setting.layout) buffers) (len_of o)))
+  pub shows : ShowRest (offered o) 0 (split_notes o 0 (map (place_of was.current buffers)
+      (packing (packed was.current) (map (size_of old.setting.layout) buffers) (len_of o))))
+  pub current : now.current ≡ packed_into old.setting was.current buffers (len_of o)
+  pub pool : now ≡ record was { current = now.current; pieces = now.pieces; stats = now.stats }
+  pub view : new ≡ record found { cache = new.cache; used = new.used; owns = new.owns; pieces = new.pieces; looks = new.looks }
+  pub looks : NicLooksStay found new
+  pub stands : PoolStands now new
+
+-- There weren't enough fresh buffers, and nothing was placed.
+pub record LacksRoom (was now : PoolState) (old new : NicView) (o : Offer) (cached need : ℕ) : Type 0 where
+  pub cached_is : length new.cache ≡ cached
+  pub need_is : needed (least_size old.setting.layout) (packed was.current) (len_of o) ≡ need
+  pub too_few : cached < need
+  pub search : LooksFor need was.current was.stats now.stats old new (Some empty)
+  pub pool : now ≡ record was { current = None; stats = now.stats }
+  pub stands : PoolStands now new
+
+-- A short payload is to travel in its note.
+pub record KeepsShort (o : Offer) (short : Short) : Type 0 where
+  pub app : short.app ≡ o.app
+  pub note : short.note ≡ short_note o
+  pub bytes : take (len_of o) short.bytes ≡ payload_of o
+  pub room : length short.bytes ≡ 256

@@ -1,0 +1,68 @@
+-- The search for fresh buffers: in the cache, then in the refill rings, then on the free list.
+use Rattle.std.specs.Prelude.{◌≡◌, ℕ, ◌+◌, ◌<◌, ◌≤◌, ◌⊎◌, List, ◌++◌, length}
+use Rattle.std.specs.List.{range_with_len}
+use Rattle.zr_kinds.specs.declared.outcome.PoolStats.{PoolStats}
+use Rattle.board_face.specs.Looks.{NicRose, NicLooksStay}
+use Rattle.board_face.specs.NicCalls.{apps_of, free_words_of}
+use Rattle.board_face.specs.declared.views.nic.Dealt.{Dealt}
+use Rattle.board_face.specs.declared.views.nic.NicLook.TheVariants.{Swept}
+use Rattle.board_face.specs.declared.views.nic.NicView.{NicView}
+use Rattle.page_pool.specs.Dealing.{IsRaised, freed_in, AreInTurn, IsRingDone, strays_in}
+
+-- A search that looks beyond the cache goes on until so many buffers are cached.
+abbrev pub enough : ℕ
+enough = 64
+
+-- where a search ended: in the cache, which held as many as were needed; at the refill rings; on the free list; or
+-- nowhere, since there weren't as many
+pub data SearchEnd : Type 0 where
+  fast : SearchEnd
+  refill : SearchEnd
+  slow : SearchEnd
+  empty : SearchEnd
+
+-- The search's end was counted once, and the strays that it met. No other count changed.
+abbrev pub CountsEnd : SearchEnd → PoolStats → PoolStats → List Dealt → Type 0
+CountsEnd fast was now more =
+    IsRaised was.fast 1 now.fast × IsRaised was.strays (strays_in more) now.strays × (now ≡ record was { fast = now.fast; strays = now.strays })
+CountsEnd refill was now more =
+    IsRaised was.refill 1 now.refill × IsRaised was.strays (strays_in more) now.strays × (now ≡ record was { refill = now.refill; strays = now.strays })
+CountsEnd slow was now more =
+    IsRaised was.slow 1 now.slow × IsRaised was.strays (strays_in more) now.strays × (now ≡ record was { slow = now.slow; strays = now.strays })
+CountsEnd empty was now more =
+    IsRaised was.empty 1 now.empty × IsRaised was.strays (strays_in more) now.strays × (now ≡ record was { empty = now.empty; strays = now.strays })
+
+-- Each ring was seen empty, or it gave as many entries as it has places.
+abbrev pub AreRingsDone : List Dealt → NicView → NicView → Type 0
+AreRingsDone more old new = (a : ℕ) → a < apps_of old.setting → IsRingDone more old new a
+
+-- Each free word was swept.
+abbrev pub AreSwept : NicView → NicView → Type 0
+AreSwept old new = (word : ℕ) → word < free_words_of old.setting → NicRose (Swept word) old new
+
+-- What a search for `need` buffers did from this view on, by where it ended: the entries that it dealt with, how many pool
+-- buffers came to be free by them, and how many words it swept.
+abbrev pub EndsBy : SearchEnd → ℕ → NicView → NicView → List Dealt → ℕ → ℕ → Type 0
+EndsBy fast need begin end more freed words = (need ≤ length begin.cache) × (end ≡ begin)
+EndsBy refill need begin end more freed words =
+    (length begin.cache < need) × (need ≤ length end.cache) × (words ≡ 0) × (length end.cache ≡ length begin.cache + freed)
+    × (length end.cache ≤ enough) × ((enough ≤ length end.cache) ⊎ AreRingsDone more begin end)
+EndsBy slow need begin end more freed words =
+    (length begin.cache + freed < need) × (need ≤ length end.cache) × (0 < words) × AreRingsDone more begin end
+    × ((enough ≤ length end.cache) ⊎ AreSwept begin end)
+EndsBy empty need begin end more freed words = (length end.cache < need) × AreRingsDone more begin end × AreSwept begin end
+
+-- A search for `need` buffers, from this view to that one: entries were dealt with, application by application from 0, of
+-- each ring as many as it has places at most, and words of the free list were swept, from 0. Else nothing happened but
+-- looks.
+pub record Searches (need : ℕ) (was now : PoolStats) (begin end : NicView) (result : SearchEnd) : Type 0 where
+  pub more : List Dealt
+  pub freed : ℕ
+  pub words : ℕ
+  pub view : end ≡ record begin { cache = end.cache; swept = begin.swept ++ range_with_len 0 words; dealt = begin.dealt ++ more; looks = end.looks }
+  pub turns : AreInTurn more begin.setting.places (apps_of begin.setting)
+  pub swept : (word : ℕ) → word < words → NicRose (Swept word) begin end
+  pub looks : NicLooksStay begin end
+  pub seen : freed_in end ≡ freed_in begin + freed
+  pub ends : EndsBy result need begin end more freed words
+  pub counts : CountsEnd result was now more

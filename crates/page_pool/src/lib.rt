@@ -1,0 +1,24 @@
+//! The page pool: where payloads are placed, how fresh buffers are found, and which frames are refused.
+#![tactic(auto)]
+
+mod close;
+mod drain;
+mod flush;
+mod laws;
+mod offer;
+mod pieces;
+mod placing;
+mod pool;
+mod search;
+
+pub use close::nic_close;
+pub use drain::nic_drain;
+pub use flush::nic_flush;
+pub use laws::{accepted_are_shown, offer_is_shown, packing_is_short, packing_is_whole};
+pub use offer::{Offer, Verdict, nic_offer};
+pub use pool::{Pending, Pool, Short};
+
+#[cfg(test)]
+mod offer_tests;
+#[cfg(test)]
+mod tests;

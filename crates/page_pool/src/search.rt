@@ -1,0 +1,63 @@
+ghost use Rattle.std.specs.Prelude.{◌≡◌, ◌≢◌, ℕ, ◌<◌, ◌≤◌, length, MatchBool};
+ghost use Rattle.board_face.specs.NicCalls.{apps_of, free_words_of};
+ghost use Rattle.page_pool.specs.Gathering.{RefillsFirst, SweepsFirst};
+ghost use Rattle.page_pool.specs.Searching.{SearchEnd, empty, Searches};
+
+use crate::drain::drain_ring;
+use board_face::NicFace;
+use zr_kinds::PoolStats;
+
+/// A search that looks beyond the cache goes on until so many buffers are cached.
+const ENOUGH: u32 = 64;
+
+/// Deals with refill entries of each application, from 0, until 64 buffers are cached.
+pub(crate) fn refill<F: NicFace>(face: &mut F, stats: &mut PoolStats)
+    ensures refills { RefillsFirst stats.old stats.new (F.seen face.old) (F.seen face.new) 64 (apps_of (F.seen face.old).setting) }
+    ensures beside { F.beside face.new ≡ F.beside face.old }
+{
+    // Its answer says that at most 128 are cached.
+    let _ = face.cached();
+    for app in 0..face.apps() {
+        drain_ring(face, stats, app, ENOUGH);
+    }
+}
+
+/// Sweeps the words of the free list, from 0, until 64 buffers are cached.
+pub(crate) fn sweep<F: NicFace>(face: &mut F)
+    ensures sweeps { SweepsFirst (F.seen face.old) (F.seen face.new) 64 (free_words_of (F.seen face.old).setting) }
+    ensures beside { F.beside face.new ≡ F.beside face.old }
+{
+    for word in 0..face.free_words() {
+        if face.cached() < ENOUGH {
+            face.sweep(word);
+        }
+    }
+}
+
+/// Looks for so many fresh buffers: in the cache, then in the refill rings, then on the free list. It answers whether so
+/// many are cached, and counts the search where it ended.
+pub(crate) fn search<F: NicFace>(face: &mut F, stats: &mut PoolStats, needed: u32) -> bool
+    requires few { needed ≤ 64 }
+    ensures searches { MatchBool result
+        ((how : SearchEnd) × (how ≢ empty) × Searches needed stats.old stats.new (F.seen face.old) (F.seen face.new) how)
+        (Searches needed stats.old stats.new (F.seen face.old) (F.seen face.new) empty) }
+    ensures enough { MatchBool result (needed ≤ length (F.seen face.new).cache) (length (F.seen face.new).cache < needed) }
+    ensures beside { F.beside face.new ≡ F.beside face.old }
+{
+    if face.cached() >= needed {
+        stats.fast = stats.fast.saturating_add(1);
+        return true;
+    }
+    refill(face, stats);
+    if face.cached() >= needed {
+        stats.refill = stats.refill.saturating_add(1);
+        return true;
+    }
+    sweep(face);
+    if face.cached() >= needed {
+        stats.slow = stats.slow.saturating_add(1);
+        return true;
+    }
+    stats.empty = stats.empty.saturating_add(1);
+    false
+}
