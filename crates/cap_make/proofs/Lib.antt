@@ -1,0 +1,4 @@
+mod Payload
+mod Records
+mod Classed
+mod Flowing

@@ -1,0 +1,41 @@
+-- What the frames of a generated capture carry, as a reader of frames sees them.
+use Rattle.std.specs.Prelude.{ℕ, zero, suc, ◌+◌, ◌%◌, ◌^◌, false, List, [], ◌∷◌, ◌++◌}
+use Rattle.frame_headers.specs.FrameClass.{TcpSegment}
+use Rattle.frame_headers.specs.declared.segment.Addr.TheVariants.{V4}
+use Rattle.flow_table.specs.Flows.{Flow}
+use Rattle.cap_make.specs.declared.piece.Piece.{Piece}
+use Rattle.cap_make.specs.GeneratedCapture.{base, drawn, frame_of, payload_of, piece_of}
+
+-- a segment with PSH and ACK from 10.0.0.1 to 10.0.0.2, to the port of the piece's flow, at the piece's place in the flow
+abbrev pub segment_with : ℕ → Piece → TcpSegment
+segment_with seed piece = record {
+  src = V4 (10 ∷ 0 ∷ 0 ∷ 1 ∷ []);
+  dst = V4 (10 ∷ 0 ∷ 0 ∷ 2 ∷ []);
+  sport = 40000 + piece.flow;
+  dport = 9000 + piece.flow;
+  seq = (base + piece.first) % 2 ^ 32;
+  flags = 24;
+  payload = payload_of seed piece;
+}
+
+-- ---- the flows of a whole capture
+
+-- the frames of the first so many records
+abbrev pub frames_of : ℕ → ℕ → List (List ℕ)
+frames_of seed zero = []
+frames_of seed (suc k) = frames_of seed k ++ frame_of seed (piece_of k (drawn seed (suc k))) ∷ []
+
+abbrev pub ports : List ℕ
+ports = 9000 ∷ 9001 ∷ 9002 ∷ 9003 ∷ []
+
+-- the flow to the port of this number, which begins at position 0
+abbrev pub flow_with : ℕ → Flow
+flow_with f = record {
+  key = record { src = V4 (10 ∷ 0 ∷ 0 ∷ 1 ∷ []); dst = V4 (10 ∷ 0 ∷ 0 ∷ 2 ∷ []); sport = 40000 + f; dport = 9000 + f };
+  app = f;
+  base = base;
+  fin = false;
+}
+
+abbrev pub four_flows : List Flow
+four_flows = flow_with 0 ∷ flow_with 1 ∷ flow_with 2 ∷ flow_with 3 ∷ []

@@ -1,0 +1,2 @@
+pub mod GeneratedCapture
+pub mod Carried
