@@ -1,0 +1,181 @@
+-- Turns of an application that has nothing out.
+use Rattle.std.proofs.Common.{◌≡◌, ℕ, ◌<◌, true, false, List, [], ◌∷◌, ◌++◌, Option, length, take, refl, ap, ◌∙◌, arith, inl, inr}
+use Rattle.zr_kinds.specs.declared.behaviour.Stopped.TheVariants as stop
+use Rattle.zr_kinds.specs.declared.place.Place.{Place}
+use Rattle.zr_kinds.specs.declared.place.Note.{Note}
+use Rattle.board_face.specs.AppCalls.{AppOnlySaw, TookNote, TookLinear, ToldEnd}
+use Rattle.board_face.specs.AppEvents.{released, told_end, fell_quiet, scrubbed, left_board}
+use Rattle.board_face.specs.Lists.{same_place}
+use Rattle.board_face.proofs.ListLemmas.{same_place-refl}
+use Rattle.board_face.specs.declared.views.app.AppLook.TheVariants.{NotQuiet, CardEnded, NoNote as no_note}
+use Rattle.board_face.specs.declared.views.app.Origin.TheVariants.{Note as of_note}
+use Rattle.board_face.specs.declared.views.app.HeldPiece.{HeldPiece}
+use Rattle.board_face.specs.declared.views.app.TakenNote.{TakenNote}
+use Rattle.board_face.specs.declared.views.app.AppView.{AppView}
+use Rattle.app_worker.specs.declared.turn.Turn.TheVariants.{Did, Idle, Finished}
+use Rattle.app_worker.specs.declared.turn.Why.TheVariants.{NoNote, NotQuiet as not_quiet}
+use Rattle.app_worker.specs.Core.{total}
+use Rattle.app_worker.specs.State.{State, Common, Bare, held_len, app_steps, one_if}
+use Rattle.app_worker.specs.Turns.{Turns}
+use Rattle.app_worker.proofs.Moving.{looks-more}
+use Rattle.app_worker.proofs.Seeing.{goes-none, goes-saw, common-saw}
+use Rattle.app_worker.proofs.Noting.{TookView, common-noted, steps-noted, moves-noted, ends-kept, shelves-kept, fronts-kept}
+use Rattle.app_worker.proofs.TurnLemmas.{stands-bare, as-before}
+use Rattle.app_worker.proofs.Closing.{IsOut, bare-saw, turns-finished}
+
+module _ (st : State) (old : AppView) (bare : Bare st old) (is_bare : st.bare ≡ true) (common : Common st old) (reaped : st.posted.entries ≡ []) where
+  -- ---- a note
+
+  -- it took a note and has nothing out again
+  turns-noted : (new : AppView) (t : TakenNote) (kept : ℕ → Option (List ℕ)) (f : ℕ) → st.ended ≡ false → TookView old new t → new.helds ≡ []
+      → Turns st st old new kept kept f f Did
+  turns-noted new t kept f more took none = record {
+    stands = stands-bare st new
+        (record {
+          helds = none;
+          loans = ap (λ (v : AppView). v.loans) took.view ∙ bare.loans;
+          due = bare.due;
+          unread = bare.unread;
+          flows = ends-kept st.flows old new t took bare.flows;
+          distinct = bare.distinct;
+          whole = λ going split. absurd (over going split);
+          known = λ going split. absurd (over going split);
+        })
+        (common-noted st old new t took st.notes st.active st.index st.flows refl common) reaped is_bare;
+    goes = record {
+      moves = moves-noted st old new t took st.notes st.active st.index st.flows;
+      shelved = λ _ begin. shelves-kept st.flows old new t took bare.flows begin kept;
+      failed = λ is begin exact front. fronts-kept st.flows old new t took begin kept (front is);
+    };
+    answer = omega (arith, steps-noted st old new t took st.notes st.active st.index st.flows);
+    few = inr (t, ap (λ (v : AppView). v.taken) took.view);
+    here = λ _. ap (λ (v : AppView). v.left) took.view;
+    polled = λ live. absurd (bare-live live);
+    none = λ live. absurd (bare-live live);
+  }
+    where
+      -- one that wasn't stopped has nothing out only once it ended
+      over : st.stopped ≡ stop.No → st.short ≡ false → ⊥
+      over going split = let ended : st.ended ≡ true = (bare.whole going split).0 in absurd (cc)
+
+      bare-live : st.bare ≡ false → ⊥
+      bare-live live = absurd (cc)
+
+  pub bare-note : (mid new : AppView) (note : Note) (held : Place) (kept : ℕ → Option (List ℕ)) (f : ℕ) → st.ended ≡ false
+      → TookNote old mid note held → new ≡ released mid held → Turns st st old new kept kept f f Did
+  bare-note mid new note held kept f more took is =
+      let h : HeldPiece = record { place = note.place; origin = of_note (length old.taken) 0 } in
+      let helds : mid.helds ≡ h ∷ [] = ap (λ (v : AppView). v.helds) took.event ∙ ap (λ hs. hs ++ h ∷ []) bare.helds in
+      let yes : same_place held note.place ≡ true = ap (λ p. same_place p note.place) took.place ∙ same_place-refl note.place in
+      let gone : (released mid held).helds ≡ [] = rw (helds, yes) refl in
+      let none : new.helds ≡ [] = ap (λ (v : AppView). v.helds) is ∙ gone in
+      let view : new ≡ record old { taken = old.taken ++ record { note = note; bytes = [] } ∷ []; helds = new.helds } = rw (is, took.event) refl in
+      turns-noted new (record { note = note; bytes = [] }) kept f more (record { view = view; held = omega (arith, ap (total held_len) none) }) none
+
+  pub bare-linear : (new : AppView) (linear : List ℕ) (note : Note) (kept : ℕ → Option (List ℕ)) (f : ℕ) → st.ended ≡ false
+      → TookLinear old new linear note → Turns st st old new kept kept f f Did
+  bare-linear new linear note kept f more took =
+      let helds : new.helds ≡ old.helds = ap (λ (v : AppView). v.helds) took.event in
+      turns-noted new (record { note = note; bytes = take note.total linear }) kept f more
+      (record { view = rw took.event refl; held = omega (arith, ap (total held_len) helds) }) (helds ∙ bare.helds)
+
+  pub bare-empty : (new : AppView) (kept : ℕ → Option (List ℕ)) (f : ℕ) → AppOnlySaw no_note old new
+      → Turns st st old new kept kept f f (Idle NoNote)
+  bare-empty new kept f saw = record {
+    stands = rw saw.event (stands-bare st _ (bare-saw st old no_note bare) (common-saw st old no_note common) reaped is_bare);
+    goes = rw saw.event (goes-saw st old no_note kept);
+    answer = (as-before st old new no_note saw, saw.rose);
+    few = inl (ap (λ (v : AppView). v.taken) saw.event);
+    here = λ _. ap (λ (v : AppView). v.left) saw.event;
+    polled = λ live. absurd (bare-live live);
+    none = λ live. absurd (bare-live live);
+  }
+    where
+      bare-live : st.bare ≡ false → ⊥
+      bare-live live = absurd (cc)
+
+  -- ---- leaving
+
+  out-at-once : (kept : ℕ → Option (List ℕ)) → old.left ≡ false → IsOut st st old old kept kept
+  out-at-once kept here = record {
+    bare = bare;
+    is_bare = is_bare;
+    common = common;
+    reaped = reaped;
+    goes = goes-none st old kept;
+    taken = refl;
+    left = refl;
+    here = here;
+  }
+
+  pub bare-finished : (new : AppView) (kept : ℕ → Option (List ℕ)) (f : ℕ) → old.left ≡ false → new ≡ left_board (scrubbed (fell_quiet old))
+      → Turns st st old new kept kept f f Finished
+  bare-finished new kept f here is = turns-finished st st old old new kept kept f f (out-at-once kept here) is
+
+  pub bare-not-quiet : (new : AppView) (kept : ℕ → Option (List ℕ)) (f : ℕ) → AppOnlySaw NotQuiet old new
+      → Turns st st old new kept kept f f (Idle not_quiet)
+  bare-not-quiet new kept f saw = record {
+    stands = rw saw.event (stands-bare st _ (bare-saw st old NotQuiet bare) (common-saw st old NotQuiet common) reaped is_bare);
+    goes = rw saw.event (goes-saw st old NotQuiet kept);
+    answer = (as-before st old new NotQuiet saw, saw.rose);
+    few = inl (ap (λ (v : AppView). v.taken) saw.event);
+    here = λ _. ap (λ (v : AppView). v.left) saw.event;
+    polled = λ live. absurd (bare-live live);
+    none = λ live. absurd (bare-live live);
+  }
+    where
+      bare-live : st.bare ≡ false → ⊥
+      bare-live live = absurd (cc)
+
+  -- ---- the end is seen
+
+  pub out-ended : (mid : AppView) (kept : ℕ → Option (List ℕ)) → old.left ≡ false → st.ended ≡ false → ToldEnd old mid
+      → IsOut st (record st { ended = true }) old mid kept kept × (app_steps st old < app_steps (record st { ended = true }) mid)
+  out-ended mid kept here more told = rw told.event (
+    record {
+      bare = record {
+        helds = bare.helds;
+        loans = bare.loans;
+        due = bare.due;
+        unread = bare.unread;
+        flows = bare.flows;
+        distinct = bare.distinct;
+        whole = λ going split. (refl, (bare.whole going split).1);
+        known = bare.known;
+      };
+      is_bare = is_bare;
+      common = record {
+        app = common.app;
+        ended = refl;
+        counted = common.counted;
+        owns = common.owns;
+        spares = common.spares;
+        some_places = common.some_places;
+        within = common.within;
+        room = common.room;
+        loans = common.loans;
+        written = common.written;
+        bound = common.bound;
+      };
+      reaped = reaped;
+      goes = record {
+        moves = record {
+          same = (refl, refl, refl, refl);
+          how = (refl, refl);
+          places = refl;
+          steps = omega (arith, not_yet);
+          looks = looks-more old (told_end old) CardEnded refl;
+          stays = λ _. refl;
+        };
+        shelved = λ _ begin shelved. record { flows = shelved.flows; others = shelved.others };
+        failed = λ is begin exact front. (let f = front is in record { flows = f.flows; others = f.others });
+      };
+      taken = refl;
+      left = refl;
+      here = here;
+    },
+    omega (arith, not_yet),
+  )
+    where
+      not_yet : one_if old.ended ≡ 0
+      not_yet = ap one_if (common.ended ∙ more)

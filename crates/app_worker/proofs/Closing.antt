@@ -1,0 +1,184 @@
+-- The end of an application.
+use Rattle.std.proofs.Common.{◌≡◌, ℕ, ◌<◌, ◌≤◌, ◌-◌, true, false, List, [], ◌∷◌, ◌++◌, Option, length, refl, sym, ap, subst}
+use Rattle.std.proofs.Common.{◌∙◌, arith, inl}
+use Rattle.std.specs.Prelude.{◌==◌, if◌then◌else◌}
+use Rattle.zr_kinds.specs.CopyingReceiver.{nothing_placed, next_missing, values_from}
+use Rattle.tcp_reorder.proofs.Holding.{next_missing-held}
+use Rattle.board_face.specs.AppCalls.{AppOnlySaw}
+use Rattle.board_face.specs.AppEvents.{app_saw, fell_quiet, scrubbed, left_board}
+use Rattle.board_face.specs.declared.views.app.AppLook.{AppLook}
+use Rattle.board_face.specs.declared.views.app.AppLook.TheVariants.{NotQuiet}
+use Rattle.board_face.specs.declared.views.app.TakenNote.{TakenNote}
+use Rattle.board_face.specs.declared.views.app.AppView.{AppView}
+use Rattle.app_worker.specs.declared.stack.FlowQueue.{FlowQueue}
+use Rattle.app_worker.specs.declared.turn.Turn.TheVariants.{Did, Finished}
+use Rattle.app_worker.specs.Core.{Each, own_notes, received_notes, placed_of, marks_of_piece, FlowStands}
+use Rattle.app_worker.specs.State.{State, IsAtRest, Working, Common, Bare, app_steps}
+use Rattle.app_worker.specs.Moves.{Goes}
+use Rattle.app_worker.specs.Letting.{FlowFacts, facts_of, LetGo}
+use Rattle.app_worker.specs.Stages.{Through}
+use Rattle.app_worker.specs.Turns.{Turns}
+use Rattle.app_worker.proofs.Placing.{values-length}
+use Rattle.app_worker.proofs.Standing.{each-map}
+use Rattle.app_worker.proofs.EachBoth.{each-both}
+use Rattle.app_worker.proofs.LetGone.{each-facts, total-facts}
+use Rattle.app_worker.proofs.Moving.{looks-same, no-write}
+use Rattle.app_worker.proofs.Seeing.{common-saw, goes-saw}
+use Rattle.app_worker.proofs.Measure.{one-most}
+use Rattle.app_worker.proofs.Through.{goes-then}
+use Rattle.app_worker.proofs.TurnLemmas.{stands-bare, no-poll}
+
+-- all of the flow was appended
+abbrev pub IsWhole : List TakenNote → FlowQueue → Type 0
+IsWhole taken f = f.bytes ≡ next_missing (placed_of f taken)
+
+whole-facts : (taken : List TakenNote) (f g : FlowQueue) → facts_of g ≡ facts_of f → IsWhole taken f → IsWhole taken g
+whole-facts taken f g same whole =
+    let P : FlowFacts → Type 0 = λ x. x.bytes ≡ next_missing (received_notes x.base nothing_placed (own_notes x.number taken)) in
+    subst P (sym same) whole
+
+-- where nothing is lent, and nothing is in order
+whole-flow : (taken : List TakenNote) (f : FlowQueue) → FlowStands taken [] f → IsAtRest f → IsWhole taken f
+whole-flow taken f stands rest =
+    let size : length (values_from (placed_of f taken).at (f.queue.popped - f.bytes) f.bytes) ≡ f.queue.popped - f.bytes =
+    values-length (placed_of f taken).at (f.queue.popped - f.bytes) f.bytes (λ q from until. stands.holds.popped q (omega (arith, stands.counted))) in
+    let none : 0 ≡ length (values_from (placed_of f taken).at (f.queue.popped - f.bytes) f.bytes) = ap length stands.lent in
+    let all : f.bytes ≡ f.queue.popped = omega (arith, size, none, stands.counted) in
+    all ∙ rest ∙ sym (next_missing-held marks_of_piece f.queue (placed_of f taken) stands.holds)
+
+empty-list : {A : Type 0} (xs : List A) → length xs ≤ 0 → xs ≡ []
+empty-list [] few = refl
+empty-list (x ∷ xs) few = absurd (omega arith)
+
+-- all is given up once all is read
+pub closed-bare : (b c : State) (v w : AppView) → Working b v → b.ended ≡ true → length b.unread ≤ 0 → b.posted.entries ≡ [] → LetGo b c v w
+    → Bare c w
+closed-bare b c v w works ended few reaped gone =
+    let none : b.unread ++ b.posted.entries ≡ [] = ap (λ es. es ++ b.posted.entries) (empty-list b.unread few) ∙ reaped in
+    let flows : Each (FlowStands v.taken []) b.flows = subst (λ es. Each (FlowStands v.taken es) b.flows) none works.stands.flows in
+    let whole : Each (IsWhole v.taken) b.flows =
+    each-map (λ f. FlowStands v.taken [] f × IsAtRest f) (IsWhole v.taken) b.flows (λ f _ p. whole-flow v.taken f p.0 p.1)
+    (each-both (FlowStands v.taken []) IsAtRest b.flows flows (works.over ended)) in
+    record {
+      helds = gone.helds;
+      loans = gone.loans;
+      due = ap (λ (s : State). s.due) gone.same;
+      unread = ap (λ (s : State). s.unread) gone.same;
+      flows = gone.ends;
+      distinct = gone.distinct;
+      whole = λ going split. (
+        ap (λ (s : State). s.ended) gone.same ∙ ended,
+        subst (λ ts. Each (IsWhole ts) c.flows) (sym gone.taken)
+            (each-facts (IsWhole v.taken) (IsWhole v.taken) (whole-facts v.taken) b.flows c.flows gone.facts whole),
+      );
+      known = λ going split n nothing. ap (own_notes n) gone.taken
+          ∙ works.stands.known n (sym (total-facts (λ x. if x.number == n then 1 else 0) b.flows c.flows gone.facts) ∙ nothing);
+    }
+
+-- ---- the last look
+
+pub bare-saw : (st : State) (v : AppView) (look : AppLook) → Bare st v → Bare st (app_saw v look)
+bare-saw st v look bare = record {
+  helds = bare.helds;
+  loans = bare.loans;
+  due = bare.due;
+  unread = bare.unread;
+  flows = bare.flows;
+  distinct = bare.distinct;
+  whole = bare.whole;
+  known = bare.known;
+}
+
+bare-gone : (st : State) (v : AppView) → Bare st v → Bare st (left_board (scrubbed (fell_quiet v)))
+bare-gone st v bare = record {
+  helds = bare.helds;
+  loans = bare.loans;
+  due = bare.due;
+  unread = bare.unread;
+  flows = bare.flows;
+  distinct = bare.distinct;
+  whole = bare.whole;
+  known = bare.known;
+}
+
+common-gone : (st : State) (v : AppView) → Common st v → Common st (left_board (scrubbed (fell_quiet v)))
+common-gone st v common = record {
+  app = common.app;
+  ended = common.ended;
+  counted = λ here. absurd (cc);
+  owns = common.owns;
+  spares = common.spares;
+  some_places = common.some_places;
+  within = common.within;
+  room = common.room;
+  loans = common.loans;
+  written = common.written;
+  bound = common.bound;
+}
+
+goes-gone : (st : State) (v : AppView) (kept : ℕ → Option (List ℕ)) → Goes st st v (left_board (scrubbed (fell_quiet v))) kept kept
+goes-gone st v kept = record {
+  moves = record {
+    same = (refl, refl, refl, refl);
+    how = (refl, refl);
+    places = refl;
+    steps = omega (arith, one-most v.left);
+    looks = looks-same v (left_board (scrubbed (fell_quiet v))) refl;
+    stays = λ _. refl;
+  };
+  shelved = λ _ begin shelved. record { flows = shelved.flows; others = shelved.others };
+  failed = λ is begin exact front. (let f = front is in record { flows = f.flows; others = f.others });
+}
+
+-- what is known once it has nothing out
+pub record IsOut (a c : State) (u w : AppView) (k m : ℕ → Option (List ℕ)) : Type 0 where
+  pub bare : Bare c w
+  pub is_bare : c.bare ≡ true
+  pub common : Common c w
+  pub reaped : c.posted.entries ≡ []
+  pub goes : Goes a c u w k m
+  pub taken : w.taken ≡ u.taken
+  pub left : w.left ≡ u.left
+  pub here : u.left ≡ false
+
+pub turns-finished : (a c : State) (u w x : AppView) (k m : ℕ → Option (List ℕ)) (f f2 : ℕ) → IsOut a c u w k m
+    → x ≡ left_board (scrubbed (fell_quiet w)) → Turns a c u x k m f f2 Finished
+turns-finished a c u w x k m f f2 out is = rw is (record {
+  stands = stands-bare c (left_board (scrubbed (fell_quiet w))) (bare-gone c w out.bare) (common-gone c w out.common) out.reaped out.is_bare;
+  goes = goes-then a c c u w (left_board (scrubbed (fell_quiet w))) k m m out.goes (goes-gone c w m);
+  answer = (out.here, refl, out.is_bare);
+  few = inl out.taken;
+  here = λ other. absurd (other refl);
+  polled = no-poll a c u (left_board (scrubbed (fell_quiet w))) out.taken;
+  none = λ _ e. absurd (cc);
+})
+
+pub turns-not-quiet : (a c : State) (u w x : AppView) (k m : ℕ → Option (List ℕ)) (f f2 : ℕ) → IsOut a c u w k m → app_steps a u < app_steps c w
+    → AppOnlySaw NotQuiet w x → Turns a c u x k m f f2 Did
+turns-not-quiet a c u w x k m f f2 out steps saw = rw saw.event (record {
+  stands = stands-bare c (app_saw w NotQuiet) (bare-saw c w NotQuiet out.bare) (common-saw c w NotQuiet out.common) out.reaped out.is_bare;
+  goes = goes-then a c c u w (app_saw w NotQuiet) k m m out.goes (goes-saw c w NotQuiet m);
+  answer = omega (arith, steps);
+  few = inl out.taken;
+  here = λ _. out.left;
+  polled = no-poll a c u (app_saw w NotQuiet) out.taken;
+  none = λ _ e. absurd (cc);
+})
+
+-- by way of reading all
+pub out-of : (a b c : State) (u v w : AppView) (k m : ℕ → Option (List ℕ)) → a.ended ≡ true → u.left ≡ false → Through a b u v k m
+    → length b.unread ≤ 0 → LetGo b c v w → IsOut a c u w k m
+out-of a b c u v w k m ended here through few gone = record {
+  bare = closed-bare b c v w through.working (through.ended ∙ ended) few through.reaped gone;
+  is_bare = ap (λ (s : State). s.bare) gone.same;
+  common = gone.common;
+  reaped = ap (λ (s : State). s.posted.entries) gone.same ∙ through.reaped;
+  goes = goes-then a b c u v w k m m through.goes (record {
+    moves = gone.moves;
+    shelved = λ _ begin. gone.shelved begin m;
+    failed = λ is. absurd (no-write c.stopped (ap (λ (s : State). s.stopped) gone.same ∙ through.working.going) is);
+  });
+  taken = gone.taken ∙ through.taken;
+  left = gone.left ∙ through.left;
+  here = here;
+}

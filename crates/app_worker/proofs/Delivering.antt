@@ -1,0 +1,169 @@
+-- A piece is lent: all that is kept then.
+use Rattle.std.proofs.Common.{◌≡◌, ◌≢◌, ℕ, suc, ◌+◌, ◌-◌, ◌^◌, ◌<◌, min, false, List, [], ◌∷◌, ◌++◌, Option, length}
+use Rattle.std.proofs.Common.{set, get_or, refl, sym, ap, subst, ◌∙◌, arith, append_assoc, length-append}
+use Rattle.zr_kinds.specs.declared.ring.Completion.{Completion}
+use Rattle.completion_ring.specs.Ring.{Ring, ring}
+use Rattle.tcp_reorder.specs.Queue.{Queue}
+use Rattle.board_face.specs.declared.views.parts.Setting.{Setting}
+use Rattle.board_face.specs.declared.views.app.TakenNote.{TakenNote}
+use Rattle.board_face.specs.declared.views.app.AppView.{AppView}
+use Rattle.app_worker.specs.declared.stack.Piece.{Piece}
+use Rattle.app_worker.specs.declared.stack.Lending.{Lending}
+use Rattle.app_worker.specs.declared.stack.FlowQueue.{FlowQueue}
+use Rattle.app_worker.specs.Core.{total, is_odd, Each, Stands, many}
+use Rattle.app_worker.specs.State.{State, TellsOf, Working, Common, capped, held_len, taken_len, app_steps, one_if}
+use Rattle.app_worker.specs.Shelves.{IsShelved}
+use Rattle.app_worker.specs.Moves.{Moves}
+use Rattle.board_face.specs.declared.views.app.AppLook.TheVariants.{RawOnItsWay}
+use Rattle.app_worker.specs.declared.stack.Delivery.{Delivery}
+use Rattle.app_worker.specs.declared.stack.Delivery.TheVariants.{Did, NoneInOrder, Full, Unsettled}
+use Rattle.app_worker.specs.Steps.{Delivers, Delivered, lending_of}
+use Rattle.app_worker.specs.Whole.{LentOne, KeepsShelves, Lends}
+use Rattle.app_worker.proofs.Tokens.{some-bytes}
+use Rattle.app_worker.proofs.Standing.{At, split-at, each-join, each-right, each-left, stands-lent, total-changed, many-same}
+use Rattle.app_worker.proofs.Moving.{total-one, looks-same}
+use Rattle.app_worker.proofs.Resting.{rest-set, rest-too}
+use Rattle.app_worker.proofs.Indexing.{index-set}
+use Rattle.app_worker.proofs.Seeing.{Left, left-none, left-saw}
+
+-- what the shelf has of a flow doesn't look at what its queue keeps
+pub shelved-flow : (first kept : ℕ → Option (List ℕ)) (taken : List TakenNote) (reads : List _) (own now : FlowQueue)
+    → now ≡ record own { queue = now.queue } → now.queue.base ≡ own.queue.base
+    → IsShelved first kept taken reads own → IsShelved first kept taken reads now
+shelved-flow first kept taken reads own now same base shelved = subst (IsShelved first kept taken reads) (sym same) (with_base now.queue base)
+  where
+    with_base : (q : Queue Piece) → q.base ≡ own.queue.base → IsShelved first kept taken reads (record own { queue = q })
+    with_base q base = rw base (record { gained = shelved.gained })
+
+pub record Bundle (was now : State) (old new : AppView) : Type 0 where
+  pub working : Working now new
+  pub common : Common now new
+  pub moves : Moves was now old new
+  pub shelved : KeepsShelves was now old new
+  pub one : LentOne was now old new
+
+abbrev pub with_lent : State → FlowQueue → Ring (Completion × Lending) → ℕ → State
+with_lent was now then loans = record was { flows = set was.flows was.active now; posted = then; loans = loans }
+
+pub lent-bundle : (was : State) (own now : FlowQueue) (then : Ring (Completion × Lending)) (old new : AppView) (loans : ℕ) → was.ended ≡ false
+    → loans ≡ min (was.loans + 1) (2 ^ 64 - 1) → was.active < length was.flows
+    → own ≡ get_or was.flows was.active own → Delivers old new own now was.posted then → Working was old → Common was old
+    → Bundle was (with_lent was now then loans) old new
+lent-bundle was own now then old new loans more count within value step works common =
+    let at : At was.flows was.active own = split-at was.flows was.active own within value in
+    let p : Completion × Lending = (step.completion, lending_of step.piece) in
+    let entries : then.entries ≡ was.posted.entries ++ p ∷ [] = ap (λ (r : Ring (Completion × Lending)). r.entries) step.post in
+    let places : then.places ≡ was.posted.places = ap (λ (r : Ring (Completion × Lending)). r.places) step.post in
+    let all : was.unread ++ then.entries ≡ (was.unread ++ was.posted.entries) ++ p ∷ [] = ap (λ es. was.unread ++ es) entries
+    ∙ sym (append_assoc was.unread was.posted.entries (p ∷ [])) in
+    let size : ℕ = suc (length (was.unread ++ was.posted.entries)) in
+    let step2 : Delivers old new own now (ring (was.unread ++ was.posted.entries) size) (ring (was.unread ++ then.entries) size) = record {
+      piece = step.piece;
+      span = step.span;
+      completion = step.completion;
+      loses = step.loses;
+      begins = step.begins;
+      flow = step.flow;
+      room = omega arith;
+      post = ap (λ es. ring es size) all;
+      number = step.number;
+      tells = step.tells;
+      view = step.view;
+      apart = step.apart;
+      helds = step.helds;
+      loans = step.loans;
+    } in
+    let stood : Stands was.notes (at.before ++ own ∷ at.after) (was.unread ++ was.posted.entries) was.due old = subst
+    (λ (fs : List FlowQueue). Stands was.notes fs (was.unread ++ was.posted.entries) was.due old) at.is works.stands in
+    let stands : Stands was.notes (at.before ++ now ∷ at.after) (was.unread ++ then.entries) was.due new =
+    stands-lent was.notes at.before at.after own now (ring (was.unread ++ was.posted.entries) size)
+    (ring (was.unread ++ then.entries) size) was.due old new stood step2 in
+    let setting : new.setting ≡ old.setting = ap (λ (v : AppView). v.setting) step.view in
+    let taken : new.taken ≡ old.taken = ap (λ (v : AppView). v.taken) step.view in
+    let returned : new.returned ≡ old.returned = ap (λ (v : AppView). v.returned) step.view in
+    let reads : new.reads ≡ old.reads = ap (λ (v : AppView). v.reads) step.view in
+    let left : new.left ≡ old.left = ap (λ (v : AppView). v.left) step.view in
+    let ended : new.ended ≡ old.ended = ap (λ (v : AppView). v.ended) step.view in
+    let scrubbed : new.scrubbed ≡ old.scrubbed = ap (λ (v : AppView). v.scrubbed) step.view in
+    let own_app : new.app ≡ old.app = ap (λ (v : AppView). v.app) step.view in
+    let owns : new.owns ≡ old.owns = ap (λ (v : AppView). v.owns) step.view in
+    let spares : new.spares ≡ old.spares = ap (λ (v : AppView). v.spares) step.view in
+    let one_more : length new.loans ≡ length old.loans + 1 = omega (arith, step.loans (λ _. 1), total-one new.loans, total-one old.loans) in
+    let one_less : total (λ _. 1) new.helds + 1 ≡ total (λ _. 1) old.helds = step.helds (λ _. 1) in
+    let even : is_odd step.piece.held ≡ 0 = omega (arith, step.loans (λ l. is_odd l.place), step.apart.some) in
+    let some : 0 < step.piece.held.len = some-bytes step.piece.held even in
+    let bytes : FlowQueue → ℕ = λ f. f.bytes in
+    let same_bytes : bytes now ≡ bytes own = ap bytes step.flow in
+    let written : total bytes (set was.flows was.active now) ≡ total bytes was.flows =
+    ap (total bytes) (at.set_is now) ∙ omega (arith, total-changed at.before at.after own now bytes, same_bytes) ∙ sym (ap (total bytes) at.is) in
+    let longer : length then.entries ≡ length was.posted.entries + 1 = ap length entries ∙ length-append was.posted.entries (p ∷ []) in
+    let steps : app_steps (with_lent was now then loans) new
+    ≡ app_steps was old + 1 = omega (arith, ap length taken, ap length returned, one_more, ap (λ b. one_if b) ended, ap (λ b. one_if b) left) in
+    record {
+      working = record {
+        stands = subst (λ (fs : List FlowQueue). Stands was.notes fs (was.unread ++ then.entries) was.due new) (sym (at.set_is now)) stands;
+        completions = subst (λ (s : Setting). Each (TellsOf s.layout) (was.unread ++ then.entries)) (sym setting)
+            (subst (Each (TellsOf old.setting.layout)) (sym all)
+            (each-join (TellsOf old.setting.layout) (was.unread ++ was.posted.entries) (p ∷ []) works.completions (step.tells, tt)));
+        rest = rest-set was.active was.flows now works.rest;
+        index = index-set was.index was.flows was.active own now within value (ap (λ (f : FlowQueue). f.number) step.flow) works.index;
+        over = λ over. absurd (cc);
+        going = works.going;
+        split = works.split;
+        live = works.live;
+      };
+      common = record {
+        app = own_app ∙ common.app;
+        ended = ended ∙ common.ended;
+        counted = λ here. scrubbed ∙ common.counted (sym left ∙ here);
+        owns = owns ∙ common.owns;
+        spares = spares ∙ common.spares;
+        some_places = omega (arith, places, common.some_places);
+        within = omega (arith, longer, places, step.room);
+        room = omega (arith, places, common.room);
+        loans = omega (arith, count, common.loans, one_more, ap length returned);
+        written = common.written ∙ ap capped (sym written);
+        bound = omega (arith, one_more, ap length returned, step.helds held_len, some, common.bound, ap (total taken_len) taken);
+      };
+      moves = record {
+        same = (setting, own_app, owns, spares);
+        how = (refl, refl);
+        places = places;
+        steps = omega (arith, steps);
+        looks = looks-same old new (ap (λ (v : AppView). v.looks) step.view);
+        stays = λ _. refl;
+      };
+      shelved = λ first kept was_shelved. record {
+        flows = subst (Each (IsShelved first kept new.taken new.reads)) (sym (at.set_is now))
+            (subst (λ ts. Each (IsShelved first kept ts new.reads) (at.before ++ now ∷ at.after)) (sym taken)
+            (subst (λ rs. Each (IsShelved first kept old.taken rs) (at.before ++ now ∷ at.after)) (sym reads)
+            (let flows : Each (IsShelved first kept old.taken old.reads) (at.before ++ own ∷ at.after) = subst
+            (Each (IsShelved first kept old.taken old.reads)) at.is was_shelved.flows in
+            let parts = each-right (IsShelved first kept old.taken old.reads) at.before (own ∷ at.after) flows in
+            each-join (IsShelved first kept old.taken old.reads) at.before (now ∷ at.after)
+            (each-left (IsShelved first kept old.taken old.reads) at.before (own ∷ at.after) flows)
+            (shelved-flow first kept old.taken old.reads own now step.flow step.loses.base parts.0, parts.1))));
+        others = λ n none. was_shelved.others n (ap (many n) at.is
+            ∙ sym (many-same at.before at.after own now (ap (λ (f : FlowQueue). f.number) step.flow) n) ∙ sym (ap (many n) (at.set_is now)) ∙ none);
+      };
+      one = record { steps = omega (arith, steps); helds = one_less; posted = longer; same = refl; taken = taken; left = left };
+    }
+
+-- nothing was lent
+pub none-lent : (was : State) (own now : FlowQueue) (then : Ring (Completion × Lending)) (old new : AppView) (result : Delivery) → result ≢ Did
+    → was.active < length was.flows → own ≡ get_or was.flows was.active own
+    → Delivered old new own now was.posted then result → Working was old → Common was old
+    → Left was (with_lent was now then was.loans) old new × Lends was (with_lent was now then was.loans) old new result
+none-lent was own now then old new Did other within value step works common = absurd (other refl)
+none-lent was own now then old new NoneInOrder other within value step works common =
+    let at : At was.flows was.active own = split-at was.flows was.active own within value in
+    let same : set was.flows was.active own ≡ was.flows = at.set_is own ∙ sym at.is in
+    rw (step.1, step.2, same, step.0) (left-none was old works common, (refl, refl, rest-too was.active was.flows own within works.rest (sym value) step.3))
+none-lent was own now then old new Full other within value step works common =
+    let at : At was.flows was.active own = split-at was.flows was.active own within value in
+    let same : set was.flows was.active own ≡ was.flows = at.set_is own ∙ sym at.is in
+    rw (step.1, step.2, same, step.0) (left-none was old works common, (refl, refl, step.3))
+none-lent was own now then old new Unsettled other within value step works common =
+    let at : At was.flows was.active own = split-at was.flows was.active own within value in
+    let same : set was.flows was.active own ≡ was.flows = at.set_is own ∙ sym at.is in
+    rw (step.1, step.2, same) (left-saw was old new RawOnItsWay step.0 works common, (refl, step.0))

@@ -1,0 +1,156 @@
+-- All that an application has out is given up: what is left.
+use Rattle.std.proofs.Common.{◌≡◌, ℕ, ◌+◌, ◌<◌, ◌≤◌, true, false, List, [], Option, None, IsSome, map, length, refl, sym, ap, subst}
+use Rattle.std.proofs.Common.{◌∙◌, arith}
+use Rattle.std.specs.Prelude.{◌==◌, if◌then◌else◌}
+use Rattle.zr_kinds.specs.declared.ring.Completion.{Completion}
+use Rattle.zr_kinds.specs.CopyingReceiver.{nothing_placed, values_from}
+use Rattle.zr_io.specs.Moved.{Gained}
+use Rattle.zr_io.proofs.Moved.{Gained-weaker}
+use Rattle.board_face.specs.declared.views.app.Reading.{Reading}
+use Rattle.board_face.specs.declared.views.app.TakenNote.{TakenNote}
+use Rattle.board_face.specs.declared.views.app.LentPiece.{LentPiece}
+use Rattle.board_face.specs.declared.views.app.AppView.{AppView}
+use Rattle.app_worker.specs.declared.stack.Lending.{Lending}
+use Rattle.app_worker.specs.declared.stack.FlowQueue.{FlowQueue}
+use Rattle.app_worker.specs.Core.{total, Each, over_due, lent_piece, own_notes, BeginAt, received_notes, AreReadAt}
+use Rattle.app_worker.specs.State.{State, Common, FlowEnds, capped, held_len, taken_len, app_steps, one_if}
+use Rattle.app_worker.specs.Shelves.{IsShelved, AreShelved, ReadsFront, IsFrontShelved, AreFronts}
+use Rattle.app_worker.specs.Whole.{Torn}
+use Rattle.app_worker.specs.Letting.{FlowFacts, facts_of, Abandons, LetGo}
+use Rattle.app_worker.proofs.Tokens.{total-append}
+use Rattle.app_worker.proofs.Moving.{total-one, looks-same}
+use Rattle.app_worker.proofs.LetGone.{total-none, each-facts, total-facts}
+
+-- what is said of a flow is said by its facts
+pub ends-facts : (taken : List TakenNote) (f g : FlowQueue) → facts_of g ≡ facts_of f → FlowEnds taken f → FlowEnds taken g
+ends-facts taken f g same ends =
+    let number : g.number ≡ f.number = ap (λ (x : FlowFacts). x.number) same in
+    let base : g.queue.base ≡ f.queue.base = ap (λ (x : FlowFacts). x.base) same in
+    let bytes : g.bytes ≡ f.bytes = ap (λ (x : FlowFacts). x.bytes) same in
+    record {
+      begun = subst (λ b. BeginAt b (own_notes g.number taken)) (sym base) (subst (λ n. BeginAt f.queue.base (own_notes n taken)) (sym number) ends.begun);
+      below = λ p below. subst (λ b. IsSome ((received_notes b nothing_placed (own_notes g.number taken)).at p)) (sym base)
+          (subst (λ n. IsSome ((received_notes f.queue.base nothing_placed (own_notes n taken)).at p)) (sym number)
+          (ends.below p (omega (arith, below, bytes))));
+    }
+
+pub shelved-facts : (first kept : ℕ → Option (List ℕ)) (taken : List TakenNote) (reads : List Reading) (f g : FlowQueue) → facts_of g ≡ facts_of f
+    → IsShelved first kept taken reads f → IsShelved first kept taken reads g
+shelved-facts first kept taken reads f g same shelved =
+    let P : FlowFacts → Type 0 = λ x. Gained (first x.number) (kept x.number)
+    (λ bytes. AreReadAt reads (values_from (received_notes x.base nothing_placed (own_notes x.number taken)).at x.bytes 0) bytes) in
+    record { gained = subst P (sym same) shelved.gained }
+
+pub shelves-facts : (first kept : ℕ → Option (List ℕ)) (flows now : List FlowQueue) (old new : AppView) → map facts_of now ≡ map facts_of flows
+    → new.taken ≡ old.taken → new.reads ≡ old.reads → AreShelved first kept flows old → AreShelved first kept now new
+shelves-facts first kept flows now old new facts taken reads shelved = record {
+  flows = subst (λ ts. Each (IsShelved first kept ts new.reads) now) (sym taken) (subst (λ rs. Each (IsShelved first kept old.taken rs) now) (sym reads)
+      (each-facts (IsShelved first kept old.taken old.reads) (IsShelved first kept old.taken old.reads)
+      (shelved-facts first kept old.taken old.reads) flows now facts shelved.flows));
+  others = λ n none. shelved.others n (sym (total-facts (λ x. if x.number == n then 1 else 0) flows now facts) ∙ none);
+}
+
+-- the same of a shelf that failed
+front-facts : (taken : List TakenNote) (reads : List Reading) (f g : FlowQueue) → facts_of g ≡ facts_of f → (bytes : List ℕ)
+    → ReadsFront taken reads f bytes → ReadsFront taken reads g bytes
+front-facts taken reads f g same bytes front =
+    let P : FlowFacts → Type 0 = λ x. (x.bytes ≤ front.count)
+    × ((p : ℕ) → p < front.count → IsSome ((received_notes x.base nothing_placed (own_notes x.number taken)).at p))
+    × AreReadAt reads (values_from (received_notes x.base nothing_placed (own_notes x.number taken)).at front.count 0) bytes in
+    let moved : P (facts_of g) = subst P (sym same) (front.at_least, front.below, front.are) in
+    record { count = front.count; at_least = moved.0; below = moved.1; are = moved.2 }
+
+fronts-facts : (first kept : ℕ → Option (List ℕ)) (taken : List TakenNote) (reads : List Reading) (f g : FlowQueue) → facts_of g ≡ facts_of f
+    → IsFrontShelved first kept taken reads f → IsFrontShelved first kept taken reads g
+fronts-facts first kept taken reads f g same shelved =
+    let number : f.number ≡ g.number = ap (λ (x : FlowFacts). x.number) (sym same) in
+    record {
+      gained = subst (λ n. Gained (first n) (kept n) (ReadsFront taken reads g)) number
+          (Gained-weaker (first f.number) (kept f.number) (ReadsFront taken reads f) (ReadsFront taken reads g)
+          (front-facts taken reads f g same) shelved.gained);
+    }
+
+pub all-fronts-facts : (first kept : ℕ → Option (List ℕ)) (flows now : List FlowQueue) (old new : AppView) → map facts_of now ≡ map facts_of flows
+    → new.taken ≡ old.taken → new.reads ≡ old.reads → AreFronts first kept flows old → AreFronts first kept now new
+all-fronts-facts first kept flows now old new facts taken reads shelved = record {
+  flows = subst (λ ts. Each (IsFrontShelved first kept ts new.reads) now) (sym taken)
+      (subst (λ rs. Each (IsFrontShelved first kept old.taken rs) now) (sym reads)
+      (each-facts (IsFrontShelved first kept old.taken old.reads) (IsFrontShelved first kept old.taken old.reads)
+      (fronts-facts first kept old.taken old.reads) flows now facts shelved.flows));
+  others = λ n none. shelved.others n (sym (total-facts (λ x. if x.number == n then 1 else 0) flows now facts) ∙ none);
+}
+
+pub gone-all : (was : State) (now : List FlowQueue) (old v1 v2 new : AppView) → was.posted.entries ≡ [] → was.bare ≡ false → Torn was old
+    → Common was old
+    → Abandons old v1 (λ f. total (λ p. f (lent_piece p.1)) was.unread) → Abandons v1 v2 (λ f. over_due f was.due) → new ≡ record v2 { helds = [] }
+    → map facts_of now ≡ map facts_of was.flows
+    → LetGo was (record was { flows = now; unread = []; due = None; bare = true }) old new
+gone-all was now old v1 v2 new reaped not_yet torn common first second released facts =
+    let tokens : v2 ≡ record old { helds = v2.helds; loans = v2.loans; returned = v2.returned } = second.only.view
+    ∙ ap (λ (x : AppView). record x { helds = v2.helds; loans = v2.loans; returned = v2.returned }) first.only.view in
+    let view : new ≡ record old { helds = []; loans = v2.loans; returned = v2.returned } = released
+    ∙ ap (λ (x : AppView). record x { helds = [] }) tokens in
+    let taken : new.taken ≡ old.taken = ap (λ (v : AppView). v.taken) view in
+    let reads : new.reads ≡ old.reads = ap (λ (v : AppView). v.reads) view in
+    let left : new.left ≡ old.left = ap (λ (v : AppView). v.left) view in
+    let ended : new.ended ≡ old.ended = ap (λ (v : AppView). v.ended) view in
+    let scrubbed : new.scrubbed ≡ old.scrubbed = ap (λ (v : AppView). v.scrubbed) view in
+    let helds : new.helds ≡ [] = ap (λ (v : AppView). v.helds) view in
+    let lent : new.loans ≡ v2.loans = ap (λ (v : AppView). v.loans) view in
+    let returned : new.returned ≡ v2.returned = ap (λ (v : AppView). v.returned) view in
+    let one : LentPiece → ℕ = λ _. 1 in
+    let due : ℕ = over_due one was.due in
+    let unread : ℕ = total (λ (p : Completion × Lending). one (lent_piece p.1)) was.unread in
+    let posted : total (λ (p : Completion × Lending). one (lent_piece p.1)) was.posted.entries
+    ≡ 0 = ap (total (λ (p : Completion × Lending). one (lent_piece p.1))) reaped in
+    let all : total one old.loans ≡ unread + due =
+    omega (arith, torn.tokens.loans one, total-append (λ (p : Completion × Lending). one (lent_piece p.1)) was.unread was.posted.entries, posted) in
+    let none : total one v2.loans ≡ 0 = omega (arith, first.loans one, second.loans one, all) in
+    let no_loan : new.loans ≡ [] = lent ∙ total-none v2.loans none in
+    let count : length new.returned ≡ length old.returned + length old.loans =
+    omega (arith, ap length returned, first.returned, second.returned, all, total-one old.loans) in
+    let no_more : length new.loans ≡ 0 = ap length no_loan in
+    let bare : one_if was.bare ≡ 0 = ap one_if not_yet in
+    let few : due ≤ length old.loans = omega (arith, all, total-one old.loans) in
+    let steps : app_steps was old < app_steps (record was { flows = now; unread = []; due = None; bare = true }) new =
+    omega (arith, ap length taken, count, no_more, bare, few, ap one_if ended, ap one_if left) in
+    record {
+      helds = helds;
+      loans = no_loan;
+      same = refl;
+      facts = facts;
+      ends = subst (λ ts. Each (FlowEnds ts) now) (sym taken)
+          (each-facts (FlowEnds old.taken) (FlowEnds old.taken) (ends-facts old.taken) was.flows now facts torn.flows);
+      distinct = λ n. omega (arith, total-facts (λ x. if x.number == n then 1 else 0) was.flows now facts, torn.distinct n);
+      common = record {
+        app = ap (λ (v : AppView). v.app) view ∙ common.app;
+        ended = ended ∙ common.ended;
+        counted = λ here. scrubbed ∙ common.counted (sym left ∙ here);
+        owns = ap (λ (v : AppView). v.owns) view ∙ common.owns;
+        spares = ap (λ (v : AppView). v.spares) view ∙ common.spares;
+        some_places = common.some_places;
+        within = common.within;
+        room = common.room;
+        loans = common.loans ∙ ap capped (omega (arith, count, no_more));
+        written = common.written ∙ ap capped (sym (total-facts (λ x. x.bytes) was.flows now facts));
+        bound = omega (arith, count, no_more, ap (total held_len) helds, common.bound, ap (total taken_len) taken);
+      };
+      moves = record {
+        same = (
+          ap (λ (v : AppView). v.setting) view,
+          ap (λ (v : AppView). v.app) view,
+          ap (λ (v : AppView). v.owns) view,
+          ap (λ (v : AppView). v.spares) view,
+        );
+        how = (refl, refl);
+        places = refl;
+        steps = omega (arith, steps);
+        looks = looks-same old new (ap (λ (v : AppView). v.looks) view);
+        stays = λ _. refl;
+      };
+      steps = steps;
+      shelved = λ begin kept shelved. shelves-facts begin kept was.flows now old new facts taken reads shelved;
+      fronts = λ begin kept shelved. all-fronts-facts begin kept was.flows now old new facts taken reads shelved;
+      taken = taken;
+      left = left;
+    }

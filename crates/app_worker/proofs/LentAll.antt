@@ -1,0 +1,135 @@
+-- What was lent is reaped.
+use Rattle.std.proofs.Common.{◌≡◌, ◌≢◌, ℕ, ◌≤◌, ◌+◌, Bool, false, List, [], ◌++◌, Option, None, length, refl, sym, ap, subst}
+use Rattle.std.proofs.Common.{◌∙◌, arith, append-nil}
+use Rattle.completion_ring.specs.Ring.{ring}
+use Rattle.board_face.specs.AppCalls.{AppOnlySaw}
+use Rattle.board_face.specs.declared.views.app.AppView.{AppView}
+use Rattle.board_face.specs.declared.views.app.AppLook.TheVariants.{RawOnItsWay}
+use Rattle.app_worker.specs.declared.stack.Delivery.{Delivery}
+use Rattle.app_worker.specs.declared.stack.Delivery.TheVariants.{Did, NoneInOrder, Full, Unsettled}
+use Rattle.app_worker.specs.Core.{Each, Stands}
+use Rattle.app_worker.specs.State.{State, TellsOf, IsAtRest, Working, Common}
+use Rattle.app_worker.specs.Moves.{Goes}
+use Rattle.app_worker.specs.Whole.{Lends}
+use Rattle.app_worker.specs.Stages.{LentSome, Through, Untouched, ReadsTo}
+use Rattle.app_worker.specs.declared.stages.Drained.{Drained}
+use Rattle.app_worker.specs.declared.stages.Drained.TheVariants.{Nothing as drain_nothing, Did as drain_did, InUse, Failed as drain_failed}
+use Rattle.app_worker.proofs.Through.{through-none}
+
+abbrev pub with_reaped : State → State
+with_reaped st = record st { unread = st.unread ++ st.posted.entries; posted = ring [] st.posted.places }
+
+-- all that is posted is reaped
+pub reaped-working : (st : State) (v : AppView) → Working st v → Working (with_reaped st) v
+reaped-working st v works =
+    let same : (st.unread ++ st.posted.entries) ++ [] ≡ st.unread ++ st.posted.entries = append-nil (st.unread ++ st.posted.entries) in
+    record {
+      stands = subst (λ es. Stands st.notes st.flows es st.due v) (sym same) works.stands;
+      completions = subst (Each (TellsOf v.setting.layout)) (sym same) works.completions;
+      rest = works.rest;
+      index = works.index;
+      over = works.over;
+      going = works.going;
+      split = works.split;
+      live = works.live;
+    }
+
+reaped-common : (st : State) (v : AppView) → Common st v → Common (with_reaped st) v
+reaped-common st v common = record {
+  app = common.app;
+  ended = common.ended;
+  counted = common.counted;
+  owns = common.owns;
+  spares = common.spares;
+  some_places = common.some_places;
+  within = omega arith;
+  room = common.room;
+  loans = common.loans;
+  written = common.written;
+  bound = common.bound;
+}
+
+-- pieces were lent, and reaped
+pub through-reaped : (b c : State) (v w : AppView) (did : Bool) (end_by : Delivery) (kept : ℕ → Option (List ℕ)) → LentSome b c v w did end_by
+    → Through b (with_reaped c) v w kept kept
+through-reaped b c v w did end_by kept lent =
+    let goes : Goes b c v w kept kept = lent.goes kept in
+    record {
+      working = reaped-working c w lent.working;
+      common = reaped-common c w lent.common;
+      goes = record {
+        moves = record {
+          same = goes.moves.same;
+          how = goes.moves.how;
+          places = goes.moves.places;
+          steps = goes.moves.steps;
+          looks = goes.moves.looks;
+          stays = goes.moves.stays;
+        };
+        shelved = goes.shelved;
+        failed = goes.failed;
+      };
+      reaped = refl;
+      ended = ap (λ (s : State). s.ended) lent.same;
+      taken = lent.taken;
+      left = lent.left;
+    }
+
+-- there is room for what is posted
+pub reap-room : (b c : State) (v w : AppView) (did : Bool) (end_by : Delivery) → length b.unread ≤ b.how.hold → LentSome b c v w did end_by
+    → length c.unread + length c.posted.entries ≤ c.room
+reap-room b c v w did end_by few lent =
+    omega (arith, few, ap (λ (s : State). length s.unread) lent.same, ap (λ (s : State). s.how.hold) lent.same, lent.common.within, lent.common.room)
+
+-- ---- nothing more is lent
+
+same-end : (b c : State) (v w : AppView) (end_by : Delivery) → end_by ≢ Did → Lends b c v w end_by → c ≡ b
+same-end b c v w Did other lends = absurd (other refl)
+same-end b c v w NoneInOrder other lends = lends.0
+same-end b c v w Full other lends = lends.0
+same-end b c v w Unsettled other lends = lends.0
+
+pub through-end : (b c : State) (v w : AppView) (end_by : Delivery) (kept : ℕ → Option (List ℕ)) → b.posted.entries ≡ []
+    → LentSome b c v w false end_by → Through b c v w kept kept
+through-end b c v w end_by kept reaped lent =
+    let same : c ≡ b = same-end b c v w end_by lent.final (lent.nothing refl) in
+    record {
+      working = lent.working;
+      common = lent.common;
+      goes = lent.goes kept;
+      reaped = ap (λ (s : State). s.posted.entries) same ∙ reaped;
+      ended = ap (λ (s : State). s.ended) same;
+      taken = lent.taken;
+      left = lent.left;
+    }
+
+pub none-at-all : (a b c : State) (u v w : AppView) (k l : ℕ → Option (List ℕ)) (end_by : Delivery) → b.posted.entries ≡ [] → 1 ≤ b.posted.places
+    → end_by ≢ Unsettled → Untouched a b u v k l → LentSome b c v w false end_by → Untouched a c u w k l × Each IsAtRest a.flows
+none-at-all a b c u v w k l Did reaped some other same lent = absurd (lent.final refl)
+none-at-all a b c u v w k l NoneInOrder reaped some other same lent =
+    let none = lent.nothing refl in (
+      record { state = none.0 ∙ same.state; view = none.1 ∙ same.view; kept_is = same.kept_is },
+      subst (λ (s : State). Each IsAtRest s.flows) same.state none.2,
+    )
+none-at-all a b c u v w k l Full reaped some other same lent =
+    let none = lent.nothing refl in absurd (omega (arith, none.2, ap length reaped, some))
+none-at-all a b c u v w k l Unsettled reaped some other same lent = absurd (other refl)
+
+pub stuck-at-once : (a b c : State) (u v w : AppView) (k l : ℕ → Option (List ℕ)) → Untouched a b u v k l → LentSome b c v w false Unsettled
+    → (c ≡ a) × (l ≡ k) × AppOnlySaw RawOnItsWay u w
+stuck-at-once a b c u v w k l same lent =
+    let none = lent.nothing refl in
+    (none.0 ∙ same.state, same.kept_is, subst (λ x. AppOnlySaw RawOnItsWay x w) same.view none.1)
+
+-- ---- and enough of it is read
+
+-- what reading that neither met a slot in use nor failed did
+pub drained : (keep : ℕ) (d e : State) (w x : AppView) (l m : ℕ → Option (List ℕ)) (f f1 : ℕ) (result : Drained) → result ≢ InUse
+    → result ≢ drain_failed → d.due ≡ None → Working d w → Common d w → d.posted.entries ≡ []
+    → ReadsTo keep d e w x l m f f1 result → Through d e w x l m × (e.due ≡ None) × (length e.unread ≤ keep)
+drained keep d e w x l m f f1 drain_nothing free fail due works common reaped reads =
+    let same = reads.0 in
+    rw (same.state, same.view, same.kept_is) (through-none d w l works common reaped, due, reads.1)
+drained keep d e w x l m f f1 drain_did free fail due works common reaped reads = (reads.0, reads.2, reads.3)
+drained keep d e w x l m f f1 InUse free fail due works common reaped reads = absurd (free refl)
+drained keep d e w x l m f f1 drain_failed free fail due works common reaped reads = absurd (fail refl)

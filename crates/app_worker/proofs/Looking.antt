@@ -1,0 +1,288 @@
+-- A look for a note, and what comes of it.
+use Rattle.std.proofs.Common.{◌≡◌, ◌≢◌, ℕ, true, false, List, [], ◌∷◌, ◌++◌, Option, refl, ap, subst, ◌∙◌, arith, inr}
+use Rattle.zr_kinds.specs.declared.fault.Fault.TheVariants as fault
+use Rattle.zr_kinds.specs.declared.behaviour.Stopped.TheVariants as stop
+use Rattle.board_face.specs.AppCalls.{AppOnlySaw, ToldEnd}
+use Rattle.board_face.specs.AppEvents.{told_end}
+use Rattle.board_face.specs.declared.views.app.AppLook.TheVariants.{CardEnded, RawOnItsWay}
+use Rattle.board_face.specs.declared.views.app.AppView.{AppView}
+use Rattle.app_worker.specs.declared.stages.Lent.{Lent}
+use Rattle.app_worker.specs.declared.stages.Lent.TheVariants.{Nothing, Did as lent_some, Stuck, Failed as lent_failed}
+use Rattle.app_worker.specs.declared.turn.Turn.{Turn}
+use Rattle.app_worker.specs.declared.turn.Turn.TheVariants.{Did, Idle, Finished, Failed, NotYet}
+use Rattle.app_worker.specs.declared.turn.Why.{Why}
+use Rattle.app_worker.specs.Core.{Each}
+use Rattle.app_worker.specs.State.{State, IsAtRest, Working, Common, one_if}
+use Rattle.app_worker.specs.Moves.{Moves, Goes}
+use Rattle.app_worker.specs.Whole.{TookOne, TookNone}
+use Rattle.app_worker.specs.Letting.{LetGo}
+use Rattle.app_worker.specs.Stages.{Through, WriteStopped, LendsAll}
+use Rattle.app_worker.specs.Turns.{Turns, MayPoll, Polled, turn_after}
+use Rattle.app_worker.proofs.Moving.{looks-more, moves-none, moves-then, no-write}
+use Rattle.app_worker.proofs.Seeing.{working-saw, common-saw, goes-saw}
+use Rattle.app_worker.proofs.Through.{goes-then, through-none, bare-stopped}
+use Rattle.app_worker.proofs.TurnLemmas.{stands-working, stands-bare, Begins, turns-later}
+
+-- a note may be taken at once
+pub polled-now : (was now : State) (old new : AppView) → Working was old → MayPoll was → Moves was now old new → Polled was now old new
+polled-now was now old new works may moves = record {
+  then_state = was;
+  then_view = old;
+  works = works;
+  may = may;
+  before = refl;
+  to = moves-none was old;
+  from = moves;
+}
+
+-- ---- a note was taken
+
+module _ (a b : State) (u v : AppView) (k m : ℕ → Option (List ℕ)) (f f2 : ℕ) (works : Working a u) (may : MayPoll a) (took : TookOne a b u v) where
+  goes-took : Goes a b u v k k
+  goes-took = record {
+    moves = took.moves;
+    shelved = λ _ begin. took.shelved begin k;
+    failed = λ is. absurd (no-write b.stopped (ap (λ (s : State). s.stopped) took.same ∙ works.going) is);
+  }
+
+  -- and then pieces were lent
+  took-through : (c : State) (w : AppView) → Through b c v w k m → Turns a c u w k m f f2 Did
+  took-through c w through =
+      let goes : Goes a c u w k m = goes-then a b c u v w k k m goes-took through.goes in
+      record {
+        stands = stands-working c w through.working through.common through.reaped;
+        goes = goes;
+        answer = omega (arith, took.steps, through.goes.moves.steps);
+        few = inr (took.note, through.taken ∙ took.taken);
+        here = λ _. through.left ∙ took.left;
+        polled = λ _ _. polled-now a c u w works may goes.moves;
+        none = λ _ e. absurd (cc);
+      }
+
+  -- or the shelf failed
+  pub took-failed : (c : State) (w : AppView) → WriteStopped b c v w k m f f2 → Turns a c u w k m f f2 (Failed fault.Write)
+  took-failed c w stopped =
+      let goes : Goes a c u w k m = goes-then a b c u v w k k m goes-took stopped.goes in
+      record {
+        stands = stands-bare c w stopped.bare stopped.common stopped.reaped stopped.is_bare;
+        goes = goes;
+        answer = (works.going, stopped.stopped, stopped.rose);
+        few = inr (took.note, stopped.taken ∙ took.taken);
+        here = λ _. stopped.left ∙ took.left;
+        polled = λ _ _. polled-now a c u w works may goes.moves;
+        none = λ _ e. absurd (cc);
+      }
+
+  stuck-through : (c : State) (w : AppView) → b.posted.entries ≡ [] → c ≡ b → m ≡ k → AppOnlySaw RawOnItsWay v w → Through b c v w k m
+  stuck-through c w reaped same kept saw = rw (same, kept, saw.event) (record {
+    working = working-saw b v RawOnItsWay took.working;
+    common = common-saw b v RawOnItsWay took.common;
+    goes = goes-saw b v RawOnItsWay k;
+    reaped = reaped;
+    ended = refl;
+    taken = refl;
+    left = refl;
+  })
+
+  pub took-did : (c : State) (w : AppView) (lent : Lent) → lent ≢ lent_failed → b.posted.entries ≡ [] → LendsAll b c v w k m f f2 lent
+      → Turns a c u w k m f f2 Did
+  took-did c w Nothing other reaped lends =
+      let same = lends.0 in
+      took-through c w (rw (same.state, same.view, same.kept_is) (through-none b v k took.working took.common reaped))
+  took-did c w lent_some other reaped lends = took-through c w lends.0
+  took-did c w Stuck other reaped lends = took-through c w (stuck-through c w reaped lends.0 lends.1 lends.2)
+  took-did c w lent_failed other reaped lends = absurd (other refl)
+
+-- ---- no note comes any more
+
+pub ended-working : (st : State) (v mid : AppView) → Working st v → Each IsAtRest st.flows → ToldEnd v mid → Working (record st { ended = true }) mid
+ended-working st v mid works rest told = rw told.event (record {
+  stands = record {
+    tokens = record {
+      apart = record { once = works.stands.tokens.apart.once; some = works.stands.tokens.apart.some };
+      helds = works.stands.tokens.helds;
+      loans = works.stands.tokens.loans;
+    };
+    notes = works.stands.notes;
+    distinct = works.stands.distinct;
+    flows = works.stands.flows;
+    known = works.stands.known;
+    posted = works.stands.posted;
+    counted = works.stands.counted;
+  };
+  completions = works.completions;
+  rest = works.rest;
+  index = works.index;
+  over = λ _. rest;
+  going = works.going;
+  split = works.split;
+  live = works.live;
+})
+
+pub ended-common : (st : State) (v mid : AppView) → Common st v → ToldEnd v mid → Common (record st { ended = true }) mid
+ended-common st v mid common told = rw told.event (record {
+  app = common.app;
+  ended = refl;
+  counted = common.counted;
+  owns = common.owns;
+  spares = common.spares;
+  some_places = common.some_places;
+  within = common.within;
+  room = common.room;
+  loans = common.loans;
+  written = common.written;
+  bound = common.bound;
+})
+
+ended-begins : (st : State) (v mid : AppView) (kept : ℕ → Option (List ℕ)) (f : ℕ) → Working st v → Common st v → v.left ≡ false
+    → st.ended ≡ false → ToldEnd v mid → Begins st (record st { ended = true }) v mid kept kept f f
+ended-begins st v mid kept f works common here more told =
+    let not_yet : one_if v.ended ≡ 0 = ap one_if (common.ended ∙ more) in
+    rw told.event (record {
+      live = works.live;
+      going = works.going;
+      split = works.split;
+      here = here;
+      still = works.live;
+      goes = record {
+        moves = record {
+          same = (refl, refl, refl, refl);
+          how = (refl, refl);
+          places = refl;
+          steps = omega (arith, not_yet);
+          looks = looks-more v (told_end v) CardEnded refl;
+          stays = λ _. refl;
+        };
+        shelved = λ _ begin shelved. record { flows = shelved.flows; others = shelved.others };
+        failed = λ is. absurd (no-write st.stopped works.going is);
+      };
+      steps = omega (arith, not_yet);
+      taken = refl;
+      left = refl;
+      later = omega arith;
+    })
+
+after-same : (turn : Turn) → ((why : Why) → turn ≢ Idle why) → turn_after true turn ≡ turn
+after-same Did busy = refl
+after-same (Idle why) busy = absurd (busy why refl)
+after-same Finished busy = refl
+after-same (Failed fault) busy = refl
+after-same NotYet busy = refl
+
+pub turns-ended : (st c : State) (v mid w : AppView) (k m : ℕ → Option (List ℕ)) (f f2 : ℕ) (turn : Turn) → Working st v → Common st v
+    → v.left ≡ false → st.ended ≡ false → ToldEnd v mid → ((why : Why) → turn ≢ Idle why)
+    → Turns (record st { ended = true }) c mid w k m f f2 turn → Turns st c v w k m f f2 turn
+turns-ended st c v mid w k m f f2 turn works common here more told busy turns =
+    subst (Turns st c v w k m f f2) (after-same turn busy)
+    (turns-later st (record st { ended = true }) c v mid w k k m f f f2 turn (ended-begins st v mid k f works common here more told) turns)
+
+-- ---- it can't be kept
+
+module _ (a b c : State) (u v w : AppView) (k : ℕ → Option (List ℕ)) (f : ℕ) (works : Working a u) (may : MayPoll a) (took : TookNone a b u v)
+    (gone : LetGo b c v w) where
+  moves-both : Moves a c u w
+  moves-both = moves-then a b c u v w took.moves gone.moves
+
+  reaped-both : c.posted.entries ≡ []
+  reaped-both = ap (λ (s : State). s.posted.entries) gone.same ∙ ap (λ (s : State). s.posted.entries) took.same ∙ may.posted
+
+  few-one : w.taken ≡ u.taken ++ took.note ∷ []
+  few-one = gone.taken ∙ took.taken
+
+  -- there was no memory
+  pub turns-memory : Turns a (record c { stopped = stop.Memory }) u w k k f f (Failed fault.Memory)
+  turns-memory = record {
+    stands = stands-bare (record c { stopped = stop.Memory }) w (bare-stopped c w stop.Memory (λ e. absurd (cc)) b v gone) (record {
+      app = gone.common.app;
+      ended = gone.common.ended;
+      counted = gone.common.counted;
+      owns = gone.common.owns;
+      spares = gone.common.spares;
+      some_places = gone.common.some_places;
+      within = gone.common.within;
+      room = gone.common.room;
+      loans = gone.common.loans;
+      written = gone.common.written;
+      bound = gone.common.bound;
+    }) reaped-both (ap (λ (s : State). s.bare) gone.same);
+    goes = record {
+      moves = record {
+        same = moves-both.same;
+        how = moves-both.how;
+        places = moves-both.places;
+        steps = moves-both.steps;
+        looks = moves-both.looks;
+        stays = λ other. absurd (other works.going);
+      };
+      shelved = λ _ begin shelved. gone.shelved begin k (took.shelved begin k shelved);
+      failed = λ is. absurd (cc);
+    };
+    answer = (works.going, refl);
+    few = inr (took.note, few-one);
+    here = λ _. gone.left ∙ took.left;
+    polled = λ _ _. polled-now a (record c { stopped = stop.Memory }) u w works may
+        (record {
+          same = moves-both.same;
+          how = moves-both.how;
+          places = moves-both.places;
+          steps = moves-both.steps;
+          looks = moves-both.looks;
+          stays = λ other. absurd (other works.going);
+        });
+    none = λ _ e. absurd (cc);
+  }
+
+  -- it was a short payload
+  pub turns-short : Turns a (record c { short = true }) u w k k f f NotYet
+  turns-short = record {
+    stands = stands-bare (record c { short = true }) w
+        (record {
+          helds = gone.helds;
+          loans = gone.loans;
+          due = ap (λ (s : State). s.due) gone.same;
+          unread = ap (λ (s : State). s.unread) gone.same;
+          flows = gone.ends;
+          distinct = gone.distinct;
+          whole = λ going split. absurd (cc);
+          known = λ going split. absurd (cc);
+        })
+        (record {
+          app = gone.common.app;
+          ended = gone.common.ended;
+          counted = gone.common.counted;
+          owns = gone.common.owns;
+          spares = gone.common.spares;
+          some_places = gone.common.some_places;
+          within = gone.common.within;
+          room = gone.common.room;
+          loans = gone.common.loans;
+          written = gone.common.written;
+          bound = gone.common.bound;
+        })
+        reaped-both (ap (λ (s : State). s.bare) gone.same);
+    goes = record {
+      moves = record {
+        same = moves-both.same;
+        how = moves-both.how;
+        places = moves-both.places;
+        steps = moves-both.steps;
+        looks = moves-both.looks;
+        stays = moves-both.stays;
+      };
+      shelved = λ _ begin shelved. gone.shelved begin k (took.shelved begin k shelved);
+      failed = λ is. absurd (no-write c.stopped (ap (λ (s : State). s.stopped) gone.same ∙ ap (λ (s : State). s.stopped) took.same ∙ works.going) is);
+    };
+    answer = (works.split, refl);
+    few = inr (took.note, few-one);
+    here = λ _. gone.left ∙ took.left;
+    polled = λ _ _. polled-now a (record c { short = true }) u w works may
+        (record {
+          same = moves-both.same;
+          how = moves-both.how;
+          places = moves-both.places;
+          steps = moves-both.steps;
+          looks = moves-both.looks;
+          stays = moves-both.stays;
+        });
+    none = λ _ e. absurd (cc);
+  }

@@ -1,0 +1,297 @@
+-- The oldest loan is read: all that is kept then.
+use Rattle.std.proofs.Common.{◌≡◌, ◌≢◌, ℕ, ◌+◌, ◌-◌, ◌^◌, ◌<◌, ◌≤◌, min, List, [], ◌∷◌, ◌++◌, Option, Some, None}
+use Rattle.std.proofs.Common.{IsSome, length, drop, set, get_or, refl, sym, ap, subst, ◌∙◌, arith}
+use Rattle.std.specs.Prelude.{slice_get}
+use Rattle.std.specs.Io.KnownBytes.{Keeps}
+use Rattle.zr_kinds.specs.declared.ring.Completion.{Completion}
+use Rattle.std.proofs.KnownBytes.{Keeps-trans}
+use Rattle.zr_kinds.specs.CopyingReceiver.{values_from}
+use Rattle.zr_io.specs.Moved.{Gained, Rose}
+use Rattle.zr_io.proofs.Moved.{Gained-weaker, Gained-then}
+use Rattle.app_worker.specs.Marks.{Mark, marks_from}
+use Rattle.board_face.specs.declared.views.parts.Setting.{Setting}
+use Rattle.board_face.specs.declared.views.app.TakenNote.{TakenNote}
+use Rattle.board_face.specs.declared.views.app.AppView.{AppView}
+use Rattle.app_worker.specs.declared.stack.Lending.{Lending}
+use Rattle.app_worker.specs.declared.stack.FlowQueue.{FlowQueue}
+use Rattle.app_worker.specs.Core.{total, Each, Stands, FlowStands, HasTokens, OnlyReads, IsReadOf, AreReadAt, placed_of, marks_of_loan, many, over_due}
+use Rattle.app_worker.specs.State.{State, TellsOf, Working, Common, FlowEnds, capped, held_len, taken_len, app_steps, one_if}
+use Rattle.app_worker.specs.Shelves.{IsShelved, AreShelved, ReadsFront, IsFrontShelved, AreFronts}
+use Rattle.app_worker.specs.Moves.{Moves}
+use Rattle.app_worker.specs.Whole.{ReadOne, ReadFailed, Appended}
+use Rattle.app_worker.proofs.Standing.{At, split-at, each-right, each-changed, many-same, total-changed, parts-alike, is_number, number-is}
+use Rattle.app_worker.proofs.Standing2.{IsNext, is-next, stands-read, tokens-read, appended, own-stands}
+use Rattle.app_worker.proofs.Shelved.{shelved-reaped, shelved-other}
+use Rattle.app_worker.proofs.Tokens.{total-append}
+use Rattle.app_worker.proofs.Entering.{marks-length}
+use Rattle.app_worker.proofs.ReadLemmas.{all-grow, read-append, marks-split}
+use Rattle.app_worker.proofs.Placing.{values-split, values-length}
+use Rattle.app_worker.proofs.EachBoth.{each-both}
+use Rattle.app_worker.proofs.Moving.{looks-same, no-write}
+use Rattle.app_worker.proofs.Indexing.{index-set}
+use Rattle.app_worker.proofs.Resting.{rest-same, each-same}
+
+pub front-of : {A : Type 0} (xs : List A) (x : A) → slice_get xs 0 ≡ Some x → xs ≡ x ∷ drop 1 xs
+front-of [] x is = absurd (cc)
+front-of (y ∷ ys) x is = let e : y ≡ x = cc in ap (λ z. z ∷ ys) e
+
+-- what was appended of a flow has its place, also of one more loan
+pub ends-of : (taken : List TakenNote) (posted : List (Completion × Lending)) (f : FlowQueue) (b : ℕ) → b ≤ f.queue.popped → FlowStands taken posted f
+    → FlowEnds taken (record f { bytes = b })
+ends-of taken posted f b within stands = record { begun = stands.begun; below = λ p below. stands.holds.popped p (omega arith) }
+
+-- ---- the shelf failed
+
+-- what was appended of another flow
+front-other : (first kept now : ℕ → Option (List ℕ)) (taken : List TakenNote) (posted : List (Completion × Lending)) (old new : AppView) (f : FlowQueue)
+    → OnlyReads old new → Keeps (kept f.number) (now f.number) → FlowStands taken posted f → IsShelved first kept taken old.reads f
+    → IsFrontShelved first now taken new.reads f
+front-other first kept now taken posted old new f only keeps stands shelved =
+    let still : IsShelved first now taken new.reads f = shelved-other first kept now taken old new f only keeps shelved in
+    record {
+      gained = Gained-weaker (first f.number) (now f.number) (λ bytes. AreReadAt new.reads (values_from (placed_of f taken).at f.bytes 0) bytes)
+          (ReadsFront taken new.reads f)
+          (λ bytes are. record {
+            count = f.bytes;
+            at_least = omega arith;
+            below = λ p below. stands.holds.popped p (omega (arith, below, stands.counted));
+            are = are;
+          }) still.gained;
+    }
+
+-- and of the flow whose loan was read
+front-own : (first kept now : ℕ → Option (List ℕ)) (taken : List TakenNote) (old new : AppView) (own : FlowQueue) (l : Lending) (bytes : ℕ)
+    (ps : List (Completion × Lending)) → OnlyReads old new → own.bytes ≤ bytes
+    → ((q : ℕ) → q < own.queue.popped → IsSome ((placed_of own taken).at q)) → IsNext taken own l ps
+    → IsShelved first kept taken old.reads own → Gained (kept own.number) (now own.number) (IsReadOf new.reads l (bytes - own.bytes))
+    → IsFrontShelved first now taken new.reads (record own { bytes = bytes })
+front-own first kept now taken old new own l bytes ps only more there next shelved gained =
+    let at : ℕ → Option Mark = (placed_of own taken).at in
+    let start : 0 + own.bytes ≡ own.bytes = omega arith in
+    record {
+      gained = Gained-then (first own.number) (kept own.number) (now own.number) (λ xs. AreReadAt old.reads (values_from at own.bytes 0) xs)
+          (IsReadOf new.reads l (bytes - own.bytes)) (ReadsFront taken new.reads (record own { bytes = bytes }))
+          (λ xs ys was is.
+          let k : ℕ = length ys in
+          let r : ℕ = l.loan.len - k in
+          let len : l.loan.len ≡ k + r = omega (arith, is.at_most) in
+          let grow : AreReadAt new.reads (values_from at own.bytes 0) xs = subst (λ rs. AreReadAt rs (values_from at own.bytes 0) xs) (sym only.are)
+          (all-grow old.reads only.more (values_from at own.bytes 0) xs was) in
+          let split_marks : marks_of_loan l ≡ marks_from l.note l.at k ++ marks_from l.note (l.at + k) r = ap (marks_from l.note l.at) len
+          ∙ marks-split l.note l.at k r in
+          let split_values : values_from at l.loan.len own.bytes
+          ≡ values_from at k own.bytes ++ values_from at r (own.bytes + k) = ap (λ n. values_from at n own.bytes) len
+          ∙ values-split at k r own.bytes (λ q from until. there q (omega (arith, next.within, is.at_most))) in
+          let size_marks : length (marks_from l.note l.at k) ≡ k = marks-length l.note l.at k in
+          let size_values : length (values_from at k own.bytes)
+          ≡ k = values-length at k own.bytes (λ q from until. there q (omega (arith, next.within, is.at_most))) in
+          let (same, _) = parts-alike (marks_from l.note l.at k) (marks_from l.note (l.at + k) r) (values_from at k own.bytes)
+          (values_from at r (own.bytes + k)) (size_marks ∙ sym size_values) (sym split_marks ∙ next.marks ∙ split_values) in
+          let all : values_from at (own.bytes + k) 0 ≡ values_from at own.bytes 0 ++ values_from at k own.bytes =
+          values-split at own.bytes k 0 (λ q from until. there q (omega (arith, next.within)))
+          ∙ ap (λ p. values_from at own.bytes 0 ++ values_from at k p) start in
+          record {
+            count = own.bytes + k;
+            at_least = omega (arith, is.at_least, more);
+            below = λ q below. there q (omega (arith, next.within, is.at_most));
+            are = subst (λ ms. AreReadAt new.reads ms (xs ++ ys)) (sym all)
+                (read-append new.reads (values_from at own.bytes 0) (values_from at k own.bytes) xs ys grow
+                (subst (λ ms. AreReadAt new.reads ms ys) same is.are));
+          })
+          shelved.gained gained;
+    }
+
+own-many : (before after : List FlowQueue) (own : FlowQueue) → many own.number (before ++ own ∷ after) ≤ 1
+    → many own.number (before ++ own ∷ after) ≡ 1
+own-many before after own few = omega (arith, few, total-append (is_number own.number) before (own ∷ after), number-is own.number own refl)
+
+abbrev pub with_read : State → ℕ → FlowQueue → ℕ → List (Completion × Lending) → Lending → ℕ → State
+with_read was i own bytes unread l written = record was {
+  flows = set was.flows i (record own { bytes = bytes });
+  unread = unread;
+  due = Some l;
+  written = written;
+}
+
+module _ (was : State) (i : ℕ) (own : FlowQueue) (p : Completion × Lending) (ps : List (Completion × Lending)) (old new : AppView)
+    (unread : was.unread ≡ p ∷ ps) (due : was.due ≡ None) (within : i < length was.flows) (value : own ≡ get_or was.flows i own)
+    (number : p.0.user_data ≡ own.number) (only : OnlyReads old new) (works : Working was old) (common : Common was old) where
+  at : At was.flows i own
+  at = split-at was.flows i own within value
+
+  all : was.unread ++ was.posted.entries ≡ p ∷ (ps ++ was.posted.entries)
+  all = ap (λ es. es ++ was.posted.entries) unread
+
+  stood : Stands was.notes (at.before ++ own ∷ at.after) (p ∷ (ps ++ was.posted.entries)) None old
+  stood = subst (λ d. Stands was.notes (at.before ++ own ∷ at.after) (p ∷ (ps ++ was.posted.entries)) d old) due
+      (subst (λ es. Stands was.notes (at.before ++ own ∷ at.after) es was.due old) all
+      (subst (λ (fs : List FlowQueue). Stands was.notes fs (was.unread ++ was.posted.entries) was.due old) at.is works.stands))
+
+  next : IsNext old.taken own p.1 (ps ++ was.posted.entries)
+  next = is-next old.taken p (ps ++ was.posted.entries) own number
+      (own-stands was.notes at.before at.after own (p ∷ (ps ++ was.posted.entries)) None old stood)
+
+  same_setting : new.setting ≡ old.setting
+  same_setting = ap (λ (v : AppView). v.setting) only.view
+
+  same_taken : new.taken ≡ old.taken
+  same_taken = ap (λ (v : AppView). v.taken) only.view
+
+  common-read : (bytes written : ℕ) → own.bytes ≤ bytes → written ≡ min (was.written + (bytes - own.bytes)) (2 ^ 64 - 1)
+      → Common (with_read was i own bytes ps p.1 written) new
+  common-read bytes written more count =
+      let f : FlowQueue → ℕ = λ o. o.bytes in
+      let later : FlowQueue = record own { bytes = bytes } in
+      let sum : total f (set was.flows i later) + own.bytes ≡ total f was.flows + bytes =
+      ap (λ n. n + own.bytes) (ap (total f) (at.set_is later)) ∙ total-changed at.before at.after own later f
+      ∙ ap (λ n. n + bytes) (sym (ap (total f) at.is)) in
+      let left : new.left ≡ old.left = ap (λ (v : AppView). v.left) only.view in
+      let scrubbed : new.scrubbed ≡ old.scrubbed = ap (λ (v : AppView). v.scrubbed) only.view in
+      record {
+        app = ap (λ (v : AppView). v.app) only.view ∙ common.app;
+        ended = ap (λ (v : AppView). v.ended) only.view ∙ common.ended;
+        counted = λ here. scrubbed ∙ common.counted (sym left ∙ here);
+        owns = ap (λ (v : AppView). v.owns) only.view ∙ common.owns;
+        spares = ap (λ (v : AppView). v.spares) only.view ∙ common.spares;
+        some_places = common.some_places;
+        within = common.within;
+        room = common.room;
+        loans = common.loans ∙ ap capped (sym (omega (
+          arith,
+          ap length (ap (λ (v : AppView). v.loans) only.view),
+          ap length (ap (λ (v : AppView). v.returned) only.view),
+        )));
+        written = omega (arith, count, common.written, sum, more);
+        bound = omega (
+          arith,
+          ap length (ap (λ (v : AppView). v.loans) only.view),
+          ap length (ap (λ (v : AppView). v.returned) only.view),
+          ap (total held_len) (ap (λ (v : AppView). v.helds) only.view),
+          ap (total taken_len) same_taken,
+          common.bound,
+        );
+      }
+
+  steps-read : (bytes written : ℕ) → app_steps (with_read was i own bytes ps p.1 written) new ≡ app_steps was old + 1
+  steps-read bytes written = omega (
+    arith,
+    ap length same_taken,
+    ap length (ap (λ (v : AppView). v.loans) only.view),
+    ap length (ap (λ (v : AppView). v.returned) only.view),
+    ap (over_due (λ _. 1)) due,
+    ap one_if (ap (λ (v : AppView). v.ended) only.view),
+    ap one_if (ap (λ (v : AppView). v.left) only.view),
+  )
+
+  moves-read : (bytes written : ℕ) → Moves was (with_read was i own bytes ps p.1 written) old new
+  moves-read bytes written = record {
+    same = (same_setting, ap (λ (v : AppView). v.app) only.view, ap (λ (v : AppView). v.owns) only.view, ap (λ (v : AppView). v.spares) only.view);
+    how = (refl, refl);
+    places = refl;
+    steps = omega (arith, steps-read bytes written);
+    looks = looks-same old new (ap (λ (v : AppView). v.looks) only.view);
+    stays = λ _. refl;
+  }
+
+  -- all of it was appended
+  pub oldest-read : (bytes written : ℕ) (kept kept_now : ℕ → Option (List ℕ)) → bytes ≡ own.bytes + p.1.loan.len
+      → written ≡ min (was.written + p.1.loan.len) (2 ^ 64 - 1)
+      → Gained (kept own.number) (kept_now own.number) (λ read. IsReadOf new.reads p.1 p.1.loan.len read)
+      → ((other : ℕ) → other ≢ own.number → Keeps (kept other) (kept_now other))
+      → ReadOne was (with_read was i own bytes ps p.1 written) old new kept kept_now
+  oldest-read bytes written kept kept_now is count gained others =
+      let later : FlowQueue = record own { bytes = own.bytes + p.1.loan.len } in
+      let stands : Stands was.notes (at.before ++ later ∷ at.after) (ps ++ was.posted.entries) (Some p.1) new = stands-read was.notes at.before at.after own p
+      (ps ++ was.posted.entries) old new number only stood in
+      let told : Each (TellsOf old.setting.layout) (p ∷ (ps ++ was.posted.entries)) = subst (Each (TellsOf old.setting.layout)) all works.completions in
+      let added : Appended own old.taken new p.1.loan.len kept kept_now = appended old.taken p (ps ++ was.posted.entries) own new kept kept_now number
+      (own-stands was.notes at.before at.after own (p ∷ (ps ++ was.posted.entries)) None old stood) gained others in
+      rw is (record {
+        working = record {
+          stands = subst (λ (fs : List FlowQueue). Stands was.notes fs (ps ++ was.posted.entries) (Some p.1) new) (sym (at.set_is later)) stands;
+          completions = subst (λ (s : Setting). Each (TellsOf s.layout) (ps ++ was.posted.entries)) (sym same_setting) told.1;
+          rest = rest-same was.active i was.flows own later within (sym value) refl works.rest;
+          index = index-set was.index was.flows i own later within value refl works.index;
+          over = λ over. each-same i was.flows own later within (sym value) refl (works.over over);
+          going = works.going;
+          split = works.split;
+          live = works.live;
+        };
+        common = common-read (own.bytes + p.1.loan.len) written (omega arith) (omega (arith, count));
+        goes = record {
+          moves = moves-read (own.bytes + p.1.loan.len) written;
+          shelved = λ _ first shelved. subst (λ (fs : List FlowQueue). AreShelved first kept_now fs new) (sym (at.set_is later))
+              (shelved-reaped first kept kept_now was.notes at.before at.after own p (ps ++ was.posted.entries) None old new number only stood added
+              (subst (λ (fs : List FlowQueue). AreShelved first kept fs old) at.is shelved));
+          failed = λ is. absurd (no-write was.stopped works.going is);
+        };
+        steps = omega (arith, steps-read (own.bytes + p.1.loan.len) written);
+        unread = ap length unread ∙ (omega arith);
+        due = λ none. absurd (cc);
+        same = refl;
+        taken = same_taken;
+        left = ap (λ (v : AppView). v.left) only.view;
+      })
+
+  -- the shelf failed
+  -- what the shelf has then
+  fronts-failed : (bytes : ℕ) (kept kept_now : ℕ → Option (List ℕ)) → own.bytes ≤ bytes
+      → Gained (kept own.number) (kept_now own.number) (IsReadOf new.reads p.1 (bytes - own.bytes))
+      → ((other : ℕ) → other ≢ own.number → Keeps (kept other) (kept_now other))
+      → (first : ℕ → Option (List ℕ)) → AreShelved first kept was.flows old
+      → AreFronts first kept_now (set was.flows i (record own { bytes = bytes })) new
+  fronts-failed bytes kept kept_now more gained others first shelved =
+      let later : FlowQueue = record own { bytes = bytes } in
+      let before : Each (IsShelved first kept old.taken old.reads) (at.before ++ own ∷ at.after) = subst
+      (Each (IsShelved first kept old.taken old.reads)) at.is shelved.flows in
+      let both : Each (λ f. FlowStands old.taken (p ∷ (ps ++ was.posted.entries)) f × IsShelved first kept old.taken old.reads f)
+      (at.before ++ own ∷ at.after) = each-both (FlowStands old.taken (p ∷ (ps ++ was.posted.entries))) (IsShelved first kept old.taken old.reads)
+      (at.before ++ own ∷ at.after) stood.flows before in
+      let own_stands : FlowStands old.taken (p ∷ (ps ++ was.posted.entries)) own = own-stands was.notes at.before at.after own
+      (p ∷ (ps ++ was.posted.entries)) None old stood in
+      let own_shelved : IsShelved first kept old.taken old.reads own =
+      (each-right (IsShelved first kept old.taken old.reads) at.before (own ∷ at.after) before).0 in
+      let flows : Each (IsFrontShelved first kept_now old.taken new.reads) (at.before ++ later ∷ at.after) =
+      each-changed (λ f. FlowStands old.taken (p ∷ (ps ++ was.posted.entries)) f × IsShelved first kept old.taken old.reads f)
+      (IsFrontShelved first kept_now old.taken new.reads) at.before at.after own later (stood.distinct own.number) both
+      (λ f other e. front-other first kept kept_now old.taken (p ∷ (ps ++ was.posted.entries)) old new f only (others f.number other) e.0 e.1)
+      (front-own first kept kept_now old.taken old new own p.1 bytes (ps ++ was.posted.entries) only more own_stands.holds.popped next own_shelved gained) in
+      record {
+        flows = subst (λ ts. Each (IsFrontShelved first kept_now ts new.reads) (set was.flows i later)) (sym same_taken)
+            (subst (Each (IsFrontShelved first kept_now old.taken new.reads)) (sym (at.set_is later)) flows);
+        others = λ n none.
+            let gone : many n was.flows ≡ 0 = ap (many n) at.is ∙ sym (many-same at.before at.after own later refl n)
+            ∙ sym (ap (many n) (at.set_is later)) ∙ none in
+            let here : many own.number was.flows ≡ 1 = ap (many own.number) at.is ∙ own-many at.before at.after own (stood.distinct own.number) in
+            Keeps-trans (first n) (kept n) (kept_now n) (shelved.others n gone)
+            (others n (λ e. absurd (let one : many n was.flows ≡ 1 = subst (λ k. many k was.flows ≡ 1) (sym e) here in omega (arith, one, gone))));
+      }
+
+  pub oldest-failed : (bytes written faults faults_now : ℕ) (kept kept_now : ℕ → Option (List ℕ)) → own.bytes ≤ bytes
+      → bytes ≤ own.bytes + p.1.loan.len → written ≡ min (was.written + (bytes - own.bytes)) (2 ^ 64 - 1) → Rose faults faults_now
+      → Gained (kept own.number) (kept_now own.number) (IsReadOf new.reads p.1 (bytes - own.bytes))
+      → ((other : ℕ) → other ≢ own.number → Keeps (kept other) (kept_now other))
+      → ReadFailed was (with_read was i own bytes ps p.1 written) old new kept kept_now faults faults_now
+  oldest-failed bytes written faults faults_now kept kept_now more most count rose gained others =
+      let later : FlowQueue = record own { bytes = bytes } in
+      let flows : Each (FlowEnds old.taken) (at.before ++ later ∷ at.after) =
+      each-changed (FlowStands old.taken (p ∷ (ps ++ was.posted.entries))) (FlowEnds old.taken) at.before at.after own later
+      (stood.distinct own.number) stood.flows
+      (λ f other stands. ends-of old.taken (p ∷ (ps ++ was.posted.entries)) f f.bytes stands.counted stands)
+      (ends-of old.taken (p ∷ (ps ++ was.posted.entries)) own bytes (omega (arith, next.within))
+      (own-stands was.notes at.before at.after own (p ∷ (ps ++ was.posted.entries)) None old stood)) in
+      record {
+        torn = record {
+          tokens = subst (λ (fs : List FlowQueue). HasTokens fs (ps ++ was.posted.entries) (Some p.1) new) (sym (at.set_is later))
+              (tokens-read was.notes at.before at.after own bytes p (ps ++ was.posted.entries) old new only stood);
+          flows = subst (λ ts. Each (FlowEnds ts) (set was.flows i later)) (sym same_taken) (subst (Each (FlowEnds old.taken)) (sym (at.set_is later)) flows);
+          distinct = λ n. omega (arith, ap (many n) (at.set_is later), many-same at.before at.after own later refl n, stood.distinct n);
+        };
+        common = common-read bytes written more count;
+        moves = moves-read bytes written;
+        rose = rose;
+        fronts = fronts-failed bytes kept kept_now more gained others;
+        same = refl;
+        taken = same_taken;
+        left = ap (λ (v : AppView). v.left) only.view;
+      }

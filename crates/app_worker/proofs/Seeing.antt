@@ -1,0 +1,77 @@
+-- A look changes nothing but the looks.
+use Rattle.std.proofs.Common.{ℕ, List, ◌++◌, Option, refl, arith}
+use Rattle.board_face.specs.AppEvents.{app_saw}
+use Rattle.board_face.specs.AppCalls.{AppOnlySaw}
+use Rattle.board_face.specs.declared.views.app.AppLook.{AppLook}
+use Rattle.board_face.specs.declared.views.app.AppView.{AppView}
+use Rattle.app_worker.specs.State.{State, Working, Common}
+use Rattle.app_worker.specs.Moves.{Moves, Goes}
+use Rattle.app_worker.specs.Whole.{KeepsShelves}
+use Rattle.app_worker.proofs.Standing.{stands-saw}
+use Rattle.app_worker.proofs.Moving.{looks-more, moves-none}
+
+pub working-saw : (st : State) (v : AppView) (look : AppLook) → Working st v → Working st (app_saw v look)
+working-saw st v look works = record {
+  stands = stands-saw st.notes st.flows (st.unread ++ st.posted.entries) st.due v look works.stands;
+  completions = works.completions;
+  rest = works.rest;
+  index = works.index;
+  over = works.over;
+  going = works.going;
+  split = works.split;
+  live = works.live;
+}
+
+pub common-saw : (st : State) (v : AppView) (look : AppLook) → Common st v → Common st (app_saw v look)
+common-saw st v look common = record {
+  app = common.app;
+  ended = common.ended;
+  counted = common.counted;
+  owns = common.owns;
+  spares = common.spares;
+  some_places = common.some_places;
+  within = common.within;
+  room = common.room;
+  loans = common.loans;
+  written = common.written;
+  bound = common.bound;
+}
+
+pub moves-saw : (st : State) (v : AppView) (look : AppLook) → Moves st st v (app_saw v look)
+moves-saw st v look = record {
+  same = (refl, refl, refl, refl);
+  how = (refl, refl);
+  places = refl;
+  steps = omega arith;
+  looks = looks-more v (app_saw v look) look refl;
+  stays = λ _. refl;
+}
+
+pub shelves-saw : (st : State) (v : AppView) (look : AppLook) → KeepsShelves st st v (app_saw v look)
+shelves-saw st v look = λ first kept shelved. record { flows = shelved.flows; others = shelved.others }
+
+pub goes-saw : (st : State) (v : AppView) (look : AppLook) (kept : ℕ → Option (List ℕ)) → Goes st st v (app_saw v look) kept kept
+goes-saw st v look kept = record {
+  moves = moves-saw st v look;
+  shelved = λ _ first. shelves-saw st v look first kept;
+  failed = λ is first exact front. (let f = front is in record { flows = f.flows; others = f.others });
+}
+
+pub goes-none : (st : State) (v : AppView) (kept : ℕ → Option (List ℕ)) → Goes st st v v kept kept
+goes-none st v kept = record { moves = moves-none st v; shelved = λ _ first shelved. shelved; failed = λ is first exact front. front is }
+
+-- all that a step that changed nothing leaves
+pub record Left (was now : State) (old new : AppView) : Type 0 where
+  pub working : Working now new
+  pub common : Common now new
+  pub goes : (kept : ℕ → Option (List ℕ)) → Goes was now old new kept kept
+
+pub left-none : (st : State) (v : AppView) → Working st v → Common st v → Left st st v v
+left-none st v works common = record { working = works; common = common; goes = goes-none st v }
+
+pub left-saw : (st : State) (v new : AppView) (look : AppLook) → AppOnlySaw look v new → Working st v → Common st v → Left st st v new
+left-saw st v new look saw works common = rw saw.event (record {
+  working = working-saw st v look works;
+  common = common-saw st v look common;
+  goes = goes-saw st v look;
+})

@@ -1,0 +1,274 @@
+-- How what is kept stands to what was seen: notes, reads and loans.
+use Rattle.std.proofs.Common.{◌≡◌, ◌≢◌, ℕ, zero, suc, ◌+◌, ◌-◌, ◌<◌, ◌≤◌, Bool, true, false, List, [], ◌∷◌, ◌++◌}
+use Rattle.std.proofs.Common.{Option, Some, None, length, get_or, refl, sym, ap, subst, ◌∙◌, arith, length-append}
+use Rattle.std.specs.Prelude.{◌==◌, IfSome, take}
+use Rattle.board_face.proofs.ListLemmas.{not-eqb}
+use Rattle.std.proofs.lemmas.Bool.{eq-eqb}
+use Rattle.std.proofs.lemmas.Bool.Decides.{nat_tests}
+use Rattle.zr_kinds.specs.declared.ring.Completion.{Completion}
+use Rattle.zr_kinds.specs.CopyingReceiver.{Placed, nothing_placed, values_from}
+use Rattle.tcp_reorder.specs.Queue.{Queue}
+use Rattle.tcp_reorder.specs.Values.{Holds}
+use Rattle.board_face.specs.declared.views.app.AppLook.TheVariants.{RefillInUse}
+use Rattle.board_face.specs.declared.views.app.TakenNote.{TakenNote}
+use Rattle.board_face.specs.declared.views.app.HeldPiece.{HeldPiece}
+use Rattle.board_face.specs.declared.views.app.LentPiece.{LentPiece}
+use Rattle.board_face.specs.declared.views.app.AppView.{AppView}
+use Rattle.app_worker.specs.declared.stack.Piece.{Piece}
+use Rattle.app_worker.specs.declared.stack.Lending.{Lending}
+use Rattle.app_worker.specs.declared.stack.FlowQueue.{FlowQueue}
+use Rattle.app_worker.specs.Marks.{Mark, marks_from, Numbered}
+use Rattle.app_worker.specs.Core.{total, IsIn, lent_piece, over_kept, marks_of_piece, marks_of_loan, received_note, received_notes, own_notes, BeginAt}
+use Rattle.app_worker.specs.Core.{lent_marks, placed_of, FlowStands, Each, many, HasTokens, Stands, OnlyReads, AreReadAt, IsReadOf}
+use Rattle.std.specs.Io.KnownBytes.{Keeps}
+use Rattle.zr_io.specs.Moved.{Gained}
+use Rattle.zr_io.proofs.Moved.{Gained-weaker}
+use Rattle.app_worker.specs.Whole.{Appended}
+use Rattle.app_worker.specs.Steps.{Gave, Given}
+use Rattle.app_worker.proofs.Tokens.{is_that_loan, that-loan, is-lent-there}
+use Rattle.app_worker.proofs.Entering.{marks-length}
+use Rattle.app_worker.proofs.Placing.{own-notes-other, own-notes-here, next_note, received-push, begin-push, values-stay, values-split, values-length}
+use Rattle.app_worker.proofs.Standing.{each-map, each-right, parts-alike, is_number, total-changed, many-same, each-changed, stands-saw}
+
+-- ---- a note is taken
+
+-- by another flow
+pub flow-took-other : (taken : List TakenNote) (t : TakenNote) (posted : List (Completion × Lending)) (f : FlowQueue) → f.number ≢ t.note.flow
+    → FlowStands taken posted f → FlowStands (taken ++ t ∷ []) posted f
+flow-took-other taken t posted f other stands =
+    let e : own_notes f.number (taken ++ t ∷ []) ≡ own_notes f.number taken = own-notes-other f.number taken t (λ is. other (sym is)) in
+    record {
+      begun = subst (BeginAt f.queue.base) (sym e) stands.begun;
+      holds = subst (λ (ns : List Numbered). Holds marks_of_piece f.queue (received_notes f.queue.base nothing_placed ns)) (sym e) stands.holds;
+      counted = stands.counted;
+      lent = stands.lent ∙ ap (λ (ns : List Numbered). values_from (received_notes f.queue.base nothing_placed ns).at (f.queue.popped - f.bytes) f.bytes)
+          (sym e);
+    }
+
+-- by this one
+pub flow-took : (taken : List TakenNote) (t : TakenNote) (posted : List (Completion × Lending)) (own : FlowQueue) (q : Queue Piece)
+    → own.number ≡ t.note.flow → q.base ≡ own.queue.base → q.popped ≡ own.queue.popped
+    → ((placed : Placed Mark) → Holds marks_of_piece own.queue placed → Holds marks_of_piece q (received_note own.queue.base placed (next_note taken t)))
+    → FlowStands taken posted own → FlowStands (taken ++ t ∷ []) posted (record own { queue = q })
+flow-took taken t posted own q number base popped enters stands =
+    let n : Numbered = next_note taken t in
+    let e : own_notes own.number (taken ++ t ∷ []) ≡ own_notes own.number taken ++ n ∷ [] = own-notes-here own.number taken t (sym number) in
+    let placed : Placed Mark = placed_of own taken in
+    let same : placed_of (record own { queue = q }) (taken ++ t ∷ []) ≡ received_note own.queue.base placed n =
+    ap (λ b. received_notes b nothing_placed (own_notes own.number (taken ++ t ∷ []))) base ∙ ap (received_notes own.queue.base nothing_placed) e
+    ∙ received-push own.queue.base nothing_placed (own_notes own.number taken) n in
+    record {
+      begun = subst (λ b. BeginAt b (own_notes own.number (taken ++ t ∷ []))) (sym base)
+          (subst (BeginAt own.queue.base) (sym e) (begin-push own.queue.base (own_notes own.number taken) n stands.begun));
+      holds = subst (Holds marks_of_piece q) (sym same) (enters placed stands.holds);
+      counted = omega (arith, popped, stands.counted);
+      lent = stands.lent ∙ sym (values-stay own.queue.base placed n (own.queue.popped - own.bytes) own.bytes
+          (λ p below. stands.holds.popped p (omega (arith, stands.counted))))
+          ∙ ap (λ k. values_from (received_note own.queue.base placed n).at (k - own.bytes) own.bytes) (sym popped)
+          ∙ ap (λ (p : Placed Mark). values_from p.at (q.popped - own.bytes) own.bytes) (sym same);
+    }
+
+-- by a flow that begins
+pub flow-begun : (taken : List TakenNote) (t : TakenNote) (posted : List (Completion × Lending)) (flows : List FlowQueue) (q : Queue Piece)
+    → many t.note.flow flows ≡ 0 → own_notes t.note.flow taken ≡ []
+    → Each (λ p. many p.0.user_data flows ≡ 1) posted → q.base ≡ t.note.base → q.popped ≡ 0
+    → Holds marks_of_piece q (received_note t.note.base nothing_placed (next_note taken t))
+    → FlowStands (taken ++ t ∷ []) posted (record { number = t.note.flow; queue = q; bytes = 0 })
+flow-begun taken t posted flows q none no_notes known base popped holds =
+    let n : Numbered = next_note taken t in
+    let e : own_notes t.note.flow (taken ++ t ∷ []) ≡ n ∷ [] = own-notes-here t.note.flow taken t refl ∙ ap (λ ns. ns ++ n ∷ []) no_notes in
+    let same : placed_of (record { number = t.note.flow; queue = q; bytes = 0 }) (taken ++ t ∷ []) ≡ received_note t.note.base nothing_placed n =
+    ap (λ b. received_notes b nothing_placed (own_notes t.note.flow (taken ++ t ∷ []))) base ∙ ap (received_notes t.note.base nothing_placed) e in
+    record {
+      begun = subst (BeginAt q.base) (sym e) (sym base);
+      holds = subst (Holds marks_of_piece q) (sym same) holds;
+      counted = omega arith;
+      lent = nothing-lent posted known ∙ ap (λ k. values_from (placed_of (record { number = t.note.flow; queue = q; bytes = 0 }) (taken ++ t ∷ [])).at
+          (k - 0) 0) (sym popped);
+    }
+  where
+    nothing-lent : (posted : List (Completion × Lending)) → Each (λ p. many p.0.user_data flows ≡ 1) posted → lent_marks t.note.flow posted ≡ []
+    nothing-lent [] each = refl
+    nothing-lent (p ∷ ps) each =
+        let away : p.0.user_data ≢ t.note.flow = λ is. absurd
+        (let one : many t.note.flow flows ≡ 1 = subst (λ k. many k flows ≡ 1) is each.0 in omega (arith, one, none)) in
+        let no : (p.0.user_data == t.note.flow) ≡ false = grind (arith, nat_tests) in
+        rw no (nothing-lent ps each.1)
+
+-- ---- a loan was read
+
+lent-front : (flow : ℕ) (p : Completion × Lending) (ps : List (Completion × Lending)) → p.0.user_data ≡ flow
+    → lent_marks flow (p ∷ ps) ≡ marks_of_loan p.1 ++ lent_marks flow ps
+lent-front flow p ps is = let yes : (p.0.user_data == flow) ≡ true = eq-eqb p.0.user_data flow is in rw yes refl
+
+lent-behind : (flow : ℕ) (p : Completion × Lending) (ps : List (Completion × Lending)) → p.0.user_data ≢ flow
+    → lent_marks flow (p ∷ ps) ≡ lent_marks flow ps
+lent-behind flow p ps not = let no : (p.0.user_data == flow) ≡ false = grind (arith, nat_tests) in rw no refl
+
+-- the marks of the oldest loan are those that come next
+pub record IsNext (taken : List TakenNote) (own : FlowQueue) (l : Lending) (ps : List (Completion × Lending)) : Type 0 where
+  pub within : own.bytes + l.loan.len ≤ own.queue.popped
+  pub marks : marks_of_loan l ≡ values_from (placed_of own taken).at l.loan.len own.bytes
+  pub others : lent_marks own.number ps ≡ values_from (placed_of own taken).at (own.queue.popped - (own.bytes + l.loan.len)) (own.bytes + l.loan.len)
+
+pub is-next : (taken : List TakenNote) (p : Completion × Lending) (ps : List (Completion × Lending)) (own : FlowQueue) → p.0.user_data ≡ own.number
+    → FlowStands taken (p ∷ ps) own → IsNext taken own p.1 ps
+is-next taken p ps own number stands =
+    let l : Lending = p.1 in
+    let at : ℕ → Option Mark = (placed_of own taken).at in
+    let n : ℕ = l.loan.len in
+    let all : marks_of_loan l ++ lent_marks own.number ps ≡ values_from at (own.queue.popped - own.bytes) own.bytes = sym (lent-front own.number p ps number)
+    ∙ stands.lent in
+    let size : length (marks_of_loan l) ≡ n = marks-length l.note l.at n in
+    let counted : own.bytes ≤ own.queue.popped = stands.counted in
+    let long : length (values_from at (own.queue.popped - own.bytes) own.bytes)
+    ≡ own.queue.popped - own.bytes = values-length at (own.queue.popped - own.bytes) own.bytes
+    (λ q from until. stands.holds.popped q (omega (arith, counted))) in
+    let both : length (marks_of_loan l ++ lent_marks own.number ps)
+    ≡ length (marks_of_loan l) + length (lent_marks own.number ps) = length-append (marks_of_loan l) (lent_marks own.number ps) in
+    let same : length (marks_of_loan l ++ lent_marks own.number ps) ≡ length (values_from at (own.queue.popped - own.bytes) own.bytes) = ap length all in
+    let within : own.bytes + n ≤ own.queue.popped = omega (arith, size, long, both, same, counted) in
+    let more : ℕ = own.queue.popped - (own.bytes + n) in
+    let steps : own.queue.popped - own.bytes ≡ n + more = omega (arith, within) in
+    let parts : values_from at (own.queue.popped - own.bytes) own.bytes ≡ values_from at n own.bytes ++ values_from at more (own.bytes + n) =
+    ap (λ k. values_from at k own.bytes) steps ∙ values-split at n more own.bytes (λ q from until. stands.holds.popped q (omega (arith, within))) in
+    let size2 : length (values_from at n own.bytes) ≡ n = values-length at n own.bytes (λ q from until. stands.holds.popped q (omega (arith, within))) in
+    let (first, second) = parts-alike (marks_of_loan l) (lent_marks own.number ps) (values_from at n own.bytes) (values_from at more (own.bytes + n))
+    (size ∙ sym size2) (all ∙ parts) in
+    record { within = within; marks = first; others = second }
+
+pub flow-read : (taken : List TakenNote) (p : Completion × Lending) (ps : List (Completion × Lending)) (own : FlowQueue) → p.0.user_data ≡ own.number
+    → FlowStands taken (p ∷ ps) own → FlowStands taken ps (record own { bytes = own.bytes + p.1.loan.len })
+flow-read taken p ps own number stands =
+    let next : IsNext taken own p.1 ps = is-next taken p ps own number stands in
+    record { begun = stands.begun; holds = stands.holds; counted = next.within; lent = next.others }
+
+pub flow-read-other : (taken : List TakenNote) (p : Completion × Lending) (ps : List (Completion × Lending)) (f : FlowQueue) → f.number ≢ p.0.user_data
+    → FlowStands taken (p ∷ ps) f → FlowStands taken ps f
+flow-read-other taken p ps f other stands = record {
+  begun = stands.begun;
+  holds = stands.holds;
+  counted = stands.counted;
+  lent = sym (lent-behind f.number p ps (λ e. other (sym e))) ∙ stands.lent;
+}
+
+-- all that is kept, once the oldest loan was read and is due
+pub stands-read : (count : ℕ) (before after : List FlowQueue) (own : FlowQueue) (p : Completion × Lending) (ps : List (Completion × Lending))
+    (old new : AppView) → p.0.user_data ≡ own.number → OnlyReads old new
+    → Stands count (before ++ own ∷ after) (p ∷ ps) None old
+    → Stands count (before ++ record own { bytes = own.bytes + p.1.loan.len } ∷ after) ps (Some p.1) new
+stands-read count before after own p ps old new number only stands =
+    let now : FlowQueue = record own { bytes = own.bytes + p.1.loan.len } in
+    let same : (n : ℕ) → many n (before ++ now ∷ after) ≡ many n (before ++ own ∷ after) = many-same before after own now refl in
+    rw only.view (record {
+      tokens = record {
+        apart = record { once = stands.tokens.apart.once; some = stands.tokens.apart.some };
+        helds = λ f. stands.tokens.helds f ∙ (omega (arith, total-changed before after own now (λ flow. over_kept f flow.queue)));
+        loans = λ f. omega (arith, stands.tokens.loans f);
+      };
+      notes = stands.notes;
+      distinct = λ n. omega (arith, same n, stands.distinct n);
+      flows = each-changed (FlowStands old.taken (p ∷ ps)) (FlowStands old.taken ps) before after own now (stands.distinct own.number) stands.flows
+          (λ f other. flow-read-other old.taken p ps f (λ e. other (e ∙ number)))
+          (flow-read old.taken p ps own number (each-right (FlowStands old.taken (p ∷ ps)) before (own ∷ after) stands.flows).0);
+      known = λ n none. stands.known n (sym (same n) ∙ none);
+      posted = each-map (λ p. many p.0.user_data (before ++ own ∷ after) ≡ 1) (λ p. many p.0.user_data (before ++ now ∷ after) ≡ 1) ps
+          (λ q there one. same q.0.user_data ∙ one) stands.posted.1;
+      counted = stands.counted;
+    })
+
+-- ---- a loan was given back
+
+pub stands-gave : (count : ℕ) (flows : List FlowQueue) (posted : List (Completion × Lending)) (l : Lending) (old new : AppView)
+    → Stands count flows posted (Some l) old → Gave old new l → Stands count flows posted None new
+stands-gave count flows posted l old new stands step =
+    let helds : (f : HeldPiece → ℕ) → total f new.helds
+    ≡ total (λ flow. over_kept f flow.queue) flows = λ f. ap (λ (v : AppView). total f v.helds) step.view ∙ stands.tokens.helds f in
+    let loans : (f : LentPiece → ℕ) → total f new.loans
+    ≡ total (λ p. f (lent_piece p.1)) posted + 0 = λ f. omega (arith, step.loans f, stands.tokens.loans f) in
+    let taken : new.taken ≡ old.taken = ap (λ (v : AppView). v.taken) step.view in
+    record {
+      tokens = record { apart = step.apart; helds = helds; loans = loans };
+      notes = stands.notes ∙ sym (ap length taken);
+      distinct = stands.distinct;
+      flows = subst (λ (ts : List TakenNote). Each (FlowStands ts posted) flows) (sym taken) stands.flows;
+      known = λ n none. ap (own_notes n) taken ∙ stands.known n none;
+      posted = stands.posted;
+      counted = ap (λ (v : AppView). v.scrubbed) step.view ∙ stands.counted;
+    }
+
+pub given-stands : (count : ℕ) (flows : List FlowQueue) (posted : List (Completion × Lending)) (due now : Option Lending) (old new : AppView) (given : Bool)
+    → Stands count flows posted due old → Given old new due now given → Stands count flows posted now new
+given-stands count flows posted None now old new given stands step = rw (step.0, step.1) stands
+given-stands count flows posted (Some l) now old new true stands step = rw step.1 (stands-gave count flows posted l old new stands step.0)
+given-stands count flows posted (Some l) now old new false stands step = rw (step.0.event, step.1)
+    (stands-saw count flows posted (Some l) old RefillInUse stands)
+
+-- ---- what is kept is out
+
+pub due-out : (count : ℕ) (flows : List FlowQueue) (posted : List (Completion × Lending)) (due : Option Lending) (v : AppView)
+    → Stands count flows posted due v → IfSome due (λ l. IsIn (lent_piece l) v.loans)
+due-out count flows posted None v stands = tt
+due-out count flows posted (Some l) v stands =
+    let test : LentPiece → ℕ = is_that_loan l.loan l.note l.at in
+    let one : test (lent_piece l) ≡ 1 = that-loan l.loan l.note l.at in
+    is-lent-there l.loan l.note l.at v.loans (omega (arith, stands.tokens.loans test, one))
+
+pub oldest-out : (count : ℕ) (flows : List FlowQueue) (p : Completion × Lending) (ps : List (Completion × Lending)) (due : Option Lending) (v : AppView)
+    → Stands count flows (p ∷ ps) due v → IsIn (lent_piece p.1) v.loans
+oldest-out count flows p ps due v stands =
+    let l : Lending = p.1 in
+    let test : LentPiece → ℕ = is_that_loan l.loan l.note l.at in
+    let one : test (lent_piece l) ≡ 1 = that-loan l.loan l.note l.at in
+    is-lent-there l.loan l.note l.at v.loans (omega (arith, stands.tokens.loans test, one))
+
+-- ---- looking for a flow
+
+pub total-take : (h : FlowQueue → ℕ) (xs : List FlowQueue) (i : ℕ) (d : FlowQueue) → i < length xs
+    → total h (take (i + 1) xs) ≡ total h (take i xs) + h (get_or xs i d)
+total-take h [] i d within = absurd (omega arith)
+total-take h (x ∷ xs) zero d within = omega arith
+total-take h (x ∷ xs) (suc i) d within = let e : suc i + 1 ≡ suc (i + 1) = omega arith in rw e (omega (arith, total-take h xs i d (omega arith)))
+
+pub none-until : (n : ℕ) (xs : List FlowQueue) (i : ℕ) (d : FlowQueue) → i < length xs → total (is_number n) (take i xs) ≡ 0
+    → (get_or xs i d).number ≢ n → total (is_number n) (take (i + 1) xs) ≡ 0
+none-until n xs i d within none other =
+    let not : is_number n (get_or xs i d) ≡ 0 = (let no : ((get_or xs i d).number == n) ≡ false = not-eqb (get_or xs i d).number n other in rw no refl) in
+    omega (arith, total-take (is_number n) xs i d within, none, not)
+
+pub get-same : {A : Type 0} (xs : List A) (i : ℕ) (d e : A) → i < length xs → get_or xs i d ≡ get_or xs i e
+get-same [] i d e within = absurd (omega arith)
+get-same (x ∷ xs) zero d e within = refl
+get-same (x ∷ xs) (suc i) d e within = get-same xs i d e (omega arith)
+
+-- ---- reaping
+
+pub tokens-read : (count : ℕ) (before after : List FlowQueue) (own : FlowQueue) (b : ℕ) (p : Completion × Lending) (ps : List (Completion × Lending))
+    (old new : AppView) → OnlyReads old new
+    → Stands count (before ++ own ∷ after) (p ∷ ps) None old → HasTokens (before ++ record own { bytes = b } ∷ after) ps (Some p.1) new
+tokens-read count before after own b p ps old new only stands =
+    rw only.view (record {
+      apart = record { once = stands.tokens.apart.once; some = stands.tokens.apart.some };
+      helds = λ f. stands.tokens.helds f ∙ (omega (arith, total-changed before after own (record own { bytes = b }) (λ flow. over_kept f flow.queue)));
+      loans = λ f. omega (arith, stands.tokens.loans f);
+    })
+
+pub appended : (taken : List TakenNote) (p : Completion × Lending) (ps : List (Completion × Lending)) (own : FlowQueue) (new : AppView)
+    (kept kept_now : ℕ → Option (List ℕ)) → p.0.user_data ≡ own.number → FlowStands taken (p ∷ ps) own
+    → Gained (kept own.number) (kept_now own.number) (λ bytes. IsReadOf new.reads p.1 p.1.loan.len bytes)
+    → ((other : ℕ) → other ≢ own.number → Keeps (kept other) (kept_now other)) → Appended own taken new p.1.loan.len kept kept_now
+appended taken p ps own new kept kept_now number stands gained others =
+    let next : IsNext taken own p.1 ps = is-next taken p ps own number stands in
+    record {
+      gained = Gained-weaker (kept own.number) (kept_now own.number) (λ bytes. IsReadOf new.reads p.1 p.1.loan.len bytes)
+          (λ bytes. AreReadAt new.reads (values_from (placed_of own taken).at p.1.loan.len own.bytes) bytes)
+          (λ bytes read.
+          let size : length bytes ≡ p.1.loan.len = omega (arith, read.at_least, read.at_most) in
+          subst (λ ms. AreReadAt new.reads ms bytes) next.marks (subst (λ n. AreReadAt new.reads (marks_from p.1.note p.1.at n) bytes) size read.are)) gained;
+      others = others;
+    }
+
+-- a flow among the others stands
+pub own-stands : (count : ℕ) (before after : List FlowQueue) (own : FlowQueue) (posted : List (Completion × Lending)) (due : Option Lending) (v : AppView)
+    → Stands count (before ++ own ∷ after) posted due v → FlowStands v.taken posted own
+own-stands count before after own posted due v stands = (each-right (FlowStands v.taken posted) before (own ∷ after) stands.flows).0

@@ -1,0 +1,183 @@
+-- Stages one after another.
+use Rattle.std.proofs.Common.{◌≡◌, ◌≢◌, ℕ, ◌<◌, ◌≤◌, List, [], Option, length, refl, sym, ap, ◌∙◌, arith}
+use Rattle.zr_kinds.specs.declared.behaviour.Stopped.{Stopped}
+use Rattle.zr_kinds.specs.declared.behaviour.Stopped.TheVariants as stop
+use Rattle.board_face.specs.AppCalls.{AppOnlySaw}
+use Rattle.board_face.specs.declared.views.app.AppLook.TheVariants.{RefillInUse}
+use Rattle.board_face.specs.declared.views.app.AppView.{AppView}
+use Rattle.app_worker.specs.declared.turning.Read.{Read}
+use Rattle.app_worker.specs.declared.turning.Read.TheVariants.{Did, NoneUnread, Failed}
+use Rattle.app_worker.specs.State.{State, Working, Common, Bare}
+use Rattle.app_worker.specs.Moves.{Moves, Goes}
+use Rattle.app_worker.specs.Whole.{GaveOne, ReadOne, ReadFailed, Reads}
+use Rattle.app_worker.specs.Letting.{LetGo}
+use Rattle.app_worker.specs.Stages.{Through, WriteStopped}
+use Rattle.app_worker.proofs.Moving.{moves-then, no-write as no-writes}
+use Rattle.app_worker.proofs.Seeing.{goes-none}
+
+-- what the shelf failed at stays so
+write-stays : (a b : Stopped) → (a ≢ stop.No → b ≡ a) → b ≢ stop.Write → a ≢ stop.Write
+write-stays a b stays other is = other (stays (λ none. absurd (no-write (sym is ∙ none))) ∙ is)
+  where
+    no-write : stop.Write ≡ stop.No → ⊥
+    no-write e = absurd (cc)
+
+pub goes-then : (a b c : State) (u v w : AppView) (k l m : ℕ → Option (List ℕ)) → Goes a b u v k l → Goes b c v w l m → Goes a c u w k m
+goes-then a b c u v w k l m first second = record {
+  moves = moves-then a b c u v w first.moves second.moves;
+  shelved = λ other begin was. second.shelved other begin (first.shelved (write-stays b.stopped c.stopped second.moves.stays other) begin was);
+  failed = λ is begin exact front. second.failed is begin
+      (λ other. first.shelved other begin (exact (write-stays a.stopped b.stopped first.moves.stays other)))
+      (λ yes. first.failed yes begin exact front);
+}
+
+pub through-none : (st : State) (v : AppView) (kept : ℕ → Option (List ℕ)) → Working st v → Common st v → st.posted.entries ≡ []
+    → Through st st v v kept kept
+through-none st v kept working common reaped = record {
+  working = working;
+  common = common;
+  goes = goes-none st v kept;
+  reaped = reaped;
+  ended = refl;
+  taken = refl;
+  left = refl;
+}
+
+pub through-then : (a b c : State) (u v w : AppView) (k l m : ℕ → Option (List ℕ)) → Through a b u v k l → Through b c v w l m → Through a c u w k m
+through-then a b c u v w k l m first second = record {
+  working = second.working;
+  common = second.common;
+  goes = goes-then a b c u v w k l m first.goes second.goes;
+  reaped = second.reaped;
+  ended = second.ended ∙ first.ended;
+  taken = second.taken ∙ first.taken;
+  left = second.left ∙ first.left;
+}
+
+-- ---- one loan
+
+pub read-did : (was now : State) (old new : AppView) (kept kept_now : ℕ → Option (List ℕ)) (faults faults_now : ℕ) (read : Read) → read ≢ Failed
+    → 0 < length was.unread → Reads was now old new kept kept_now faults faults_now read → ReadOne was now old new kept kept_now
+read-did was now old new kept kept_now faults faults_now Did other some reads = reads
+read-did was now old new kept kept_now faults faults_now NoneUnread other some reads = absurd (omega (arith, some, ap length reads.2))
+read-did was now old new kept kept_now faults faults_now Failed other some reads = absurd (other refl)
+
+pub through-read : (was now : State) (old new : AppView) (kept kept_now : ℕ → Option (List ℕ)) → was.posted.entries ≡ []
+    → ReadOne was now old new kept kept_now → Through was now old new kept kept_now
+through-read was now old new kept kept_now reaped read = record {
+  working = read.working;
+  common = read.common;
+  goes = read.goes;
+  reaped = ap (λ (s : State). s.posted.entries) read.same ∙ reaped;
+  ended = ap (λ (s : State). s.ended) read.same;
+  taken = read.taken;
+  left = read.left;
+}
+
+pub through-gave : (was now : State) (old new : AppView) (kept : ℕ → Option (List ℕ)) → was.posted.entries ≡ [] → Working now new → Common now new
+    → Goes was now old new kept kept → GaveOne was now old new → Through was now old new kept kept
+through-gave was now old new kept reaped working common goes gave = record {
+  working = working;
+  common = common;
+  goes = goes;
+  reaped = ap (λ (s : State). s.posted.entries) gave.same ∙ reaped;
+  ended = ap (λ (s : State). s.ended) gave.same;
+  taken = gave.taken;
+  left = gave.left;
+}
+
+-- ---- the shelf failed
+
+-- all is given up for this cause
+abbrev pub stopped_by : State → Stopped → State
+stopped_by st cause = record st { stopped = cause }
+
+pub bare-stopped : (st : State) (v : AppView) (cause : Stopped) → cause ≢ stop.No → (was : State) (old : AppView) → LetGo was st old v
+    → Bare (stopped_by st cause) v
+bare-stopped st v cause other was old gone = record {
+  helds = gone.helds;
+  loans = gone.loans;
+  due = ap (λ (s : State). s.due) gone.same;
+  unread = ap (λ (s : State). s.unread) gone.same;
+  flows = gone.ends;
+  distinct = gone.distinct;
+  whole = λ none. absurd (other none);
+  known = λ none. absurd (other none);
+}
+
+common-stopped : (st : State) (v : AppView) (cause : Stopped) → Common st v → Common (stopped_by st cause) v
+common-stopped st v cause common = record {
+  app = common.app;
+  ended = common.ended;
+  counted = common.counted;
+  owns = common.owns;
+  spares = common.spares;
+  some_places = common.some_places;
+  within = common.within;
+  room = common.room;
+  loans = common.loans;
+  written = common.written;
+  bound = common.bound;
+}
+
+moves-stopped : (was st : State) (old v : AppView) (cause : Stopped) → was.stopped ≡ stop.No → Moves was st old v
+    → Moves was (stopped_by st cause) old v
+moves-stopped was st old v cause none moves = record {
+  same = moves.same;
+  how = moves.how;
+  places = moves.places;
+  steps = moves.steps;
+  looks = moves.looks;
+  stays = λ other. absurd (other none);
+}
+
+pub write-stopped : (was mid now : State) (old midv new : AppView) (kept kept_now : ℕ → Option (List ℕ)) (faults faults_now : ℕ)
+    → was.stopped ≡ stop.No → was.posted.entries ≡ [] → ReadFailed was mid old midv kept kept_now faults faults_now → LetGo mid now midv new
+    → WriteStopped was (stopped_by now stop.Write) old new kept kept_now faults faults_now
+write-stopped was mid now old midv new kept kept_now faults faults_now none reaped failed gone =
+    let moves : Moves was now old new = moves-then was mid now old midv new failed.moves gone.moves in
+    record {
+      bare = bare-stopped now new stop.Write (λ e. absurd (cc)) mid midv gone;
+      is_bare = ap (λ (s : State). s.bare) gone.same;
+      common = common-stopped now new stop.Write gone.common;
+      goes = record {
+        moves = moves-stopped was now old new stop.Write none moves;
+        shelved = λ other. absurd (other refl);
+        failed = λ is begin exact front. gone.fronts begin kept_now (failed.fronts begin (exact (λ yes. absurd (no-writes was.stopped none yes))));
+      };
+      reaped = ap (λ (s : State). s.posted.entries) gone.same ∙ ap (λ (s : State). s.posted.entries) failed.same ∙ reaped;
+      stopped = refl;
+      rose = failed.rose;
+      steps = omega (arith, failed.moves.steps, gone.steps);
+      taken = gone.taken ∙ failed.taken;
+      left = gone.left ∙ failed.left;
+    }
+
+-- it failed after other steps
+pub write-later : (a b c : State) (u v w : AppView) (k l m : ℕ → Option (List ℕ)) (f f1 f2 : ℕ) → f ≤ f1 → Through a b u v k l
+    → WriteStopped b c v w l m f1 f2 → WriteStopped a c u w k m f f2
+write-later a b c u v w k l m f f1 f2 later first stopped = record {
+  bare = stopped.bare;
+  is_bare = stopped.is_bare;
+  common = stopped.common;
+  goes = goes-then a b c u v w k l m first.goes stopped.goes;
+  reaped = stopped.reaped;
+  stopped = stopped.stopped;
+  rose = omega (arith, later, stopped.rose);
+  steps = omega (arith, first.goes.moves.steps, stopped.steps);
+  taken = stopped.taken ∙ first.taken;
+  left = stopped.left ∙ first.left;
+}
+
+-- a loan that was read can't be given back yet
+pub through-in-use : (was now : State) (old new : AppView) (kept : ℕ → Option (List ℕ)) → was.posted.entries ≡ [] → Working now new
+    → Common now new → Goes was now old new kept kept → now ≡ was → AppOnlySaw RefillInUse old new → Through was now old new kept kept
+through-in-use was now old new kept reaped working common goes same saw = record {
+  working = working;
+  common = common;
+  goes = goes;
+  reaped = ap (λ (s : State). s.posted.entries) same ∙ reaped;
+  ended = ap (λ (s : State). s.ended) same;
+  taken = ap (λ (v : AppView). v.taken) saw.event;
+  left = ap (λ (v : AppView). v.left) saw.event;
+}

@@ -1,0 +1,205 @@
+-- A turn is made of its stages.
+use Rattle.std.proofs.Common.{◌≡◌, ◌≢◌, ℕ, ◌<◌, ◌≤◌, Bool, true, false, List, [], ◌∷◌, ◌++◌, Option, None, refl, sym, ap}
+use Rattle.std.proofs.Common.{subst, ◌∙◌, arith, inl, inr}
+use Rattle.std.specs.Prelude.{MatchBool, IsTrue}
+use Rattle.zr_kinds.specs.declared.fault.Fault.TheVariants as fault
+use Rattle.zr_kinds.specs.declared.behaviour.Stopped.TheVariants as stop
+use Rattle.board_face.specs.AppCalls.{AppOnlySaw}
+use Rattle.board_face.specs.declared.views.app.AppLook.{AppLook}
+use Rattle.board_face.specs.declared.views.app.AppView.{AppView}
+use Rattle.app_worker.specs.declared.turn.Turn.{Turn}
+use Rattle.app_worker.specs.declared.turn.Turn.TheVariants.{Did, Idle, Finished, Failed, NotYet}
+use Rattle.app_worker.specs.declared.turn.Why.TheVariants.{NoNote}
+use Rattle.app_worker.specs.State.{State, Working, Common, Bare, AppStands, app_steps}
+use Rattle.app_worker.specs.Moves.{Goes}
+use Rattle.app_worker.specs.Turns.{Answers, IsAsBefore, Polled, Turns, TakesFew, turn_after}
+use Rattle.app_worker.specs.Whole.{GaveOne}
+use Rattle.app_worker.specs.Stages.{Through, WriteStopped, Untouched}
+use Rattle.app_worker.proofs.Moving.{moves-then}
+use Rattle.app_worker.proofs.Through.{goes-then}
+
+-- ---- between two turns
+
+pub stands-working : (st : State) (v : AppView) → Working st v → Common st v → st.posted.entries ≡ [] → AppStands st v
+stands-working st v works common reaped = record {
+  common = common;
+  reaped = reaped;
+  mode = subst (λ b. MatchBool b (Bare st v) (Working st v)) (sym works.live) works;
+}
+
+pub stands-bare : (st : State) (v : AppView) → Bare st v → Common st v → st.posted.entries ≡ [] → st.bare ≡ true → AppStands st v
+stands-bare st v bare common reaped is = record { common = common; reaped = reaped; mode = subst (λ b. MatchBool b (Bare st v) (Working st v)) (sym is) bare }
+
+-- ---- one answer
+
+pub no-poll : (was now : State) (old new : AppView) → new.taken ≡ old.taken → was.bare ≡ false → new.taken ≢ old.taken → Polled was now old new
+no-poll was now old new same live differs = absurd (differs same)
+
+-- it did something and took no note
+pub turns-did : (was now : State) (old new : AppView) (k m : ℕ → Option (List ℕ)) (f f2 : ℕ) → Through was now old new k m
+    → app_steps was old < app_steps now new → Turns was now old new k m f f2 Did
+turns-did was now old new k m f f2 through steps = record {
+  stands = stands-working now new through.working through.common through.reaped;
+  goes = through.goes;
+  answer = steps;
+  few = inl through.taken;
+  here = λ _. through.left;
+  polled = no-poll was now old new through.taken;
+  none = λ _ e. absurd (cc);
+}
+
+pub turns-failed : (was now : State) (old new : AppView) (k m : ℕ → Option (List ℕ)) (f f2 : ℕ) → was.stopped ≡ stop.No
+    → WriteStopped was now old new k m f f2 → Turns was now old new k m f f2 (Failed fault.Write)
+turns-failed was now old new k m f f2 none stopped = record {
+  stands = stands-bare now new stopped.bare stopped.common stopped.reaped stopped.is_bare;
+  goes = stopped.goes;
+  answer = (none, stopped.stopped, stopped.rose);
+  few = inl stopped.taken;
+  here = λ _. stopped.left;
+  polled = no-poll was now old new stopped.taken;
+  none = λ _ e. absurd (cc);
+}
+
+-- it only saw something
+pub as-before : (st : State) (v new : AppView) (look : AppLook) → AppOnlySaw look v new → IsAsBefore st st v new
+as-before st v new look saw = rw saw.event (record { state = refl; view = refl })
+
+-- ---- one part after another
+
+after-none : (turn : Turn) → turn_after false turn ≡ turn
+after-none Did = refl
+after-none (Idle why) = refl
+after-none Finished = refl
+after-none (Failed fault) = refl
+after-none NotYet = refl
+
+after-busy : (turn : Turn) → turn_after true turn ≢ Idle NoNote
+after-busy Did = λ e. absurd (cc)
+after-busy (Idle why) = λ e. absurd (cc)
+after-busy Finished = λ e. absurd (cc)
+after-busy (Failed fault) = λ e. absurd (cc)
+after-busy NotYet = λ e. absurd (cc)
+
+-- what is known of the first part
+pub record Begins (was mid : State) (old midv : AppView) (k l : ℕ → Option (List ℕ)) (f f1 : ℕ) : Type 0 where
+  pub live : was.bare ≡ false
+  pub going : was.stopped ≡ stop.No
+  pub split : was.short ≡ false
+  pub here : old.left ≡ false
+  pub still : mid.bare ≡ false
+  pub goes : Goes was mid old midv k l
+  pub steps : app_steps was old < app_steps mid midv
+  pub taken : midv.taken ≡ old.taken
+  pub left : midv.left ≡ old.left
+  pub later : f ≤ f1
+
+answer-after : (was mid now : State) (old midv new : AppView) (k l m : ℕ → Option (List ℕ)) (f f1 f2 : ℕ) (turn : Turn)
+    → Begins was mid old midv k l f f1 → Goes mid now midv new l m → Answers mid now midv new f1 f2 turn
+    → Answers was now old new f f2 (turn_after true turn)
+answer-after was mid now old midv new k l m f f1 f2 Did begin goes answer = omega (arith, begin.steps, goes.moves.steps)
+answer-after was mid now old midv new k l m f f1 f2 (Idle why) begin goes answer = omega (arith, begin.steps, goes.moves.steps)
+answer-after was mid now old midv new k l m f f1 f2 Finished begin goes answer = (begin.here, answer.1, answer.2)
+answer-after was mid now old midv new k l m f f1 f2 (Failed fault.Memory) begin goes answer = (begin.going, answer.1)
+answer-after was mid now old midv new k l m f f1 f2 (Failed fault.Write) begin goes answer = (begin.going, answer.1, omega (arith, begin.later, answer.2))
+answer-after was mid now old midv new k l m f f1 f2 (Failed other) begin goes answer = absurd answer
+answer-after was mid now old midv new k l m f f1 f2 NotYet begin goes answer = (begin.split, answer.1)
+
+pub turns-later : (was mid now : State) (old midv new : AppView) (k l m : ℕ → Option (List ℕ)) (f f1 f2 : ℕ) (turn : Turn)
+    → Begins was mid old midv k l f f1 → Turns mid now midv new l m f1 f2 turn → Turns was now old new k m f f2 (turn_after true turn)
+turns-later was mid now old midv new k l m f f1 f2 turn begin turns = record {
+  stands = turns.stands;
+  goes = goes-then was mid now old midv new k l m begin.goes turns.goes;
+  answer = answer-after was mid now old midv new k l m f f1 f2 turn begin turns.goes turns.answer;
+  few = few turns.few;
+  here = λ other. turns.here (λ is. other (ap (turn_after true) is)) ∙ begin.left;
+  polled = λ live. polled;
+  none = λ _ is. absurd (after-busy turn is);
+}
+  where
+    few : TakesFew midv new → TakesFew old new
+    few (inl same) = inl (same ∙ begin.taken)
+    few (inr (t, more)) = inr (t, more ∙ ap (λ ts. ts ++ t ∷ []) begin.taken)
+
+    polled : new.taken ≢ old.taken → Polled was now old new
+    polled differs =
+        let was_polled : Polled mid now midv new = turns.polled begin.still (λ same. differs (same ∙ begin.taken)) in
+        record {
+          then_state = was_polled.then_state;
+          then_view = was_polled.then_view;
+          works = was_polled.works;
+          may = was_polled.may;
+          before = was_polled.before ∙ begin.taken;
+          to = moves-then was mid was_polled.then_state old midv was_polled.then_view begin.goes.moves was_polled.to;
+          from = was_polled.from;
+        }
+
+-- a fault that comes later came since then too
+answer-earlier : (was now : State) (old new : AppView) (f f1 f2 : ℕ) (turn : Turn) → f ≤ f1 → Answers was now old new f1 f2 turn
+    → Answers was now old new f f2 turn
+answer-earlier was now old new f f1 f2 Did later answer = answer
+answer-earlier was now old new f f1 f2 (Idle why) later answer = answer
+answer-earlier was now old new f f1 f2 Finished later answer = answer
+answer-earlier was now old new f f1 f2 (Failed fault.Memory) later answer = answer
+answer-earlier was now old new f f1 f2 (Failed fault.Write) later answer = (answer.0, answer.1, omega (arith, later, answer.2))
+answer-earlier was now old new f f1 f2 (Failed other) later answer = absurd answer
+answer-earlier was now old new f f1 f2 NotYet later answer = answer
+
+pub turns-earlier : (was now : State) (old new : AppView) (k m : ℕ → Option (List ℕ)) (f f1 f2 : ℕ) (turn : Turn) → f ≤ f1
+    → Turns was now old new k m f1 f2 turn → Turns was now old new k m f f2 turn
+turns-earlier was now old new k m f f1 f2 turn later turns = record {
+  stands = turns.stands;
+  goes = turns.goes;
+  answer = answer-earlier was now old new f f1 f2 turn later turns.answer;
+  few = turns.few;
+  here = turns.here;
+  polled = turns.polled;
+  none = turns.none;
+}
+
+-- where the first part did nothing
+pub turns-at-once : (was mid now : State) (old midv new : AppView) (k l m : ℕ → Option (List ℕ)) (f f1 f2 : ℕ) (turn : Turn)
+    → Untouched was mid old midv k l → f ≤ f1 → Turns mid now midv new l m f1 f2 turn → Turns was now old new k m f f2 (turn_after false turn)
+turns-at-once was mid now old midv new k l m f f1 f2 turn same later turns =
+    let moved : Turns was now old new k m f1 f2 turn =
+    subst (λ s. Turns s now old new k m f1 f2 turn) same.state
+    (subst (λ (v : AppView). Turns mid now v new k m f1 f2 turn) same.view
+    (subst (λ q. Turns mid now midv new q m f1 f2 turn) same.kept_is turns)) in
+    subst (Turns was now old new k m f f2) (sym (after-none turn)) (turns-earlier was now old new k m f f1 f2 turn later moved)
+
+pub begins-through : (was mid : State) (old midv : AppView) (k l : ℕ → Option (List ℕ)) (f f1 : ℕ) → Working was old → old.left ≡ false
+    → Through was mid old midv k l → app_steps was old < app_steps mid midv → f ≤ f1 → Begins was mid old midv k l f f1
+begins-through was mid old midv k l f f1 works here through steps later = record {
+  live = works.live;
+  going = works.going;
+  split = works.split;
+  here = here;
+  still = through.working.live;
+  goes = through.goes;
+  steps = steps;
+  taken = through.taken;
+  left = through.left;
+  later = later;
+}
+
+-- a loan that was due was given back, or none was due
+pub turns-given : (was mid now : State) (old midv new : AppView) (k m : ℕ → Option (List ℕ)) (f f2 : ℕ) (turn : Turn) (due : Bool)
+    → (IsTrue due → was.due ≢ None) → (¬ IsTrue due → was.due ≡ None) → Working was old → old.left ≡ false → Working mid midv
+    → Goes was mid old midv k k → GaveOne was mid old midv
+    → Turns mid now midv new k m f f2 turn → Turns was now old new k m f f2 (turn_after due turn)
+turns-given was mid now old midv new k m f f2 turn true some none works here then goes gave turns =
+    turns-later was mid now old midv new k k m f f f2 turn (record {
+      live = works.live;
+      going = works.going;
+      split = works.split;
+      here = here;
+      still = then.live;
+      goes = goes;
+      steps = gave.steps (some refl);
+      taken = gave.taken;
+      left = gave.left;
+      later = omega arith;
+    }) turns
+turns-given was mid now old midv new k m f f2 turn false some none works here then goes gave turns =
+    let nothing : was.due ≡ None = none (λ is. absurd (cc)) in
+    let same : mid ≡ was = gave.same ∙ ap (λ d. record was { due = d }) (sym nothing) in
+    turns-at-once was mid now old midv new k k m f f f2 turn (record { state = same; view = gave.nothing nothing; kept_is = refl }) (omega arith) turns

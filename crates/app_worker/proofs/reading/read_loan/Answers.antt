@@ -1,0 +1,72 @@
+use Rattle.std.proofs.Common.{rules, ◌≡◌, ℕ, ◌+◌, ◌-◌, ◌≤◌, length, take, drop, length-append, refl, subst, arith, min}
+use Rattle.std.specs.Io.KnownBytes.{Appends}
+use Rattle.std.proofs.KnownBytes.{Keeps-trans}
+use Rattle.std.proofs.lemmas.List.{length-drop}
+use Rattle.zr_io.specs.Moved.{Gained}
+use Rattle.board_face.specs.AppEvents.{has_read}
+use Rattle.board_face.specs.declared.views.app.AppView.{AppView}
+use Rattle.app_worker.specs.declared.stack.Lending.{Lending}
+use Rattle.app_worker.specs.Core.{IsIn, LieApart, lent_piece}
+use Rattle.app_worker.proofs.Tokens.{in-contains}
+use Rattle.app_worker.proofs.ReadLemmas.{IsReadTo, still-apart, still-out, only-then, only-read, one-more, some-more}
+use Rattle.app_worker.proofs.reading.read_loan.Goals as goal
+
+pub read-requires-clause-out : goal.read-requires-clause-out
+read-requires-clause-out g c =
+    let l : Lending = c.args.lending.now in
+    let v : AppView = g.F.AppFace.seen c.loop-done.face in
+    in-contains (λ l. l.place) (lent_piece l) v.loans (still-out (g.F.AppFace.seen c.args.face.now) v (lent_piece l) c.loop-done.invariant.4 c.requires.out)
+
+pub returns-in_err-append-clause-only : goal.returns-in_err-append-clause-only
+returns-in_err-append-clause-only g c =
+    let v : AppView = g.F.AppFace.seen c.loop-done.face in
+    rw c.read.ensures.view (only-then (g.F.AppFace.seen c.args.face.now) v
+    (has_read v c.args.lending.now.loan c.loop-done.done c.read.new.into) c.loop-done.invariant.4
+    (only-read v c.args.lending.now c.loop-done.done c.read.new.into))
+
+pub returns-in_err-append-clause-gained : goal.returns-in_err-append-clause-gained
+returns-in_err-append-clause-gained g c =
+    let l : Lending = c.args.lending.now in
+    let v0 : AppView = g.F.AppFace.seen c.args.face.now in
+    let v : AppView = g.F.AppFace.seen c.loop-done.face in
+    let inv = c.loop-done.invariant in
+    let lie : LieApart v = still-apart v0 v inv.4 c.requires.apart in
+    let out : IsIn (lent_piece l) v.loans = still-out v0 v (lent_piece l) inv.4 c.requires.out in
+    let first = g.T.Shelf.kept c.args.shelf.now c.args.flow in
+    let before = g.T.Shelf.kept c.loop-done.shelf c.args.flow in
+    let after = g.T.Shelf.kept c.append.new.self c.args.flow in
+    let size : length c.read.new.into ≡ c.min-n.result = search rules in
+    let n : c.min-n.result ≡ min (c.place-len.result.len - c.loop-done.done) 4096 = search rules in
+    let fits : c.loop-done.done + length c.read.new.into ≤ l.loan.len = omega (arith, size, n, inv.0, inv.1) in
+    let added : (n : ℕ) × Appends before after (take n c.read.new.into) = c.in_err-append.ensures.bytes in
+    let done : c.loop-done.bytes - c.args.bytes.now ≡ c.loop-done.done = omega (arith, inv.2) in
+    rw (c.read.ensures.view, done) (some-more first before after v lie l c.loop-done.done added.0 c.read.new.into c.read.new.into out refl fits inv.5 added.1)
+
+pub loop-done-preserved : goal.loop-done-preserved
+loop-done-preserved g c =
+    let l : Lending = c.args.lending.now in
+    let v0 : AppView = g.F.AppFace.seen c.args.face.now in
+    let v : AppView = g.F.AppFace.seen c.loop-done.face in
+    let inv = c.loop-done.invariant in
+    let lie : LieApart v = still-apart v0 v inv.4 c.requires.apart in
+    let out : IsIn (lent_piece l) v.loans = still-out v0 v (lent_piece l) inv.4 c.requires.out in
+    let first = g.T.Shelf.kept c.args.shelf.now c.args.flow in
+    let before = g.T.Shelf.kept c.loop-done.shelf c.args.flow in
+    let after = g.T.Shelf.kept c.append.new.self c.args.flow in
+    let size : length c.read.new.into ≡ c.min-n.result = search rules in
+    let n : c.min-n.result ≡ min (c.place-len.result.len - c.loop-done.done) 4096 = search rules in
+    let from : c.from.result ≡ c.min-n.result = search rules in
+    let added : Appends before after c.read.new.into = c.in_ok-append.ensures.bytes in
+    let w : AppView = has_read v l.loan c.loop-done.done c.read.new.into in
+    rw c.read.ensures.view (
+      inv.0,
+      omega (arith, n, inv.0, inv.1),
+      omega (arith, inv.2, from),
+      omega (arith, length-append c.read.new.into (drop c.min-n.result c.loop-done.buffer), length-drop c.min-n.result c.loop-done.buffer, size, n, inv.3),
+      only-then v0 v w inv.4 (only-read v l c.loop-done.done c.read.new.into),
+      subst (λ k. Gained first after (IsReadTo w.reads l (c.loop-done.done + k))) size
+          (one-more first before after v lie l c.loop-done.done c.read.new.into c.read.new.into out refl inv.5 added),
+      λ other away. Keeps-trans _ _ _ (inv.6 other away) (c.append.ensures.others other away),
+      search rules,
+      search rules,
+    )

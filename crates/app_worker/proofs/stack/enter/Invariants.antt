@@ -1,0 +1,21 @@
+-- What of the piece is there, and that the rest is out.
+use Rattle.std.specs.Prelude.{◌≡◌, ◌+◌, ◌%◌, ◌^◌, ◌≤◌}
+use Rattle.tcp_reorder.specs.Gaps.{origin}
+use Rattle.app_worker.specs.Core.{held_piece, over_kept, total}
+use Rattle.app_worker.specs.State.{held_len}
+use Rattle.app_worker.specs.Steps.{OnlyHelds, whole_piece, over_others}
+use Rattle.app_worker.proofs.Entering.{IsLeft, left_len}
+use Rattle.app_worker.proofs.stack.enter.Given as goal
+
+abbrev pub invariant-loop-left : goal.invariant-loop-left
+invariant-loop-left g l =
+    (l.seq ≡ (l.note.seq + l.note.at) % 2 ^ 32) × (l.number ≡ l.fn.number)
+    × OnlyHelds (g.F.AppFace.seen l.fn.face) (g.F.AppFace.seen l.face) (λ f. f (held_piece (whole_piece l.fn.number l.fn.held)) + over_kept f l.fn.queue)
+    (λ f. over_others f l.left + over_kept f l.queue)
+    × (l.queue.base ≡ l.fn.queue.base) × (l.queue.popped ≡ l.fn.queue.popped)
+    × IsLeft (g.F.AppFace.seen l.face) l.fn.queue l.queue l.number l.seq l.note.place.len (origin l.fn.queue l.note.seq + l.note.at) l.left
+    × (g.F.AppFace.beside l.face ≡ g.F.AppFace.beside l.fn.face)
+    × (total held_len (g.F.AppFace.seen l.face).helds ≤ total held_len (g.F.AppFace.seen l.fn.face).helds)
+
+abbrev pub decreases-loop-left : goal.decreases-loop-left
+decreases-loop-left g l = left_len l.left

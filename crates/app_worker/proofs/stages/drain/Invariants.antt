@@ -1,0 +1,19 @@
+-- Some were read and given back, or nothing happened yet.
+use Rattle.std.specs.Prelude.{◌≡◌, ◌<◌, ◌≤◌, true, false, None, length}
+use Rattle.app_worker.specs.State.{app_steps}
+use Rattle.app_worker.specs.StateOf.{state_of}
+use Rattle.app_worker.specs.Stages.{Through, Untouched}
+use Rattle.app_worker.proofs.stages.drain.Given as goal
+
+abbrev pub invariant-loop-face : goal.invariant-loop-face
+invariant-loop-face g l =
+    Through (state_of l.fn.st) (state_of l.st) (g.F.AppFace.seen l.fn.face) (g.F.AppFace.seen l.face) (g.T.Shelf.kept l.fn.shelf) (g.T.Shelf.kept l.shelf)
+    × (l.st.due ≡ None)
+    × (l.did ≡ true → app_steps (state_of l.fn.st) (g.F.AppFace.seen l.fn.face) < app_steps (state_of l.st) (g.F.AppFace.seen l.face))
+    × (l.did ≡ false → Untouched (state_of l.fn.st) (state_of l.st) (g.F.AppFace.seen l.fn.face) (g.F.AppFace.seen l.face) (g.T.Shelf.kept l.fn.shelf)
+    (g.T.Shelf.kept l.shelf))
+    × (g.T.Shelf.faults l.fn.shelf ≤ g.T.Shelf.faults l.shelf)
+    × (g.F.AppFace.beside l.face ≡ g.F.AppFace.beside l.fn.face)
+
+abbrev pub decreases-loop-face : goal.decreases-loop-face
+decreases-loop-face g l = length l.st.unread.items

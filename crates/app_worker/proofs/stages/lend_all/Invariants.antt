@@ -1,0 +1,20 @@
+-- All that was lent is reaped, and enough of it read.
+use Rattle.std.specs.Prelude.{◌≡◌, ◌-◌, ◌<◌, ◌≤◌, true, false, None, length}
+use Rattle.app_worker.specs.State.{app_steps, furthest}
+use Rattle.app_worker.specs.StateOf.{state_of}
+use Rattle.app_worker.specs.Stages.{Through, Untouched}
+use Rattle.app_worker.proofs.stages.lend_all.Given as goal
+
+abbrev pub invariant-loop-end : goal.invariant-loop-end
+invariant-loop-end g l =
+    Through (state_of l.fn.st) (state_of l.st) (g.F.AppFace.seen l.fn.face) (g.F.AppFace.seen l.face) (g.T.Shelf.kept l.fn.shelf) (g.T.Shelf.kept l.shelf)
+    × (l.st.due ≡ None)
+    × (l.did ≡ true → app_steps (state_of l.fn.st) (g.F.AppFace.seen l.fn.face) < app_steps (state_of l.st) (g.F.AppFace.seen l.face))
+    × (l.did ≡ false → Untouched (state_of l.fn.st) (state_of l.st) (g.F.AppFace.seen l.fn.face) (g.F.AppFace.seen l.face) (g.T.Shelf.kept l.fn.shelf)
+    (g.T.Shelf.kept l.shelf))
+    × (g.T.Shelf.faults l.fn.shelf ≤ g.T.Shelf.faults l.shelf)
+    × (g.F.AppFace.beside l.face ≡ g.F.AppFace.beside l.fn.face)
+    × (length l.st.unread.items ≤ l.st.how.hold)
+
+abbrev pub decreases-loop-end : goal.decreases-loop-end
+decreases-loop-end g l = furthest (g.F.AppFace.seen l.face) - app_steps (state_of l.st) (g.F.AppFace.seen l.face)

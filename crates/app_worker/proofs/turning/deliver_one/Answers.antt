@@ -1,0 +1,64 @@
+use Rattle.std.proofs.Common.{rules, ◌≡◌, ◌≢◌, ◌<◌, ◌+◌, ◌-◌, ◌^◌, min, List, length, refl, subst, arith, ◌++◌}
+use Rattle.board_face.specs.declared.views.app.AppView.{AppView}
+use Rattle.app_worker.specs.declared.stack.Delivery.TheVariants.{Did}
+use Rattle.app_worker.specs.declared.stack.FlowQueue.{FlowQueue}
+use Rattle.app_worker.specs.Core.{Stands}
+use Rattle.app_worker.specs.State.{State}
+use Rattle.app_worker.specs.StateOf.{state_of}
+use Rattle.app_worker.proofs.Standing.{At, split-at, flow-out}
+use Rattle.app_worker.proofs.Delivering.{lent-bundle, none-lent}
+use Rattle.app_worker.proofs.Moving.{no-write}
+use Rattle.app_worker.proofs.Resting.{rest-none}
+use Rattle.app_worker.proofs.turning.deliver_one.Goals as goal
+
+pub deliver-delivery-requires-clause-out : goal.deliver-delivery-requires-clause-out
+deliver-delivery-requires-clause-out g c =
+    let st : State = state_of c.args.st.now in
+    let own : FlowQueue = c.index_mut.result.now in
+    let v : AppView = g.F.AppFace.seen c.args.face.now in
+    let within : st.active < length st.flows = search rules in
+    let at : At st.flows st.active own = split-at st.flows st.active own within c.index_mut.ensures.value in
+    flow-out st.notes at.before at.after own (st.unread ++ st.posted.entries) st.due v
+    (subst (λ (fs : List FlowQueue). Stands st.notes fs (st.unread ++ st.posted.entries) st.due v) at.is c.requires.working.stands)
+
+pub returns-then-st-len-clause-lends : goal.returns-then-st-len-clause-lends
+returns-then-st-len-clause-lends g c = (refl, refl, rest-none c.args.st.now.active c.args.st.now.flows.items (search rules) c.requires.working.rest)
+
+pub returns-in-Did : goal.returns-in-Did
+returns-in-Did g c =
+    let st : State = state_of c.args.st.now in
+    let within : st.active < length st.flows = search rules in
+    let delivered = c.in-Did.ensures.delivered in
+    let count : c.saturating_add-st.result ≡ min (st.loans + 1) (2 ^ 64 - 1) = omega arith in
+    let lent = lent-bundle st c.index_mut.result.now c.deliver-delivery.new.own c.deliver-delivery.new.posted (g.F.AppFace.seen c.args.face.now)
+    (g.F.AppFace.seen c.deliver-delivery.new.face) c.saturating_add-st.result c.requires.more count within c.index_mut.ensures.value delivered
+    c.requires.working c.requires.common in
+    record {
+      working = lent.working;
+      common = lent.common;
+      goes = λ kept. record {
+        moves = lent.moves;
+        shelved = λ _ first. lent.shelved first kept;
+        failed = λ is. absurd (no-write st.stopped c.requires.working.going is);
+      };
+      lends = rw c.in-Did.is lent.one;
+      told = c.deliver-delivery.ensures.told;
+      beside = c.deliver-delivery.ensures.beside;
+    }
+
+pub returns-in_default : goal.returns-in_default
+returns-in_default g c =
+    let st : State = state_of c.args.st.now in
+    let within : st.active < length st.flows = search rules in
+    let other : c.deliver-delivery.result ≢ Did = search rules in
+    let none = none-lent st c.index_mut.result.now c.deliver-delivery.new.own c.deliver-delivery.new.posted (g.F.AppFace.seen c.args.face.now)
+    (g.F.AppFace.seen c.deliver-delivery.new.face) c.deliver-delivery.result other within c.index_mut.ensures.value c.deliver-delivery.ensures.delivered
+    c.requires.working c.requires.common in
+    record {
+      working = none.0.working;
+      common = none.0.common;
+      goes = none.0.goes;
+      lends = none.1;
+      told = c.deliver-delivery.ensures.told;
+      beside = c.deliver-delivery.ensures.beside;
+    }

@@ -1,0 +1,88 @@
+use Rattle.std.proofs.Common.{◌≡◌, ℕ, true, [], List, Option, ap, subst, ◌∙◌}
+use Rattle.board_face.specs.declared.views.app.AppView.{AppView}
+use Rattle.app_worker.specs.State.{State}
+use Rattle.app_worker.specs.StateOf.{state_of}
+use Rattle.app_worker.specs.Whole.{TookOne, TookNone}
+use Rattle.app_worker.specs.Turns.{MayPoll, Turns}
+use Rattle.app_worker.proofs.Looking.{took-failed, took-did, turns-ended, turns-memory, turns-short}
+use Rattle.app_worker.proofs.working.look.Goals as goal
+
+pub returns-in-Failed-clause-turns : goal.returns-in-Failed-clause-turns
+returns-in-Failed-clause-turns g c =
+    let a : State = state_of c.args.st.now in
+    let b : State = state_of c.take_note.new.st in
+    let u : AppView = g.F.AppFace.seen c.args.face.now in
+    let v : AppView = g.F.AppFace.seen c.take_note.new.face in
+    let k : ℕ → Option (List ℕ) = g.T.Shelf.kept c.args.shelf.now in
+    let f : ℕ = g.T.Shelf.faults c.args.shelf.now in
+    let may : MayPoll a = record { in_order = c.requires.rest; given = c.requires.due; posted = c.requires.reaped; unread = c.requires.few } in
+    let e : State = state_of c.lend_all.new.st in
+    let w : AppView = g.F.AppFace.seen c.lend_all.new.face in
+    let m : ℕ → Option (List ℕ) = g.T.Shelf.kept c.lend_all.new.shelf in
+    let f2 : ℕ = g.T.Shelf.faults c.lend_all.new.shelf in
+    let took : TookOne a b u v = c.in-Did.ensures.takes in
+    took-failed a b u v k m f f2 c.requires.working may took e w c.in-Failed.ensures.lends
+
+pub returns-in_default : goal.returns-in_default
+returns-in_default g c =
+    let a : State = state_of c.args.st.now in
+    let b : State = state_of c.take_note.new.st in
+    let u : AppView = g.F.AppFace.seen c.args.face.now in
+    let v : AppView = g.F.AppFace.seen c.take_note.new.face in
+    let k : ℕ → Option (List ℕ) = g.T.Shelf.kept c.args.shelf.now in
+    let f : ℕ = g.T.Shelf.faults c.args.shelf.now in
+    let may : MayPoll a = record { in_order = c.requires.rest; given = c.requires.due; posted = c.requires.reaped; unread = c.requires.few } in
+    let e : State = state_of c.lend_all.new.st in
+    let w : AppView = g.F.AppFace.seen c.lend_all.new.face in
+    let m : ℕ → Option (List ℕ) = g.T.Shelf.kept c.lend_all.new.shelf in
+    let f2 : ℕ = g.T.Shelf.faults c.lend_all.new.shelf in
+    let took : TookOne a b u v = c.in-Did.ensures.takes in
+    let reaped : b.posted.entries ≡ [] = ap (λ (s : State). s.posted.entries) took.same ∙ c.requires.reaped in
+    record {
+      turns = took-did a b u v k m f f2 c.requires.working may took e w c.lend_all.result c.in_default.not-Failed reaped c.lend_all.ensures.lends;
+      told = λ why is. absurd (cc);
+      later = c.lend_all.ensures.later;
+      beside = c.lend_all.ensures.beside ∙ c.take_note.ensures.beside;
+    }
+
+pub returns-in-Ended-clause-turns : goal.returns-in-Ended-clause-turns
+returns-in-Ended-clause-turns g c =
+    let a : State = state_of c.args.st.now in
+    let b : State = state_of c.take_note.new.st in
+    let u : AppView = g.F.AppFace.seen c.args.face.now in
+    let v : AppView = g.F.AppFace.seen c.take_note.new.face in
+    let k : ℕ → Option (List ℕ) = g.T.Shelf.kept c.args.shelf.now in
+    let f : ℕ = g.T.Shelf.faults c.args.shelf.now in
+    let may : MayPoll a = record { in_order = c.requires.rest; given = c.requires.due; posted = c.requires.reaped; unread = c.requires.few } in
+    let e : State = state_of c.close.new.st in
+    let w : AppView = g.F.AppFace.seen c.close.new.face in
+    let m : ℕ → Option (List ℕ) = g.T.Shelf.kept c.close.new.shelf in
+    let f2 : ℕ = g.T.Shelf.faults c.close.new.shelf in
+    let takes = c.in-Ended.ensures.takes in
+    turns-ended a e u v w k m f f2 c.close.result c.requires.working c.requires.common c.requires.here c.requires.more takes.1 c.close.ensures.busy
+    (subst (λ s. Turns (record s { ended = true }) e v w k m f f2 c.close.result) takes.0 c.close.ensures.turns)
+
+pub returns-in-Memory-clause-turns : goal.returns-in-Memory-clause-turns
+returns-in-Memory-clause-turns g c =
+    let a : State = state_of c.args.st.now in
+    let b : State = state_of c.take_note.new.st in
+    let u : AppView = g.F.AppFace.seen c.args.face.now in
+    let v : AppView = g.F.AppFace.seen c.take_note.new.face in
+    let k : ℕ → Option (List ℕ) = g.T.Shelf.kept c.args.shelf.now in
+    let f : ℕ = g.T.Shelf.faults c.args.shelf.now in
+    let may : MayPoll a = record { in_order = c.requires.rest; given = c.requires.due; posted = c.requires.reaped; unread = c.requires.few } in
+    let took : TookNone a b u v = c.in-Memory.ensures.takes in
+    turns-memory a b (state_of c.let_go.new.st) u v (g.F.AppFace.seen c.let_go.new.face) k f c.requires.working may took c.let_go.ensures.done
+
+pub returns-in-Short-clause-turns : goal.returns-in-Short-clause-turns
+returns-in-Short-clause-turns g c =
+    let a : State = state_of c.args.st.now in
+    let b : State = state_of c.take_note.new.st in
+    let u : AppView = g.F.AppFace.seen c.args.face.now in
+    let v : AppView = g.F.AppFace.seen c.take_note.new.face in
+    let k : ℕ → Option (List ℕ) = g.T.Shelf.kept c.args.shelf.now in
+    let f : ℕ = g.T.Shelf.faults c.args.shelf.now in
+    let may : MayPoll a = record { in_order = c.requires.rest; given = c.requires.due; posted = c.requires.reaped; unread = c.requires.few } in
+    let took : TookNone a b u v = c.in-Short.ensures.takes in
+    turns-short a b (state_of c.let_go-in-Short.new.st) u v (g.F.AppFace.seen c.let_go-in-Short.new.face) k f c.requires.working may took
+    c.let_go-in-Short.ensures.done

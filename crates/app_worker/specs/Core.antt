@@ -1,0 +1,162 @@
+-- What an application keeps between its turns, and how that stands to what its face has seen: for split pieces.
+use Rattle.std.specs.Prelude.{◌≡◌, ℕ, ◌+◌, ◌-◌, ◌≤◌, nat_lt, nat_le, ◌==◌, ◌&&◌, ◌||◌, ◌⊎◌, false, if◌then◌else◌}
+use Rattle.std.specs.Prelude.{List, [], ◌∷◌, ◌++◌, length, Option, Some, None}
+use Rattle.zr_kinds.specs.declared.place.Place.{Place}
+use Rattle.zr_kinds.specs.declared.ring.Completion.{Completion}
+use Rattle.zr_kinds.specs.CopyingReceiver.{Placed, nothing_placed, next_missing, lead, accepts, filled, value_at, values_from}
+use Rattle.tcp_reorder.specs.Queue.{Queue}
+use Rattle.tcp_reorder.specs.Values.{Holds}
+use Rattle.board_face.specs.declared.views.app.Origin.TheVariants.{Note as of_note}
+use Rattle.board_face.specs.declared.views.app.HeldPiece.{HeldPiece}
+use Rattle.board_face.specs.declared.views.app.LentPiece.{LentPiece}
+use Rattle.board_face.specs.declared.views.app.Reading.{Reading}
+use Rattle.board_face.specs.declared.views.app.TakenNote.{TakenNote}
+use Rattle.board_face.specs.declared.views.app.AppView.{AppView}
+use Rattle.app_worker.specs.declared.stack.Piece.{Piece}
+use Rattle.app_worker.specs.declared.stack.Lending.{Lending}
+use Rattle.app_worker.specs.declared.stack.FlowQueue.{FlowQueue}
+use Rattle.app_worker.specs.Marks.{Mark, marks_from, Numbered, numbered, of_flow, marks_of_note}
+
+-- ---- sums over lists, by recursion, so that they compute
+
+abbrev pub total : {A : Type 0} → (A → ℕ) → List A → ℕ
+total f [] = 0
+total f (x ∷ xs) = f x + total f xs
+
+-- x is one of these
+abbrev pub IsIn : {A : Type 0} → A → List A → Type 0
+IsIn x [] = ⊥
+IsIn x (y ∷ ys) = (y ≡ x) ⊎ IsIn x ys
+
+-- ---- places
+
+-- 1 where the place has this byte of this buffer
+abbrev pub has_at : ℕ → ℕ → Place → ℕ
+has_at b x p = if (p.buffer == b) && (nat_le p.offset x && nat_lt x (p.offset + p.len)) then 1 else 0
+
+-- 1 where the place has no byte, or more than a frame
+abbrev pub is_odd : Place → ℕ
+is_odd p = if (p.len == 0) || nat_lt 65515 p.len then 1 else 0
+
+-- Each byte of a buffer lies in one piece or loan at most, and each of these has 1 to 65,515 bytes.
+pub record LieApart (v : AppView) : Type 0 where
+  pub once : (b x : ℕ) → total (λ h. has_at b x h.place) v.helds + total (λ l. has_at b x l.place) v.loans ≤ 1
+  pub some : total (λ h. is_odd h.place) v.helds + total (λ l. is_odd l.place) v.loans ≡ 0
+
+-- ---- tokens
+
+-- what the face knows of a piece, and of a loan
+abbrev pub held_piece : Piece → HeldPiece
+held_piece p = record { place = p.held; origin = of_note p.note p.at }
+
+abbrev pub lent_piece : Lending → LentPiece
+lent_piece l = record { place = l.loan; origin = of_note l.note l.at }
+
+-- over the pieces that a queue keeps
+abbrev pub over_kept : (HeldPiece → ℕ) → Queue Piece → ℕ
+over_kept f queue = total (λ k. f (held_piece k.piece)) queue.kept
+
+-- the place of a piece, and that of a loan, by their marks
+abbrev pub marks_of_piece : Piece → List Mark
+marks_of_piece p = marks_from p.note p.at p.held.len
+
+abbrev pub marks_of_loan : Lending → List Mark
+marks_of_loan l = marks_from l.note l.at l.loan.len
+
+-- ---- what a flow received, each piece judged for itself
+
+abbrev pub received_note : ℕ → Placed Mark → Numbered → Placed Mark
+received_note base placed n =
+    if accepts base (next_missing placed) n.note.seq n.note.total
+    then filled placed (next_missing placed + lead base (next_missing placed) n.note.seq + n.note.at) (marks_of_note n)
+    else placed
+
+abbrev pub received_notes : ℕ → Placed Mark → List Numbered → Placed Mark
+received_notes base placed [] = placed
+received_notes base placed (n ∷ ns) = received_notes base (received_note base placed n) ns
+
+-- the notes of a flow among those that were taken
+abbrev pub own_notes : ℕ → List TakenNote → List Numbered
+own_notes flow taken = of_flow flow (numbered 0 taken)
+
+-- ---- between two turns
+
+-- the first of these has this base
+abbrev pub BeginAt : ℕ → List Numbered → Type 0
+BeginAt base [] = ⊥
+BeginAt base (n ∷ ns) = n.note.base ≡ base
+
+-- the marks of the loans of a flow, from the oldest on
+abbrev pub lent_marks : ℕ → List (Completion × Lending) → List Mark
+lent_marks flow [] = []
+lent_marks flow (p ∷ ps) = (if p.0.user_data == flow then marks_of_loan p.1 else []) ++ lent_marks flow ps
+
+-- what a flow received, with the base of its queue
+abbrev pub placed_of : FlowQueue → List TakenNote → Placed Mark
+placed_of flow taken = received_notes flow.queue.base nothing_placed (own_notes flow.number taken)
+
+-- The queue has what was received. What was appended, what is lent, and what is kept follow each other.
+pub record FlowStands (taken : List TakenNote) (posted : List (Completion × Lending)) (flow : FlowQueue) : Type 0 where
+  pub begun : BeginAt flow.queue.base (own_notes flow.number taken)
+  pub holds : Holds marks_of_piece flow.queue (placed_of flow taken)
+  pub counted : flow.bytes ≤ flow.queue.popped
+  pub lent : lent_marks flow.number posted ≡ values_from (placed_of flow taken).at (flow.queue.popped - flow.bytes) flow.bytes
+
+abbrev pub Each : {A : Type 0} → (A → Type 0) → List A → Type 0
+Each P [] = Unit {0}
+Each P (x ∷ xs) = P x × Each P xs
+
+-- how many flows have this number
+abbrev pub many : ℕ → List FlowQueue → ℕ
+many number flows = total (λ f. if f.number == number then 1 else 0) flows
+
+abbrev pub over_due : (LentPiece → ℕ) → Option Lending → ℕ
+over_due f None = 0
+over_due f (Some l) = f (lent_piece l)
+
+-- the tokens that are out are those that are kept
+pub record HasTokens (flows : List FlowQueue) (posted : List (Completion × Lending)) (due : Option Lending) (v : AppView) : Type 0 where
+  pub apart : LieApart v
+  pub helds : (f : HeldPiece → ℕ) → total f v.helds ≡ total (λ flow. over_kept f flow.queue) flows
+  pub loans : (f : LentPiece → ℕ) → total f v.loans ≡ total (λ p. f (lent_piece p.1)) posted + over_due f due
+
+pub record Stands (count : ℕ) (own : List FlowQueue) (ring : List (Completion × Lending)) (due : Option Lending) (v : AppView) : Type 0 where
+  pub tokens : HasTokens own ring due v
+  pub notes : count ≡ length v.taken
+  pub distinct : (number : ℕ) → many number own ≤ 1
+  pub flows : Each (FlowStands v.taken ring) own
+  -- a flow that has no queue has no note
+  pub known : (number : ℕ) → many number own ≡ 0 → own_notes number v.taken ≡ []
+  -- and each completion is of a flow that has one
+  pub posted : Each (λ p. many p.0.user_data own ≡ 1) ring
+  pub counted : v.scrubbed ≡ false
+
+-- ---- what was read
+
+-- a byte of a split piece was read through a loan of its note
+pub record IsReadAt (reads : List Reading) (mark : Mark) (byte : ℕ) : Type 0 where
+  pub reading : Reading
+  pub read : IsIn reading reads
+  pub from : ℕ
+  pub origin : reading.origin ≡ of_note mark.note from
+  pub at_or_behind : from ≤ mark.place
+  pub is : value_at reading.bytes (mark.place - from) ≡ Some byte
+
+-- these bytes were read at these marks, one at each
+abbrev pub AreReadAt : List Reading → List Mark → List ℕ → Type 0
+AreReadAt reads [] [] = Unit {0}
+AreReadAt reads (m ∷ ms) (b ∷ bs) = IsReadAt reads m b × AreReadAt reads ms bs
+AreReadAt reads [] (b ∷ bs) = ⊥
+AreReadAt reads (m ∷ ms) [] = ⊥
+
+-- nothing changed but for reads, and none of these is lost
+pub record OnlyReads (old new : AppView) : Type 0 where
+  pub view : new ≡ record old { reads = new.reads }
+  pub more : List Reading
+  pub are : new.reads ≡ old.reads ++ more
+
+-- so many bytes of a loan were read, or a few more
+pub record IsReadOf (reads : List Reading) (lending : Lending) (done : ℕ) (bytes : List ℕ) : Type 0 where
+  pub are : AreReadAt reads (marks_from lending.note lending.at (length bytes)) bytes
+  pub at_least : done ≤ length bytes
+  pub at_most : length bytes ≤ lending.loan.len

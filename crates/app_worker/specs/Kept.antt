@@ -1,0 +1,46 @@
+-- What an application's readers show.
+use Rattle.std.specs.Prelude.{◌≡◌, ℕ, ◌+◌, ◌==◌, false, if◌then◌else◌, List, [], ◌∷◌, None}
+use Rattle.zr_kinds.specs.declared.behaviour.Behaviour.{Behaviour}
+use Rattle.zr_kinds.specs.declared.behaviour.Stopped.TheVariants.{No}
+use Rattle.completion_ring.specs.Ring.{ring}
+use Rattle.board_face.specs.declared.views.app.AppView.{AppView}
+use Rattle.app_worker.specs.declared.stack.FlowQueue.{FlowQueue}
+use Rattle.app_worker.specs.State.{State}
+
+-- one that has taken no turn
+abbrev pub new_state : ℕ → ℕ → Behaviour → State
+new_state app places how = record {
+  app = app;
+  how = how;
+  notes = 0;
+  flows = [];
+  index = [];
+  active = 0;
+  unread = [];
+  room = how.hold + places;
+  posted = ring [] places;
+  due = None;
+  written = 0;
+  loans = 0;
+  stopped = No;
+  ended = false;
+  bare = false;
+  short = false;
+}
+
+-- this application has done nothing at its board yet
+pub record IsFresh (app : ℕ) (v : AppView) : Type 0 where
+  pub app_is : v.app ≡ app
+  pub helds : v.helds ≡ []
+  pub owns : v.owns ≡ []
+  pub loans : v.loans ≡ []
+  pub returned : v.returned ≡ []
+  pub taken : v.taken ≡ []
+  pub spares : v.spares ≡ 0
+  pub ended : v.ended ≡ false
+  pub counted : v.scrubbed ≡ false
+
+-- how many bytes of the flow with this number were appended by calls that went well
+abbrev pub flow_bytes : ℕ → List FlowQueue → ℕ
+flow_bytes number [] = 0
+flow_bytes number (f ∷ fs) = if f.number == number then f.bytes else flow_bytes number fs

@@ -1,0 +1,47 @@
+-- All that an application has out is given up.
+use Rattle.std.specs.Prelude.{◌≡◌, ℕ, ◌+◌, ◌<◌, ◌≤◌, true, List, [], map, length, Option, None}
+use Rattle.board_face.specs.declared.views.app.LentPiece.{LentPiece}
+use Rattle.board_face.specs.declared.views.app.AppView.{AppView}
+use Rattle.app_worker.specs.declared.stack.FlowQueue.{FlowQueue}
+use Rattle.app_worker.specs.Core.{total, LieApart, Each, many}
+use Rattle.app_worker.specs.State.{State, Common, FlowEnds, app_steps}
+use Rattle.app_worker.specs.Shelves.{AreFronts}
+use Rattle.app_worker.specs.Moves.{Moves}
+use Rattle.app_worker.specs.Whole.{KeepsShelves}
+
+-- what stays known of a flow
+pub record FlowFacts : Type 0 where
+  pub number : ℕ
+  pub base : ℕ
+  pub bytes : ℕ
+
+abbrev pub facts_of : FlowQueue → FlowFacts
+facts_of f = record { number = f.number; base = f.queue.base; bytes = f.bytes }
+
+-- tokens went, and nothing else changed
+pub record OnlyTokens (old new : AppView) : Type 0 where
+  pub view : new ≡ record old { helds = new.helds; loans = new.loans; returned = new.returned }
+  pub apart : LieApart new
+
+-- loans were abandoned, whose sums are these
+pub record Abandons (old new : AppView) (gone : (LentPiece → ℕ) → ℕ) : Type 0 where
+  pub only : OnlyTokens old new
+  pub helds : new.helds ≡ old.helds
+  pub loans : (f : LentPiece → ℕ) → total f new.loans + gone f ≡ total f old.loans
+  pub returned : length new.returned ≡ length old.returned + gone (λ _. 1)
+
+-- all is given up, and nothing else changed
+pub record LetGo (was now : State) (old new : AppView) : Type 0 where
+  pub helds : new.helds ≡ []
+  pub loans : new.loans ≡ []
+  pub same : now ≡ record was { flows = now.flows; unread = []; due = None; bare = true }
+  pub facts : map facts_of now.flows ≡ map facts_of was.flows
+  pub ends : Each (FlowEnds new.taken) now.flows
+  pub distinct : (number : ℕ) → many number now.flows ≤ 1
+  pub common : Common now new
+  pub moves : Moves was now old new
+  pub steps : app_steps was old < app_steps now new
+  pub shelved : KeepsShelves was now old new
+  pub fronts : (first kept : ℕ → Option (List ℕ)) → AreFronts first kept was.flows old → AreFronts first kept now.flows new
+  pub taken : new.taken ≡ old.taken
+  pub left : new.left ≡ old.left

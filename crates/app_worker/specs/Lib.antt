@@ -1,0 +1,13 @@
+pub mod Marks
+pub mod Core
+pub mod Steps
+pub mod State
+pub mod StateOf
+pub mod Shelves
+pub mod Moves
+pub mod Whole
+pub mod Kept
+pub mod Letting
+pub mod Stages
+pub mod Streams
+pub mod Turns

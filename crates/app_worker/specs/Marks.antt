@@ -1,0 +1,117 @@
+-- Marks: which place of which note stands at each position of a flow. It is the copying receiver, over (note, place) in
+-- place of bytes: notes are counted from 0 in the order in which they were taken, and a place is a byte of the note's
+-- piece.
+use Rattle.std.specs.Prelude.{◌≡◌, ◌≢◌, ℕ, zero, suc, ◌+◌, ◌<◌, ◌≤◌, ◌==◌, if◌then◌else◌, List, [], ◌∷◌, ◌++◌}
+use Rattle.std.specs.Prelude.{filter}
+use Rattle.zr_kinds.specs.declared.place.Note.{Note}
+use Rattle.zr_kinds.specs.CopyingReceiver.{Placed, nothing_placed, next_missing, lead, accepts, filled, front_of}
+use Rattle.board_face.specs.declared.views.app.TakenNote.{TakenNote}
+
+pub record Mark : Type 0 where
+  pub note : ℕ
+  pub place : ℕ
+
+-- so many places of a note from one on
+abbrev pub marks_from : ℕ → ℕ → ℕ → List Mark
+marks_from note place zero = []
+marks_from note place (suc more) = record { note = note; place = place } ∷ marks_from note (suc place) more
+
+-- a note and which it is
+pub record Numbered : Type 0 where
+  pub number : ℕ
+  pub note : Note
+
+abbrev pub numbered : ℕ → List TakenNote → List Numbered
+numbered number [] = []
+numbered number (t ∷ taken) = record { number = number; note = t.note } ∷ numbered (suc number) taken
+
+-- the notes of a flow
+abbrev pub of_flow : ℕ → List Numbered → List Numbered
+of_flow flow notes = filter (λ n. n.note.flow == flow) notes
+
+abbrev pub marks_of_note : Numbered → List Mark
+marks_of_note n = marks_from n.number 0 n.note.place.len
+
+-- What was taken of a frame: its sequence number and length, and the marks of its pieces, in order.
+pub record Frame : Type 0 where
+  pub number : ℕ
+  pub seq : ℕ
+  pub total : ℕ
+  pub marks : List Mark
+
+abbrev pub frame_from : Numbered → Frame
+frame_from n = record { number = n.note.frame; seq = n.note.seq; total = n.note.total; marks = marks_of_note n }
+
+-- the frames, once this note comes before them: it belongs to the first, or begins one
+abbrev pub with_note : Numbered → List Frame → List Frame
+with_note n [] = frame_from n ∷ []
+with_note n (f ∷ fs) = if f.number == n.note.frame then record f { marks = marks_of_note n ++ f.marks } ∷ fs else frame_from n ∷ f ∷ fs
+
+-- the frames of these notes: pieces of a frame stand together
+abbrev pub frames_of : List Numbered → List Frame
+frames_of [] = []
+frames_of (n ∷ ns) = with_note n (frames_of ns)
+
+-- A frame was received, of which some pieces were taken: it is judged as a whole, and what is there enters.
+abbrev pub received_frame : ℕ → Placed Mark → Frame → Placed Mark
+received_frame base placed f =
+    if accepts base (next_missing placed) f.seq f.total then filled placed (next_missing placed + lead base (next_missing placed) f.seq) f.marks else placed
+
+abbrev pub received_frames : ℕ → Placed Mark → List Frame → Placed Mark
+received_frames base placed [] = placed
+received_frames base placed (f ∷ fs) = received_frames base (received_frame base placed f) fs
+
+abbrev pub base_of : List Numbered → ℕ
+base_of [] = 0
+base_of (n ∷ ns) = n.note.base
+
+-- what stands at each position of a flow, of the notes that were taken
+abbrev pub placed_marks : ℕ → List TakenNote → Placed Mark
+placed_marks flow taken = received_frames (base_of (of_flow flow (numbered 0 taken))) nothing_placed (frames_of (of_flow flow (numbered 0 taken)))
+
+-- the marks of a flow: positions 0 to n - 1
+abbrev pub marks_of : ℕ → List TakenNote → List Mark
+marks_of flow taken = front_of (placed_marks flow taken)
+
+-- ---- the notes of which this speaks
+
+-- both are pieces of one frame, and the second follows
+pub record GoesOn (first second : Note) : Type 0 where
+  pub flow : second.flow ≡ first.flow
+  pub base : second.base ≡ first.base
+  pub seq : second.seq ≡ first.seq
+  pub total : second.total ≡ first.total
+  pub at : second.at ≡ first.at + first.place.len
+
+-- a piece that begins a frame
+abbrev pub Begins : Note → Type 0
+Begins note = note.at ≡ 0
+
+-- the second goes on with the frame of the first, or the first ends its frame and the second begins one
+pub record Follows (first second : Note) : Type 0 where
+  pub same : second.frame ≡ first.frame → GoesOn first second
+  pub next : second.frame ≢ first.frame → Begins second × (first.at + first.place.len ≡ first.total)
+
+-- and frames are taken in the order of their numbers
+pub record FollowsInOrder (m n : Numbered) : Type 0 where
+  pub follows : Follows m.note n.note
+  pub rises : n.note.frame ≢ m.note.frame → m.note.frame < n.note.frame
+
+-- the piece lies in its frame, which is no longer than a frame may be
+pub record Fits (n : Numbered) : Type 0 where
+  pub within : n.note.at + n.note.place.len ≤ n.note.total
+  pub bounded : n.note.total ≤ 65515
+
+-- all of these follow each other, from the one before them on
+abbrev pub AllStand : Numbered → List Numbered → Type 0
+AllStand y [] = Fits y
+AllStand y (n ∷ ns) = Fits y × FollowsInOrder y n × AllStand n ns
+
+-- The pieces of each frame stand together, in order, and all of them but perhaps those of the last.
+abbrev pub StandTogether : List Numbered → Type 0
+StandTogether [] = Unit {0}
+StandTogether (n ∷ ns) = (n.note.at ≡ 0) × AllStand n ns
+
+-- as notes that are taken
+abbrev pub AreWholeFrames : List TakenNote → Type 0
+AreWholeFrames taken = StandTogether (numbered 0 taken)

@@ -1,0 +1,33 @@
+-- What the shelf has, over any number of steps.
+use Rattle.std.specs.Prelude.{◌≡◌, ℕ, ◌<◌, ◌≤◌, List, Option, IsSome}
+use Rattle.std.specs.Io.KnownBytes.{Keeps}
+use Rattle.zr_kinds.specs.CopyingReceiver.{values_from}
+use Rattle.zr_io.specs.Moved.{Gained}
+use Rattle.board_face.specs.declared.views.app.Reading.{Reading}
+use Rattle.board_face.specs.declared.views.app.TakenNote.{TakenNote}
+use Rattle.board_face.specs.declared.views.app.AppView.{AppView}
+use Rattle.app_worker.specs.declared.stack.FlowQueue.{FlowQueue}
+use Rattle.app_worker.specs.Core.{Each, many, AreReadAt, placed_of}
+
+-- since `first`, a flow's shelf gained what was read at its first marks, as many as are counted
+pub record IsShelved (first kept : ℕ → Option (List ℕ)) (taken : List TakenNote) (reads : List Reading) (flow : FlowQueue) : Type 0 where
+  pub gained : Gained (first flow.number) (kept flow.number) (λ bytes. AreReadAt reads (values_from (placed_of flow taken).at flow.bytes 0) bytes)
+
+-- bytes that were read at a flow's first marks, at least as many as are counted
+pub record ReadsFront (taken : List TakenNote) (reads : List Reading) (flow : FlowQueue) (bytes : List ℕ) : Type 0 where
+  pub count : ℕ
+  pub at_least : flow.bytes ≤ count
+  pub below : (p : ℕ) → p < count → IsSome ((placed_of flow taken).at p)
+  pub are : AreReadAt reads (values_from (placed_of flow taken).at count 0) bytes
+
+-- once the shelf has failed, it may have some bytes more
+pub record IsFrontShelved (first kept : ℕ → Option (List ℕ)) (taken : List TakenNote) (reads : List Reading) (flow : FlowQueue) : Type 0 where
+  pub gained : Gained (first flow.number) (kept flow.number) (ReadsFront taken reads flow)
+
+pub record AreFronts (first kept : ℕ → Option (List ℕ)) (own : List FlowQueue) (v : AppView) : Type 0 where
+  pub flows : Each (IsFrontShelved first kept v.taken v.reads) own
+  pub others : (number : ℕ) → many number own ≡ 0 → Keeps (first number) (kept number)
+
+pub record AreShelved (first kept : ℕ → Option (List ℕ)) (own : List FlowQueue) (v : AppView) : Type 0 where
+  pub flows : Each (IsShelved first kept v.taken v.reads) own
+  pub others : (number : ℕ) → many number own ≡ 0 → Keeps (first number) (kept number)

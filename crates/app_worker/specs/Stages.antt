@@ -1,0 +1,84 @@
+-- What the stages of a turn do.
+use Rattle.std.specs.Prelude.{◌≡◌, ◌≢◌, ℕ, ◌<◌, ◌≤◌, Bool, true, false, List, [], length, Option, None}
+use Rattle.zr_kinds.specs.declared.behaviour.Stopped.TheVariants as stop
+use Rattle.zr_io.specs.Moved.{Rose}
+use Rattle.board_face.specs.AppCalls.{AppOnlySaw}
+use Rattle.board_face.specs.AppEvents.{fell_quiet, scrubbed, left_board}
+use Rattle.board_face.specs.declared.views.app.AppLook.TheVariants.{RawOnItsWay, NotQuiet}
+use Rattle.board_face.specs.declared.views.app.AppView.{AppView}
+use Rattle.app_worker.specs.declared.stack.Delivery.{Delivery}
+use Rattle.app_worker.specs.declared.stack.Delivery.TheVariants.{Did as lent_it}
+use Rattle.app_worker.specs.declared.stages.Drained.{Drained}
+use Rattle.app_worker.specs.declared.stages.Drained.TheVariants.{Nothing as read_nothing, Did as read_some, InUse, Failed as read_failed}
+use Rattle.app_worker.specs.declared.stages.Lent.{Lent}
+use Rattle.app_worker.specs.declared.stages.Lent.TheVariants.{Nothing as none_in_order, Did as lent_some, Stuck, Failed as lending_failed}
+use Rattle.app_worker.specs.Core.{total, Each}
+use Rattle.app_worker.specs.State.{State, IsAtRest, Working, Common, Bare, app_steps}
+use Rattle.app_worker.specs.Moves.{Goes}
+use Rattle.app_worker.specs.Whole.{Lends}
+
+-- it goes on, nothing is posted, and no note was taken
+pub record Through (was now : State) (old new : AppView) (kept kept_now : ℕ → Option (List ℕ)) : Type 0 where
+  pub working : Working now new
+  pub common : Common now new
+  pub goes : Goes was now old new kept kept_now
+  pub reaped : now.posted.entries ≡ []
+  pub ended : now.ended ≡ was.ended
+  pub taken : new.taken ≡ old.taken
+  pub left : new.left ≡ old.left
+
+-- it was stopped by its shelf
+pub record WriteStopped (was now : State) (old new : AppView) (kept kept_now : ℕ → Option (List ℕ)) (faults faults_now : ℕ) : Type 0 where
+  pub bare : Bare now new
+  pub is_bare : now.bare ≡ true
+  pub common : Common now new
+  pub goes : Goes was now old new kept kept_now
+  pub reaped : now.posted.entries ≡ []
+  pub stopped : now.stopped ≡ stop.Write
+  pub rose : Rose faults faults_now
+  pub steps : app_steps was old < app_steps now new
+  pub taken : new.taken ≡ old.taken
+  pub left : new.left ≡ old.left
+
+-- nothing changed at all
+pub record Untouched (was now : State) (old new : AppView) (kept kept_now : ℕ → Option (List ℕ)) : Type 0 where
+  pub state : now ≡ was
+  pub view : new ≡ old
+  pub kept_is : kept_now ≡ kept
+
+-- what reading did, down to so many that stay unread
+abbrev pub ReadsTo : ℕ → State → State → AppView → AppView → (ℕ → Option (List ℕ)) → (ℕ → Option (List ℕ)) → ℕ → ℕ → Drained
+    → Type 0
+ReadsTo keep was now old new kept kept_now faults faults_now read_nothing = Untouched was now old new kept kept_now × (length was.unread ≤ keep)
+ReadsTo keep was now old new kept kept_now faults faults_now read_some = Through was now old new kept kept_now × (app_steps was old < app_steps now new)
+    × (now.due ≡ None) × (length now.unread ≤ keep)
+ReadsTo keep was now old new kept kept_now faults faults_now InUse = Through was now old new kept kept_now × (app_steps was old < app_steps now new)
+ReadsTo keep was now old new kept kept_now faults faults_now read_failed = WriteStopped was now old new kept kept_now faults faults_now
+
+-- pieces were lent, up to one that couldn't be
+pub record LentSome (was now : State) (old new : AppView) (did : Bool) (end_by : Delivery) : Type 0 where
+  pub working : Working now new
+  pub common : Common now new
+  pub goes : (kept : ℕ → Option (List ℕ)) → Goes was now old new kept kept
+  pub same : now ≡ record was { flows = now.flows; posted = now.posted; loans = now.loans }
+  pub taken : new.taken ≡ old.taken
+  pub left : new.left ≡ old.left
+  pub steps : did ≡ true → app_steps was old < app_steps now new
+  pub helds : did ≡ true → total (λ _. 1) new.helds < total (λ _. 1) old.helds
+  pub final : end_by ≢ lent_it
+  pub nothing : did ≡ false → Lends was now old new end_by
+
+-- what delivering did
+abbrev pub LendsAll : State → State → AppView → AppView → (ℕ → Option (List ℕ)) → (ℕ → Option (List ℕ)) → ℕ → ℕ → Lent
+    → Type 0
+LendsAll was now old new kept kept_now faults faults_now none_in_order = Untouched was now old new kept kept_now × Each IsAtRest was.flows
+LendsAll was now old new kept kept_now faults faults_now lent_some = Through was now old new kept kept_now × (app_steps was old < app_steps now new)
+LendsAll was now old new kept kept_now faults faults_now Stuck = (now ≡ was) × (kept_now ≡ kept) × AppOnlySaw RawOnItsWay old new
+LendsAll was now old new kept kept_now faults faults_now lending_failed = WriteStopped was now old new kept kept_now faults faults_now
+
+-- ---- leaving
+
+-- each refill slot was free, so the counts were scrubbed and the application left; or one was in use
+abbrev pub Leaves : AppView → AppView → Bool → Type 0
+Leaves old new true = new ≡ left_board (scrubbed (fell_quiet old))
+Leaves old new false = AppOnlySaw NotQuiet old new

@@ -1,0 +1,151 @@
+-- What an application keeps between its turns, as plain data, and how that stands to what its face has seen.
+use mir.Syntax.{w32}
+use Rattle.std.specs.Int.{cast_signed}
+use Rattle.std.specs.Prelude.{◌≡◌, ℕ, zero, suc, ◌+◌, ◌-◌, ◌*◌, ◌^◌, ◌<◌, ◌≤◌, min, Bool, true, false, if◌then◌else◌}
+use Rattle.std.specs.Prelude.{List, [], ◌∷◌, ◌++◌, length, Option, None, MatchBool, MatchOption, IsSome, slice_index_or}
+use Rattle.std.specs.Map.{lookup}
+use Rattle.std.specs.Ordering.{is_eq, nat_cmp}
+use Rattle.zr_kinds.specs.declared.behaviour.Behaviour.{Behaviour}
+use Rattle.zr_kinds.specs.declared.behaviour.Stopped.{Stopped}
+use Rattle.zr_kinds.specs.declared.behaviour.Stopped.TheVariants.{No}
+use Rattle.zr_kinds.specs.declared.ring.Completion.{Completion}
+use Rattle.zr_kinds.specs.CopyingReceiver.{next_missing}
+use Rattle.area_layout.specs.Layout.{Shape, off_of}
+use Rattle.completion_ring.specs.Ring.{Ring}
+use Rattle.tcp_reorder.specs.Queue.{next_of}
+use Rattle.board_face.specs.declared.views.app.HeldPiece.{HeldPiece}
+use Rattle.board_face.specs.declared.views.app.TakenNote.{TakenNote}
+use Rattle.board_face.specs.declared.views.app.AppView.{AppView}
+use Rattle.app_worker.specs.declared.stack.Lending.{Lending}
+use Rattle.app_worker.specs.declared.stack.FlowQueue.{FlowQueue}
+use Rattle.app_worker.specs.Core.{total, Each, many, over_due, own_notes, BeginAt, placed_of, Stands}
+
+pub record State : Type 0 where
+  pub app : ℕ
+  pub how : Behaviour
+  -- how many notes it has taken
+  pub notes : ℕ
+  pub flows : List FlowQueue
+  -- the place of each flow, by its number
+  pub index : List (ℕ × ℕ)
+  -- the place of the flow that may have a piece in order
+  pub active : ℕ
+  -- what was reaped and isn't read yet, and how many of these there may be
+  pub unread : List (Completion × Lending)
+  pub room : ℕ
+  pub posted : Ring (Completion × Lending)
+  -- the loan that is to be given back
+  pub due : Option Lending
+  pub written : ℕ
+  pub loans : ℕ
+  pub stopped : Stopped
+  -- it was told that no note comes any more
+  pub ended : Bool
+  -- it has no piece and no loan any more
+  pub bare : Bool
+  -- it was sent a short payload while it wasn't stopped
+  pub short : Bool
+
+-- no piece of the flow is in order
+abbrev pub IsAtRest : FlowQueue → Type 0
+IsAtRest f = f.queue.popped ≡ next_of f.queue
+
+-- nor is one of any flow but that at this place
+abbrev pub RestBut : ℕ → List FlowQueue → Type 0
+RestBut place [] = Unit {0}
+RestBut zero (f ∷ fs) = Each IsAtRest fs
+RestBut (suc before) (f ∷ fs) = IsAtRest f × RestBut before fs
+
+-- what an index has of a number
+abbrev pub place_in : List (ℕ × ℕ) → ℕ → Option ℕ
+place_in index number = lookup (λ k. is_eq (nat_cmp number k)) index
+
+-- the index tells the place of each flow
+abbrev pub IsIndex : List (ℕ × ℕ) → List FlowQueue → Type 0
+IsIndex index flows = (number : ℕ) → MatchOption (place_in index number) (many number flows ≡ 0)
+    (λ i. (i < length flows) × ((d : FlowQueue) → (slice_index_or flows i d).number ≡ number))
+
+-- ---- while it goes on
+
+-- what a completion says of its loan
+pub record TellsOf (layout : Shape) (p : Completion × Lending) : Type 0 where
+  pub size : p.0.res ≡ cast_signed w32 p.1.loan.len
+  pub flags : p.0.flags ≡ 2
+  pub off : p.0.off ≡ off_of layout p.1.loan
+
+-- What it has out, and how far its flows are.
+pub record Working (st : State) (v : AppView) : Type 0 where
+  pub stands : Stands st.notes st.flows (st.unread ++ st.posted.entries) st.due v
+  pub completions : Each (TellsOf v.setting.layout) (st.unread ++ st.posted.entries)
+  pub rest : RestBut st.active st.flows
+  pub index : IsIndex st.index st.flows
+  -- once no note comes any more, nothing is in order
+  pub over : st.ended ≡ true → Each IsAtRest st.flows
+  pub going : st.stopped ≡ No
+  pub split : st.short ≡ false
+  pub live : st.bare ≡ false
+
+-- ---- once it has stopped, or has read all
+
+-- what was appended of a flow has its place
+pub record FlowEnds (taken : List TakenNote) (flow : FlowQueue) : Type 0 where
+  pub begun : BeginAt flow.queue.base (own_notes flow.number taken)
+  pub below : (p : ℕ) → p < flow.bytes → IsSome ((placed_of flow taken).at p)
+
+-- it has nothing out
+pub record Bare (st : State) (v : AppView) : Type 0 where
+  pub helds : v.helds ≡ []
+  pub loans : v.loans ≡ []
+  pub due : st.due ≡ None
+  pub unread : st.unread ≡ []
+  pub flows : Each (FlowEnds v.taken) st.flows
+  pub distinct : (number : ℕ) → many number st.flows ≤ 1
+  -- and where nothing stopped it, all of its flows was appended
+  pub whole : st.stopped ≡ No → st.short ≡ false → (st.ended ≡ true) × Each (λ f. f.bytes ≡ next_missing (placed_of f v.taken)) st.flows
+  pub known : st.stopped ≡ No → st.short ≡ false → (number : ℕ) → many number st.flows ≡ 0 → own_notes number v.taken ≡ []
+
+-- ---- always
+
+-- a count stays at 2^64 - 1
+abbrev pub capped : ℕ → ℕ
+capped n = min n (2 ^ 64 - 1)
+
+abbrev pub taken_len : TakenNote → ℕ
+taken_len t = t.note.place.len
+
+abbrev pub held_len : HeldPiece → ℕ
+held_len h = h.place.len
+
+pub record Common (st : State) (v : AppView) : Type 0 where
+  pub app : v.app ≡ st.app
+  pub ended : v.ended ≡ st.ended
+  pub counted : v.left ≡ false → v.scrubbed ≡ false
+  pub owns : v.owns ≡ []
+  pub spares : v.spares ≡ 0
+  pub some_places : 1 ≤ st.posted.places
+  pub within : length st.posted.entries ≤ st.posted.places
+  pub room : st.how.hold + st.posted.places ≤ st.room
+  pub loans : st.loans ≡ capped (length v.loans + length v.returned)
+  pub written : st.written ≡ capped (total (λ f. f.bytes) st.flows)
+  -- each loan was of a byte that was taken, and is of one that it doesn't hold any more
+  pub bound : length v.loans + length v.returned + total held_len v.helds ≤ total taken_len v.taken
+
+-- between two turns
+pub record AppStands (st : State) (v : AppView) : Type 0 where
+  pub common : Common st v
+  pub reaped : st.posted.entries ≡ []
+  pub mode : MatchBool st.bare (Bare st v) (Working st v)
+
+-- ---- how far it has come
+
+abbrev pub one_if : Bool → ℕ
+one_if b = if b then 1 else 0
+
+-- Notes, loans and entries, each at the place that it has come to, and what comes once. Each turn that did something
+-- raises it, and none lowers it.
+abbrev pub app_steps : State → AppView → ℕ
+app_steps st v = length v.taken + length v.loans + 3 * length v.returned + over_due (λ _. 1) st.due + one_if v.ended + one_if st.bare + one_if v.left
+
+-- it goes no further than the notes that were taken, and their bytes, let it
+abbrev pub furthest : AppView → ℕ
+furthest v = length v.taken + 3 * total taken_len v.taken + 4

@@ -1,0 +1,88 @@
+-- What a turn of an application does, and why it does nothing.
+use Rattle.std.specs.Prelude.{◌≡◌, ◌≢◌, ℕ, ◌<◌, ◌≤◌, ◌⊎◌, Bool, true, false, if◌then◌else◌, List, [], ◌∷◌, ◌++◌}
+use Rattle.std.specs.Prelude.{length, Option, None}
+use Rattle.zr_kinds.specs.declared.fault.Fault.TheVariants.{Memory as memory_fault, Write as write_fault}
+use Rattle.zr_kinds.specs.declared.behaviour.Stopped.TheVariants as stop
+use Rattle.zr_io.specs.Moved.{Rose}
+use Rattle.board_face.specs.Looks.{AppRose}
+use Rattle.board_face.specs.declared.views.app.AppLook.{AppLook}
+use Rattle.board_face.specs.declared.views.app.AppLook.TheVariants.{NoNote as no_note, RefillInUse, RawOnItsWay, NoSpare, NotQuiet as not_quiet}
+use Rattle.board_face.specs.declared.views.app.TakenNote.{TakenNote}
+use Rattle.board_face.specs.declared.views.app.AppView.{AppView}
+use Rattle.app_worker.specs.declared.turn.Turn.{Turn}
+use Rattle.app_worker.specs.declared.turn.Turn.TheVariants.{Did, Idle, Finished, Failed, NotYet}
+use Rattle.app_worker.specs.declared.turn.Why.{Why}
+use Rattle.app_worker.specs.declared.turn.Why.TheVariants.{NoNote, RefillFull, Unsettled, ReserveHeld, NotQuiet}
+use Rattle.app_worker.specs.Core.{Each}
+use Rattle.app_worker.specs.State.{State, IsAtRest, Working, AppStands, app_steps}
+use Rattle.app_worker.specs.Moves.{Moves, Goes}
+
+-- ---- a turn that did nothing
+
+-- tokens, notes, reads and entries are as before; what it knows of its refill slots, and its looks, may not be
+pub record IsAsBefore (was now : State) (old new : AppView) : Type 0 where
+  pub state : now ≡ was
+  pub view : new ≡ record old { settled = new.settled; quiet = new.quiet; looks = new.looks }
+
+abbrev pub look_of : Why → AppLook
+look_of NoNote = no_note
+look_of RefillFull = RefillInUse
+look_of Unsettled = RawOnItsWay
+look_of ReserveHeld = NoSpare
+look_of NotQuiet = not_quiet
+
+-- ---- when a note may be taken
+
+-- No piece of any flow is in order, each loan that was read was given back, and few enough completions are unread.
+pub record MayPoll (st : State) : Type 0 where
+  pub in_order : Each IsAtRest st.flows
+  pub given : st.due ≡ None
+  pub posted : st.posted.entries ≡ []
+  pub unread : length st.unread ≤ st.how.hold
+
+-- On its way the turn came to a state and a view in which a note may be taken, and no note was taken before.
+pub record Polled (was now : State) (old new : AppView) : Type 0 where
+  pub then_state : State
+  pub then_view : AppView
+  pub works : Working then_state then_view
+  pub may : MayPoll then_state
+  pub before : then_view.taken ≡ old.taken
+  pub to : Moves was then_state old then_view
+  pub from : Moves then_state now then_view new
+
+-- ---- the answers
+
+abbrev pub Answers : State → State → AppView → AppView → ℕ → ℕ → Turn → Type 0
+Answers was now old new faults faults_now Did = app_steps was old < app_steps now new
+Answers was now old new faults faults_now (Idle why) = IsAsBefore was now old new × AppRose (look_of why) old new
+Answers was now old new faults faults_now Finished = (old.left ≡ false) × (new.left ≡ true) × (now.bare ≡ true)
+Answers was now old new faults faults_now (Failed memory_fault) = (was.stopped ≡ stop.No) × (now.stopped ≡ stop.Memory)
+Answers was now old new faults faults_now (Failed write_fault) = (was.stopped ≡ stop.No) × (now.stopped ≡ stop.Write) × Rose faults faults_now
+Answers was now old new faults faults_now (Failed other) = ⊥
+Answers was now old new faults faults_now NotYet = (was.short ≡ false) × (now.short ≡ true)
+
+-- ---- a turn
+
+-- at most one note was taken
+abbrev pub TakesFew : AppView → AppView → Type 0
+TakesFew old new = (new.taken ≡ old.taken) ⊎ ((t : TakenNote) × (new.taken ≡ old.taken ++ t ∷ []))
+
+pub record Turns (was now : State) (old new : AppView) (kept kept_now : ℕ → Option (List ℕ)) (faults faults_now : ℕ) (result : Turn) : Type 0 where
+  pub stands : AppStands now new
+  pub goes : Goes was now old new kept kept_now
+  pub answer : Answers was now old new faults faults_now result
+  pub few : TakesFew old new
+  -- it leaves only where it says so
+  pub here : result ≢ Finished → new.left ≡ old.left
+  -- a note is taken only where that may be
+  pub polled : was.bare ≡ false → new.taken ≢ old.taken → Polled was now old new
+  -- and so is NoNote answered
+  pub none : was.bare ≡ false → result ≡ Idle NoNote → MayPoll was
+
+-- the turn, once something was done before: then it isn't idle
+abbrev pub turn_after : Bool → Turn → Turn
+turn_after did (Idle why) = if did then Did else Idle why
+turn_after did Did = Did
+turn_after did Finished = Finished
+turn_after did (Failed fault) = Failed fault
+turn_after did NotYet = NotYet

@@ -1,0 +1,141 @@
+-- What the steps of a turn do to all that an application keeps.
+use Rattle.std.specs.Prelude.{◌≡◌, ◌≢◌, ℕ, ◌+◌, ◌<◌, ◌≤◌, Bool, true, false, List, [], ◌∷◌, ◌++◌, length, slice_index_or}
+use Rattle.std.specs.Prelude.{◌⊎◌, Option, None}
+use Rattle.std.specs.Io.KnownBytes.{Keeps}
+use Rattle.zr_kinds.specs.declared.place.Note.{Note}
+use Rattle.zr_kinds.specs.CopyingReceiver.{values_from}
+use Rattle.zr_io.specs.Moved.{Gained, Rose}
+use Rattle.completion_ring.specs.Ring.{IsFull}
+use Rattle.board_face.specs.AppCalls.{AppOnlySaw, ToldEnd}
+use Rattle.board_face.specs.declared.views.app.AppLook.TheVariants.{NoNote as no_note, RawOnItsWay, RefillInUse}
+use Rattle.board_face.specs.declared.views.app.TakenNote.{TakenNote}
+use Rattle.board_face.specs.declared.views.app.AppView.{AppView}
+use Rattle.app_worker.specs.declared.stack.FlowQueue.{FlowQueue}
+use Rattle.app_worker.specs.declared.stack.Delivery.{Delivery}
+use Rattle.app_worker.specs.declared.stack.Delivery.TheVariants.{Did as lent_it, NoneInOrder, Full, Unsettled}
+use Rattle.app_worker.specs.declared.turning.Read.{Read}
+use Rattle.app_worker.specs.declared.turning.Read.TheVariants.{Did as read_it, NoneUnread, Failed}
+use Rattle.app_worker.specs.declared.turning.Taken.{Taken}
+use Rattle.app_worker.specs.declared.turning.Taken.TheVariants.{Did as took, Short, NoNote, Ended, Memory}
+use Rattle.app_worker.specs.Core.{total, HasTokens, Each, many, AreReadAt, placed_of}
+use Rattle.app_worker.specs.State.{State, IsAtRest, Working, Common, FlowEnds, app_steps}
+use Rattle.app_worker.specs.Shelves.{AreShelved, AreFronts}
+use Rattle.app_worker.specs.Moves.{Moves, Goes}
+
+-- what was kept of a flow went on by the bytes that were read at its next marks
+pub record Appended (flow : FlowQueue) (taken : List TakenNote) (new : AppView) (len : ℕ) (kept kept_now : ℕ → Option (List ℕ)) : Type 0 where
+  pub gained : Gained (kept flow.number) (kept_now flow.number) (λ bytes. AreReadAt new.reads (values_from (placed_of flow taken).at len flow.bytes) bytes)
+  pub others : (other : ℕ) → other ≢ flow.number → Keeps (kept other) (kept_now other)
+
+-- ---- the queue of a note's flow
+
+-- one that keeps nothing
+abbrev pub fresh_flow : Note → FlowQueue
+fresh_flow note = record { number = note.flow; queue = record { base = note.base; popped = 0; kept = [] }; bytes = 0 }
+
+-- it was there, or there was none and one was put behind the others
+abbrev pub IsChosen : List FlowQueue → List FlowQueue → Note → ℕ → Type 0
+IsChosen was now note i =
+    ((now ≡ was) × ((d : FlowQueue) → (slice_index_or now i d).number ≡ note.flow))
+    ⊎ ((many note.flow was ≡ 0) × (now ≡ was ++ fresh_flow note ∷ []) × (i ≡ length was))
+
+-- ---- lending
+
+-- The piece that is next in the stream was lent and posted.
+pub record LentOne (was now : State) (old new : AppView) : Type 0 where
+  pub steps : app_steps was old < app_steps now new
+  pub helds : total (λ _. 1) new.helds + 1 ≡ total (λ _. 1) old.helds
+  pub posted : length now.posted.entries ≡ length was.posted.entries + 1
+  pub same : now ≡ record was { flows = now.flows; posted = now.posted; loans = now.loans }
+  pub taken : new.taken ≡ old.taken
+  pub left : new.left ≡ old.left
+
+abbrev pub Lends : State → State → AppView → AppView → Delivery → Type 0
+Lends was now old new lent_it = LentOne was now old new
+Lends was now old new NoneInOrder = (now ≡ was) × (new ≡ old) × Each IsAtRest was.flows
+Lends was now old new Full = (now ≡ was) × (new ≡ old) × IsFull was.posted
+Lends was now old new Unsettled = (now ≡ was) × AppOnlySaw RawOnItsWay old new
+
+-- ---- giving back
+
+-- nothing is due any more
+pub record GaveOne (was now : State) (old new : AppView) : Type 0 where
+  pub same : now ≡ record was { due = None }
+  pub nothing : was.due ≡ None → new ≡ old
+  pub steps : was.due ≢ None → app_steps was old < app_steps now new
+  pub taken : new.taken ≡ old.taken
+  pub left : new.left ≡ old.left
+
+abbrev pub Gives : State → State → AppView → AppView → Bool → Type 0
+Gives was now old new true = GaveOne was now old new
+Gives was now old new false = (now ≡ was) × (was.due ≢ None) × AppOnlySaw RefillInUse old new
+
+-- ---- reading
+
+-- The oldest loan was read and appended, and is due.
+pub record ReadOne (was now : State) (old new : AppView) (kept kept_now : ℕ → Option (List ℕ)) : Type 0 where
+  pub working : Working now new
+  pub common : Common now new
+  pub goes : Goes was now old new kept kept_now
+  pub steps : app_steps was old < app_steps now new
+  pub unread : length was.unread ≡ length now.unread + 1
+  pub due : now.due ≢ None
+  pub same : now ≡ record was { flows = now.flows; unread = now.unread; due = now.due; written = now.written }
+  pub taken : new.taken ≡ old.taken
+  pub left : new.left ≡ old.left
+
+-- The tokens that are out are kept, and what was appended has its place.
+pub record Torn (st : State) (v : AppView) : Type 0 where
+  pub tokens : HasTokens st.flows (st.unread ++ st.posted.entries) st.due v
+  pub flows : Each (FlowEnds v.taken) st.flows
+  pub distinct : (number : ℕ) → many number st.flows ≤ 1
+
+-- The shelf failed.
+pub record ReadFailed (was now : State) (old new : AppView) (kept kept_now : ℕ → Option (List ℕ)) (faults faults_now : ℕ) : Type 0 where
+  pub torn : Torn now new
+  pub common : Common now new
+  pub moves : Moves was now old new
+  pub rose : Rose faults faults_now
+  pub fronts : (first : ℕ → Option (List ℕ)) → AreShelved first kept was.flows old → AreFronts first kept_now now.flows new
+  pub same : now ≡ record was { flows = now.flows; unread = now.unread; due = now.due; written = now.written }
+  pub taken : new.taken ≡ old.taken
+  pub left : new.left ≡ old.left
+
+abbrev pub Reads : State → State → AppView → AppView → (ℕ → Option (List ℕ)) → (ℕ → Option (List ℕ)) → ℕ → ℕ → Read → Type 0
+Reads was now old new kept kept_now faults faults_now read_it = ReadOne was now old new kept kept_now
+Reads was now old new kept kept_now faults faults_now NoneUnread = (now ≡ was) × (new ≡ old) × (was.unread ≡ []) × (kept_now ≡ kept)
+Reads was now old new kept kept_now faults faults_now Failed = ReadFailed was now old new kept kept_now faults faults_now
+
+-- ---- taking a note
+
+abbrev pub KeepsShelves : State → State → AppView → AppView → Type 0
+KeepsShelves was now old new = (first kept : ℕ → Option (List ℕ)) → AreShelved first kept was.flows old → AreShelved first kept now.flows new
+
+pub record TookOne (was now : State) (old new : AppView) : Type 0 where
+  pub working : Working now new
+  pub common : Common now new
+  pub moves : Moves was now old new
+  pub shelved : KeepsShelves was now old new
+  pub steps : app_steps was old < app_steps now new
+  pub note : TakenNote
+  pub taken : new.taken ≡ old.taken ++ note ∷ []
+  pub left : new.left ≡ old.left
+  pub same : now ≡ record was { notes = now.notes; flows = now.flows; index = now.index; active = now.active }
+
+-- a note was taken, and can't be kept
+pub record TookNone (was now : State) (old new : AppView) : Type 0 where
+  pub torn : Torn now new
+  pub common : Common now new
+  pub moves : Moves was now old new
+  pub shelved : KeepsShelves was now old new
+  pub note : TakenNote
+  pub taken : new.taken ≡ old.taken ++ note ∷ []
+  pub left : new.left ≡ old.left
+  pub same : now ≡ record was { notes = now.notes; flows = now.flows; index = now.index; active = now.active }
+
+abbrev pub Takes : State → State → AppView → AppView → Taken → Type 0
+Takes was now old new took = TookOne was now old new
+Takes was now old new Short = TookNone was now old new
+Takes was now old new Memory = TookNone was now old new
+Takes was now old new NoNote = (now ≡ was) × AppOnlySaw no_note old new
+Takes was now old new Ended = (now ≡ was) × ToldEnd old new

@@ -1,0 +1,77 @@
+//! A loan is read, and what was read is appended; and a loan is given back.
+ghost use Rattle.std.specs.Prelude.{◌≡◌, false, ◌≢◌, ℕ, ◌+◌, ◌-◌, ◌^◌, ◌<◌, ◌≤◌, List, length, IfSome, OnOk, OnErr};
+ghost use Rattle.std.specs.Io.KnownBytes.{Keeps};
+ghost use Rattle.zr_io.specs.Moved.{Gained, Rose};
+ghost use Rattle.board_face.specs.AppCalls.{IsHere};
+ghost use Rattle.app_worker.specs.Core.{LieApart, IsIn, lent_piece, OnlyReads, IsReadOf};
+ghost use Rattle.board_face.specs.AppEvents.{app_gist};
+ghost use Rattle.board_face.specs.declared.views.app.AppLook.TheVariants.{RefillInUse};
+ghost use Rattle.app_worker.specs.Steps.{Given};
+
+use crate::stack::Lending;
+use board_face::AppFace;
+use zr_io::{Failed, Shelf};
+
+/// How many bytes are read at once.
+const CHUNK: u32 = 4096;
+
+/// Reads a loan, and appends what it reads to a flow of the shelf. `bytes` counts the appends that went well.
+pub fn read_loan<F: AppFace, T: Shelf>(
+    face: &mut F,
+    lending: &Lending,
+    flow: u32,
+    bytes: &mut u64,
+    shelf: &mut T,
+) -> Result<(), Failed>
+    requires here { IsHere (F.seen face.old) }
+    requires apart { LieApart (F.seen face.old) }
+    requires out { IsIn (lent_piece lending.now) (F.seen face.old).loans }
+    requires room { bytes.old + lending.now.loan.len < 2 ^ 64 }
+    ensures only { OnlyReads (F.seen face.old) (F.seen face.new) }
+    ensures counted { (bytes.old ≤ bytes.new) × (bytes.new ≤ bytes.old + lending.now.loan.len) }
+    ensures whole { OnOk result (bytes.new ≡ bytes.old + lending.now.loan.len) }
+    ensures gained { Gained (T.kept shelf.old flow) (T.kept shelf.new flow)
+        (λ (read : List ℕ). IsReadOf (F.seen face.new).reads lending.now (bytes.new - bytes.old) read) }
+    ensures exact { OnOk result (Gained (T.kept shelf.old flow) (T.kept shelf.new flow)
+        (λ (read : List ℕ). IsReadOf (F.seen face.new).reads lending.now lending.now.loan.len read)) }
+    ensures others { (other : ℕ) → other ≢ flow → Keeps (T.kept shelf.old other) (T.kept shelf.new other) }
+    ensures later { T.faults shelf.old ≤ T.faults shelf.new }
+    ensures cause { OnErr result (Rose (T.faults shelf.old) (T.faults shelf.new)) }
+    ensures beside { F.beside face.new ≡ F.beside face.old }
+{
+    let len = lending.loan.place().len;
+    let mut buffer = [0; 4096];
+    let mut done = 0;
+    while done < len {
+        let n = (len - done).min(CHUNK);
+        let part = &mut buffer[..n as usize];
+        face.read(&lending.loan, done, part);
+        shelf.append(flow, part)?;
+        done += n;
+        *bytes += u64::from(n);
+    }
+    Ok(())
+}
+
+/// Gives a loan back that is due, if there is one: whether there is none any more. `false` says that the next refill
+/// slot was seen in use.
+pub fn give_due<F: AppFace>(face: &mut F, due: &mut Option<Lending>) -> bool
+    requires here { IsHere (F.seen face.old) }
+    requires apart { LieApart (F.seen face.old) }
+    requires out { IfSome due.old (λ l. IsIn (lent_piece l) (F.seen face.old).loans) }
+    ensures given { Given (F.seen face.old) (F.seen face.new) due.old due.new result }
+    ensures told { result ≡ false → F.tells RefillInUse (app_gist (F.seen face.new)) (F.beside face.new) }
+    ensures beside { F.beside face.new ≡ F.beside face.old }
+{
+    let Some(lending) = due.take() else {
+        return true;
+    };
+    let Lending { note, at, loan } = lending;
+    match face.give(loan) {
+        Ok(()) => true,
+        Err(loan) => {
+            *due = Some(Lending { note, at, loan });
+            false
+        }
+    }
+}

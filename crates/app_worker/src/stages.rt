@@ -1,0 +1,159 @@
+//! The stages of a turn: lending what is in order, and reading what is more than it keeps unread.
+ghost use Rattle.std.specs.Prelude.{◌≡◌, false, true, ℕ, ◌+◌, ◌≤◌, [], ◌++◌, List, Option, None, length};
+ghost use Rattle.completion_ring.specs.Ring.{ring};
+ghost use Rattle.board_face.specs.AppCalls.{IsHere, CanLeave};
+ghost use Rattle.board_face.specs.AppEvents.{app_gist};
+ghost use Rattle.board_face.specs.declared.views.app.AppLook.TheVariants.{RawOnItsWay, NotQuiet};
+ghost use Rattle.app_worker.specs.State.{Working, Common};
+ghost use Rattle.app_worker.specs.StateOf.{state_of};
+ghost use Rattle.app_worker.specs.Stages.{ReadsTo, LentSome, LendsAll, Leaves};
+
+use crate::letting::let_go;
+use crate::stack::{Delivery, Stack};
+use crate::turning::{Read, deliver_one, give_one, read_one};
+use board_face::AppFace;
+use zr_io::Shelf;
+use zr_kinds::Stopped;
+
+/// What reading did.
+#[derive(Clone, Copy, Debug, PartialEq, Eq)]
+pub enum Drained {
+    /// Nothing was to be read.
+    Nothing,
+    /// All that was to be read was, and was given back.
+    Did,
+    /// A loan was read, and can't be given back yet.
+    InUse,
+    /// The shelf failed, which stopped the application.
+    Failed,
+}
+
+/// What delivering did.
+#[derive(Clone, Copy, Debug, PartialEq, Eq)]
+pub enum Lent {
+    /// Nothing was in order.
+    Nothing,
+    /// Pieces were lent.
+    Did,
+    /// A piece is in order, and can't be lent yet.
+    Stuck,
+    /// The shelf failed, which stopped the application.
+    Failed,
+}
+
+/// Reaps all that is posted.
+fn reap_all(st: &mut Stack)
+    requires { length st.old.unread.items + length st.old.posted.entries ≤ st.old.unread.capacity }
+    ensures { state_of st.new ≡ record (state_of st.old) { unread = st.old.unread.items ++ st.old.posted.entries; posted = ring [] st.old.posted.places } }
+{
+    while let Some(entry) = st.posted.reap() {
+        let _ = st.unread.try_push_back(entry);
+    }
+}
+
+/// Reads and gives back the oldest loans, down to as many that it may keep unread.
+pub fn drain<F: AppFace, T: Shelf>(
+    face: &mut F,
+    st: &mut Stack,
+    shelf: &mut T,
+    keep: usize,
+) -> Drained
+    requires here { IsHere (F.seen face.old) }
+    requires working { Working (state_of st.old) (F.seen face.old) }
+    requires common { Common (state_of st.old) (F.seen face.old) }
+    requires due { st.old.due ≡ None }
+    requires reaped { st.old.posted.entries ≡ [] }
+    ensures reads { ReadsTo keep (state_of st.old) (state_of st.new) (F.seen face.old) (F.seen face.new) (T.kept shelf.old) (T.kept shelf.new)
+        (T.faults shelf.old) (T.faults shelf.new) result }
+    ensures later { T.faults shelf.old ≤ T.faults shelf.new }
+    ensures beside { F.beside face.new ≡ F.beside face.old }
+{
+    let mut did = false;
+    while st.unread.len() > keep {
+        let read = read_one(face, st, shelf);
+        if let Read::Failed = read {
+            let_go(face, st);
+            st.stopped = Stopped::Write;
+            return Drained::Failed;
+        }
+        did = true;
+        if !give_one(face, st) {
+            return Drained::InUse;
+        }
+    }
+    if did { Drained::Did } else { Drained::Nothing }
+}
+
+/// Lends pieces of the active flow, up to one that can't be lent: whether it lent one, and what ended it.
+fn lend_some<F: AppFace>(face: &mut F, st: &mut Stack) -> (bool, Delivery)
+    requires here { IsHere (F.seen face.old) }
+    requires working { Working (state_of st.old) (F.seen face.old) }
+    requires common { Common (state_of st.old) (F.seen face.old) }
+    requires more { st.old.ended ≡ false }
+    ensures lends { LentSome (state_of st.old) (state_of st.new) (F.seen face.old) (F.seen face.new) result.0 result.1 }
+    ensures told { result.1 ≡ Delivery.Unsettled → F.tells RawOnItsWay (app_gist (F.seen face.new)) (F.beside face.new) }
+    ensures beside { F.beside face.new ≡ F.beside face.old }
+{
+    let mut did = false;
+    loop {
+        match deliver_one(face, st) {
+            Delivery::Did => did = true,
+            end => return (did, end),
+        }
+    }
+}
+
+/// Lends all that is in order, and reads what is more than it keeps unread.
+pub fn lend_all<F: AppFace, T: Shelf>(face: &mut F, st: &mut Stack, shelf: &mut T) -> Lent
+    requires here { IsHere (F.seen face.old) }
+    requires working { Working (state_of st.old) (F.seen face.old) }
+    requires common { Common (state_of st.old) (F.seen face.old) }
+    requires more { st.old.ended ≡ false }
+    requires due { st.old.due ≡ None }
+    requires reaped { st.old.posted.entries ≡ [] }
+    requires few { length st.old.unread.items ≤ st.old.how.hold }
+    ensures lends { LendsAll (state_of st.old) (state_of st.new) (F.seen face.old) (F.seen face.new) (T.kept shelf.old) (T.kept shelf.new) (T.faults shelf.old)
+        (T.faults shelf.new) result }
+    ensures told { result ≡ Lent.Stuck → F.tells RawOnItsWay (app_gist (F.seen face.new)) (F.beside face.new) }
+    ensures later { T.faults shelf.old ≤ T.faults shelf.new }
+    ensures beside { F.beside face.new ≡ F.beside face.old }
+{
+    let mut did = false;
+    loop {
+        let (lent, end) = lend_some(face, st);
+        if !lent {
+            return match end {
+                _ if did => Lent::Did,
+                Delivery::Unsettled => Lent::Stuck,
+                _ => Lent::Nothing,
+            };
+        }
+        did = true;
+        reap_all(st);
+        match drain(face, st, shelf, st.how.hold as usize) {
+            Drained::InUse => return Lent::Did,
+            Drained::Failed => return Lent::Failed,
+            _ => {}
+        }
+    }
+}
+
+/// Scrubs and leaves, if each refill slot is free: whether it left.
+pub fn leave<F: AppFace>(face: &mut F) -> bool
+    requires here { IsHere (F.seen face.old) }
+    requires helds { (F.seen face.old).helds ≡ [] }
+    requires loans { (F.seen face.old).loans ≡ [] }
+    requires owns { (F.seen face.old).owns ≡ [] }
+    requires ended { (F.seen face.old).ended ≡ true }
+    requires counted { (F.seen face.old).scrubbed ≡ false }
+    ensures leaves { Leaves (F.seen face.old) (F.seen face.new) result }
+    ensures told { result ≡ false → F.tells NotQuiet (app_gist (F.seen face.new)) (F.beside face.new) }
+    ensures beside { F.beside face.new ≡ F.beside face.old }
+{
+    if !face.quiet() {
+        return false;
+    }
+    face.scrub();
+    face.leave();
+    true
+}

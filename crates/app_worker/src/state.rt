@@ -1,0 +1,156 @@
+//! What an application keeps between its turns, and its turn.
+ghost use Rattle.std.specs.Prelude.{◌≡◌, false, ℕ, ◌+◌, ◌≤◌, List, Option, IfOk};
+ghost use Rattle.board_face.specs.AppCalls.{IsHere};
+ghost use Rattle.board_face.specs.AppEvents.{app_gist};
+ghost use Rattle.board_face.specs.declared.views.app.AppView.{AppView};
+ghost use Rattle.app_worker.specs.declared.turn.Why.{Why};
+ghost use Rattle.app_worker.specs.declared.turn.Turn.TheVariants.{Idle, Finished};
+ghost use Rattle.zr_kinds.specs.declared.behaviour.Stopped.TheVariants.{No};
+ghost use Rattle.app_worker.specs.Marks.{AreWholeFrames};
+ghost use Rattle.app_worker.specs.Shelves.{AreShelved, AreFronts};
+ghost use Rattle.app_worker.specs.Streams.{HasFronts, HasAll};
+ghost use Rattle.app_worker.specs.State.{AppStands, app_steps, furthest};
+ghost use Rattle.app_worker.specs.Kept.{new_state, IsFresh, flow_bytes};
+ghost use Rattle.app_worker.specs.Turns.{Turns, look_of};
+
+use crate::stack::Stack;
+use crate::turn::Turn;
+use crate::working::turn;
+use board_face::AppFace;
+use circular_buffer::HeapCircularBuffer;
+use completion_ring::CqRing;
+use std::alloc::{AllocError, Global};
+use std::collections::BTreeMap;
+use std::marker::Model;
+use zr_io::Shelf;
+use zr_kinds::{Behaviour, Stopped};
+
+/// What an application keeps between its turns.
+#[derive(Drop)]
+pub struct AppState {
+    stack: Stack,
+}
+
+impl Model for AppState {
+    ghost use Rattle.app_worker.specs.State.{State};
+    ghost use Rattle.app_worker.specs.StateOf.{state_of};
+
+    ghost Value = { State };
+
+    ghost view = { λ s. state_of s.stack };
+}
+
+impl AppState {
+    /// An application that has taken no turn, with this many places in its completion ring. It takes the memory for
+    /// its rings here.
+    pub fn new(alloc: Global, app: u32, places: u32, how: Behaviour) -> Result<AppState, AllocError>
+        requires least { 1 ≤ places }
+        requires most { places ≤ 256 }
+        ensures state { IfOk result (λ st. st ≡ new_state app places how) }
+        ensures stands { IfOk result (λ st. (v : AppView) → IsFresh app v → AppStands st v) }
+    {
+        let room = how.hold as usize + places as usize;
+        let unread = HeapCircularBuffer::with_capacity(alloc, room)?;
+        let posted = CqRing::new(alloc, places as usize)?;
+        let stack = Stack {
+            app,
+            how,
+            notes: 0,
+            flows: Vec::new(alloc),
+            index: BTreeMap::new(alloc),
+            active: 0,
+            unread,
+            posted,
+            due: None,
+            written: 0,
+            loans: 0,
+            stopped: Stopped::No,
+            ended: false,
+            bare: false,
+            short: false,
+        };
+        Ok(AppState { stack })
+    }
+
+    /// How many bytes the appends that went well took, over all flows.
+    pub fn written(&self) -> u64
+        ensures { result ≡ self.now.written }
+    {
+        self.stack.written
+    }
+
+    /// How many completions were posted.
+    pub fn loans(&self) -> u64
+        ensures { result ≡ self.now.loans }
+    {
+        self.stack.loans
+    }
+
+    /// How many of these were of bytes that had to be copied: none, as long as no short payload is.
+    pub fn copied(&self) -> u64
+        ensures { result ≡ 0 }
+    {
+        0
+    }
+
+    /// What stopped it.
+    pub fn stopped(&self) -> Stopped
+        ensures { result ≡ self.now.stopped }
+    {
+        self.stack.stopped
+    }
+
+    /// How many bytes of a flow the appends that went well took.
+    pub fn flow_bytes(&self, flow: u32) -> u64
+        ensures { result ≡ flow_bytes flow self.now.flows }
+    {
+        let flows = &self.stack.flows;
+        let mut i = 0;
+        while i < flows.len() {
+            if flows[i].number == flow {
+                return flows[i].bytes;
+            }
+            i += 1;
+        }
+        0
+    }
+}
+
+/// One turn of an application.
+///
+/// Loans that are due are given back first. Where no piece of the active flow is in order, one note is taken, and what
+/// its flow wants of it enters the flow's queue. Then pieces in order are lent and posted, and what is more than the
+/// application keeps unread is read, appended and given back.
+pub fn app_turn<F: AppFace, T: Shelf>(
+    alloc: Global,
+    face: &mut F,
+    st: &mut AppState,
+    shelf: &mut T,
+) -> Turn
+    requires here { IsHere (F.seen face.old) }
+    requires stands { AppStands st.old (F.seen face.old) }
+    ensures turns { Turns st.old st.new (F.seen face.old) (F.seen face.new)
+        (T.kept shelf.old) (T.kept shelf.new) (T.faults shelf.old) (T.faults shelf.new) result }
+    // Where the pieces of each frame stand together among the notes, what the shelf has of each flow since the first turn
+    // was read at the first of the flow's marks.
+    ensures fronts { (first : ℕ → Option (List ℕ)) → AreWholeFrames (F.seen face.new).taken
+        → AreShelved first (T.kept shelf.new) st.new.flows (F.seen face.new)
+        → HasFronts first (T.kept shelf.new) (F.seen face.new) }
+    // Once the shelf has failed it may have some bytes more than are counted.
+    ensures failed { (first : ℕ → Option (List ℕ)) → AreWholeFrames (F.seen face.new).taken
+        → AreFronts first (T.kept shelf.new) st.new.flows (F.seen face.new)
+        → HasFronts first (T.kept shelf.new) (F.seen face.new) }
+    // It leaves with all of them, unless it was stopped, or sent a short payload.
+    ensures whole { (first : ℕ → Option (List ℕ)) → result ≡ Finished → st.new.stopped ≡ No → st.new.short ≡ false
+        → AreWholeFrames (F.seen face.new).taken
+        → AreShelved first (T.kept shelf.new) st.new.flows (F.seen face.new)
+        → HasAll first (T.kept shelf.new) (F.seen face.new) }
+    // It goes no further than the notes that were taken, and their bytes, let it.
+    ensures within { app_steps st.new (F.seen face.new) ≤ furthest (F.seen face.new) }
+    // What it saw is so, on a board for one thread.
+    ensures told { (why : Why) → result ≡ Idle why → F.tells (look_of why) (app_gist (F.seen face.new)) (F.beside face.new) }
+    ensures later { T.faults shelf.old ≤ T.faults shelf.new }
+    ensures beside { F.beside face.new ≡ F.beside face.old }
+{
+    turn(alloc, face, &mut st.stack, shelf)
+}

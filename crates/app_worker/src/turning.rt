@@ -1,0 +1,189 @@
+//! The steps of a turn, over all that an application keeps.
+ghost use Rattle.std.specs.Prelude.{◌≡◌, ◌≢◌, false, true, ℕ, ◌+◌, ◌-◌, ◌<◌, ◌≤◌, [], List, Option, None, length, MatchResult};
+ghost use Rattle.std.specs.Prelude.{OnOk};
+ghost use Rattle.board_face.specs.AppCalls.{IsHere};
+ghost use Rattle.board_face.specs.AppEvents.{app_gist};
+ghost use Rattle.board_face.specs.declared.views.app.AppLook.TheVariants.{RawOnItsWay, NoNote as no_note, RefillInUse};
+ghost use Rattle.app_worker.specs.Core.{Each};
+ghost use Rattle.app_worker.specs.State.{Working, Common, IsAtRest, IsIndex, place_in};
+ghost use Rattle.app_worker.specs.StateOf.{state_of};
+ghost use Rattle.app_worker.specs.Moves.{Goes};
+ghost use Rattle.app_worker.specs.Whole.{Lends, Gives, Takes, Reads, IsChosen};
+
+use crate::reading::{give_due, read_loan};
+use crate::stack::{Delivery, FlowQueue, Stack, Wanting, deliver, enter};
+use board_face::{AppFace, Polled};
+use std::alloc::Global;
+use std::collections::BTreeMap;
+use tcp_reorder::RecvQueue;
+use zr_io::{Failed, Shelf};
+use zr_kinds::Note;
+
+/// What a look for a note did.
+#[derive(Clone, Copy, Debug, PartialEq, Eq)]
+pub enum Taken {
+    /// A piece was taken, and what its flow wants of it entered the queue.
+    Did,
+    /// A short payload was taken.
+    Short,
+    NoNote,
+    Ended,
+    /// There was no memory.
+    Memory,
+}
+
+/// What a reading did.
+#[derive(Clone, Copy, Debug, PartialEq, Eq)]
+pub enum Read {
+    /// The oldest loan was read and appended, and is due.
+    Did,
+    /// Nothing is unread.
+    NoneUnread,
+    /// The shelf failed. The loan is due.
+    Failed,
+}
+
+/// Lends the piece that is next in the stream of the active flow, and posts it.
+pub fn deliver_one<F: AppFace>(face: &mut F, st: &mut Stack) -> Delivery
+    requires here { IsHere (F.seen face.old) }
+    requires working { Working (state_of st.old) (F.seen face.old) }
+    requires common { Common (state_of st.old) (F.seen face.old) }
+    requires more { st.old.ended ≡ false }
+    ensures working { Working (state_of st.new) (F.seen face.new) }
+    ensures common { Common (state_of st.new) (F.seen face.new) }
+    ensures goes { (kept : ℕ → Option (List ℕ)) → Goes (state_of st.old) (state_of st.new) (F.seen face.old) (F.seen face.new) kept kept }
+    ensures lends { Lends (state_of st.old) (state_of st.new) (F.seen face.old) (F.seen face.new) result }
+    ensures told { result ≡ Delivery.Unsettled → F.tells RawOnItsWay (app_gist (F.seen face.new)) (F.beside face.new) }
+    ensures beside { F.beside face.new ≡ F.beside face.old }
+{
+    if st.active >= st.flows.len() {
+        return Delivery::NoneInOrder;
+    }
+    let delivery = deliver(face, &mut st.flows[st.active], &mut st.posted);
+    if let Delivery::Did = delivery {
+        st.loans = st.loans.saturating_add(1);
+    }
+    delivery
+}
+
+/// Gives the loan back that is due, if one is: whether none is due any more.
+pub fn give_one<F: AppFace>(face: &mut F, st: &mut Stack) -> bool
+    requires here { IsHere (F.seen face.old) }
+    requires working { Working (state_of st.old) (F.seen face.old) }
+    requires common { Common (state_of st.old) (F.seen face.old) }
+    ensures working { Working (state_of st.new) (F.seen face.new) }
+    ensures common { Common (state_of st.new) (F.seen face.new) }
+    ensures goes { (kept : ℕ → Option (List ℕ)) → Goes (state_of st.old) (state_of st.new) (F.seen face.old) (F.seen face.new) kept kept }
+    ensures gives { Gives (state_of st.old) (state_of st.new) (F.seen face.old) (F.seen face.new) result }
+    ensures told { result ≡ false → F.tells RefillInUse (app_gist (F.seen face.new)) (F.beside face.new) }
+    ensures beside { F.beside face.new ≡ F.beside face.old }
+{
+    give_due(face, &mut st.due)
+}
+
+/// The place of the flow with this number.
+fn find(index: &BTreeMap<u64, usize>, number: u64) -> Option<usize>
+    ensures { result ≡ place_in index.now.entries number }
+{
+    index.get(&number).copied()
+}
+
+/// Reads the oldest loan that isn't read yet, and appends it. Then the loan is due.
+pub fn read_one<F: AppFace, T: Shelf>(face: &mut F, st: &mut Stack, shelf: &mut T) -> Read
+    requires here { IsHere (F.seen face.old) }
+    requires working { Working (state_of st.old) (F.seen face.old) }
+    requires common { Common (state_of st.old) (F.seen face.old) }
+    requires due { st.old.due ≡ None }
+    requires reaped { st.old.posted.entries ≡ [] }
+    ensures reads { Reads (state_of st.old) (state_of st.new) (F.seen face.old) (F.seen face.new) (T.kept shelf.old) (T.kept shelf.new) (T.faults shelf.old)
+        (T.faults shelf.new) result }
+    ensures later { T.faults shelf.old ≤ T.faults shelf.new }
+    ensures beside { F.beside face.new ≡ F.beside face.old }
+{
+    let Some((completion, lending)) = st.unread.pop_front() else {
+        return Read::NoneUnread;
+    };
+    let Some(i) = find(&st.index, completion.user_data) else {
+        // Each completion is of a flow that has a queue, so this is never reached.
+        st.due = Some(lending);
+        return Read::Failed;
+    };
+    let own = &mut st.flows[i];
+    let _next = own.queue.next_position();
+    let before = own.bytes;
+    let result = read_loan(face, &lending, own.number, &mut own.bytes, shelf);
+    let gained = own.bytes - before;
+    st.written = st.written.saturating_add(gained);
+    st.due = Some(lending);
+    match result {
+        Ok(()) => Read::Did,
+        Err(Failed) => Read::Failed,
+    }
+}
+
+/// The place of the queue of a note's flow, which is made where there is none.
+fn place_for(
+    alloc: Global,
+    flows: &mut Vec<FlowQueue>,
+    index: &mut BTreeMap<u64, usize>,
+    note: &Note,
+) -> Result<usize, Wanting>
+    requires { IsIndex index.old.entries flows.old.items }
+    ensures chosen { MatchResult result (λ i. (i < length flows.new.items) × IsChosen flows.old.items flows.new.items note.now i)
+        (λ _. (flows.new.items ≡ flows.old.items) × (index.new.entries ≡ index.old.entries)) }
+    ensures index { OnOk result (IsIndex index.new.entries flows.new.items) }
+{
+    let number = u64::from(note.flow);
+    if let Some(i) = find(index, number) {
+        return Ok(i);
+    }
+    let i = flows.len();
+    let own = FlowQueue {
+        number: note.flow,
+        queue: RecvQueue::new(alloc, note.base),
+        bytes: 0,
+    };
+    if flows.push(own).is_err() {
+        return Err(Wanting);
+    }
+    if index.insert(number, i).is_err() {
+        flows.pop();
+        return Err(Wanting);
+    }
+    Ok(i)
+}
+
+/// Takes a note. What its flow wants of a piece enters the flow's queue, and the rest is given up.
+pub fn take_note<F: AppFace>(alloc: Global, face: &mut F, st: &mut Stack) -> Taken
+    requires here { IsHere (F.seen face.old) }
+    requires working { Working (state_of st.old) (F.seen face.old) }
+    requires common { Common (state_of st.old) (F.seen face.old) }
+    requires rest { Each IsAtRest st.old.flows.items }
+    requires more { st.old.ended ≡ false }
+    ensures takes { Takes (state_of st.old) (state_of st.new) (F.seen face.old) (F.seen face.new) result }
+    ensures told { result ≡ Taken.NoNote → F.tells no_note (app_gist (F.seen face.new)) (F.beside face.new) }
+    ensures beside { F.beside face.new ≡ F.beside face.old }
+{
+    let mut linear = [0; 256];
+    let (note, held) = match face.poll(&mut linear) {
+        Polled::Note(note, held) => (note, held),
+        Polled::Linear(_) => return Taken::Short,
+        Polled::Empty => return Taken::NoNote,
+        Polled::Ended => return Taken::Ended,
+    };
+    let number = st.notes;
+    let Some(notes) = number.checked_add(1) else {
+        face.release(held);
+        return Taken::Memory;
+    };
+    let Ok(i) = place_for(alloc, &mut st.flows, &mut st.index, &note) else {
+        face.release(held);
+        return Taken::Memory;
+    };
+    st.notes = notes;
+    st.active = i;
+    match enter(face, &mut st.flows[i].queue, &note, number, held) {
+        Ok(()) => Taken::Did,
+        Err(Wanting) => Taken::Memory,
+    }
+}

@@ -1,0 +1,211 @@
+//! One turn of an application.
+ghost use Rattle.std.specs.Prelude.{◌≡◌, ◌≢◌, false, true, ℕ, ◌+◌, ◌≤◌, [], List, Option, None, length, if◌then◌else◌};
+ghost use Rattle.board_face.specs.AppCalls.{IsHere};
+ghost use Rattle.board_face.specs.AppEvents.{app_gist};
+ghost use Rattle.app_worker.specs.declared.turn.Why.{Why};
+ghost use Rattle.app_worker.specs.declared.turn.Turn.TheVariants.{Did, Idle};
+ghost use Rattle.app_worker.specs.Core.{Each};
+ghost use Rattle.app_worker.specs.State.{Working, Common, Bare, AppStands, IsAtRest};
+ghost use Rattle.app_worker.specs.StateOf.{state_of};
+ghost use Rattle.app_worker.specs.Turns.{Turns, look_of, turn_after};
+
+use crate::letting::let_go;
+use crate::stack::Stack;
+use crate::stages::{Drained, Lent, drain, leave, lend_all};
+use crate::turn::{Turn, Why};
+use crate::turning::{Taken, give_one, take_note};
+use board_face::{AppFace, Polled};
+use std::alloc::Global;
+use zr_io::Shelf;
+use zr_kinds::{Fault, Stopped};
+
+/// The turn, once something was done before: then it isn't idle.
+fn after(did: bool, turn: Turn) -> Turn
+    ensures { result ≡ turn_after did turn }
+{
+    match turn {
+        Turn::Idle(_) if did => Turn::Did,
+        other => other,
+    }
+}
+
+/// A turn of an application that has no piece and no loan any more.
+fn bare_turn<F: AppFace>(face: &mut F, st: &mut Stack) -> Turn
+    requires here { IsHere (F.seen face.old) }
+    requires bare { Bare (state_of st.old) (F.seen face.old) }
+    requires is_bare { st.old.bare ≡ true }
+    requires common { Common (state_of st.old) (F.seen face.old) }
+    requires reaped { st.old.posted.entries ≡ [] }
+    ensures turns { (kept : ℕ → Option (List ℕ)) (faults : ℕ)
+        → Turns (state_of st.old) (state_of st.new) (F.seen face.old) (F.seen face.new) kept kept faults faults result }
+    ensures told { (why : Why) → result ≡ Idle why → F.tells (look_of why) (app_gist (F.seen face.new)) (F.beside face.new) }
+    ensures beside { F.beside face.new ≡ F.beside face.old }
+{
+    if st.ended {
+        return if leave(face) {
+            Turn::Finished
+        } else {
+            Turn::Idle(Why::NotQuiet)
+        };
+    }
+    let mut linear = [0; 256];
+    match face.poll(&mut linear) {
+        Polled::Note(_, held) => {
+            face.release(held);
+            Turn::Did
+        }
+        Polled::Linear(_) => Turn::Did,
+        Polled::Empty => Turn::Idle(Why::NoNote),
+        Polled::Ended => {
+            st.ended = true;
+            if leave(face) {
+                Turn::Finished
+            } else {
+                Turn::Did
+            }
+        }
+    }
+}
+
+/// Reads all that is unread, gives all up and leaves.
+fn close<F: AppFace, T: Shelf>(face: &mut F, st: &mut Stack, shelf: &mut T) -> Turn
+    requires here { IsHere (F.seen face.old) }
+    requires working { Working (state_of st.old) (F.seen face.old) }
+    requires common { Common (state_of st.old) (F.seen face.old) }
+    requires ended { st.old.ended ≡ true }
+    requires due { st.old.due ≡ None }
+    requires reaped { st.old.posted.entries ≡ [] }
+    ensures turns { Turns (state_of st.old) (state_of st.new) (F.seen face.old) (F.seen face.new) (T.kept shelf.old) (T.kept shelf.new) (T.faults shelf.old)
+        (T.faults shelf.new) result }
+    ensures busy { (why : Why) → result ≢ Idle why }
+    ensures same { (F.seen face.new).taken ≡ (F.seen face.old).taken }
+    ensures later { T.faults shelf.old ≤ T.faults shelf.new }
+    ensures beside { F.beside face.new ≡ F.beside face.old }
+{
+    match drain(face, st, shelf, 0) {
+        Drained::InUse => return Turn::Did,
+        Drained::Failed => return Turn::Failed(Fault::Write),
+        _ => {}
+    }
+    let_go(face, st);
+    if leave(face) {
+        Turn::Finished
+    } else {
+        Turn::Did
+    }
+}
+
+/// Looks for a note, and goes on with what that brings.
+fn look<F: AppFace, T: Shelf>(alloc: Global, face: &mut F, st: &mut Stack, shelf: &mut T) -> Turn
+    requires here { IsHere (F.seen face.old) }
+    requires working { Working (state_of st.old) (F.seen face.old) }
+    requires common { Common (state_of st.old) (F.seen face.old) }
+    requires more { st.old.ended ≡ false }
+    requires rest { Each IsAtRest st.old.flows.items }
+    requires due { st.old.due ≡ None }
+    requires reaped { st.old.posted.entries ≡ [] }
+    requires few { length st.old.unread.items ≤ st.old.how.hold }
+    ensures turns { Turns (state_of st.old) (state_of st.new) (F.seen face.old) (F.seen face.new) (T.kept shelf.old) (T.kept shelf.new) (T.faults shelf.old)
+        (T.faults shelf.new) result }
+    ensures told { (why : Why) → result ≡ Idle why → F.tells (look_of why) (app_gist (F.seen face.new)) (F.beside face.new) }
+    ensures later { T.faults shelf.old ≤ T.faults shelf.new }
+    ensures beside { F.beside face.new ≡ F.beside face.old }
+{
+    match take_note(alloc, face, st) {
+        Taken::Did => match lend_all(face, st, shelf) {
+            Lent::Failed => Turn::Failed(Fault::Write),
+            _ => Turn::Did,
+        },
+        Taken::NoNote => Turn::Idle(Why::NoNote),
+        Taken::Ended => {
+            st.ended = true;
+            close(face, st, shelf)
+        }
+        Taken::Memory => {
+            let_go(face, st);
+            st.stopped = Stopped::Memory;
+            Turn::Failed(Fault::Memory)
+        }
+        Taken::Short => {
+            let_go(face, st);
+            st.short = true;
+            Turn::NotYet
+        }
+    }
+}
+
+/// Lends what is in order. Where nothing is, looks for a note.
+fn go_on<F: AppFace, T: Shelf>(alloc: Global, face: &mut F, st: &mut Stack, shelf: &mut T) -> Turn
+    requires here { IsHere (F.seen face.old) }
+    requires working { Working (state_of st.old) (F.seen face.old) }
+    requires common { Common (state_of st.old) (F.seen face.old) }
+    requires more { st.old.ended ≡ false }
+    requires due { st.old.due ≡ None }
+    requires reaped { st.old.posted.entries ≡ [] }
+    requires few { length st.old.unread.items ≤ st.old.how.hold }
+    ensures turns { Turns (state_of st.old) (state_of st.new) (F.seen face.old) (F.seen face.new) (T.kept shelf.old) (T.kept shelf.new) (T.faults shelf.old)
+        (T.faults shelf.new) result }
+    ensures told { (why : Why) → result ≡ Idle why → F.tells (look_of why) (app_gist (F.seen face.new)) (F.beside face.new) }
+    ensures later { T.faults shelf.old ≤ T.faults shelf.new }
+    ensures beside { F.beside face.new ≡ F.beside face.old }
+{
+    match lend_all(face, st, shelf) {
+        Lent::Did => Turn::Did,
+        Lent::Failed => Turn::Failed(Fault::Write),
+        Lent::Stuck => Turn::Idle(Why::Unsettled),
+        Lent::Nothing => look(alloc, face, st, shelf),
+    }
+}
+
+/// A turn of an application that goes on, once nothing is due.
+fn work<F: AppFace, T: Shelf>(alloc: Global, face: &mut F, st: &mut Stack, shelf: &mut T) -> Turn
+    requires here { IsHere (F.seen face.old) }
+    requires working { Working (state_of st.old) (F.seen face.old) }
+    requires common { Common (state_of st.old) (F.seen face.old) }
+    requires due { st.old.due ≡ None }
+    requires reaped { st.old.posted.entries ≡ [] }
+    ensures turns { Turns (state_of st.old) (state_of st.new) (F.seen face.old) (F.seen face.new) (T.kept shelf.old) (T.kept shelf.new) (T.faults shelf.old)
+        (T.faults shelf.new) result }
+    ensures told { (why : Why) → result ≡ Idle why → F.tells (look_of why) (app_gist (F.seen face.new)) (F.beside face.new) }
+    ensures later { T.faults shelf.old ≤ T.faults shelf.new }
+    ensures beside { F.beside face.new ≡ F.beside face.old }
+{
+    if st.ended {
+        return close(face, st, shelf);
+    }
+    match drain(face, st, shelf, st.how.hold as usize) {
+        Drained::Failed => Turn::Failed(Fault::Write),
+        Drained::InUse => Turn::Did,
+        Drained::Did => {
+            let turn = go_on(alloc, face, st, shelf);
+            after(true, turn)
+        }
+        Drained::Nothing => go_on(alloc, face, st, shelf),
+    }
+}
+
+/// A turn.
+pub fn turn<F: AppFace, T: Shelf>(
+    alloc: Global,
+    face: &mut F,
+    st: &mut Stack,
+    shelf: &mut T,
+) -> Turn
+    requires here { IsHere (F.seen face.old) }
+    requires stands { AppStands (state_of st.old) (F.seen face.old) }
+    ensures turns { Turns (state_of st.old) (state_of st.new) (F.seen face.old) (F.seen face.new) (T.kept shelf.old) (T.kept shelf.new) (T.faults shelf.old)
+        (T.faults shelf.new) result }
+    ensures told { (why : Why) → result ≡ Idle why → F.tells (look_of why) (app_gist (F.seen face.new)) (F.beside face.new) }
+    ensures later { T.faults shelf.old ≤ T.faults shelf.new }
+    ensures beside { F.beside face.new ≡ F.beside face.old }
+{
+    if st.bare {
+        return bare_turn(face, st);
+    }
+    let was_due = st.due.is_some();
+    if !give_one(face, st) {
+        return Turn::Idle(Why::RefillFull);
+    }
+    let turn = work(alloc, face, st, shelf);
+    after(was_due, turn)
+}
