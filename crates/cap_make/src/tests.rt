@@ -54,7 +54,7 @@ fn first_frame(rt: HostRuntime) -> Result<(), Fail> {
     Ok(())
 }
 
-/// Lengths and digests of the captures that another program makes (tools/make_capture.py with --flows 4 --overlap).
+/// Lengths and digests of the captures that another program makes: tools/compare_make.py.
 #[test]
 fn captures_of_another_program(rt: HostRuntime) -> Result<(), Fail> {
     let rows = [

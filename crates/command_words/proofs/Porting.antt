@@ -10,9 +10,9 @@ use Rattle.std.specs.List.{AllByRecursion, IsDistinct, list_any}
 use Rattle.std.proofs.lemmas.Bool.Decides.{nat_tests}
 use Rattle.command_words.specs.Numbers.{all_ports, is_distinct, is_port_list, port_of, ports_of, value_of, within}
 use Rattle.command_words.specs.Assigned.{Said}
-use Rattle.command_words.specs.Words.{HasPorts, IsPortList, Shown, command_shown, replay, replay_of}
+use Rattle.command_words.specs.Words.{HasPorts, IsPortList, Shown, command_shown, make, replay, replay_of}
 use Rattle.command_words.specs.declared.reading.Command.{Command}
-use Rattle.command_words.specs.declared.reading.Command.TheVariants.{Replay}
+use Rattle.command_words.specs.declared.reading.Command.TheVariants.{Make, Replay}
 use Rattle.command_words.proofs.Adding.{texts}
 
 abbrev pub onto : List ℕ → Option (List ℕ) → Option (List ℕ)
@@ -140,11 +140,13 @@ shown ports = replay (record { ports = ports })
 abbrev ports_shown : Option Shown → List ℕ
 ports_shown None = []
 ports_shown (Some (replay told)) = told.ports
+ports_shown (Some (make told)) = []
 
 -- a replay that is read has a list of ports
 pub replay_read : (said : Option Said) (command : Option Command) → option_map command_shown command ≡ option_and_then replay_of said
     → IfSome command HasPorts
 replay_read said None is = tt
+replay_read said (Some (Make told)) is = tt
 replay_read None (Some (Replay told)) is = cc
 replay_read (Some said) (Some (Replay told)) is = go (ports_of said.words) refl
   where

@@ -2,7 +2,7 @@
 use Rattle.std.specs.Prelude.{◌≡◌, ℕ, List, [], ◌∷◌, Option, Some, None, codes}
 use Rattle.std.proofs.Common.{refl}
 use Rattle.command_words.specs.Assigned.{Text, assigned, sorted}
-use Rattle.command_words.specs.Words.{Shown, reading_of, replay}
+use Rattle.command_words.specs.Words.{Shown, make, reading_of, replay}
 
 abbrev shown : List ℕ → Option Shown
 shown ports = Some (replay (record { ports = ports }))
@@ -73,8 +73,41 @@ unknown_option : reading_of (codes "replay" ∷ codes "--size=1024" ∷ codes "9
 unfolding assigned
 unknown_option = refl
 
-make : reading_of (codes "make" ∷ codes "7" ∷ codes "0" ∷ []) ≡ None
-make = refl
+-- ---- a seed and a number of frames
+
+abbrev made : ℕ → ℕ → Option Shown
+made seed frames = Some (make (record { seed = seed; frames = frames }))
+
+seed_and_frames : reading_of (codes "make" ∷ codes "7" ∷ codes "2000" ∷ []) ≡ made 7 2000
+unfolding assigned
+seed_and_frames = refl
+
+largest_seed : reading_of (codes "make" ∷ codes "4294967295" ∷ codes "--" ∷ codes "001000000" ∷ []) ≡ made 4294967295 1000000
+unfolding assigned
+largest_seed = refl
+
+seed_too_large : reading_of (codes "make" ∷ codes "4294967296" ∷ codes "0" ∷ []) ≡ None
+unfolding assigned
+seed_too_large = refl
+
+too_many_frames : reading_of (codes "make" ∷ codes "7" ∷ codes "1000001" ∷ []) ≡ None
+unfolding assigned
+too_many_frames = refl
+
+one_number : reading_of (codes "make" ∷ codes "7" ∷ []) ≡ None
+unfolding assigned
+one_number = refl
+
+three_numbers : reading_of (codes "make" ∷ codes "7" ∷ codes "0" ∷ codes "0" ∷ []) ≡ None
+unfolding assigned
+three_numbers = refl
+
+make_has_no_option : reading_of (codes "make" ∷ codes "--seed=7" ∷ codes "0" ∷ []) ≡ None
+unfolding assigned
+make_has_no_option = refl
+
+other_command : reading_of (codes "Make" ∷ codes "7" ∷ codes "0" ∷ []) ≡ None
+other_command = refl
 
 -- ---- with two options
 

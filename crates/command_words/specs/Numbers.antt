@@ -15,6 +15,10 @@ value_of word = if is_number word then Some (digits_value 10 word) else None
 abbrev pub within : ℕ → ℕ → ℕ → Option ℕ
 within least most number = if nat_le least number && nat_le number most then Some number else None
 
+-- a number of at most so much
+abbrev pub up_to : ℕ → List ℕ → Option ℕ
+up_to most word = option_and_then (within 0 most) (value_of word)
+
 abbrev pub port_of : List ℕ → Option ℕ
 port_of word = option_and_then (within 1 65535) (value_of word)
 

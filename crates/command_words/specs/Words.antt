@@ -1,10 +1,12 @@
 -- What the command's words mean.
-use Rattle.std.specs.Prelude.{ℕ, ◌≤◌, List, [], ◌∷◌, length, nat_eq, if◌then◌else◌, Option, None, option_and_then, option_map, codes, All}
+use Rattle.std.specs.Prelude.{ℕ, ◌≤◌, ⊤, List, [], ◌∷◌, length, nat_eq, if◌then◌else◌, Option, None, option_and_then, option_map}
+use Rattle.std.specs.Prelude.{codes, All}
 use Rattle.std.specs.List.{IsDistinct}
 use Rattle.std.specs.Str.{bytes_eq}
 use Rattle.command_words.specs.declared.reading.Command.{Command}
 use Rattle.command_words.specs.declared.reading.Replay.{Replay}
-use Rattle.command_words.specs.Numbers.{ports_of}
+use Rattle.command_words.specs.declared.making.Make.{Make}
+use Rattle.command_words.specs.Numbers.{ports_of, up_to}
 use Rattle.command_words.specs.Assigned.{Text, Said, sorted}
 
 -- what `replay` is told: its ports, in the order given
@@ -13,6 +15,7 @@ pub record ReplayShown : Type 0 where
 
 pub data Shown : Type 0 where
   replay : ReplayShown → Shown
+  make : Make → Shown
 
 -- a command as its definition shows it
 abbrev pub replay_shown : Replay → ReplayShown
@@ -20,6 +23,7 @@ replay_shown told = record { ports = told.ports.items }
 
 abbrev pub command_shown : Command → Shown
 command_shown (Command.Replay told) = replay (replay_shown told)
+command_shown (Command.Make told) = make told
 
 -- the options of `replay`
 abbrev pub option_names : List Text
@@ -28,11 +32,25 @@ option_names = []
 abbrev pub replay_of : Said → Option Shown
 replay_of said = option_map (λ ports. replay (record { ports = ports })) (ports_of said.words)
 
+-- a seed and a number of frames, and no other word
+abbrev pub numbers_of : List Text → Option Make
+numbers_of [] = None
+numbers_of (seed ∷ []) = None
+numbers_of (seed ∷ frames ∷ []) =
+    option_and_then (λ s. option_map (λ f. record { seed = s; frames = f }) (up_to 1000000 frames)) (up_to 4294967295 seed)
+numbers_of (seed ∷ frames ∷ more ∷ words) = None
+
+-- `make` has no options
+abbrev pub make_of : Option Said → Option Make
+make_of = option_and_then (λ said. numbers_of said.words)
+
 -- the words after the program's name, as a command
 abbrev pub reading_of : List Text → Option Shown
 reading_of [] = None
 reading_of (command ∷ words) =
-    if bytes_eq command (codes "replay") then option_and_then replay_of (sorted option_names words) else None
+    if bytes_eq command (codes "replay") then option_and_then replay_of (sorted option_names words)
+    else if bytes_eq command (codes "make") then option_map make (make_of (sorted [] words))
+    else None
 
 -- ports that a replay may have: 1 to 8, distinct, each from 1 to 65,535
 pub record IsPortList (ports : List ℕ) : Type 0 where
@@ -43,3 +61,4 @@ pub record IsPortList (ports : List ℕ) : Type 0 where
 
 abbrev pub HasPorts : Command → Type 0
 HasPorts (Command.Replay told) = IsPortList told.ports.items
+HasPorts (Command.Make told) = ⊤

@@ -3,9 +3,11 @@
 #![tactic(auto)]
 
 mod assign;
+mod making;
 mod numbers;
 mod reading;
 
+pub use making::Make;
 pub use reading::{Command, Replay, read_words};
 
 #[cfg(test)]

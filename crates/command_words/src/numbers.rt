@@ -4,7 +4,7 @@ ghost use Rattle.std.specs.Prelude.{◌≡◌, IfOk, map, nat_eq, option_map};
 ghost use Rattle.std.specs.Char.{is_ascii_digit};
 ghost use Rattle.std.specs.List.{list_all};
 ghost use Rattle.command_words.specs.Numbers.{all_ports, is_distinct, is_number, is_port_list};
-ghost use Rattle.command_words.specs.Numbers.{port_of, ports_of, value_of};
+ghost use Rattle.command_words.specs.Numbers.{port_of, ports_of, up_to, value_of};
 
 use std::alloc::{AllocError, Global};
 
@@ -26,6 +26,18 @@ fn read_number(word: &str) -> Option<u64>
 {
     if is_number(word) {
         word.parse::<u64>().ok()
+    } else {
+        None
+    }
+}
+
+/// The number of a word, of at most so much.
+pub fn read_up_to(most: u32, word: &str) -> Option<u32>
+    ensures { result ≡ up_to most word.now }
+{
+    let number = read_number(word)?;
+    if number <= u64::from(most) {
+        Some(number as u32)
     } else {
         None
     }

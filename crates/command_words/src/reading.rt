@@ -8,6 +8,7 @@ ghost use Rattle.command_words.specs.Assigned.{if_any, sorted};
 ghost use Rattle.command_words.specs.Asking.{port_id};
 ghost use Rattle.command_words.specs.Words.{HasPorts, command_shown, option_names, reading_of, replay_of};
 
+use crate::making::{Make, read_make};
 use crate::{assign, numbers};
 use clap::ArgMatches;
 use std::alloc::{AllocError, Global};
@@ -16,6 +17,7 @@ use std::alloc::{AllocError, Global};
 #[derive(Debug, Drop)]
 pub enum Command {
     Replay(Replay),
+    Make(Make),
 }
 
 /// What `replay` is told.
@@ -32,6 +34,12 @@ fn is_replay(word: &str) -> bool
     ensures { result ≡ bytes_eq word.now (codes "replay") }
 {
     word == "replay"
+}
+
+fn is_make(word: &str) -> bool
+    ensures { result ≡ bytes_eq word.now (codes "make") }
+{
+    word == "make"
 }
 
 fn ports_said(alloc: Global, said: &ArgMatches) -> Result<Option<Vec<u16>>, AllocError>
@@ -58,8 +66,9 @@ fn read_replay(alloc: Global, words: &[&str]) -> Result<Option<Command>, AllocEr
 
 /// The command that the words after the program's name ask for; `None` where they ask for none.
 ///
-/// `replay` takes 1 to 8 distinct ports, numbers from 1 to 65,535 of 1 to 18 ASCII digits; after `--` each word is a
-/// port. There is no text of help or of a version.
+/// `replay` takes 1 to 8 distinct ports, numbers from 1 to 65,535; `make` takes a seed from 0 to 4,294,967,295 and a
+/// number of frames from 0 to 1,000,000. Numbers have 1 to 18 ASCII digits; after `--` each word is one. There is no text
+/// of help or of a version.
 pub fn read_words(alloc: Global, words: &[&str]) -> Result<Option<Command>, AllocError>
     ensures reading { IfOk result (λ r. option_map command_shown r
         ≡ reading_of (map (λ w. w.now) words.now)) }
@@ -67,6 +76,7 @@ pub fn read_words(alloc: Global, words: &[&str]) -> Result<Option<Command>, Allo
 {
     match words {
         [first, ..] if is_replay(first) => read_replay(alloc, words),
+        [first, ..] if is_make(first) => Ok(read_make(alloc, words)?.map(Command::Make)),
         _ => Ok(None),
     }
 }

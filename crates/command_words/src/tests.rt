@@ -1,5 +1,5 @@
 use super::assign::{assign, plain_words};
-use super::{Command, read_words};
+use super::{Command, Make, read_words};
 use std::alloc::Global;
 use std::process::Abort;
 use std::test::Fail;
@@ -7,7 +7,7 @@ use std::test::Fail;
 fn expect_ports(rt: &impl Abort, alloc: Global, words: &[&str], want: &[u16]) -> Result<(), Fail> {
     match read_words(alloc, words)? {
         Some(Command::Replay(replay)) => assert_eq!(rt; replay.ports.as_slice(), want),
-        None => assert!(rt; false, "{words:?} have no reading"),
+        _ => assert!(rt; false, "{words:?} aren't read as a replay"),
     }
     Ok(())
 }
@@ -26,8 +26,27 @@ fn ports_are_read_in_their_order(rt: HostRuntime) -> Result<(), Fail> {
 }
 
 #[test]
+fn a_seed_and_a_number_of_frames_are_read(rt: HostRuntime) -> Result<(), Fail> {
+    let rows: [(&[&str], u32, u32); 6] = [
+        (&["make", "7", "2000"], 7, 2000),
+        (&["make", "0", "0"], 0, 0),
+        (&["make", "4294967295", "1000000"], u32::MAX, 1_000_000),
+        (&["make", "--", "007", "000000000000000001"], 7, 1),
+        (&["make", "1", "--", "2"], 1, 2),
+        (&["make", "1", "2", "--"], 1, 2),
+    ];
+    for (words, seed, frames) in rows {
+        match read_words(rt.alloc(), words)? {
+            Some(Command::Make(make)) => assert_eq!(&rt; make, Make { seed, frames }),
+            _ => assert!(&rt; false, "{words:?} aren't read"),
+        }
+    }
+    Ok(())
+}
+
+#[test]
 fn other_words_have_no_reading(rt: HostRuntime) -> Result<(), Fail> {
-    let rows: [&[&str]; 30] = [
+    let rows: [&[&str]; 39] = [
         &[],
         &["replay"],
         &["replay", "--"],
@@ -57,7 +76,16 @@ fn other_words_have_no_reading(rt: HostRuntime) -> Result<(), Fail> {
         &["--", "replay", "9000"],
         &["9000"],
         &["Replay", "9000"],
-        &["make", "7", "0"],
+        &["make"],
+        &["make", "7"],
+        &["make", "7", "0", "0"],
+        &["make", "7", "--", "0", "--"],
+        &["make", "4294967296", "0"],
+        &["make", "0", "1000001"],
+        &["make", "0000000000000000007", "0"],
+        &["make", "7", "-0"],
+        &["make", "--seed=7", "0"],
+        &["make", "7", "٩"],
     ];
     for words in rows {
         let reading = read_words(rt.alloc(), words)?;
