@@ -1,2 +1,3 @@
 pub mod Status
+pub mod Making
 pub mod StreamTheorem

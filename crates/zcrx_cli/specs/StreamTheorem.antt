@@ -4,7 +4,7 @@ use Rattle.std.specs.List.{list_any}
 use Rattle.zr_kinds.specs.declared.fault.Fault.{Fault}
 use Rattle.zr_kinds.specs.declared.fault.Fault.TheVariants.{Cut}
 use Rattle.zr_io.specs.Moved.{Rose, Took}
-use Rattle.command_words.specs.Words.{Shown, replay}
+use Rattle.command_words.specs.Words.{Shown, replay, make}
 use Rattle.copying_replay.specs.Ending.{ended_of}
 use Rattle.copying_replay.specs.Reading.{IsReadToEnd}
 use Rattle.copying_replay.specs.Streams.{losses_in}
@@ -13,6 +13,7 @@ use Rattle.copying_replay.specs.declared.outcome.Outcome.{Outcome}
 use Rattle.run_report.specs.Report.{report_of, Reports, answer_of}
 use Rattle.run_report.specs.declared.report.Unreported.{Unreported}
 use Rattle.zcrx_cli.specs.Status.{end_number, status_of}
+use Rattle.zcrx_cli.specs.Making.{Makes}
 
 -- Want of memory, a failed read and a lost shelf show in no byte. Any other status is that of what ended the reading.
 abbrev pub IsStatusOf : ℕ → Option Fault → Type 0
@@ -64,6 +65,8 @@ abbrev pub Commands : {S T O : Type 0} → (S → Option (List ℕ)) → (S → 
 Commands left failed kept losses sent refusals source source_now shelves shelves_now out out_now answer (replay told) =
     Replays left failed kept losses sent refusals source source_now shelves shelves_now out out_now told.ports answer
     ⊎ ((answer ≡ 1) × IsUntouched source source_now shelves shelves_now out out_now)
+Commands left failed kept losses sent refusals source source_now shelves shelves_now out out_now answer (make told) =
+    Makes sent refusals source source_now shelves shelves_now out out_now told.seed told.frames answer
 
 -- the report of an outcome, and the answer
 pub record Tells (sent now : Option (List ℕ)) (refusals refusals_now : ℕ) (outcome : Outcome) (answer : ℕ) : Type 0 where

@@ -4,6 +4,7 @@ mod drawn;
 mod faults;
 mod frames;
 mod limits;
+mod making;
 mod plain;
 mod ports;
 mod records;

@@ -10,16 +10,16 @@ use zr_io::{MemShelf, MemSink, MemSource, Source};
 /// How many flows a shelf has room for.
 const FLOWS: u32 = 12;
 
-/// How many bytes of a flow a shelf has room for: more than any test's stream.
+/// How many bytes of a flow a shelf has room for: more than a small test's stream.
 const STREAM_ROOM: usize = 200;
 
-/// How many bytes a sink has room for: more than any report here.
+/// How many bytes a sink has room for: more than a small test's report.
 const REPORT_ROOM: usize = 2000;
 
-/// The most bytes of a test's capture.
+/// The most bytes of a small test's capture.
 const MOST: usize = 3000;
 
-/// What a replay is given.
+/// What a call is given.
 #[derive(Clone, Copy)]
 pub struct Given<'a> {
     pub words: &'a [&'a str],
@@ -33,6 +33,21 @@ pub struct Given<'a> {
     pub shelf_fails: &'a [(u64, usize)],
     /// The calls of the sink that fail, with how many bytes go out before.
     pub sink_fails: &'a [(u64, usize)],
+    /// How many bytes of each flow a shelf has room for.
+    pub stream_room: usize,
+    /// How many bytes the sink has room for.
+    pub sink_room: usize,
+}
+
+/// What a call left.
+#[derive(Drop)]
+pub struct Left {
+    pub status: u8,
+    /// What the sink got.
+    pub sent: Vec<u8>,
+    pub shelves: Vec<MemShelf>,
+    /// What the source's next call gives.
+    pub next: Vec<u8>,
 }
 
 /// A replay of port 9000 where no call fails.
@@ -44,6 +59,8 @@ pub const fn faultless(bytes: &[u8]) -> Given<'_> {
         source_fails: &[],
         shelf_fails: &[],
         sink_fails: &[],
+        stream_room: STREAM_ROOM,
+        sink_room: REPORT_ROOM,
     }
 }
 
@@ -75,12 +92,12 @@ pub struct Row<'a> {
     pub report: &'a str,
 }
 
-/// Eight shelves. Calls of the first may fail.
-fn shelves(alloc: Global, fails: &[(u64, usize)]) -> Result<Vec<MemShelf>, Fail> {
+/// Eight shelves with room for so many bytes of each flow. Calls of the first may fail.
+fn shelves(alloc: Global, room: usize, fails: &[(u64, usize)]) -> Result<Vec<MemShelf>, Fail> {
     let mut shelves = Vec::with_capacity(alloc, SHELVES)?;
-    shelves.push(MemShelf::new(alloc, FLOWS, STREAM_ROOM, fails.to_vec(alloc)?)?)?;
+    shelves.push(MemShelf::new(alloc, FLOWS, room, fails.to_vec(alloc)?)?)?;
     for _ in 1..SHELVES {
-        shelves.push(MemShelf::new(alloc, FLOWS, STREAM_ROOM, Vec::new(alloc))?)?;
+        shelves.push(MemShelf::new(alloc, FLOWS, room, Vec::new(alloc))?)?;
     }
     Ok(shelves)
 }
@@ -96,15 +113,13 @@ fn wanted<'a>(streams: &[Stream<'a>], app: usize, flow: u32) -> &'a [u8] {
 }
 
 /// Every shelf has the streams of its application, and nothing else.
-fn check_shelves(rt: &impl Abort, row: &Row<'_>, shelves: &[MemShelf]) {
+pub fn check_shelves(rt: &impl Abort, name: &str, streams: &[Stream<'_>], shelves: &[MemShelf]) {
     for (app, shelf) in shelves.iter().enumerate() {
         for flow in 0..FLOWS {
-            let stream = wanted(row.streams, app, flow);
-            assert_eq!(rt;
-                shelf.flow(flow),
-                stream,
-                "{}: flow {flow} of shelf {app}",
-                row.name
+            let stream = wanted(streams, app, flow);
+            assert!(rt;
+                shelf.flow(flow) == stream,
+                "{name}: flow {flow} of shelf {app}"
             );
         }
     }
@@ -117,19 +132,18 @@ fn next_of(alloc: Global, source: &mut MemSource) -> Result<Vec<u8>, Fail> {
     Ok(next[..count].to_vec(alloc)?)
 }
 
-/// Replays, compares what is left, and gives what the source's next call gives.
-pub fn check(
+/// Runs the command.
+pub fn run(
     rt: &(impl Abort + AllocGlobal + RandomSource),
-    row: &Row<'_>,
-) -> Result<Vec<u8>, Fail> {
+    given: &Given<'_>,
+) -> Result<Left, Fail> {
     let alloc = rt.alloc();
-    let given = &row.given;
     assert!(rt; given.most >= 1);
     let bytes = given.bytes.to_vec(alloc)?;
     let mut source = MemSource::new(bytes, given.most, given.source_fails.to_vec(alloc)?);
-    let mut shelves = shelves(alloc, given.shelf_fails)?;
+    let mut shelves = shelves(alloc, given.stream_room, given.shelf_fails)?;
     assert_eq!(rt; shelves.len(), SHELVES);
-    let mut out = MemSink::new(alloc, REPORT_ROOM, given.sink_fails.to_vec(alloc)?)?;
+    let mut out = MemSink::new(alloc, given.sink_room, given.sink_fails.to_vec(alloc)?)?;
     let random = RandomState::new(rt)?;
     let status = zcrx(
         alloc,
@@ -139,8 +153,22 @@ pub fn check(
         &mut shelves,
         &mut out,
     );
-    assert_eq!(rt; str::from_utf8(out.bytes())?, row.report, "{}", row.name);
-    assert_eq!(rt; status, row.status, "{}", row.name);
-    check_shelves(rt, row, &shelves);
-    next_of(alloc, &mut source)
+    Ok(Left {
+        status,
+        sent: out.bytes().to_vec(alloc)?,
+        shelves,
+        next: next_of(alloc, &mut source)?,
+    })
+}
+
+/// Replays, compares what is left, and gives what the source's next call gives.
+pub fn check(
+    rt: &(impl Abort + AllocGlobal + RandomSource),
+    row: &Row<'_>,
+) -> Result<Vec<u8>, Fail> {
+    let left = run(rt, &row.given)?;
+    assert_eq!(rt; str::from_utf8(&left.sent)?, row.report, "{}", row.name);
+    assert_eq!(rt; left.status, row.status, "{}", row.name);
+    check_shelves(rt, row.name, row.streams, &left.shelves);
+    Ok(left.next)
 }
