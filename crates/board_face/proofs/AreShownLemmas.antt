@@ -37,13 +37,13 @@ use Rattle.board_face.proofs.AppLemmas.{IsNext, SameHoldings, scrubbed_side}
 use Rattle.board_face.proofs.TextsByEvent.{CardIsShown-placed, CardIsShown-sent, CardIsShown-same, IsShown-text_at, AppIsShown-nic, AppIsShown-sent_other}
 use Rattle.board_face.proofs.TextsByEvent.{AppIsShown-sent, AppIsShown-dealt, AppIsShown-took_note, AppIsShown-took_linear, AppIsShown-cut, AppIsShown-released}
 use Rattle.board_face.proofs.TextsByEvent.{AppIsShown-lent, AppIsShown-abandoned, AppIsShown-got_spare, AppIsShown-lent_own, AppIsShown-scrubbed}
-use Rattle.board_face.proofs.TextsByEvent.{AppIsShown-same, CardIsShown-begun, CardIsShown-text_done, CardIsShown-making, AppIsShown-begun, AppIsShown-text_done}
-use Rattle.board_face.proofs.TextsByEvent.{AppIsShown-making}
+use Rattle.board_face.proofs.TextsByEvent.{AppIsShown-same, CardIsShown-begun, CardIsShown-text_done, CardIsShown-making, AppIsShown-begun}
+use Rattle.board_face.proofs.TextsByEvent.{AppIsShown-text_done, AppIsShown-making}
 use Rattle.board_face.proofs.ArePlacedLemmas.{less_spare, spare-free, places-none, ArePlaced-nic, ArePlaced-took, ArePlaced-shut, ArePlaced-sent}
 use Rattle.board_face.proofs.ArePlacedLemmas.{ArePlaced-sent_linear, ArePlaced-honoured, ArePlaced-passed_over, ArePlaced-placed, ArePlaced-begun}
 use Rattle.board_face.proofs.ArePlacedLemmas.{ArePlaced-text_done, ArePlaced-making, ArePlaced-same, ArePlaced-took_note, ArePlaced-took_linear, ArePlaced-cut}
-use Rattle.board_face.proofs.ArePlacedLemmas.{ArePlaced-released, ArePlaced-lent, ArePlaced-abandoned, ArePlaced-gave, ArePlaced-got_spare, ArePlaced-spare_begun}
-use Rattle.board_face.proofs.ArePlacedLemmas.{ArePlaced-filled, ArePlaced-lent_own, ArePlaced-scrubbed}
+use Rattle.board_face.proofs.ArePlacedLemmas.{ArePlaced-released, ArePlaced-lent, ArePlaced-abandoned, ArePlaced-gave, ArePlaced-got_spare}
+use Rattle.board_face.proofs.ArePlacedLemmas.{ArePlaced-spare_begun, ArePlaced-filled, ArePlaced-lent_own, ArePlaced-scrubbed}
 use Rattle.board_face.proofs.StoresAtLemmas.{StoresAt, HasNoText, HasNoText-behind, HasNoText-making, CardIsShown-stored_at, AppsAreShown-stored_at}
 
 All-in : {A : Type 0} (P Q : A → Type 0) (xs : List A) → ((x : A) → Contains xs x → P x → Q x) → All P xs → All Q xs

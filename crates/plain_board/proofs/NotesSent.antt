@@ -179,7 +179,9 @@ if-false false t u e same = same
 pub IsSound-sent_linear : (board : Board) (a : ℕ) (x : AppSide) (note : Note) (room bytes : List ℕ) → IsSound board → IsApp board.apps a x
     → IsOpen board.nic.view → IsLinearNote note → note.total ≡ length bytes → take note.total room ≡ bytes
     → length (get_or board.arrays.notes a (buffer [] 0)).items < (get_or board.arrays.notes a (buffer [] 0)).capacity → IsSound (record {
-      arrays = record board.arrays { notes = set board.arrays.notes a (pushed (get_or board.arrays.notes a (buffer [] 0)) (record { note = note; bytes = room })) };
+      arrays = record board.arrays {
+        notes = set board.arrays.notes a (pushed (get_or board.arrays.notes a (buffer [] 0)) (record { note = note; bytes = room }));
+      };
       nic = nic_at board.nic (sent_linear board.nic.view a note bytes);
       apps = board.apps;
     })

@@ -68,5 +68,6 @@ returns-in-Err-copy_frame-clause-turn g c = λ first_source first_shelves ports 
     let refused = c.in-Err-copy_frame.ensures.copies first_shelves ports (frames_of records) stands.follows in
     let ends = ends-frame stands.read later (g.S.Source.faults c.next.new.source) frame original took
     ((c.in-Ok-Some.ensures.cause stands.is_open).still (λ failed. cc))
-    (λ all. Follows g.T.Shelf.kept g.T.Shelf.faults first_shelves c.copy_frame.new.shelves ports all c.copy_frame.new.self) c.in-Err-copy_frame.fault refused in
+    (λ all. Follows g.T.Shelf.kept g.T.Shelf.faults first_shelves c.copy_frame.new.shelves ports all c.copy_frame.new.self)
+    c.in-Err-copy_frame.fault refused in
     record { before = frames_of records; ended = ends.0; follows = ends.1 }

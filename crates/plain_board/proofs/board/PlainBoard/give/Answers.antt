@@ -50,7 +50,14 @@ invariant_of-self-2 c =
     let within = rw (← c.self.view_is) at c.requires.app in
     let out = rw (← c.self.view_is) at c.requires.out in
     let here = here-of _ c.args.app c.self.invariant.0 within in
-    rw (c.note_at-2.ensures, c.lower.ensures.counts, c.user_index-user.ensures, c.if-not-put_back.ensures.slots, c.off_of.ensures.value, c.place-place.ensures) (
+    rw (
+      c.note_at-2.ensures,
+      c.lower.ensures.counts,
+      c.user_index-user.ensures,
+      c.if-not-put_back.ensures.slots,
+      c.off_of.ensures.value,
+      c.place-place.ensures,
+    ) (
       IsSound-gave _ c.args.app _ c.args.loan c.self.invariant.0 here out _ _ (same-entry _ c.args.app _ c.args.loan c.self.invariant.0 here out) refl
           (c.if-not-put_back.ensures.room refl),
       c.self.invariant.1,
