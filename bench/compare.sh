@@ -5,7 +5,8 @@
 #
 #   one        one flow in order; and zcrx on a capture twice as long, which shows whether its memory grows with it
 #   four       four flows to four ports, interleaved, each in order
-#   reordered  the same with every second pair of a flow's frames swapped, and 6 in 100 frames beginning 100 bytes early
+#   reordered  the same with every second pair of a flow's frames swapped, and 6 in 100 frames beginning 100 bytes early:
+#              the capture that `zcrx make` makes
 #   waiting    one flow whose first payload comes last, behind 1,000, 10,000 and 40,000 kept pieces
 #
 # RUNS is 5 if left out, and the cases are all four. ZCRX=FILE names another program than crates/zcrx_cli/out/zcrx_cli,
@@ -21,6 +22,7 @@ cases=("${@:2}")
 top=$(cd "$(dirname "$0")/.." && pwd)
 work=$top/bench/captures
 zcrx=$(realpath -m "${ZCRX:-$top/crates/zcrx_cli/out/zcrx_cli}")
+writer=$top/tools/make_capture.py
 frames=100000
 kept_counts=(1000 10000 40000)
 
@@ -42,12 +44,12 @@ require_programs() {
     fi
 }
 
-# make_capture FILE FRAMES OPTION..
+# make_capture FILE COMMAND..: keeps what the command writes
 make_capture() {
     local file=$1
     shift
     [ -f "$file" ] && return
-    python3 "$top/tools/make_capture.py" 7 "$@" >"$file.part" && mv "$file.part" "$file" || fail "no capture $file"
+    "$@" >"$file.part" && mv "$file.part" "$file" || fail "no capture $file"
 }
 
 # measure NAME CAPTURE COMMAND..: runs the command in a new folder NAME, and adds 'microseconds KiB' to NAME.runs
@@ -103,10 +105,10 @@ compare_bytes() { # FLOWS
     echo "same bytes: $(cat "$work"/zcrx/flow-*.bin | wc -c) in $1 flow(s)"
 }
 
-# compare TITLE FLOWS CAPTURE FRAMES OPTION..
+# compare TITLE FLOWS CAPTURE FRAMES COMMAND.., where the command writes the capture
 compare() {
     local title=$1 flows=$2 capture=$work/$3 count=$4
-    make_capture "$capture" "$count" "${@:5}"
+    make_capture "$capture" "${@:5}"
     remove_outputs
     cat "$capture" >/dev/null # so that each run finds it in memory
     local run
@@ -120,7 +122,7 @@ compare() {
 }
 
 compare_memory() {
-    make_capture "$work/one-longer.pcap" $((2 * frames)) --in-order
+    make_capture "$work/one-longer.pcap" "$writer" 7 $((2 * frames))
     run_zcrx longer "$work/one-longer.pcap" 1
     [ "$(stat -c %s "$work/longer/flow-0.bin")" -eq $((2000 * frames)) ] || fail "the longer stream has another length"
     echo "zcrx on a capture twice as long: peak $(peak longer) KiB, against $(peak zcrx) KiB"
@@ -134,14 +136,15 @@ run_case() {
     local kept
     case $1 in
     one)
-        compare "one flow in order" 1 one.pcap $frames --in-order
+        compare "one flow in order" 1 one.pcap $frames "$writer" 7 $frames
         compare_memory
         ;;
-    four) compare "four flows in order" 4 four.pcap $frames --flows 4 --in-order ;;
-    reordered) compare "four flows, swapped and overlapping" 4 reordered.pcap $frames --flows 4 --overlap ;;
+    four) compare "four flows in order" 4 four.pcap $frames "$writer" 7 $frames --flows 4 ;;
+    reordered) compare "four flows, swapped and overlapping" 4 reordered.pcap $frames "$zcrx" make 7 $frames ;;
     waiting)
         for kept in "${kept_counts[@]}"; do
-            compare "one flow behind $kept kept pieces" 1 "waiting-$kept.pcap" $((kept + 1)) --first-last
+            compare "one flow behind $kept kept pieces" 1 "waiting-$kept.pcap" $((kept + 1)) \
+                "$writer" 7 $((kept + 1)) --first-last
         done
         ;;
     *) fail "no case $1" ;;

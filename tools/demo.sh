@@ -1,13 +1,16 @@
 #!/usr/bin/env bash
-# Replays the demo capture in the empty folder demo/, and shows the report and each stream. The status is the program's.
+# Replays the demo capture in the empty folder demo/, and shows the report and each stream. Then the program makes a
+# capture, and replays it in demo/made/. The status is the first of the program's that isn't 0.
 #
 # usage: tools/demo.sh
 #
 # ZCRX=FILE names another program than crates/zcrx_cli/out/zcrx_cli, which `make build` leaves there.
 cd "$(dirname "$0")/.." || exit 1
-rm -rf demo && mkdir demo && cd demo || exit 1
+zcrx=$(realpath -m "${ZCRX:-crates/zcrx_cli/out/zcrx_cli}")
+capture=$PWD/demo-data/hello.pcap
+rm -rf demo && mkdir -p demo/made && cd demo || exit 1
 
-"${ZCRX:-../crates/zcrx_cli/out/zcrx_cli}" replay 9000 9001 <../demo-data/hello.pcap
+"$zcrx" replay 9000 9001 <"$capture"
 status=$?
 
 for stream in flow-*.bin; do
@@ -16,4 +19,9 @@ for stream in flow-*.bin; do
     cat "$stream"
     echo
 done
-exit $status
+[ $status -eq 0 ] || exit $status
+
+cd made || exit 1
+echo "zcrx make 7 2000, replayed:"
+"$zcrx" make 7 2000 >made.pcap || exit
+"$zcrx" replay 9000 9001 9002 9003 <made.pcap

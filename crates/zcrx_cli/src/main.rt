@@ -1,6 +1,6 @@
 //! `zcrx replay PORT..` replays the capture on standard input: it writes the stream of each TCP flow to one of the ports
 //! into `flow-<number>.bin` in the current folder, and a report to standard output. The status that ends the report is
-//! the exit status too.
+//! the exit status too. `zcrx make SEED FRAMES` writes a capture to standard output.
 #![tactic(auto)]
 
 ghost use Rattle.std.specs.Prelude.{◌≡◌, IfOk, vec_len};

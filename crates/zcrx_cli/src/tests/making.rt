@@ -1,5 +1,5 @@
 //! What `make` writes, and what a replay of it gives.
-use super::frames::{FILE_HEADER, PSH_ACK, capture_of, to_9000};
+use super::frames::FILE_HEADER;
 use super::runs::{Given, Row, Stream, check, check_shelves, faultless, run};
 use frame_headers::{Seen, Segment, read_frame};
 use pcap_reader::Capture;
@@ -18,23 +18,27 @@ const LONG: usize = 500_000;
 /// The sequence number of the first byte of each flow.
 const BASE: u32 = 4_294_960_000;
 
-/// Calls `make` with these words and compares its status. Source and shelves have to be as before. Gives what went out.
+/// What the source has, which isn't read.
+const UNREAD: &[u8] = b"left alone";
+
+/// A call of `make` where no call of the sink fails.
+const fn made_by<'a>(words: &'a [&'a str]) -> Given<'a> {
+    Given {
+        words,
+        sink_room: ROOM,
+        ..faultless(UNREAD)
+    }
+}
+
+/// Calls `make` and compares its status. Source and shelves have to be as before. Gives what went out.
 fn make(
     rt: &(impl Abort + AllocGlobal + RandomSource),
-    words: &[&str],
-    sink_fails: &[(u64, usize)],
+    given: &Given<'_>,
     status: u8,
 ) -> Result<Vec<u8>, Fail> {
-    let bytes = capture_of(rt.alloc(), &[to_9000(1001, PSH_ACK, b"hello")])?;
-    let given = Given {
-        words,
-        sink_fails,
-        sink_room: ROOM,
-        ..faultless(&bytes)
-    };
-    let left = run(rt, &given)?;
-    assert_eq!(rt; left.status, status, "{words:?}");
-    assert_eq!(rt; left.next.as_slice(), bytes.as_slice(), "{words:?}");
+    let left = run(rt, given)?;
+    assert_eq!(rt; left.status, status);
+    assert_eq!(rt; left.next.as_slice(), given.bytes);
     check_shelves(rt, "make", &[], &left.shelves);
     Ok(left.sent)
 }
@@ -49,7 +53,7 @@ fn no_frame_leaves_the_file_header(rt: HostRuntime) -> Result<(), Fail> {
         &["make", "000000004294967295", "0"],
     ];
     for words in rows {
-        let sent = make(&rt, words, &[], 0)?;
+        let sent = make(&rt, &made_by(words), 0)?;
         assert_eq!(&rt; sent.as_slice(), FILE_HEADER.as_slice(), "{words:?}");
     }
     Ok(())
@@ -75,7 +79,7 @@ fn faulty_words_of_make_are_answered_by_2(rt: HostRuntime) -> Result<(), Fail> {
         &["Make", "7", "0"],
     ];
     for words in rows {
-        let sent = make(&rt, words, &[], 2)?;
+        let sent = make(&rt, &made_by(words), 2)?;
         assert!(&rt; sent.is_empty(), "{words:?}");
     }
     Ok(())
@@ -97,7 +101,7 @@ fn bytes_of(alloc: Global, flow: usize, count: usize) -> Result<Vec<u8>, Fail> {
 
 #[test]
 fn one_frame_is_replayed(rt: HostRuntime) -> Result<(), Fail> {
-    let made = make(&rt, &["make", "7", "1"], &[], 0)?;
+    let made = make(&rt, &made_by(&["make", "7", "1"]), 0)?;
     assert_eq!(&rt; made.len(), 1094);
     let stream = bytes_of(rt.alloc(), 0, 1000)?;
     let row = Row {
@@ -127,7 +131,7 @@ status 0
 #[test]
 fn two_thousand_frames_are_replayed(rt: HostRuntime) -> Result<(), Fail> {
     let alloc = rt.alloc();
-    let made = make(&rt, &["make", "7", "2000"], &[], 0)?;
+    let made = make(&rt, &made_by(&["make", "7", "2000"]), 0)?;
     let bytes = [
         bytes_of(alloc, 0, LONG)?,
         bytes_of(alloc, 1, LONG)?,
@@ -135,12 +139,9 @@ fn two_thousand_frames_are_replayed(rt: HostRuntime) -> Result<(), Fail> {
         bytes_of(alloc, 3, LONG)?,
     ];
     let mut streams = Vec::new(alloc);
-    for (app, flow) in (0..4).zip(0..4) {
-        streams.push(Stream {
-            app,
-            flow,
-            bytes: &bytes[app],
-        })?;
+    for (app, bytes) in bytes.iter().enumerate() {
+        let flow = u32::try_from(app)?;
+        streams.push(Stream { app, flow, bytes })?;
     }
     let row = Row {
         name: "make 7 2000",
@@ -174,9 +175,13 @@ status 0
 #[test]
 fn a_sink_that_fails_is_answered_by_9(rt: HostRuntime) -> Result<(), Fail> {
     let words = ["make", "7", "3"];
-    let whole = make(&rt, &words, &[], 0)?;
+    let whole = make(&rt, &made_by(&words), 0)?;
     for (call, count) in [(1, 10), (2, 34), (3, 1104), (4, 2174)] {
-        let sent = make(&rt, &words, &[(call, 10)], 9)?;
+        let failing = Given {
+            sink_fails: &[(call, 10)],
+            ..made_by(&words)
+        };
+        let sent = make(&rt, &failing, 9)?;
         assert_eq!(&rt; sent.len(), count, "call {call}");
         assert!(&rt; whole.starts_with(&sent), "call {call}");
     }
@@ -217,7 +222,7 @@ impl Came {
 fn each_frame_brings_one_run(rt: HostRuntime) -> Result<(), Fail> {
     let alloc = rt.alloc();
     for seed in ["7", "0", "1", "4294967295", "123456789"] {
-        let made = make(&rt, &["make", seed, "400"], &[], 0)?;
+        let made = make(&rt, &made_by(&["make", seed, "400"]), 0)?;
         let mut source = MemSource::new(made, 65_536, Vec::new(alloc));
         let mut capture = Capture::open(&mut source).map_err(|_| "no capture")?;
         let mut frame = Vec::new(alloc);
