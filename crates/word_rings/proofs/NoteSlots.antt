@@ -1,0 +1,95 @@
+-- A note and its slot.
+use Rattle.std.proofs.Common.{◌≡◌, ℕ, zero, suc, ◌+◌, ◌/◌, ◌%◌, ◌<◌, ◌==◌, Bool, true, false, if◌then◌else◌}
+use Rattle.std.proofs.Common.{List, [], ◌∷◌, ◌++◌, length, drop, slice_index, refl, sym, ap, ◌∙◌, arith}
+use Rattle.std.proofs.lemmas.List.{append-nil}
+use Rattle.zr_kinds.specs.declared.place.Note.{Note}
+use Rattle.word_rings.specs.Slots.{pair, low_of, high_of, flags_of, words_of, note_slot, note_of, linear_of, IsNoteSlot}
+
+-- ---- two numbers in a word
+
+pub pair_back : (w : ℕ) → pair (low_of w) (high_of w) ≡ w
+pair_back w = omega arith
+
+-- ---- flags
+
+split_back : (split fin : Bool) → (((if split then 1 else 0) + (if fin then 2 else 0)) % 2 == 1) ≡ split
+split_back false false = refl
+split_back false true = refl
+split_back true false = refl
+split_back true true = refl
+
+fin_back : (split fin : Bool) → (((if split then 1 else 0) + (if fin then 2 else 0)) / 2 % 2 == 1) ≡ fin
+fin_back false false = refl
+fin_back false true = refl
+fin_back true false = refl
+fin_back true true = refl
+
+few : (split fin : Bool) → (if split then 1 else 0) + (if fin then 2 else 0) < 4
+few false false = omega arith
+few false true = omega arith
+few true false = omega arith
+few true true = omega arith
+
+-- flags below 4 are those of the two bits
+flags_back : (n : ℕ) → n < 4 → (if n % 2 == 1 then 1 else 0) + (if n / 2 % 2 == 1 then 2 else 0) ≡ n
+flags_back zero h = refl
+flags_back (suc zero) h = refl
+flags_back (suc (suc zero)) h = refl
+flags_back (suc (suc (suc zero))) h = refl
+flags_back (suc (suc (suc (suc n)))) h = absurd (omega arith)
+
+-- ---- a note, and back
+
+-- the note of the words as they were stored
+pub note_back : (n : Note) (w1 w2 w3 w4 w5 w6 : ℕ) (dst : List ℕ) → low_of w1 ≡ n.frame → high_of w1 ≡ n.flow → low_of w2 ≡ n.base
+    → high_of w2 ≡ n.seq
+    → low_of w3 ≡ n.at → high_of w3 ≡ n.total → low_of w4 ≡ n.place.buffer → high_of w4 ≡ n.place.offset → low_of w5 ≡ n.place.len
+    → high_of w5 ≡ flags_of n → note_of (1 ∷ w1 ∷ w2 ∷ w3 ∷ w4 ∷ w5 ∷ w6 ∷ dst) ≡ n
+note_back n w1 w2 w3 w4 w5 w6 dst frame flow base seq at total buffer offset len flags =
+    rw (frame, flow, base, seq, at, total, buffer, offset, len, flags, split_back n.split n.fin, fin_back n.split n.fin) refl
+
+-- its flags are those that a note may have
+pub is_slot : (n : Note) (w1 w2 w3 w4 w5 w6 : ℕ) (dst : List ℕ) → high_of w5 ≡ flags_of n
+    → IsNoteSlot (1 ∷ w1 ∷ w2 ∷ w3 ∷ w4 ∷ w5 ∷ w6 ∷ dst)
+is_slot n w1 w2 w3 w4 w5 w6 dst high = record { full = refl; flags = let below = few n.split n.fin in omega arith }
+
+-- the words as they were stored are the slot's
+pub slot_is : (n : Note) (linear : List ℕ) (area : ℕ) (w1 w2 w3 w4 w5 w6 : ℕ) (dst : List ℕ) → w1 ≡ pair n.frame n.flow → w2 ≡ pair n.base n.seq
+    → w3 ≡ pair n.at n.total → w4 ≡ pair n.place.buffer n.place.offset → w5 ≡ pair n.place.len (flags_of n) → w6 ≡ area
+    → dst ≡ words_of 32 linear → 1 ∷ w1 ∷ w2 ∷ w3 ∷ w4 ∷ w5 ∷ w6 ∷ (dst ++ []) ≡ note_slot n linear area
+slot_is n linear area w1 w2 w3 w4 w5 w6 dst e1 e2 e3 e4 e5 e6 payload = rw (append-nil dst, e1, e2, e3, e4, e5, e6, payload) refl
+
+-- ---- a slot, and back
+
+seven : (w : List ℕ) (n : ℕ) → length w ≡ 7 + n
+    → w ≡ slice_index w 0 ∷ slice_index w 1 ∷ slice_index w 2 ∷ slice_index w 3 ∷ slice_index w 4 ∷ slice_index w 5 ∷ slice_index w 6
+    ∷ drop 7 w
+seven (a ∷ b ∷ c ∷ d ∷ e ∷ f ∷ g ∷ w) n len = refl
+seven (a ∷ b ∷ c ∷ d ∷ e ∷ f ∷ []) n len = absurd (omega arith)
+seven (a ∷ b ∷ c ∷ d ∷ e ∷ []) n len = absurd (omega arith)
+seven (a ∷ b ∷ c ∷ d ∷ []) n len = absurd (omega arith)
+seven (a ∷ b ∷ c ∷ []) n len = absurd (omega arith)
+seven (a ∷ b ∷ []) n len = absurd (omega arith)
+seven (a ∷ []) n len = absurd (omega arith)
+seven [] n len = absurd (omega arith)
+
+first_word : (w : List ℕ) → slice_index w 0 ≡ 1
+    → 1 ∷ slice_index w 1 ∷ slice_index w 2 ∷ slice_index w 3 ∷ slice_index w 4 ∷ slice_index w 5 ∷ slice_index w 6 ∷ drop 7 w
+    ≡ slice_index w 0 ∷ slice_index w 1 ∷ slice_index w 2 ∷ slice_index w 3 ∷ slice_index w 4 ∷ slice_index w 5 ∷ slice_index w 6 ∷ drop 7 w
+first_word w full = ap
+    (λ (f : ℕ). f ∷ slice_index w 1 ∷ slice_index w 2 ∷ slice_index w 3 ∷ slice_index w 4 ∷ slice_index w 5 ∷ slice_index w 6 ∷ drop 7 w)
+    (sym full)
+
+pub slot_back : (w : List ℕ) → length w ≡ 39 → IsNoteSlot w → words_of 32 (linear_of w) ≡ drop 7 w
+    → note_slot (note_of w) (linear_of w) (slice_index w 6) ≡ w
+slot_back w len slot payload =
+    let flags = flags_back (high_of (slice_index w 5)) slot.flags in
+    rw (
+      pair_back (slice_index w 1),
+      pair_back (slice_index w 2),
+      pair_back (slice_index w 3),
+      pair_back (slice_index w 4),
+      flags,
+      pair_back (slice_index w 5),
+      payload,
+    ) (first_word w slot.full ∙ sym (seven w 32 len))

@@ -1,0 +1,70 @@
+-- The words of a note slot and of a refill slot. The first word of each is its flag, which is 1 where the slot is full.
+use Rattle.std.specs.Prelude.{◌≡◌, ℕ, zero, suc, ◌+◌, ◌*◌, ◌/◌, ◌%◌, ◌^◌, ◌<◌, ◌==◌, if◌then◌else◌}
+use Rattle.std.specs.Prelude.{List, [], ◌∷◌, drop, flat_map, slice_index}
+use Rattle.byteorder.specs.Endian.{little_number, little_bytes}
+use Rattle.zr_kinds.specs.declared.place.Note.{Note}
+use Rattle.zr_kinds.specs.declared.ring.Rqe.{Rqe}
+
+-- two numbers below 2^32 in one word, the first in the lower half
+abbrev pub pair : ℕ → ℕ → ℕ
+pair low high = low + 2 ^ 32 * high
+
+abbrev pub low_of : ℕ → ℕ
+low_of word = word % 2 ^ 32
+
+abbrev pub high_of : ℕ → ℕ
+high_of word = word / 2 ^ 32
+
+-- bit 0 says that the note is split, bit 1 that its frame has FIN
+abbrev pub flags_of : Note → ℕ
+flags_of n = (if n.split then 1 else 0) + (if n.fin then 2 else 0)
+
+-- so many words of these bytes, eight in each, the first in the lowest 8 bits, and 0 where there are none
+abbrev pub words_of : ℕ → List ℕ → List ℕ
+words_of zero bytes = []
+words_of (suc more) bytes = little_number 8 bytes ∷ words_of more (drop 8 bytes)
+
+-- the bytes of these words
+abbrev pub bytes_of : List ℕ → List ℕ
+bytes_of words = flat_map (little_bytes 8) words
+
+-- ---- a note slot
+
+-- a full one: flag, fields, area, and the 256 bytes in which an unsplit payload travels
+abbrev pub note_slot : Note → List ℕ → ℕ → List ℕ
+note_slot n linear area =
+    1 ∷ pair n.frame n.flow ∷ pair n.base n.seq ∷ pair n.at n.total ∷ pair n.place.buffer n.place.offset ∷ pair n.place.len (flags_of n)
+    ∷ area ∷ words_of 32 linear
+
+-- the note of a slot
+abbrev pub note_of : List ℕ → Note
+note_of w = record {
+  frame = low_of (slice_index w 1);
+  flow = high_of (slice_index w 1);
+  base = low_of (slice_index w 2);
+  seq = high_of (slice_index w 2);
+  at = low_of (slice_index w 3);
+  total = high_of (slice_index w 3);
+  place = record { buffer = low_of (slice_index w 4); offset = high_of (slice_index w 4); len = low_of (slice_index w 5) };
+  split = high_of (slice_index w 5) % 2 == 1;
+  fin = high_of (slice_index w 5) / 2 % 2 == 1;
+}
+
+-- the 256 bytes of a slot
+abbrev pub linear_of : List ℕ → List ℕ
+linear_of w = bytes_of (drop 7 w)
+
+-- ---- a refill slot
+
+-- a full one: flag, off, len and pad
+abbrev pub refill_slot : Rqe → List ℕ
+refill_slot e = 1 ∷ e.off ∷ pair e.len e.pad ∷ []
+
+-- the entry of a slot
+abbrev pub entry_of : List ℕ → Rqe
+entry_of w = record { off = slice_index w 1; len = low_of (slice_index w 2); pad = high_of (slice_index w 2) }
+
+-- a full slot with flags that a note may have
+pub record IsNoteSlot (w : List ℕ) : Type 0 where
+  pub full : slice_index w 0 ≡ 1
+  pub flags : high_of (slice_index w 5) < 4
