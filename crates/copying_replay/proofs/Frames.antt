@@ -1,63 +1,19 @@
 -- One more frame was taken, or it ends the reading.
-use Rattle.std.proofs.Common.{◌≡◌, ◌≢◌, ℕ, suc, ◌+◌, List, [], ◌∷◌, ◌++◌, length, Bool, Option, Some, None, Ok, Err, option_to_list}
-use Rattle.std.proofs.Common.{refl, sym, ap, subst, ◌∙◌, arith}
-use Rattle.std.proofs.lemmas.Bool.{eq-eqb, ne_eqb}
+use Rattle.std.proofs.Common.{◌≡◌, ◌≢◌, ℕ, List, [], ◌∷◌, ◌++◌, length, Bool, Option, Some, None, Ok, Err}
+use Rattle.std.proofs.Common.{sym, ap, subst, ◌∙◌}
 use Rattle.zr_kinds.specs.declared.fault.Fault.{Fault}
 use Rattle.zr_kinds.specs.declared.fault.Fault.TheVariants.{Memory, Usage, NotPcap, Version, LinkType, Cut, LongRecord, Read, Write, TooManyFlows}
 use Rattle.zr_kinds.specs.declared.fault.Fault.TheVariants.{TooManyFrames}
 use Rattle.frame_headers.specs.FrameClass.{class_of}
-use Rattle.frame_headers.specs.Seen.{class_seen, segment_seen, segment_of}
-use Rattle.frame_headers.specs.declared.segment.Seen.{Seen}
-use Rattle.frame_headers.specs.declared.segment.Seen.TheVariants as seen
-use Rattle.flow_table.specs.Steered.{steer, steered_of, segments_of}
 use Rattle.flow_table.specs.Flows.{flows_of}
-use Rattle.flow_table.proofs.FlowLaws.{steered_of-push}
-use Rattle.copying_replay.specs.Ending.{steered_in, steered_next, flow_ending, ending_at}
-use Rattle.copying_replay.specs.Tally.{counted}
+use Rattle.frames_read.specs.Ending.{steered_in, steered_next, flow_ending, ending_at}
+use Rattle.frames_read.specs.Tally.{counted}
+use Rattle.frames_read.proofs.Framing.{steered-more, ending-flow}
+use Rattle.frames_read.proofs.Tallies.{tally-more}
 use Rattle.copying_replay.specs.Streams.{placed_of}
 use Rattle.copying_replay.specs.Taking.{Carries, TakesNext}
 use Rattle.copying_replay.specs.Copying.{Follows, CopiesFrame}
 use Rattle.copying_replay.specs.declared.copier.Copier.{Copier}
-use Rattle.copying_replay.proofs.Tallies.{tally-more}
-
--- ---- the steered segments
-
-segments-more : (frames : List (List ℕ)) (frame : List ℕ)
-    → segments_of (frames ++ frame ∷ []) ≡ segments_of frames ++ segment_of (class_of frame) ∷ []
-segments-more [] frame = refl
-segments-more (first ∷ frames) frame = ap (λ others. segment_of (class_of first) ∷ others) (segments-more frames frame)
-
-length-segments : (frames : List (List ℕ)) → length (segments_of frames) ≡ length frames
-length-segments [] = refl
-length-segments (first ∷ frames) = ap suc (length-segments frames)
-
-steered-more : (ports : List ℕ) (frames : List (List ℕ)) (frame : List ℕ)
-    → steered_in ports (frames ++ frame ∷ []) ≡ steered_in ports frames ++ option_to_list (steered_next ports frames frame)
-steered-more ports frames frame =
-    let last = segment_of (class_of frame) in
-    let count : 1 + length (segments_of frames) ≡ suc (length frames) = omega (arith, length-segments frames) in
-    ap (steered_of ports) (segments-more frames frame) ∙ steered_of-push ports (segments_of frames) last
-    ∙ ap (λ n. steered_in ports frames ++ option_to_list (steer ports n last)) count
-
--- ---- the ending
-
-pub ending-limit : (ports : List ℕ) (frames : List (List ℕ)) (frame : List ℕ) → length frames ≡ 16777216
-    → ending_at ports frames frame ≡ Some TooManyFrames
-unfolding ending_at
-ending-limit ports frames frame limit = rw (eq-eqb (length frames) 16777216 limit) refl
-
-ending-flow : (ports : List ℕ) (frames : List (List ℕ)) (frame : List ℕ) → length frames ≢ 16777216
-    → ending_at ports frames frame ≡ flow_ending (flows_of (steered_in ports frames)) (steered_next ports frames frame)
-unfolding ending_at
-ending-flow ports frames frame below = rw (ne_eqb (length frames) 16777216 below) refl
-
--- what was seen, as the definition has it
-pub seen-segment : (found : Seen) → segment_seen found ≡ segment_of (class_seen found)
-seen-segment (seen.Tcp segment) = refl
-seen-segment seen.Other = refl
-seen-segment seen.Fragment = refl
-seen-segment seen.CutShort = refl
-seen-segment seen.Bad = refl
 
 -- ---- the frame was taken
 
@@ -95,7 +51,7 @@ module _ {T : Type 0} {kept : T → ℕ → Option (List ℕ)} {losses : T
       by_fault : (fault : Fault) → TakesNext (steered_in ports frames) (steered_next ports frames frame)
           (λ all. Carries kept losses first now (flows_of all) (placed_of all) later.streams) (Err fault)
           → CopiesFrame ports frames frame (λ all. Follows kept losses first now ports all later) (Err fault)
-      by_fault Memory (goes, begins, carries) = (ending-flow ports frames frame below ∙ goes, begins, stands carries)
+      by_fault Memory (goes, begins, carries) = ((ending-flow ports frames frame below ∙ goes, begins), stands carries)
       by_fault Usage (is, carries) = (ends Usage is, stands carries)
       by_fault NotPcap (is, carries) = (ends NotPcap is, stands carries)
       by_fault Version (is, carries) = (ends Version is, stands carries)

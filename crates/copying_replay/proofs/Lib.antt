@@ -1,9 +1,7 @@
-pub mod Reading
 pub mod Turns
 pub mod Places
 pub mod Placing
 pub mod Flowing
-pub mod Tallies
 pub mod Delivering
 pub mod Takings
 pub mod Frames

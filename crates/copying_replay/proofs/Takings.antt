@@ -18,7 +18,7 @@ use Rattle.flow_table.proofs.FlowLaws.{flows_of-push, steer-some, steer-none, fl
 use Rattle.flow_table.proofs.FlowLaws.{length-flows_with-seen, number_of_flow-cases}
 use Rattle.flow_table.specs.KnownFlows.{KnownFlows}
 use Rattle.flow_table.specs.Placing.{steered_to, number_for, IsPlaced}
-use Rattle.copying_replay.specs.Ending.{flow_ending, BeginsFlow}
+use Rattle.frames_read.specs.Ending.{flow_ending, BeginsFlow}
 use Rattle.copying_replay.specs.Streams.{IsLineOf, placed_of, Stands}
 use Rattle.copying_replay.specs.Taking.{line_seen, SameFlows, JoinsFlow, PlacesIn, Carries, TakesNext}
 use Rattle.copying_replay.specs.declared.state.Streams.{Streams}

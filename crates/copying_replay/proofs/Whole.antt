@@ -9,8 +9,8 @@ use Rattle.zr_kinds.specs.declared.outcome.AppLine.{AppLine}
 use Rattle.zr_io.proofs.Moved.{Gained-weaker}
 use Rattle.flow_table.specs.Steered.{steered_of}
 use Rattle.flow_table.specs.Flows.{flows_of}
-use Rattle.copying_replay.specs.Ending.{steered_in}
-use Rattle.copying_replay.specs.Tally.{no_tally}
+use Rattle.frames_read.specs.Ending.{steered_in}
+use Rattle.frames_read.specs.Tally.{no_tally}
 use Rattle.copying_replay.specs.Streams.{kept_in, losses_in, IsStreamed, IsAppOf, Stands, placed_of}
 use Rattle.copying_replay.specs.Taking.{new_app}
 use Rattle.copying_replay.specs.Copying.{Follows, Copied}
@@ -25,10 +25,6 @@ use Rattle.copying_replay.proofs.Flowing.{there, it_is_there, parts_of}
 empty : {A : Type 0} (xs : List A) → length xs ≡ 0 → xs ≡ []
 empty [] none = refl
 empty (x ∷ xs) none = absurd (omega arith)
-
-steered-nothing : (ports : List ℕ) → steered_in ports [] ≡ []
-unfolding steered_of
-steered-nothing ports = refl
 
 module _ {T : Type 0} (kept : T → ℕ → Option (List ℕ)) (losses : T → ℕ) (shelves : List T) (ports : List ℕ) (copier : Copier) where
   pub follows-nothing : copier.counting.tally ≡ no_tally → copier.streams.table ≡ record { ports = ports; flows = [] }

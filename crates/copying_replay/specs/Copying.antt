@@ -1,13 +1,13 @@
 -- What was copied since a replay began.
-use Rattle.std.specs.Prelude.{◌≡◌, ℕ, ◌+◌, List, [], ◌∷◌, ◌++◌, Option, Some, None, Result, Ok, Err}
+use Rattle.std.specs.Prelude.{◌≡◌, ℕ, ◌+◌, List, [], ◌∷◌, ◌++◌, Option, None, Result, Ok, Err}
 use Rattle.zr_kinds.specs.declared.fault.Fault.{Fault}
-use Rattle.zr_kinds.specs.declared.fault.Fault.TheVariants.{Memory}
 use Rattle.pcap_reader.specs.Capture.{Reading}
 use Rattle.pcap_reader.specs.Records.{Captured}
 use Rattle.flow_table.specs.Flows.{flows_of}
-use Rattle.copying_replay.specs.Ending.{steered_in, ending_at, frames_of}
-use Rattle.copying_replay.specs.Reading.{BeginsFlowAt, HasRead, HasEnded}
-use Rattle.copying_replay.specs.Tally.{tally_of}
+use Rattle.frames_read.specs.Ending.{steered_in, ending_at, frames_of}
+use Rattle.frames_read.specs.Reading.{BeginsFlowAt, EndsAt, HasRead}
+use Rattle.copying_replay.specs.Reading.{HasEnded}
+use Rattle.frames_read.specs.Tally.{tally_of}
 use Rattle.copying_replay.specs.Streams.{placed_of}
 use Rattle.copying_replay.specs.Taking.{Carries}
 use Rattle.copying_replay.specs.declared.copier.Copier.{Copier}
@@ -25,8 +25,7 @@ pub record Follows {T : Type 0} (kept : T → ℕ → Option (List ℕ)) (losses
 -- was taken.
 abbrev pub CopiesFrame : List ℕ → List (List ℕ) → List ℕ → (List (List ℕ) → Type 0) → Result (Unit {0}) Fault → Type 0
 CopiesFrame ports frames frame Follow (Ok done) = (ending_at ports frames frame ≡ None) × Follow (frames ++ frame ∷ [])
-CopiesFrame ports frames frame Follow (Err Memory) = (ending_at ports frames frame ≡ None) × BeginsFlowAt ports frames frame × Follow frames
-CopiesFrame ports frames frame Follow (Err fault) = (ending_at ports frames frame ≡ Some fault) × Follow frames
+CopiesFrame ports frames frame Follow (Err fault) = EndsAt (BeginsFlowAt ports) ports frames frame fault × Follow frames
 
 -- What stands between two records, since the source and the shelves were as at first.
 pub record Copies {S T : Type 0} (left : S → Option (List ℕ)) (faults : S → ℕ) (kept : T → ℕ → Option (List ℕ)) (losses : T → ℕ)

@@ -1,6 +1,5 @@
 pub mod Ending
 pub mod Reading
-pub mod Tally
 pub mod Streams
 pub mod Receiving
 pub mod Taking

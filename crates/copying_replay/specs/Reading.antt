@@ -1,91 +1,16 @@
--- What was read of a source since a replay began, and how its reading ended.
-use Rattle.std.specs.Prelude.{◌≡◌, ◌≢◌, ℕ, List, [], ◌∷◌, ◌++◌, Option, Some, None, IfSome, ◌⊎◌}
-use Rattle.std.specs.Io.KnownBytes.{IsAtEnd}
+-- What was read of a source since a replay began, and how its reading ended. A frame wants memory where a flow begins with
+-- it, and only there.
+use Rattle.std.specs.Prelude.{ℕ, List, Option}
 use Rattle.zr_kinds.specs.declared.fault.Fault.{Fault}
-use Rattle.zr_kinds.specs.declared.fault.Fault.TheVariants.{Memory, NotPcap, Version, LinkType, Cut, LongRecord, Read, TooManyFlows, TooManyFrames}
-use Rattle.zr_io.specs.Moved.{Rose, Took}
-use Rattle.pcap_reader.specs.declared.order.ByteOrder.{ByteOrder}
-use Rattle.pcap_reader.specs.Records.{Captured, Records, records_in, records_of}
-use Rattle.flow_table.specs.Flows.{flows_of}
-use Rattle.copying_replay.specs.Ending.{Ended, steered_in, steered_next, BeginsFlow, frames_of, ended_after, ended_of}
+use Rattle.frames_read.specs.Ending.{Ended}
+use Rattle.frames_read.specs.Reading.{TakenEnds as TakenEndsFor, HasEnded as HasEndedFor, BeginsFlowAt}
+pub use Rattle.frames_read.specs.Reading.{HasRead, ShowsEnding, BreaksOff, IsEnding, IsReadToEnd}
 
--- more records, before these
-abbrev pub with_records : List Captured → Records → Records
-with_records records others = record { all = records ++ others.all; fault = others.fault }
-
--- The bytes that were taken hold these records and no more: whatever follows them, the capture's other records are
--- those of what follows.
-abbrev pub Holds : ByteOrder → List Captured → List ℕ → Type 0
-Holds order records taken = (rest : List ℕ) → records_of (taken ++ rest) ≡ with_records records (records_in order rest)
-
--- no frame of these ends the reading
-abbrev pub GoesThrough : List ℕ → List (List ℕ) → Type 0
-GoesThrough ports frames = (more : List (List ℕ)) (fault : Option Fault)
-    → ended_after ports [] (frames ++ more) fault ≡ ended_after ports frames more fault
-
--- These records were read, and no read failed.
-pub record HasRead (order : ByteOrder) (left_at_first left : Option (List ℕ)) (faults_at_first faults : ℕ) (ports : List ℕ)
-    (records : List Captured) : Type 0 where
-  pub taken : Took left_at_first left (Holds order records)
-  pub still : faults ≡ faults_at_first
-  pub through : GoesThrough ports (frames_of records)
-
--- All bytes show this ending. Want of memory and a failed read show in none.
-abbrev pub ShowsEnding : Ended → List (List ℕ) → Option Fault → Type 0
-ShowsEnding ended before (Some Memory) = Unit {0}
-ShowsEnding ended before (Some Read) = Unit {0}
-ShowsEnding ended before fault = ended ≡ record { before = before; fault = fault }
-
--- The bytes that were taken end at a record's end, or within what they begin.
-abbrev pub BreaksOff : Ended → List (List ℕ) → Type 0
-BreaksOff ended before = (ended ≡ record { before = before; fault = None }) ⊎ (ended ≡ record { before = before; fault = Some Cut })
-
--- a flow begins with this frame
-abbrev pub BeginsFlowAt : List ℕ → List (List ℕ) → List ℕ → Type 0
-BeginsFlowAt ports before frame = BeginsFlow (flows_of (steered_in ports before)) (steered_next ports before frame)
-
--- Behind these frames the bytes that were taken end within a record, for which there was no memory; or they hold one
--- frame more, and there was none for the flow that begins with it.
-abbrev pub LacksMemory : List ℕ → Ended → List (List ℕ) → Type 0
-LacksMemory ports ended before =
-    (ended ≡ record { before = before; fault = Some Cut })
-    ⊎ ((frame : List ℕ) × BeginsFlowAt ports before frame × (ended ≡ record { before = before ++ frame ∷ []; fault = None }))
-
--- The bytes that were taken show this ending by themselves. At a failed read they break off, and at want of memory they
--- show what it was wanted for.
+-- The bytes that were taken show this ending by themselves.
 abbrev pub TakenEnds : List ℕ → Ended → List (List ℕ) → Option Fault → Type 0
-TakenEnds ports ended before (Some Memory) = LacksMemory ports ended before
-TakenEnds ports ended before (Some Read) = BreaksOff ended before
-TakenEnds ports ended before fault = ended ≡ record { before = before; fault = fault }
-
--- how a reading may end
-abbrev pub IsEnding : Option Fault → Type 0
-IsEnding None = Unit {0}
-IsEnding (Some Memory) = Unit {0}
-IsEnding (Some NotPcap) = Unit {0}
-IsEnding (Some Version) = Unit {0}
-IsEnding (Some LinkType) = Unit {0}
-IsEnding (Some Cut) = Unit {0}
-IsEnding (Some LongRecord) = Unit {0}
-IsEnding (Some Read) = Unit {0}
-IsEnding (Some TooManyFlows) = Unit {0}
-IsEnding (Some TooManyFrames) = Unit {0}
-IsEnding (Some fault) = ⊥
-
--- a source that tells its bytes was read to its end
-abbrev pub IsReadToEnd : Option (List ℕ) → Option (List ℕ) → Type 0
-IsReadToEnd None left = Unit {0}
-IsReadToEnd (Some bytes) left = IsAtEnd left
+TakenEnds ports ended before fault = TakenEndsFor (BeginsFlowAt ports) ended before fault
 
 -- The reading ended after these frames, by this fault or without one.
-pub record HasEnded (left_at_first left : Option (List ℕ)) (faults_at_first faults : ℕ) (ports : List ℕ) (before : List (List ℕ))
-    (fault : Option Fault) : Type 0 where
-  -- what was taken shows the ending, and so do all the bytes
-  pub taken : Took left_at_first left (λ taken. TakenEnds ports (ended_of ports taken) before fault)
-  pub shown : IfSome left_at_first (λ all. ShowsEnding (ended_of ports all) before fault)
-  pub at_end : fault ≡ None → IsReadToEnd left_at_first left
-  pub kind : IsEnding fault
-  -- A read failed only where the source's count of faults rose. If it ended otherwise, that count stood still: the
-  -- first read that fails ends the reading.
-  pub cause : fault ≡ Some Read → Rose faults_at_first faults
-  pub still : fault ≢ Some Read → faults ≡ faults_at_first
+abbrev pub HasEnded : Option (List ℕ) → Option (List ℕ) → ℕ → ℕ → List ℕ → List (List ℕ) → Option Fault → Type 0
+HasEnded left_at_first left faults_at_first faults ports before fault =
+    HasEndedFor (BeginsFlowAt ports) left_at_first left faults_at_first faults ports before fault

@@ -9,9 +9,9 @@ use Rattle.zr_kinds.specs.declared.outcome.FlowLine.{FlowLine}
 use Rattle.zr_io.specs.Moved.{Rose, Gained}
 use Rattle.flow_table.specs.Flows.{Flow, flows_of}
 use Rattle.flow_table.specs.Stream.{stream_of}
-use Rattle.copying_replay.specs.Ending.{steered_in}
+use Rattle.frames_read.specs.Ending.{steered_in}
 use Rattle.copying_replay.specs.Reading.{HasEnded}
-use Rattle.copying_replay.specs.Tally.{tally_of}
+use Rattle.frames_read.specs.Tally.{tally_of}
 use Rattle.copying_replay.specs.Streams.{kept_in, losses_in, IsStreamed, IsLineOf, There}
 use Rattle.copying_replay.specs.declared.outcome.Outcome.{Outcome}
 

@@ -15,7 +15,7 @@ use Rattle.frame_headers.specs.FrameClass.{TcpSegment}
 use Rattle.flow_table.specs.Steered.{Steered, app_of}
 use Rattle.flow_table.specs.Flows.{Flow, flows_of}
 use Rattle.flow_table.specs.Placing.{IsPlaced, number_for}
-use Rattle.copying_replay.specs.Ending.{flow_ending, BeginsFlow}
+use Rattle.frames_read.specs.Ending.{flow_ending, BeginsFlow}
 use Rattle.copying_replay.specs.Streams.{placed_of, Stands}
 use Rattle.copying_replay.specs.declared.state.Streams.{Streams}
 use Rattle.copying_replay.specs.declared.state.Joined.{Joined}

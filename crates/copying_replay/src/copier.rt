@@ -5,21 +5,18 @@ ghost use Rattle.std.specs.List.{IsDistinct};
 ghost use Rattle.frame_headers.specs.Seen.{segment_seen};
 ghost use Rattle.flow_table.specs.Steered.{Steered, steer};
 ghost use Rattle.pcap_reader.specs.Records.{Captured};
-ghost use Rattle.copying_replay.specs.Tally.{no_tally};
+ghost use Rattle.frames_read.specs.Tally.{no_tally};
 ghost use Rattle.copying_replay.specs.Taking.{new_app, Takes};
 ghost use Rattle.copying_replay.specs.Copying.{Follows, CopiesFrame, Copies, Copied, TurnCounts, TurnGives};
 
-use crate::counting::Counting;
 use crate::state::Streams;
 use frame_headers::{Seen, read_frame};
+use frames_read::Counting;
 use pcap_reader::Capture;
 use std::alloc::{AllocError, Global};
 use std::collections::hash_map::RandomState;
 use zr_io::{Shelf, Source};
 use zr_kinds::Fault;
-
-/// How many records are read at most.
-const MAX_RECORDS: u32 = 16_777_216;
 
 /// What came of one turn.
 #[derive(Clone, Copy, Debug)]
@@ -89,7 +86,7 @@ impl Copier {
         ensures copies { (first : List T) (ports : List ℕ) (frames : List (List ℕ)) → Follows T.kept T.faults first shelves.old ports frames self.old →
             CopiesFrame ports frames frame.now (λ after. Follows T.kept T.faults first shelves.new ports after self.new) result }
     {
-        if self.counting.tally.records == MAX_RECORDS {
+        if self.counting.is_full() {
             return Err(Fault::TooManyFrames);
         }
         let seen = read_frame(frame);

@@ -2,7 +2,6 @@
 #![tactic(auto)]
 
 mod copier;
-mod counting;
 mod outcome;
 mod receiving;
 mod replaying;

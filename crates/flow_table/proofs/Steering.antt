@@ -1,5 +1,8 @@
 -- What a table of flows says of a segment, whichever record it comes in.
-use Rattle.std.proofs.Common.{◌≡◌, ℕ, ◌≢◌, ◌+◌, ◌↔◌, List, length, Some, Bool, sym, ap, subst, ◌∙◌, option_map}
+use Rattle.std.proofs.Common.{◌≡◌, ℕ, ◌≢◌, ◌+◌, ◌↔◌, List, length, Some, Bool, true, false, not, sym, ap, subst, ◌∙◌, option_map}
+use Rattle.std.specs.Prelude.{IsTrue}
+use Rattle.std.proofs.lemmas.Bool.{true≢false}
+use Rattle.std.proofs.Math.Bool.{not-not}
 use Rattle.std.proofs.Common.{if◌then◌else◌, ◌==◌, Result, Ok, Err}
 use Rattle.std.specs.List.{slice_get}
 use Rattle.frame_headers.specs.FrameClass.{TcpSegment}
@@ -72,6 +75,14 @@ module _ (known : KnownFlows) (ports : List ℕ) (flows : List Flow) (segment : 
   is_placed after number base seq fin flow number_is after_is count at base_is seq_is fin_is =
       subst (λ (k : KnownFlows). IsPlaced k (record { ports = ports; flows = after }) segment number app base seq fin) view
       (placed_in after number base seq fin flow number_is after_is count at base_is seq_is fin_is)
+
+-- ---- an answer that is turned round
+
+pub not_told : (b : Bool) → IsTrue (not b) → IsTrue b → ⊥
+not_told b turned told = absurd (let is : b ≡ true = told in true≢false (sym turned ∙ ap not is))
+
+pub told_not : (b : Bool) → not b ≡ false → IsTrue b
+told_not b turned = sym (not-not b) ∙ ap not turned
 
 -- ---- a fault that is handed on
 

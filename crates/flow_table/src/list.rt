@@ -95,6 +95,14 @@ impl FlowList {
         self.number_of_flow(segment) == count && count != MOST_FLOWS
     }
 
+    /// Whether the segment would begin a flow too many.
+    pub(crate) fn is_too_many(&self, segment: &Segment<'_>) -> bool
+        ensures { IsTrue result ↔
+            (number_among (length self.now) (shown segment.now) (newest (key_of (shown segment.now)) self.now) ≡ 65535) }
+    {
+        self.number_of_flow(segment) == MOST_FLOWS
+    }
+
     // The flow of this number sees the segment.
     fn go_on(&mut self, number: u32, segment: &Segment<'_>)
         requires { number < length self.old }

@@ -1,7 +1,7 @@
 //! The table of flows.
 
 ghost use Rattle.std.specs.Prelude.{◌≡◌, ◌≢◌, ℕ, ◌<◌, ◌≤◌, ◌↔◌, [], length, Ok, Err, Some, None, slice_get, option_map, nat_eq};
-ghost use Rattle.std.specs.Prelude.{IfOk, OnErr, IsTrue};
+ghost use Rattle.std.specs.Prelude.{IfOk, OnErr, IsTrue, ◌⊎◌, false};
 ghost use Rattle.std.specs.List.{IsDistinct};
 ghost use Rattle.frame_headers.specs.Seen.{shown};
 ghost use Rattle.flow_table.specs.Steered.{app_of};
@@ -88,6 +88,20 @@ impl FlowTable {
     {
         match app_of(&self.ports, segment.dport) {
             Some(_) => self.flows.begins(segment),
+            None => false,
+        }
+    }
+
+    /// Whether a segment is steered and belongs to a flow, or begins one that isn't one too many. So `place` refuses it for
+    /// want of memory alone. The key is looked up.
+    pub fn admits(&self, segment: &Segment<'_>) -> bool
+        ensures steered { IsTrue result → app_of self.now.ports segment.now.dport ≢ None }
+        ensures few { (record_number : ℕ) → IsTrue result → number_for self.now (shown segment.now) record_number ≢ Some 65535 }
+        ensures refuses { (record_number : ℕ) → result ≡ false
+            → (app_of self.now.ports segment.now.dport ≡ None) ⊎ (number_for self.now (shown segment.now) record_number ≡ Some 65535) }
+    {
+        match app_of(&self.ports, segment.dport) {
+            Some(_) => !self.flows.is_too_many(segment),
             None => false,
         }
     }

@@ -9,6 +9,7 @@ use Rattle.board_face.specs.NicCalls.{NicOnlySaw}
 use Rattle.board_face.specs.NicEvents.{sent_linear, nic_saw}
 use Rattle.board_face.specs.declared.views.nic.NicLook.{NicLook}
 use Rattle.board_face.specs.declared.views.nic.NicView.{NicView}
+use Rattle.board_face.specs.declared.views.nic.SentNote.{SentNote}
 use Rattle.board_face.proofs.LookLemmas.{NicLooksStay-same, NicLooksStay-trans, NicLooksStay-nic_saw}
 use Rattle.page_pool.specs.declared.pool.Pending.{Pending}
 use Rattle.page_pool.specs.declared.pool.Short.{Short}
@@ -64,12 +65,13 @@ flushed_all was now old new sends none stands =
 -- ---- a short payload
 
 -- it was sent, or its note is pending
-pub Accepts-short : (was pool : PoolState) (old flushed new : NicView) (o : Offer) (short : Option Short) → FlushedAll was pool old flushed
+pub Accepts-short : (was pool : PoolState) (old flushed new : NicView) (o : Offer) (short : Option Short) (more : List SentNote)
+    → new.sent ≡ flushed.sent ++ more → FlushedAll was pool old flushed
     → nat_le (length (payload_of o)) was.split ≡ true
     → new ≡ record flushed { sent = new.sent; looks = new.looks } → NicLooksStay flushed new
     → all_notes (record was { short = short; pieces = [] }) new ≡ flushed.sent ++ record { app = o.app; note = short_note o; bytes = payload_of o } ∷ []
     → Accepts was (record pool { short = short }) old new o
-Accepts-short was pool old flushed new o short all few view looks notes =
+Accepts-short was pool old flushed new o short more sent_more all few view looks notes =
     let flush = all.flush.view in
     let used : new.used ≡ old.used = ap (λ (v : NicView). v.used) view ∙ ap (λ (v : NicView). v.used) flush in
     let sent : flushed.sent ≡ all_notes was old = ap (λ (v : NicView). v.sent) flush in
@@ -91,6 +93,8 @@ Accepts-short was pool old flushed new o short all few view looks notes =
       });
       current = rw few refl;
       split = refl;
+      more = more;
+      sent = sent_more;
       placing = rw view refl;
       looks = looks;
     })
@@ -98,7 +102,8 @@ Accepts-short was pool old flushed new o short all few view looks notes =
 pub Accepts-sent : (was pool : PoolState) (old flushed new : NicView) (o : Offer) → FlushedAll was pool old flushed
     → nat_le (length (payload_of o)) was.split ≡ true
     → new ≡ sent_linear flushed o.app (short_note o) (payload_of o) → Accepts was (record pool { short = None }) old new o
-Accepts-sent was pool old flushed new o all few event = Accepts-short was pool old flushed new o None all few (rw event refl) (NicLooksStay-same flushed new
+Accepts-sent was pool old flushed new o all few event = Accepts-short was pool old flushed new o None
+    (record { app = o.app; note = short_note o; bytes = payload_of o } ∷ []) (rw event refl) all few (rw event refl) (NicLooksStay-same flushed new
     (rw event refl))
     (rw event (append-nil _))
 
@@ -107,7 +112,7 @@ pub Accepts-kept : (was pool : PoolState) (old flushed new : NicView) (o : Offer
     → KeepsShort o kept → new ≡ nic_saw flushed look → Accepts was (record pool { short = Some kept }) old new o
 Accepts-kept was pool old flushed new o look kept all few keeps event =
     let total : kept.note.total ≡ length (payload_of o) = rw keeps.note refl in
-    Accepts-short was pool old flushed new o (Some kept) all few (rw event refl) (rw event (NicLooksStay-nic_saw flushed look))
+    Accepts-short was pool old flushed new o (Some kept) [] (rw event (sym (append-nil flushed.sent))) all few (rw event refl) (rw event (NicLooksStay-nic_saw flushed look))
     (rw event (rw (keeps.app, keeps.note, keeps.bytes) refl))
 
 pub Accepts-either : (was pool : PoolState) (old flushed new : NicView) (o : Offer) (look : NicLook) (short : Option Short) (sent : Bool) (Told : Type 0)
@@ -198,6 +203,9 @@ Accepts-split was pool placed now old flushed filled new o all long places sends
       shows = rw long (record { short = λ le. absurd (omega (arith, le, leb-false _ _ long)); long = λ more. rw (setting, current) at places.shows });
       current = rw long (now_current ∙ rw (setting, current) at places.current);
       split = now_split;
+      more = sends.gone;
+      sent = ap (λ (v : NicView). v.sent) sends.view
+          ∙ ap (λ notes. notes ++ sends.gone) (ap (λ (v : NicView). v.sent) places.view ∙ ap (λ (v : NicView). v.sent) keeps.view);
       placing = rw sends.view (rw places.view refl);
       looks = NicLooksStay-trans places.found filled new places.looks sends.looks;
     }

@@ -12,7 +12,7 @@ use Rattle.board_face.specs.declared.views.nic.Dealt.{Dealt}
 use Rattle.board_face.specs.declared.views.nic.NicLook.TheVariants.{RingEmpty}
 use Rattle.board_face.specs.declared.views.nic.NicView.{NicView}
 use Rattle.board_face.proofs.ListLemmas.{eqb_same, not-eqb}
-use Rattle.board_face.proofs.LookLemmas.{NicLooksStay-same, NicLooksStay-trans, NicRose-later, NicRose-before}
+use Rattle.board_face.proofs.LookLemmas.{NicLooksStay-trans, NicRose-later, NicRose-before}
 use Rattle.page_pool.specs.Dealing.{DealsWith, DrainsFirst, CountsStrays, AreInTurn, IsRingDone, IsRaised, strays_in, entries_of}
 use Rattle.page_pool.specs.Gathering.{DrainsRing}
 use Rattle.page_pool.proofs.Entries.{CountsStrays-none, CachesFreed-trans, DealsWith-none}

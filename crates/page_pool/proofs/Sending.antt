@@ -19,17 +19,22 @@ use Rattle.page_pool.specs.declared.pool.Short.{Short}
 use Rattle.page_pool.specs.Pool.{PoolState, PoolStands, OnlySends, all_notes, piece_notes}
 
 pub OnlySends-none : (pool : PoolState) (v : NicView) → OnlySends pool pool v v
-OnlySends-none pool v = record { gone = []; view = rw append-nil refl; pool = refl; notes = refl; looks = NicLooksStay-same v v refl }
+OnlySends-none pool v = record { gone = []; still = λ none. (refl, refl); view = rw append-nil refl; pool = refl; notes = refl; looks = NicLooksStay-same v v refl }
 
 -- the first note wasn't sent, and the pool is as it was
 pub OnlySends-refused : (was now : PoolState) (v : NicView) (look : NicLook) → now ≡ was → OnlySends was now v (nic_saw v look)
 OnlySends-refused was now v look same = rw same (record {
   gone = [];
+  still = λ none. (refl, refl);
   view = rw append-nil refl;
   pool = refl;
   notes = refl;
   looks = NicLooksStay-nic_saw v look;
 })
+
+some_gone : (notes : List SentNote) (s : SentNote) → notes ++ s ∷ [] ≡ [] → ⊥
+some_gone [] s none = grind arith
+some_gone (t ∷ notes) s none = grind arith
 
 nil-not-cons : {p : Place} {ps : List Place} → [] ≡ p ∷ ps → ⊥
 nil-not-cons same = grind arith
@@ -85,6 +90,7 @@ OnlySends-sent was pool old v p ps first none stands sends =
     let pieces = rw first at stands.pieces in
     record {
       gone = sends.gone ++ record { app = p.app; note = p.note; bytes = text_at v p.note.place } ∷ [];
+      still = λ none. absurd (some_gone sends.gone _ none);
       view = rw sends.view (simp append_assoc refl);
       pool = rw sends.pool refl;
       notes =
@@ -98,6 +104,7 @@ pub OnlySends-short : (pool : PoolState) (v : NicView) (s : Short) → pool.shor
     → OnlySends pool (record pool { short = None }) v (sent_linear v s.app s.note (take s.note.total s.bytes))
 OnlySends-short pool v s short = record {
   gone = record { app = s.app; note = s.note; bytes = take s.note.total s.bytes } ∷ [];
+  still = λ none. absurd (some_gone [] _ none);
   view = refl;
   pool = refl;
   notes = rw (short, append_assoc) refl;
@@ -131,6 +138,7 @@ PoolStands-saw pool v look stands = record {
 pub OnlySends-saw : (was pool : PoolState) (old v : NicView) (look : NicLook) → OnlySends was pool old v → OnlySends was pool old (nic_saw v look)
 OnlySends-saw was pool old v look sends = record {
   gone = sends.gone;
+  still = λ none. let still = sends.still none in (still.0, rw still.1 refl);
   view = rw sends.view refl;
   pool = sends.pool;
   notes = sends.notes;

@@ -153,6 +153,9 @@ pub record Accepts (was now : PoolState) (old new : NicView) (o : Offer) : Type 
   pub shows : ShowsFrame was.split (offered o) (frame_notes was.split o (places_for was old buffers o))
   pub current : now.current ≡ current_after was old buffers o
   pub split : now.split ≡ was.split
+  -- what was sent since the flush
+  pub more : List SentNote
+  pub sent : new.sent ≡ flushed.sent ++ more
   pub placing : new ≡ record found { cache = new.cache; used = new.used; owns = new.owns; pieces = new.pieces; sent = new.sent; looks = new.looks }
   pub looks : NicLooksStay found new
 

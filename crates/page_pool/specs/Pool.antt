@@ -86,6 +86,8 @@ pub data IsNextApp (pool : PoolState) : ℕ → Type 0 where
 -- The first of the pending notes were sent, in order, and else nothing happened but looks.
 pub record OnlySends (was now : PoolState) (old new : NicView) : Type 0 where
   pub gone : List SentNote
+  -- where none was sent, the pool is as before, and nothing but looks happened
+  pub still : gone ≡ [] → (now ≡ was) × (new ≡ record old { looks = new.looks })
   pub view : new ≡ record old { pieces = new.pieces; sent = old.sent ++ gone; looks = new.looks }
   pub pool : now ≡ record was { short = now.short; pieces = now.pieces }
   pub notes : all_notes now new ≡ all_notes was old

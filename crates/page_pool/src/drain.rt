@@ -55,6 +55,7 @@ pub fn nic_drain<F: NicFace>(face: &mut F, pool: &mut Pool) -> u32
     ensures pool { pool.new ≡ record pool.old { stats = pool.new.stats } }
     ensures none { result ≡ 0 → (a : ℕ) → a < apps_of (F.seen face.old).setting →
         NicRose (RingEmpty a) (F.seen face.old) (F.seen face.new) × F.tells (RingEmpty a) (nic_gist (F.seen face.new)) (F.beside face.new) }
+    ensures still { result ≡ 0 → nic_gist (F.seen face.new) ≡ nic_gist (F.seen face.old) }
     ensures beside { F.beside face.new ≡ F.beside face.old }
 {
     let mut count = 0;

@@ -1,10 +1,11 @@
-use Rattle.std.proofs.Common.{rules, arith, refl}
+use Rattle.std.proofs.Common.{rules, arith, refl, sym, ◌≡◌, ◌∙◌, None, Some}
 use Rattle.std.proofs.lemmas.List.Elements.{All-head}
 use Rattle.board_face.specs.Texts.{IsSplitNote}
 use Rattle.board_face.proofs.LookLemmas.{NicRose-later}
 use Rattle.page_pool.specs.declared.pool.Pending.{Pending}
 use Rattle.page_pool.specs.Pool.{is_short, is_piece}
-use Rattle.page_pool.proofs.Sending.{PoolStands-sent, OnlySends-sent, OnlySends-refused}
+use Rattle.page_pool.proofs.Sending.{PoolStands-sent, PoolStands-short, OnlySends-none, OnlySends-sent, OnlySends-short, OnlySends-refused}
+use Rattle.page_pool.proofs.flush.nic_flush.Goals.{in-Some+else-not-send_linear, in_default}
 use Rattle.page_pool.proofs.flush.nic_flush.Goals as goal
 
 pub returns-then-not-send_linear-clause-answer : goal.returns-then-not-send_linear-clause-answer
@@ -35,6 +36,33 @@ returns-in-Err-clause-answer g c =
       NicRose-later _ _ _ _ c.loop-pending.invariant.sends.looks view.1.rose,
       rw (c.in-Err.ensures.beside, view.1.event) (c.in-Err.ensures.told _ view.1.rose),
     )
+
+pub loop-pending-init : goal.loop-pending-init
+loop-pending-init g c =
+    elim c.match-take.branch [
+      | in-Some+else-not-send_linear w ↦
+          let there : c.pool.inside.short ≡ Some w.in-Some.short = sym c.take.ensures.value ∙ w.in-Some.is in
+          let pool = sym c.pool.view_is in
+          let before = rw pool at c.requires.stands in
+          let event = w.if-not-send_linear.ensures.view in
+          rw (c.take.ensures.after, w.face-is) (record {
+            open_still = rw event c.requires.open;
+            none = refl;
+            stands = rw event (PoolStands-short _ _ _ _ _ before);
+            sends = rw (event, pool) (OnlySends-short _ _ _ there);
+            beside = w.if-not-send_linear.ensures.beside;
+          })
+      | in_default w ↦
+          let none : c.pool.inside.short ≡ None = sym c.take.ensures.value ∙ w.in_default.is in
+          let pool = sym c.pool.view_is in
+          rw (c.take.ensures.after, w.face-is) (record {
+            open_still = c.requires.open;
+            none = refl;
+            stands = rw (pool, none) at c.requires.stands;
+            sends = rw (pool, none) (OnlySends-none _ _);
+            beside = refl;
+          })
+    ]
 
 pub loop-pending-preserved : goal.loop-pending-preserved
 loop-pending-preserved g c =

@@ -1,20 +1,21 @@
 -- A frame past the limit ends the reading; any other is taken and counted, or refused.
-use Rattle.std.proofs.Common.{◌≡◌, ◌≢◌, ℕ, suc, List, length, Option, Ok, Err, sym, ap, subst, ◌∙◌}
+use Rattle.std.proofs.Common.{◌≡◌, ◌≢◌, ℕ, suc, List, length, Option, Ok, Err, refl, sym, ap, subst, ◌∙◌}
 use Rattle.frame_headers.specs.FrameClass.{class_of}
 use Rattle.frame_headers.specs.Seen.{class_seen, segment_seen, segment_of}
 use Rattle.flow_table.specs.Steered.{Steered, steer}
 use Rattle.flow_table.specs.Flows.{flows_of}
-use Rattle.copying_replay.specs.Ending.{steered_in, steered_next}
-use Rattle.copying_replay.specs.Tally.{counted}
+use Rattle.frames_read.specs.Ending.{steered_in, steered_next}
+use Rattle.frames_read.specs.Tally.{counted}
 use Rattle.copying_replay.specs.Streams.{placed_of}
 use Rattle.copying_replay.specs.Taking.{Carries, TakesNext}
 use Rattle.copying_replay.specs.declared.copier.Copier.{Copier}
-use Rattle.copying_replay.proofs.Frames.{ending-limit, seen-segment, frame-taken, frame-refused}
+use Rattle.frames_read.proofs.Framing.{ending-limit, seen-segment}
+use Rattle.copying_replay.proofs.Frames.{frame-taken, frame-refused}
 use Rattle.copying_replay.proofs.copier.Copier.copy_frame.Goals as goal
 
-pub returns-then-self-eq-MAX_RECORDS-clause-copies : goal.returns-then-self-eq-MAX_RECORDS-clause-copies
-returns-then-self-eq-MAX_RECORDS-clause-copies g c = λ first ports frames follows.
-    (ending-limit ports frames c.args.frame.now (sym (ap (λ t. t.records) follows.tally_is) ∙ c.if-self-eq-MAX_RECORDS.true), follows)
+pub returns-then-is_full-clause-copies : goal.returns-then-is_full-clause-copies
+returns-then-is_full-clause-copies g c = λ first ports frames follows.
+    (ending-limit ports frames c.args.frame.now (sym (ap (λ t. t.records) follows.tally_is) ∙ c.if-is_full.ensures.0 refl), follows)
 
 pub returns-in-Ok-clause-copies : goal.returns-in-Ok-clause-copies
 returns-in-Ok-clause-copies g c = λ first ports frames follows.
@@ -22,7 +23,7 @@ returns-in-Ok-clause-copies g c = λ first ports frames follows.
     let found = c.read_frame-seen.result in
     let shelves = c.take.new.shelves in
     let later : Copier = record { counting = c.count.new.self; streams = c.take.new.self.streams } in
-    let below : length frames ≢ 16777216 = λ limit. c.if-self-eq-MAX_RECORDS.false (ap (λ t. t.records) follows.tally_is ∙ limit) in
+    let below : length frames ≢ 16777216 = λ limit. absurd (let full = c.if-is_full.ensures.1 (ap (λ t. t.records) follows.tally_is ∙ limit) in cc) in
     let next : steer c.args.self.now.streams.table.ports (suc (length frames)) (segment_seen found) ≡ steered_next ports frames frame =
     ap (λ p. steer p (suc (length frames)) (segment_seen found)) follows.ports_are
     ∙ ap (steer ports (suc (length frames))) (seen-segment found ∙ ap segment_of c.read_frame-seen.ensures.class) in
@@ -41,7 +42,7 @@ returns-in-Err-clause-copies g c = λ first ports frames follows.
     let frame : List ℕ = c.args.frame.now in
     let found = c.read_frame-seen.result in
     let shelves = c.take.new.shelves in
-    let below : length frames ≢ 16777216 = λ limit. c.if-self-eq-MAX_RECORDS.false (ap (λ t. t.records) follows.tally_is ∙ limit) in
+    let below : length frames ≢ 16777216 = λ limit. absurd (let full = c.if-is_full.ensures.1 (ap (λ t. t.records) follows.tally_is ∙ limit) in cc) in
     let next : steer c.args.self.now.streams.table.ports (suc (length frames)) (segment_seen found) ≡ steered_next ports frames frame =
     ap (λ p. steer p (suc (length frames)) (segment_seen found)) follows.ports_are
     ∙ ap (steer ports (suc (length frames))) (seen-segment found ∙ ap segment_of c.read_frame-seen.ensures.class) in

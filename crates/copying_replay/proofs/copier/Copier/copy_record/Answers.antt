@@ -2,10 +2,11 @@
 use Rattle.std.proofs.Common.{◌≡◌, ℕ, List, ◌++◌, Err, sym, ap, subst, ◌∙◌}
 use Rattle.zr_io.specs.Moved.{Took}
 use Rattle.pcap_reader.specs.Records.{with_record, records_in}
-use Rattle.copying_replay.specs.Ending.{frames_of}
+use Rattle.frames_read.specs.Ending.{frames_of}
+use Rattle.frames_read.specs.Reading.{BeginsFlowAt}
 use Rattle.copying_replay.specs.Copying.{Follows}
-use Rattle.copying_replay.proofs.Turns.{ends-without, ends-by, goes_on, ends-frame}
-use Rattle.copying_replay.proofs.Reading.{frames-append}
+use Rattle.frames_read.proofs.Endings.{ends-without, ends-by, goes_on, ends-frame}
+use Rattle.frames_read.proofs.Reading.{frames-append}
 use Rattle.copying_replay.proofs.copier.Copier.copy_record.Goals as goal
 
 pub returns-in-Ok-None-clause-turn : goal.returns-in-Ok-None-clause-turn
@@ -13,7 +14,7 @@ returns-in-Ok-None-clause-turn g c = λ first_source first_shelves ports records
     let gives = (rw c.in-Ok-None.field-0-is at c.in-Ok-None.ensures.gives) stands.is_open in
     record {
       before = frames_of records;
-      ended = ends-without stands.read (g.S.Source.left c.next.new.source) (g.S.Source.faults c.next.new.source)
+      ended = ends-without (BeginsFlowAt ports) stands.read (g.S.Source.left c.next.new.source) (g.S.Source.faults c.next.new.source)
           ((c.in-Ok-None.ensures.cause stands.is_open).still (λ failed. cc)) gives.0 gives.1;
       follows = stands.follows;
     }
@@ -23,7 +24,7 @@ returns-in-Err-clause-turn g c = λ first_source first_shelves ports records sta
     let gives = c.in-Err.ensures.gives stands.is_open in
     record {
       before = frames_of records;
-      ended = ends-by stands.read (g.S.Source.left c.next.new.source) (g.S.Source.faults c.next.new.source) c.in-Err.fault gives.0 gives.1 gives.2
+      ended = ends-by (BeginsFlowAt ports) stands.read (g.S.Source.left c.next.new.source) (g.S.Source.faults c.next.new.source) c.in-Err.fault gives.0 gives.1 gives.2
           (λ by. c.in-Err.ensures.memory stands.is_open (ap Err by)) (λ by. (c.in-Err.ensures.cause stands.is_open).read (ap Err by))
           (λ other. (c.in-Err.ensures.cause stands.is_open).still (λ failed. other (cc)));
       follows = stands.follows;
@@ -66,8 +67,9 @@ returns-in-Err-copy_frame-clause-turn g c = λ first_source first_shelves ports 
     (λ taken. (rest : List ℕ) → records_in order (taken ++ rest) ≡ with_record f original (records_in order rest)))
     (sym c.deref.ensures.value) gives.1 in
     let refused = c.in-Err-copy_frame.ensures.copies first_shelves ports (frames_of records) stands.follows in
-    let ends = ends-frame stands.read later (g.S.Source.faults c.next.new.source) frame original took
-    ((c.in-Ok-Some.ensures.cause stands.is_open).still (λ failed. cc))
-    (λ all. Follows g.T.Shelf.kept g.T.Shelf.faults first_shelves c.copy_frame.new.shelves ports all c.copy_frame.new.self)
-    c.in-Err-copy_frame.fault refused in
-    record { before = frames_of records; ended = ends.0; follows = ends.1 }
+    record {
+      before = frames_of records;
+      ended = ends-frame (BeginsFlowAt ports) stands.read later (g.S.Source.faults c.next.new.source) frame original took
+          ((c.in-Ok-Some.ensures.cause stands.is_open).still (λ failed. cc)) c.in-Err-copy_frame.fault refused.0;
+      follows = refused.1;
+    }

@@ -2,7 +2,7 @@
 use Rattle.std.specs.Prelude.{ℕ, ◌+◌, List, length, filter, Bool, true, false}
 use Rattle.frame_headers.specs.FrameClass.{FrameClass, Tcp, Other, Fragment, CutShort, Bad, class_of}
 use Rattle.zr_kinds.specs.declared.outcome.Tally.{Tally}
-use Rattle.copying_replay.specs.Ending.{steered_in}
+use Rattle.frames_read.specs.Ending.{steered_in}
 
 abbrev pub is_tcp : FrameClass → Bool
 is_tcp (Tcp segment) = true

@@ -1,11 +1,14 @@
 //! Counts records by the class of their frames.
 
-ghost use Rattle.std.specs.Prelude.{◌≡◌, ◌≤◌, ◌<◌, ◌+◌};
+ghost use Rattle.std.specs.Prelude.{◌≡◌, ◌≤◌, ◌<◌, ◌+◌, IsTrue, ◌↔◌};
 ghost use Rattle.frame_headers.specs.Seen.{class_seen};
-ghost use Rattle.copying_replay.specs.Tally.{no_tally, counted};
+ghost use Rattle.frames_read.specs.Tally.{no_tally, counted};
 
 use frame_headers::Seen;
 use zr_kinds::Tally;
+
+/// How many records are read at most.
+const MAX_RECORDS: u32 = 16_777_216;
 
 /// The records so far. There are no more than are read at most.
 #[derive(Clone, Copy, Debug)]
@@ -31,6 +34,13 @@ impl Counting {
                 bad: 0,
             },
         }
+    }
+
+    /// Whether as many records were counted as are read at most.
+    pub fn is_full(&self) -> bool
+        ensures { IsTrue result ↔ (self.now.tally.records ≡ 16777216) }
+    {
+        self.tally.records == MAX_RECORDS
     }
 
     /// Counts a record by what was seen of its frame, and whether that is a steered segment.

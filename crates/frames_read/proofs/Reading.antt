@@ -3,8 +3,8 @@ use Rattle.std.proofs.Common.{◌≡◌, ℕ, List, [], ◌∷◌, ◌++◌, Opt
 use Rattle.zr_kinds.specs.declared.fault.Fault.{Fault}
 use Rattle.pcap_reader.specs.declared.order.ByteOrder.{ByteOrder}
 use Rattle.pcap_reader.specs.Records.{Captured, Records, no_record, with_record, records_in, records_behind, records_of}
-use Rattle.copying_replay.specs.Ending.{ending_at, ended_or, frames_of, ended_after, ended_of}
-use Rattle.copying_replay.specs.Reading.{with_records, Holds, GoesThrough}
+use Rattle.frames_read.specs.Ending.{ending_at, ended_or, frames_of, ended_after, ended_of}
+use Rattle.frames_read.specs.Reading.{with_records, Holds, GoesThrough}
 
 captured : List ℕ → ℕ → Captured
 captured frame original = record { frame = frame; original = original }

@@ -1,0 +1,337 @@
+-- How the reading stands after one more record, and how it ends.
+use Rattle.std.proofs.Common.{◌≡◌, ◌≢◌, ℕ, List, [], ◌∷◌, ◌++◌, length, Option, None, Some, refl, sym, ap, subst, ◌∙◌}
+use Rattle.std.proofs.Common.{⊎_elim, inl, inr, append_assoc, append-nil, arith}
+use Rattle.std.specs.Prelude.{IfSome, ◌==◌}
+use Rattle.std.specs.Io.KnownBytes.{Keeps, IsAtEnd}
+use Rattle.std.proofs.lemmas.Bool.{cond_both}
+use Rattle.zr_kinds.specs.declared.fault.Fault.{Fault}
+use Rattle.zr_kinds.specs.declared.fault.Fault.TheVariants.{Memory, Usage, NotPcap, Version, LinkType, Cut, LongRecord, Read, Write, TooManyFlows}
+use Rattle.zr_kinds.specs.declared.fault.Fault.TheVariants.{TooManyFrames}
+use Rattle.zr_io.specs.Moved.{Rose, Took}
+use Rattle.zr_io.proofs.Moved.{Took-nothing, Took-then, Took-weaker, Rose-earlier}
+use Rattle.pcap_reader.specs.declared.order.ByteOrder.{ByteOrder}
+use Rattle.pcap_reader.specs.Records.{Captured, Records, no_record, with_record, records_in, records_of}
+use Rattle.pcap_reader.specs.Capture.{ShowsFault, TakenShows, IsOpeningFault, IsRecordFault, WantsMemory}
+use Rattle.pcap_reader.proofs.RecordLaws.{records_in-bodiless}
+use Rattle.flow_table.specs.Steered.{Steered}
+use Rattle.flow_table.specs.Flows.{Flow, flows_of, number_of_flow}
+use Rattle.frames_read.specs.Ending.{Ended, ended_after, steered_in, steered_next, flow_ending, ending_at, frames_of, ended_of}
+use Rattle.frames_read.specs.Reading.{Holds, GoesThrough, HasRead, HasEnded, ShowsEnding, TakenEnds, LacksMemory, EndsAt, IsEnding, IsReadToEnd}
+use Rattle.frames_read.proofs.Reading.{Holds-more, frames-append, ended_after-none, GoesThrough-nothing, GoesThrough-more, ended_of-end, ended_of-fault}
+use Rattle.frames_read.proofs.Reading.{ended_of-frame}
+
+-- ---- all bytes of a source that tells them
+
+all-rest : (left0 left : Option (List ℕ)) (P R Q : List ℕ → Type 0) → Took left0 left P → IfSome left R
+    → ((xs rest : List ℕ) → P xs → R rest → Q (xs ++ rest)) → IfSome left0 Q
+all-rest None left P R Q took shows join = tt
+all-rest (Some xs) None P R Q took shows join = absurd took
+all-rest (Some xs) (Some ys) P R Q (bs, e, p) shows join = subst Q (sym e) (join bs ys p shows)
+
+at_end-some : (left : Option (List ℕ)) → IsAtEnd left → IfSome left (λ rest. rest ≡ [])
+at_end-some None at_end = tt
+at_end-some (Some xs) at_end = at_end
+
+at_end-kept : (left0 left later : Option (List ℕ)) (P : List ℕ → Type 0) → Took left0 left P → IsAtEnd left → Keeps left later
+    → IsReadToEnd left0 later
+at_end-kept None left later P took at_end kept = tt
+at_end-kept (Some all) None later P took at_end kept = absurd took
+at_end-kept (Some all) (Some xs) None P took at_end kept = absurd kept
+at_end-kept (Some all) (Some xs) (Some ys) P took at_end kept = kept ∙ at_end
+
+anything : (left : Option (List ℕ)) → IfSome left (λ rest. Unit {0})
+anything None = tt
+anything (Some rest) = tt
+
+pub some-weaker : (left : Option (List ℕ)) (P Q : List ℕ → Type 0) → IfSome left P → ((all : List ℕ) → P all → Q all) → IfSome left Q
+some-weaker None P Q holds leads = tt
+some-weaker (Some all) P Q holds leads = leads all holds
+
+-- ---- by what a frame ends the reading
+
+-- too many flows, or too many frames
+abbrev pub IsFrameEnding : Fault → Type 0
+IsFrameEnding TooManyFlows = Unit {0}
+IsFrameEnding TooManyFrames = Unit {0}
+IsFrameEnding fault = ⊥
+
+abbrev IsNoneOr : Option Fault → Type 0
+IsNoneOr None = Unit {0}
+IsNoneOr (Some fault) = IsFrameEnding fault
+
+flow-kind : (flows : List Flow) (s : Option Steered) → IsNoneOr (flow_ending flows s)
+flow-kind flows None = tt
+flow-kind flows (Some s) = cond_both (number_of_flow flows s == 65535) _ _ IsNoneOr (λ _. tt) (λ _. tt)
+
+ending-kind : (ports : List ℕ) (frames : List (List ℕ)) (frame : List ℕ) → IsNoneOr (ending_at ports frames frame)
+unfolding ending_at
+ending-kind ports frames frame = cond_both (length frames == 16777216) _ _ IsNoneOr (λ _. tt)
+    (λ _. flow-kind (flows_of (steered_in ports frames)) (steered_next ports frames frame))
+
+frame-kind : (ports : List ℕ) (frames : List (List ℕ)) (frame : List ℕ) (fault : Fault) → ending_at ports frames frame ≡ Some fault
+    → IsFrameEnding fault
+frame-kind ports frames frame fault is = subst IsNoneOr is (ending-kind ports frames frame)
+
+-- what holds of a reading that ended by such a fault
+frame_cases : (P : Option Fault → Type 0) → P (Some TooManyFlows) → P (Some TooManyFrames) → (fault : Fault) → IsFrameEnding fault → P (Some fault)
+frame_cases P flows frames TooManyFlows is = flows
+frame_cases P flows frames TooManyFrames is = frames
+frame_cases P flows frames Memory is = absurd is
+frame_cases P flows frames Usage is = absurd is
+frame_cases P flows frames NotPcap is = absurd is
+frame_cases P flows frames Version is = absurd is
+frame_cases P flows frames LinkType is = absurd is
+frame_cases P flows frames Cut is = absurd is
+frame_cases P flows frames LongRecord is = absurd is
+frame_cases P flows frames Read is = absurd is
+frame_cases P flows frames Write is = absurd is
+
+-- ---- which faults a record shows
+
+record_cases : (P : Fault → Type 0) → P Memory → P Cut → P LongRecord → P Read → (fault : Fault) → IsRecordFault fault → P fault
+record_cases P memory cut long_record read Memory is = memory
+record_cases P memory cut long_record read Cut is = cut
+record_cases P memory cut long_record read LongRecord is = long_record
+record_cases P memory cut long_record read Read is = read
+record_cases P memory cut long_record read Usage is = absurd is
+record_cases P memory cut long_record read NotPcap is = absurd is
+record_cases P memory cut long_record read Version is = absurd is
+record_cases P memory cut long_record read LinkType is = absurd is
+record_cases P memory cut long_record read Write is = absurd is
+record_cases P memory cut long_record read TooManyFlows is = absurd is
+record_cases P memory cut long_record read TooManyFrames is = absurd is
+
+kind-fault : (fault : Fault) → IsRecordFault fault → IsEnding (Some fault)
+kind-fault = record_cases (λ fault. IsEnding (Some fault)) tt tt tt tt
+
+-- the ending that nothing of the next record leads to
+abbrev Leads : Ended → List (List ℕ) → Records → Type 0
+Leads ended before records = (end : Option Fault) → records ≡ no_record end → ended ≡ record { before = before; fault = end }
+
+shown-fault : (ended : Ended) (before : List (List ℕ)) (records : Records) → Leads ended before records → (fault : Fault) → IsRecordFault fault
+    → ShowsFault records fault → ShowsEnding ended before (Some fault)
+shown-fault ended before records leads = record_cases (λ fault. ShowsFault records fault → ShowsEnding ended before (Some fault))
+    (λ shows. tt) (λ shows. leads (Some Cut) shows) (λ shows. leads (Some LongRecord) shows) (λ shows. tt)
+
+-- a header alone is a record that breaks off
+header-cut : (order : ByteOrder) (header : List ℕ) → WantsMemory order header → records_in order header ≡ no_record (Some Cut)
+header-cut order header (whole, some, short) = ap (records_in order) (sym (append-nil header)) ∙ records_in-bodiless order header [] whole short some
+
+-- ---- the turns
+
+module _ {order : ByteOrder} {left0 left : Option (List ℕ)} {faults0 faults : ℕ} {ports : List ℕ} {records : List Captured}
+    (read : HasRead order left0 left faults0 faults ports records) where
+  pub goes_on : (later : Option (List ℕ)) (now : ℕ) (frame : List ℕ) (original : ℕ)
+      → Took left later (λ taken. (rest : List ℕ) → records_in order (taken ++ rest) ≡ with_record frame original (records_in order rest))
+      → now ≡ faults → ending_at ports (frames_of records) frame ≡ None
+      → HasRead order left0 later faults0 now ports (records ++ record { frame = frame; original = original } ∷ [])
+  goes_on later now frame original took same goes =
+      let found : Captured = record { frame = frame; original = original } in
+      let frames : frames_of (records ++ found ∷ []) ≡ frames_of records ++ frame ∷ [] = frames-append records (found ∷ []) in
+      record {
+        taken = Took-then left0 left later (Holds order records) _ (Holds order (records ++ found ∷ []))
+            (λ xs ys holds shows. Holds-more order records frame original xs ys holds shows) read.taken took;
+        still = same ∙ read.still;
+        through = subst (λ all. GoesThrough ports all) (sym frames) (GoesThrough-more ports (frames_of records) frame read.through goes);
+      }
+
+module _ (Wants : List (List ℕ) → List ℕ → Type 0) {order : ByteOrder} {left0 left : Option (List ℕ)} {faults0 faults : ℕ} {ports : List ℕ}
+    {records : List Captured}
+    (read : HasRead order left0 left faults0 faults ports records) where
+  -- the bytes ended
+  pub ends-without : (later : Option (List ℕ)) (now : ℕ) → now ≡ faults → IsAtEnd left → Keeps left later
+      → HasEnded Wants left0 later faults0 now ports (frames_of records) None
+  ends-without later now same at_end kept =
+      let ends : (xs ys : List ℕ) → Holds order records xs → ys ≡ []
+      → ended_of ports (xs ++ ys) ≡ record { before = frames_of records; fault = None } =
+      λ xs ys holds none. ap (λ bytes. ended_of ports (xs ++ bytes)) none ∙ ap (ended_of ports) (append-nil xs)
+      ∙ ended_of-end ports order records read.through xs holds in
+      record {
+        taken = Took-then left0 left later (Holds order records) (λ ys. ys ≡ []) _ ends read.taken (Took-nothing left later (λ ys. ys ≡ []) kept refl);
+        shown = all-rest left0 left (Holds order records) (λ rest. rest ≡ []) _ read.taken (at_end-some left at_end) ends;
+        at_end = λ _. at_end-kept left0 left later (Holds order records) read.taken at_end kept;
+        kind = tt;
+        cause = λ is. absurd (cc);
+        still = λ _. same ∙ read.still;
+      }
+
+  leads-behind : (xs ys : List ℕ) → Holds order records xs → Leads (ended_of ports (xs ++ ys)) (frames_of records) (records_in order ys)
+  leads-behind xs ys holds end shown = ended_of-fault ports order records read.through xs ys end holds shown
+
+  taken-by : (later : Option (List ℕ)) (fault : Fault) → IsRecordFault fault → Took left later (λ taken. TakenShows (records_in order taken) fault)
+      → (fault ≡ Memory → Took left later (WantsMemory order))
+      → Took left0 later (λ taken. TakenEnds Wants (ended_of ports taken) (frames_of records) (Some fault))
+  taken-by later = record_cases (λ fault. Took left later (λ taken. TakenShows (records_in order taken) fault)
+      → (fault ≡ Memory → Took left later (WantsMemory order))
+      → Took left0 later (λ taken. TakenEnds Wants (ended_of ports taken) (frames_of records) (Some fault)))
+      (λ took wants. Took-then left0 left later (Holds order records) (WantsMemory order)
+      (λ taken. TakenEnds Wants (ended_of ports taken) (frames_of records) (Some Memory))
+      (λ xs ys holds header. inl (leads-behind xs ys holds (Some Cut) (header-cut order ys header))) read.taken (wants refl))
+      (λ took wants. Took-then left0 left later (Holds order records) (λ ys. TakenShows (records_in order ys) Cut)
+      (λ taken. TakenEnds Wants (ended_of ports taken) (frames_of records) (Some Cut))
+      (λ xs ys holds shown. leads-behind xs ys holds (Some Cut) shown) read.taken took)
+      (λ took wants. Took-then left0 left later (Holds order records) (λ ys. TakenShows (records_in order ys) LongRecord)
+      (λ taken. TakenEnds Wants (ended_of ports taken) (frames_of records) (Some LongRecord))
+      (λ xs ys holds shown. leads-behind xs ys holds (Some LongRecord) shown) read.taken took)
+      (λ took wants. Took-then left0 left later (Holds order records) (λ ys. TakenShows (records_in order ys) Read)
+      (λ taken. TakenEnds Wants (ended_of ports taken) (frames_of records) (Some Read))
+      (λ xs ys holds shown. ⊎_elim (λ none. inl (leads-behind xs ys holds None none))
+      (λ cut. inr (leads-behind xs ys holds (Some Cut) cut)) shown) read.taken took)
+
+  -- a fault of the capture, a failed read, or want of memory for a record
+  pub ends-by : (later : Option (List ℕ)) (now : ℕ) (fault : Fault) → IsRecordFault fault
+      → IfSome left (λ all. ShowsFault (records_in order all) fault) → Took left later (λ taken. TakenShows (records_in order taken) fault)
+      → (fault ≡ Memory → Took left later (WantsMemory order)) → (fault ≡ Read → Rose faults now) → (fault ≢ Read → now ≡ faults)
+      → HasEnded Wants left0 later faults0 now ports (frames_of records) (Some fault)
+  ends-by later now fault is shows took wants cause same = record {
+    taken = taken-by later fault is took wants;
+    shown = all-rest left0 left (Holds order records) (λ rest. ShowsFault (records_in order rest) fault) _ read.taken shows
+        (λ xs rest holds shown. shown-fault (ended_of ports (xs ++ rest)) (frames_of records) (records_in order rest)
+        (leads-behind xs rest holds) fault is shown);
+    at_end = λ none. absurd (cc);
+    kind = kind-fault fault is;
+    cause = λ by. Rose-earlier faults0 faults now (let unchanged : faults ≡ faults0 = read.still in omega arith) (cause (cc));
+    still = λ other. same (λ by. other (ap Some by)) ∙ read.still;
+  }
+
+  -- a frame that ends it
+  pub ends-at : (later : Option (List ℕ)) (now : ℕ) → now ≡ faults → (frame : List ℕ) (original : ℕ) (fault : Fault)
+      → Took left later (λ taken. (rest : List ℕ) → records_in order (taken ++ rest) ≡ with_record frame original (records_in order rest))
+      → ending_at ports (frames_of records) frame ≡ Some fault → HasEnded Wants left0 later faults0 now ports (frames_of records) (Some fault)
+  ends-at later now same frame original fault took is =
+      let Ends : List ℕ → Type 0 = λ taken. (rest : List ℕ)
+      → ended_of ports (taken ++ rest) ≡ record { before = frames_of records; fault = Some fault } in
+      let both : Took left0 later Ends =
+      Took-then left0 left later (Holds order records) (λ taken. (rest : List ℕ)
+      → records_in order (taken ++ rest) ≡ with_record frame original (records_in order rest)) Ends
+      (λ xs ys holds shows. λ rest. ap (ended_of ports) (append_assoc xs ys rest)
+      ∙ ended_of-frame ports order records read.through xs ys rest frame original fault holds shows is)
+      read.taken took in
+      let by : IsFrameEnding fault = frame-kind ports (frames_of records) frame fault is in
+      record {
+        taken = Took-weaker left0 later Ends (λ taken. TakenEnds Wants (ended_of ports taken) (frames_of records) (Some fault))
+            (λ taken ends. frame_cases (λ end. ended_of ports taken ≡ record { before = frames_of records; fault = end }
+            → TakenEnds Wants (ended_of ports taken) (frames_of records) end)
+            (λ e. e) (λ e. e) fault by (ap (ended_of ports) (sym (append-nil taken)) ∙ ends [])) both;
+        shown = all-rest left0 later Ends (λ rest. Unit {0}) (λ all. ShowsEnding (ended_of ports all) (frames_of records) (Some fault)) both (anything later)
+            (λ taken rest ends _. frame_cases (λ end. ended_of ports (taken ++ rest) ≡ record { before = frames_of records; fault = end }
+            → ShowsEnding (ended_of ports (taken ++ rest)) (frames_of records) end)
+            (λ e. e) (λ e. e) fault by (ends rest));
+        at_end = λ none. absurd (cc);
+        kind = frame_cases IsEnding tt tt fault by;
+        cause = λ failed. absurd (frame_cases (λ end. end ≡ Some Read → ⊥) (λ e. cc) (λ e. cc) fault by failed);
+        still = λ _. same ∙ read.still;
+      }
+
+  -- no memory for what the frame wants
+  pub ends-wanting : (later : Option (List ℕ)) (now : ℕ) (frame : List ℕ) (original : ℕ)
+      → Took left later (λ taken. (rest : List ℕ) → records_in order (taken ++ rest) ≡ with_record frame original (records_in order rest))
+      → now ≡ faults → ending_at ports (frames_of records) frame ≡ None → Wants (frames_of records) frame
+      → HasEnded Wants left0 later faults0 now ports (frames_of records) (Some Memory)
+  ends-wanting later now frame original took same goes begins =
+      let found : Captured = record { frame = frame; original = original } in
+      let more : HasRead order left0 later faults0 now ports (records ++ found ∷ []) = goes_on read later now frame original took same goes in
+      record {
+        taken = Took-weaker left0 later (Holds order (records ++ found ∷ [])) (λ taken. LacksMemory Wants (ended_of ports taken) (frames_of records))
+            (λ taken holds. inr (
+              frame,
+              begins,
+              ended_of-end ports order (records ++ found ∷ []) more.through taken holds
+                  ∙ ap (λ frames. record { before = frames; fault = None }) (frames-append records (found ∷ [])),
+            )) more.taken;
+        shown = all-rest left0 later (Holds order (records ++ found ∷ [])) (λ rest. Unit {0}) _ more.taken (anything later) (λ taken rest _ _. tt);
+        at_end = λ none. absurd (cc);
+        kind = tt;
+        cause = λ failed. absurd (cc);
+        still = λ _. same ∙ read.still;
+      }
+
+-- ---- before the first record
+
+opening_cases : (P : Fault → Type 0) → P NotPcap → P Version → P LinkType → P Cut → P Read → (fault : Fault) → IsOpeningFault fault → P fault
+opening_cases P not_pcap version link_type cut read NotPcap is = not_pcap
+opening_cases P not_pcap version link_type cut read Version is = version
+opening_cases P not_pcap version link_type cut read LinkType is = link_type
+opening_cases P not_pcap version link_type cut read Cut is = cut
+opening_cases P not_pcap version link_type cut read Read is = read
+opening_cases P not_pcap version link_type cut read Memory is = absurd is
+opening_cases P not_pcap version link_type cut read Usage is = absurd is
+opening_cases P not_pcap version link_type cut read LongRecord is = absurd is
+opening_cases P not_pcap version link_type cut read Write is = absurd is
+opening_cases P not_pcap version link_type cut read TooManyFlows is = absurd is
+opening_cases P not_pcap version link_type cut read TooManyFrames is = absurd is
+
+opening-ends : (ports : List ℕ) (bytes : List ℕ) → Leads (ended_of ports bytes) [] (records_of bytes)
+unfolding ended_of
+opening-ends ports bytes = λ end shows. ap (λ read. ended_after ports [] (frames_of read.all) read.fault) shows ∙ ended_after-none ports [] end
+
+shown-opening : (ports : List ℕ) (all : List ℕ) (fault : Fault) → IsOpeningFault fault → ShowsFault (records_of all) fault
+    → ShowsEnding (ended_of ports all) [] (Some fault)
+shown-opening ports all =
+    let leads : Leads (ended_of ports all) [] (records_of all) = opening-ends ports all in
+    opening_cases (λ fault. ShowsFault (records_of all) fault → ShowsEnding (ended_of ports all) [] (Some fault))
+    (λ shows. leads (Some NotPcap) shows) (λ shows. leads (Some Version) shows) (λ shows. leads (Some LinkType) shows) (λ shows. leads (Some Cut) shows)
+    (λ shows. tt)
+
+taken-opening : (Wants : List (List ℕ) → List ℕ → Type 0) (ports : List ℕ) (taken : List ℕ) (fault : Fault) → IsOpeningFault fault → TakenShows (records_of taken) fault
+    → TakenEnds Wants (ended_of ports taken) [] (Some fault)
+taken-opening Wants ports taken =
+    let leads : Leads (ended_of ports taken) [] (records_of taken) = opening-ends ports taken in
+    opening_cases (λ fault. TakenShows (records_of taken) fault → TakenEnds Wants (ended_of ports taken) [] (Some fault))
+    (λ shows. leads (Some NotPcap) shows) (λ shows. leads (Some Version) shows) (λ shows. leads (Some LinkType) shows) (λ shows. leads (Some Cut) shows)
+    (λ shows. ⊎_elim (λ none. inl (leads None none)) (λ cut. inr (leads (Some Cut) cut)) shows)
+
+-- the file header was refused
+pub ends-opening : (Wants : List (List ℕ) → List ℕ → Type 0) (left0 left : Option (List ℕ)) (faults0 faults : ℕ) (ports : List ℕ) (fault : Fault) → IsOpeningFault fault
+    → IfSome left0 (λ all. ShowsFault (records_of all) fault) → Took left0 left (λ taken. TakenShows (records_of taken) fault)
+    → (fault ≡ Read → Rose faults0 faults) → (fault ≢ Read → faults ≡ faults0) → HasEnded Wants left0 left faults0 faults ports [] (Some fault)
+ends-opening Wants left0 left faults0 faults ports fault is shows took cause same = record {
+  taken = Took-weaker left0 left (λ taken. TakenShows (records_of taken) fault) (λ taken. TakenEnds Wants (ended_of ports taken) [] (Some fault))
+      (λ taken shown. taken-opening Wants ports taken fault is shown) took;
+  shown = some-weaker left0 (λ all. ShowsFault (records_of all) fault) (λ all. ShowsEnding (ended_of ports all) [] (Some fault)) shows
+      (λ all shown. shown-opening ports all fault is shown);
+  at_end = λ none. absurd (cc);
+  kind = opening_cases (λ fault. IsEnding (Some fault)) tt tt tt tt tt fault is;
+  cause = λ by. cause (cc);
+  still = λ other. same (λ by. other (ap Some by));
+}
+
+-- it was read
+pub reads-nothing : (order : ByteOrder) (left0 left : Option (List ℕ)) (faults0 faults : ℕ) (ports : List ℕ)
+    → Took left0 left (λ taken. (rest : List ℕ) → records_of (taken ++ rest) ≡ records_in order rest)
+    → faults ≡ faults0 → HasRead order left0 left faults0 faults ports []
+reads-nothing order left0 left faults0 faults ports took same = record {
+  taken = took;
+  still = same;
+  through = GoesThrough-nothing ports;
+}
+
+-- ---- a frame that ends the reading
+
+module _ (Wants : List (List ℕ) → List ℕ → Type 0) {order : ByteOrder} {left0 left : Option (List ℕ)} {faults0 faults : ℕ} {ports : List ℕ}
+    {records : List Captured}
+    (read : HasRead order left0 left faults0 faults ports records) where
+  pub ends-frame : (later : Option (List ℕ)) (now : ℕ) (frame : List ℕ) (original : ℕ)
+      → Took left later (λ taken. (rest : List ℕ) → records_in order (taken ++ rest) ≡ with_record frame original (records_in order rest))
+      → now ≡ faults
+      → (fault : Fault) → EndsAt Wants ports (frames_of records) frame fault
+      → HasEnded Wants left0 later faults0 now ports (frames_of records) (Some fault)
+  ends-frame later now frame original took same fault refused = by_fault fault refused
+    where
+      at : (fault : Fault) → ending_at ports (frames_of records) frame ≡ Some fault
+          → HasEnded Wants left0 later faults0 now ports (frames_of records) (Some fault)
+      at fault is = ends-at Wants read later now same frame original fault took is
+
+      by_fault : (fault : Fault) → EndsAt Wants ports (frames_of records) frame fault
+          → HasEnded Wants left0 later faults0 now ports (frames_of records) (Some fault)
+      by_fault Memory (goes, wants) = ends-wanting Wants read later now frame original took same goes wants
+      by_fault Usage is = at Usage is
+      by_fault NotPcap is = at NotPcap is
+      by_fault Version is = at Version is
+      by_fault LinkType is = at LinkType is
+      by_fault Cut is = at Cut is
+      by_fault LongRecord is = at LongRecord is
+      by_fault Read is = at Read is
+      by_fault Write is = at Write is
+      by_fault TooManyFlows is = at TooManyFlows is
+      by_fault TooManyFrames is = at TooManyFrames is

@@ -1,0 +1,4 @@
+pub mod Reading
+pub mod Endings
+pub mod Tallies
+pub mod Framing
