@@ -1,0 +1,9 @@
+pub mod Plan
+pub mod Coming
+pub mod Offered
+pub mod Hand
+pub mod Intake
+pub mod Feed
+pub mod Turns
+pub mod Parts
+pub mod Outcomes

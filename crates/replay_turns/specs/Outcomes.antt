@@ -1,0 +1,30 @@
+-- What an outcome tells of a feed.
+use Rattle.std.specs.Prelude.{◌≡◌, ℕ, List, length, map, Some}
+use Rattle.std.specs.List.{slice_get}
+use Rattle.zr_kinds.specs.declared.outcome.AppLine.{AppLine}
+use Rattle.zr_kinds.specs.declared.outcome.FlowLine.{FlowLine}
+use Rattle.flow_table.specs.Flows.{Flow}
+use Rattle.replay_turns.specs.declared.outcome.Outcome.{Outcome}
+use Rattle.replay_turns.specs.Feed.{FeedState, end_of}
+
+-- there is one application for each port, in their order
+abbrev pub HavePorts : List ℕ → List AppLine → Type 0
+HavePorts ports apps = map (λ (app : AppLine). app.port) apps ≡ ports
+
+-- the line of a flow, of which so many bytes were written
+abbrev pub line_of : Flow → ℕ → FlowLine
+line_of flow bytes = record { port = flow.key.dport; base = flow.base; bytes = bytes; fin = flow.fin }
+
+-- one line for each flow
+pub record AreLinesOf (flows : List Flow) (bytes : List ℕ) (lines : List FlowLine) : Type 0 where
+  pub many : length lines ≡ length flows
+  pub each : (number : ℕ) (flow : Flow) (count : ℕ) → slice_get flows number ≡ Some flow → slice_get bytes number ≡ Some count
+      → slice_get lines number ≡ Some (line_of flow count)
+
+pub record IsOutcomeOf (feed : FeedState) (apps : List AppLine) (bytes : List ℕ) (outcome : Outcome) : Type 0 where
+  pub tally : outcome.tally ≡ feed.tally
+  pub apps_are : outcome.apps.items ≡ apps
+  pub flows : AreLinesOf feed.flows bytes outcome.flows.items
+  pub refused : outcome.refused.items ≡ feed.refused
+  pub pool : outcome.pool ≡ feed.pool.stats
+  pub end : outcome.end ≡ end_of feed.stage

@@ -1,0 +1,145 @@
+//! The card's part of a replay: what it keeps from turn to turn.
+
+ghost use Rattle.std.specs.Prelude.{◌≡◌, ◌<◌, ◌≤◌, true, length, get_or, IfOk, vec_len};
+ghost use Rattle.replay_turns.specs.Plan.{IsPlan};
+ghost use Rattle.replay_turns.specs.Feed.{new_feed, end_of};
+ghost use Rattle.replay_turns.specs.Hand.{HaveApps};
+ghost use Rattle.replay_turns.specs.Outcomes.{AreLinesOf, HavePorts, IsOutcomeOf};
+
+use crate::intake::{Intake, Stage};
+use crate::{Outcome, Plan};
+use flow_table::{FlowInfo, FlowTable};
+use frames_read::Counting;
+use page_pool::Pool;
+use std::alloc::{AllocError, Global};
+use std::collections::hash_map::RandomState;
+use std::marker::Model;
+use zr_kinds::{AppLine, Fault, FlowLine};
+
+/// What the card keeps from turn to turn: the reading, the flows, the pool, the frames that were refused, and the one that
+/// is at hand.
+#[derive(Drop)]
+pub struct Feed {
+    pub(crate) intake: Intake,
+    pub(crate) pool: Pool,
+    pub(crate) closed: bool,
+}
+
+impl Model for Feed {
+    ghost use Rattle.std.specs.Prelude.{◌≡◌};
+    ghost use Rattle.replay_turns.specs.Feed.{FeedState};
+    ghost use Rattle.replay_turns.specs.Parts.{feed_of};
+
+    ghost Value = { FeedState };
+
+    ghost view = { λ f. feed_of f.intake f.pool f.closed };
+
+    ghost invariant = { λ f. f.pool.split ≡ f.intake.split };
+}
+
+impl Feed {
+    /// A feed that has read nothing. The keys of the flows are hashed with `random`.
+    pub fn new(alloc: Global, random: RandomState, plan: &Plan) -> Result<Feed, AllocError>
+        requires { IsPlan plan.now }
+        ensures { IfOk result (λ feed. feed ≡ new_feed plan.now.ports.items plan.now.split) }
+    {
+        Ok(Feed {
+            intake: Intake {
+                stage: Stage::Unopened,
+                bytes: Vec::new(alloc),
+                counting: Counting::new(),
+                table: FlowTable::new(alloc, random, &plan.ports)?,
+                refused: Vec::new(alloc),
+                hand: None,
+                split: plan.split,
+            },
+            pool: Pool::new(plan.split),
+            closed: false,
+        })
+    }
+
+    /// Whether the card was closed.
+    pub fn closed(&self) -> bool
+        ensures { result ≡ self.now.closed }
+    {
+        self.closed
+    }
+
+    /// How many flows there are so far.
+    pub fn flows(&self) -> u32
+        ensures count { result ≡ length self.now.flows }
+        ensures most { result ≤ 65535 }
+    {
+        self.intake.table.count()
+    }
+
+    /// Puts the outcome together: `apps` are the lines of the applications, in the order of the ports, and `bytes` says how
+    /// many bytes of each flow were written.
+    pub fn outcome(
+        self,
+        alloc: Global,
+        apps: Vec<AppLine>,
+        bytes: Vec<u64>,
+    ) -> Result<Outcome, AllocError>
+        requires closed { self.closed ≡ true }
+        requires apps { HavePorts self.ports apps.items }
+        requires bytes { vec_len bytes ≡ length self.flows }
+        ensures { IfOk result (IsOutcomeOf self apps.items bytes.items) }
+    {
+        let Feed { intake, pool, .. } = self;
+        let flows = flow_lines(alloc, &intake.table, &apps, &bytes)?;
+        Ok(Outcome {
+            tally: intake.counting.tally,
+            apps,
+            flows,
+            refused: intake.refused,
+            pool: pool.stats(),
+            end: end_of(intake.stage),
+        })
+    }
+}
+
+/// What ended the reading, if not the end of the bytes.
+fn end_of(stage: Stage) -> Option<Fault>
+    ensures { result ≡ end_of stage }
+{
+    match stage {
+        Stage::Over(end) => end,
+        _ => None,
+    }
+}
+
+/// The line of a flow, of which so many bytes were written.
+fn flow_line(flow: &FlowInfo, apps: &[AppLine], bytes: u64) -> FlowLine
+    requires { flow.now.app < length apps.now }
+    ensures { (none : AppLine) → result
+        ≡ record { port = (get_or apps.now flow.now.app none).port; base = flow.now.base; bytes = bytes; fin = flow.now.fin } }
+{
+    FlowLine {
+        port: apps[flow.app as usize].port,
+        base: flow.base,
+        bytes,
+        fin: flow.fin,
+    }
+}
+
+/// The lines of the flows.
+fn flow_lines(
+    alloc: Global,
+    table: &FlowTable,
+    apps: &[AppLine],
+    bytes: &[u64],
+) -> Result<Vec<FlowLine>, AllocError>
+    requires ports { HavePorts table.now.ports apps.now }
+    requires apps { HaveApps table.now.ports table.now.flows }
+    requires bytes { length bytes.now ≡ length table.now.flows }
+    ensures { IfOk result (λ lines. AreLinesOf table.now.flows bytes.now lines.items) }
+{
+    let mut lines = Vec::with_capacity(alloc, bytes.len())?;
+    for number in 0..table.count() {
+        let flow = table.line(number);
+        let count = bytes[number as usize];
+        lines.push(flow_line(&flow, apps, count))?;
+    }
+    Ok(lines)
+}

@@ -1,0 +1,15 @@
+//! Turns: what the card does in one, over any source and any board, and how a run of them goes.
+#![tactic(auto)]
+
+mod feed;
+mod intake;
+mod outcome;
+mod plan;
+mod playing;
+mod reading;
+mod turn;
+
+pub use feed::Feed;
+pub use outcome::Outcome;
+pub use plan::Plan;
+pub use turn::nic_turn;
