@@ -6,3 +6,8 @@ pub mod Lines
 pub mod OffersRise
 pub mod Settling
 pub mod Turning
+pub mod NotesShown
+pub mod MarksStreamed
+pub mod Accounted
+pub mod OfFlow
+pub mod Bridge

@@ -7,3 +7,4 @@ pub mod Feed
 pub mod Turns
 pub mod Parts
 pub mod Outcomes
+pub mod Account

@@ -3,6 +3,7 @@
 
 mod feed;
 mod intake;
+mod laws;
 mod outcome;
 mod plan;
 mod playing;
@@ -10,6 +11,7 @@ mod reading;
 mod turn;
 
 pub use feed::Feed;
+pub use laws::accounts_give_streams;
 pub use outcome::Outcome;
 pub use plan::Plan;
 pub use turn::nic_turn;
