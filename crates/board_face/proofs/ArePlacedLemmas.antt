@@ -239,7 +239,7 @@ none-has m x ps le none = omega (
   tally-fewer (has_byte x) (ends_behind m) (λ p. byte-ends m x p le) ps,
 )
 
-none-later : (m x : ℕ) (ps : List Place) → m ≤ x → count_by (ends_behind m) ps ≡ 0 → count_by (ends_behind x) ps ≡ 0
+pub none-later : (m x : ℕ) (ps : List Place) → m ≤ x → count_by (ends_behind m) ps ≡ 0 → count_by (ends_behind x) ps ≡ 0
 none-later m x ps le none = omega (
   arith,
   none,
@@ -251,16 +251,16 @@ none-later m x ps le none = omega (
 not-empty : (p : Place) → 0 < p.len → weight (is_empty p) ≡ 0
 not-empty p some_bytes = ap weight (not-eqb p.len 0 (λ e. absurd (omega arith)))
 
-not-behind : (x : ℕ) (p : Place) → p.offset + p.len ≤ x → weight (ends_behind x p) ≡ 0
+pub not-behind : (x : ℕ) (p : Place) → p.offset + p.len ≤ x → weight (ends_behind x p) ≡ 0
 not-behind x p within = ap weight (le-ltb x (p.offset + p.len) within)
 
 before-byte : (x : ℕ) (p : Place) → x < p.offset → weight (has_byte x p) ≡ 0
 before-byte x p before = omega (arith, left-weight (nat_le p.offset x) (nat_lt x (p.offset + p.len)), ap weight (lt-leb p.offset x before))
 
-in-none : (b : ℕ) (test : Place → Bool) (p : Place) → weight (test p) ≡ 0 → weight (in_buffer b test p) ≡ 0
+pub in-none : (b : ℕ) (test : Place → Bool) (p : Place) → weight (test p) ≡ 0 → weight (in_buffer b test p) ≡ 0
 in-none b test p none = omega (arith, none, right-weight (p.buffer == b) (test p))
 
-in-other : (b : ℕ) (test : Place → Bool) (p : Place) → (p.buffer == b) ≡ false → weight (in_buffer b test p) ≡ 0
+pub in-other : (b : ℕ) (test : Place → Bool) (p : Place) → (p.buffer == b) ≡ false → weight (in_buffer b test p) ≡ 0
 in-other b test p other = ap (λ c. weight (c && test p)) other
 
 one-none : (b : ℕ) (test : Place → Bool) (ps ps' : List Place) (p : Place) → tally test ps' ≤ tally test ps + weight (in_buffer b test p)
@@ -449,7 +449,7 @@ both-weight true d e le = le
 both-weight false d e le = omega arith
 
 -- the two parts of a place end behind no byte behind which it doesn't end
-front-ends : (b x : ℕ) (place : Place) (at : ℕ) → at ≤ place.len
+pub front-ends : (b x : ℕ) (place : Place) (at : ℕ) → at ≤ place.len
     → weight (in_buffer b (ends_behind x) (front_place place at)) ≤ weight (in_buffer b (ends_behind x) place)
 front-ends b x place at within =
     both-weight (place.buffer == b) (ends_behind x (front_place place at)) (ends_behind x place)
@@ -459,7 +459,7 @@ front-ends b x place at within =
     (λ more. omega (arith, not-behind x (front_place place at) more))
     (cases_lt x (place.offset + at)))
 
-rest-ends : (b x : ℕ) (place : Place) (at : ℕ) → at ≤ place.len
+pub rest-ends : (b x : ℕ) (place : Place) (at : ℕ) → at ≤ place.len
     → weight (in_buffer b (ends_behind x) (rest_place place at)) ≤ weight (in_buffer b (ends_behind x) place)
 rest-ends b x place at within =
     let same : place.offset + at + (place.len - at) ≡ place.offset + place.len = omega arith in

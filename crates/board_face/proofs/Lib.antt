@@ -20,6 +20,7 @@ pub mod FillerCounts
 pub mod IsFilledByOneLemmas
 pub mod FillingsFitLemmas
 pub mod ArePlacedLemmas
+pub mod MadeLastLemmas
 pub mod StoresAtLemmas
 pub mod AreShownLemmas
 pub mod OpenedLemmas

@@ -16,6 +16,10 @@ pub mod Fillings
 pub mod Places
 pub mod Shown
 pub mod Relay
+pub mod Returns
+pub mod Phases
+pub mod Steps
+pub mod StepLaws
 pub mod Used
 pub mod OwnBuffers
 pub mod Laws

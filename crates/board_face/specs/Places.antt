@@ -2,12 +2,13 @@
 -- is empty, none ends behind the buffer, and each byte lies in one of them at most. They end where the bytes begin that
 -- the card fills next.
 use Rattle.std.specs.Prelude.{◌≡◌, ℕ, ◌+◌, ◌≤◌, ◌==◌, Bool, ◌&&◌, List, [], ◌∷◌, ◌++◌, length, map, filter, nat_lt, nat_le}
-use Rattle.std.specs.Prelude.{count_by, All}
+use Rattle.std.specs.Prelude.{count_by, All, Some}
 use Rattle.std.specs.List.{flat_map}
 use Rattle.zr_kinds.specs.declared.place.Place.{Place}
 use Rattle.area_layout.specs.Layout.{size_of}
 use Rattle.board_face.specs.AppEvents.{begin_place}
 use Rattle.board_face.specs.Holders.{Kind, own, piece, sent, held, spare, loan, owed, returning, holders_of}
+use Rattle.board_face.specs.declared.views.parts.Making.{Making}
 use Rattle.board_face.specs.declared.views.nic.NicSide.{NicSide}
 use Rattle.board_face.specs.declared.views.app.AppSide.{AppSide}
 
@@ -46,3 +47,9 @@ pub record ArePlaced (b : ℕ) (nic : NicSide) (apps : List AppSide) : Type 0 wh
   pub within : count_by (ends_behind (size_of nic.view.setting.layout b)) (places_of b nic apps) ≡ 0
   pub apart : (x : ℕ) → count_by (has_byte x) (places_of b nic apps) ≤ 1
   pub behind : All (λ o. o.buffer ≡ b → count_by (ends_behind o.start) (places_of b nic apps) ≡ 0) nic.view.owns
+
+-- The piece in the making is the last of its buffer: no place there ends behind it. So the words that fill it up to a whole one
+-- are nobody's.
+pub record IsMadeLast (nic : NicSide) (apps : List AppSide) : Type 0 where
+  pub last : (making : Making) → nic.inside.making ≡ Some making
+      → count_by (ends_behind (making.place.offset + making.place.len)) (places_of making.place.buffer nic apps) ≡ 0

@@ -12,11 +12,17 @@ use Rattle.board_face.specs.declared.views.app.TakenNote.{TakenNote}
 use Rattle.board_face.specs.declared.views.app.Reading.{Reading}
 use Rattle.board_face.specs.declared.views.app.AppSide.{AppSide}
 use Rattle.board_face.specs.Holders.{sent_to}
+use Rattle.board_face.specs.Texts.{IsSplitNote, IsLinearNote}
 use Rattle.board_face.specs.Shown.{origin_bytes}
 
 -- a note as the application takes it: with its bytes, where these travel in it
 abbrev pub as_taken : SentNote → TakenNote
 as_taken s = record { note = s.note; bytes = if s.note.split then [] else s.bytes }
+
+-- a note as it may be sent, with as many bytes as it tells of
+pub record IsProper (s : SentNote) : Type 0 where
+  pub split : s.note.split ≡ true → IsSplitNote s.note
+  pub linear : s.note.split ≡ false → IsLinearNote s.note × (length s.bytes ≡ s.note.total)
 
 -- the entries of an application that the card has dealt with
 abbrev pub dealt_entries : ℕ → NicSide → List Rqe

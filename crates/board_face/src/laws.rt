@@ -3,6 +3,7 @@
 
 mod app;
 mod card;
+mod steps;
 
 pub use app::{
     app_keeps, cut_law, fill_law, give_law, lend_law, lend_own_law, poll_law, release_law,
@@ -11,3 +12,4 @@ pub use app::{
 pub use card::{
     card_keeps, honour_law, place_law, send_law, shut_law, stray_law, sweep_law, take_law,
 };
+pub use steps::{app_steps, card_steps};

@@ -82,14 +82,16 @@ module _ (board : Board) (a : ℕ) (x : AppSide) (place : Place) (sound : IsSoun
           left = sound.sizes.left;
         };
         cached = sound.cached;
-        set = IsSet-app board a x now sound here refl refl (let r = was-at_rest board a x now sound here in record { hands = r.hands; owes = r.owes });
+        set = IsSet-app board a x now sound here refl refl
+            (let r = was-at_rest board a x now sound here in record { hands = r.hands; owes = r.owes; unscrubbed = r.unscrubbed });
         counted = AreCounted-app board a x now sound here arr refl refl
             (λ b inside. omega (arith, app_count-abandoned b board.nic x place out (ended b)))
             (λ b inside. omega (arith, user_part-abandoned a b board.nic x place out (ended b)))
             (λ k b ne app inside. refl)
             (λ b past. omega (arith, app_count-abandoned b board.nic x place out (ended b)))
             (λ b. EndedWereReturned-abandoned b board.nic x place (ended b));
-        free = AreFreeOnce-app board a x now sound here _ (let r = was-at_rest board a x now sound here in record { hands = r.hands; owes = r.owes })
+        free = AreFreeOnce-app board a x now sound here _
+            (let r = was-at_rest board a x now sound here in record { hands = r.hands; owes = r.owes; unscrubbed = r.unscrubbed })
             (λ b. app_count-abandoned b board.nic x place out (ended b)) sound.free;
         relayed = AreRelayed-kept board a x now sound here arr refl refl refl
             (Relayed-app board.nic x (abandoned x.view place) _ _ refl refl refl refl (was-relayed board a x now sound here));
@@ -120,7 +122,6 @@ module _ (board : Board) (a : ℕ) (x : AppSide) (place : Place) (sound : IsSoun
             (λ k ne. refl);
         phased = ArePhased-app board a x now sound here (record {
           ended = phase.ended;
-          unscrubbed = phase.unscrubbed;
           scrubbed = λ e. absurd (loan-none board a x sound here place out (phase.scrubbed e).0);
           left = λ e. absurd (loan-none board a x sound here place out (phase.left e).loans);
         });

@@ -41,7 +41,7 @@ module _ (board : Board) (a : ℕ) (x : AppSide) (sound : IsSound board) (here :
         sizes = sound.sizes;
         cached = sound.cached;
         set = IsSet-app board a x learnt sound here refl refl
-            (let rest = was-at_rest board a x learnt sound here in record { hands = rest.hands; owes = rest.owes });
+            (let rest = was-at_rest board a x learnt sound here in record { hands = rest.hands; owes = rest.owes; unscrubbed = rest.unscrubbed });
         counted = AreCounted-app board a x learnt sound here board.arrays refl refl
             (λ b within. omega (arith, app_count-same b board.nic x (told_of x.view settled quiet ended looks) same))
             (λ b within. omega (arith, user_part-same a b board.nic x (told_of x.view settled quiet ended looks) same))
@@ -49,7 +49,7 @@ module _ (board : Board) (a : ℕ) (x : AppSide) (sound : IsSound board) (here :
             (λ b past. omega (arith, app_count-same b board.nic x (told_of x.view settled quiet ended looks) same))
             (λ b. let e = was-returned board a x learnt sound here b in record { ended = e.ended; returning = e.returning });
         free = AreFreeOnce-app board a x learnt sound here _
-            (let rest = was-at_rest board a x learnt sound here in record { hands = rest.hands; owes = rest.owes })
+            (let rest = was-at_rest board a x learnt sound here in record { hands = rest.hands; owes = rest.owes; unscrubbed = rest.unscrubbed })
             (λ b. app_count-same b board.nic x (told_of x.view settled quiet ended looks) same) sound.free;
         relayed = AreRelayed-kept board a x learnt sound here board.arrays refl refl refl
             (Relayed-app board.nic x (told_of x.view settled quiet ended looks) _ _ refl refl refl refl (was-relayed board a x learnt sound here));
@@ -84,7 +84,6 @@ module _ (board : Board) (a : ℕ) (x : AppSide) (sound : IsSound board) (here :
             (λ k ne. refl);
         phased = ArePhased-app board a x learnt sound here (record {
           ended = ends;
-          unscrubbed = phase.unscrubbed;
           scrubbed = phase.scrubbed;
           left = λ e. let can = phase.left e in record {
             scrubbed = can.scrubbed;

@@ -5,6 +5,7 @@ use Rattle.std.proofs.lemmas.Bool.{false≢true}
 use Rattle.std.proofs.lemmas.List.Elements.{All-weaker}
 use Rattle.area_layout.specs.Layout.{total}
 use Rattle.board_face.specs.Sides.{nic_at}
+use Rattle.board_face.specs.Holders.{lowered_in_hand}
 use Rattle.board_face.specs.Counts.{pool_count, EndedWereReturned}
 use Rattle.board_face.specs.NicCalls.{apps_of, IsOpen, HasNoToken}
 use Rattle.board_face.specs.declared.views.parts.Setting.{Setting}
@@ -74,6 +75,11 @@ AreCounted-same arrays now nic v apps deals layout users pool same h = record {
   returned = λ b. EndedWereReturned-nic nic v apps deals b (h.returned b);
 }
 
+-- no entry is in hand between two calls
+pub none-lowered : (setting : Setting) (nic : NicSide) (apps : List AppSide) → IsSet setting nic apps → (a b : ℕ)
+    → lowered_in_hand a b nic.inside.entry ≡ 0
+none-lowered setting nic apps set a b = ap (λ inside. lowered_in_hand a b inside.entry) set.card_rest
+
 pub AreReturns-nic : (nic : NicSide) (v : NicView) (app : AppSide) → v.dealt ≡ nic.view.dealt → AreReturns nic app → AreReturns (nic_at nic v) app
 AreReturns-nic nic v app deals h = record {
   written = h.written;
@@ -104,7 +110,6 @@ ArePhased-nic nic v apps sents deals ends none h = record {
   sides = All-weaker (IsPhased nic) (IsPhased (nic_at nic v))
       (λ app p. record {
         ended = λ e. (ends (p.ended e).0, rw sents (p.ended e).1);
-        unscrubbed = p.unscrubbed;
         scrubbed = λ e. ((p.scrubbed e).0, λ b. rw deals ((p.scrubbed e).1 b));
         left = p.left;
       })
@@ -119,7 +124,6 @@ ArePhased-open nic v apps running deals same h = record {
   sides = All-weaker (IsPhased nic) (IsPhased (nic_at nic v))
       (λ app p. record {
         ended = λ e. absurd (false≢true (sym running ∙ (p.ended e).0));
-        unscrubbed = p.unscrubbed;
         scrubbed = λ e. ((p.scrubbed e).0, λ b. rw deals ((p.scrubbed e).1 b));
         left = p.left;
       })

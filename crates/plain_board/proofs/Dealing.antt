@@ -10,7 +10,7 @@ use Rattle.std.proofs.lemmas.Bool.{eq-eqb, ltb-false}
 use Rattle.std.proofs.Math.Seq.{drop-append_seam}
 use Rattle.zr_kinds.specs.declared.ring.Rqe.{Rqe}
 use Rattle.board_face.specs.Sides.{nic_at}
-use Rattle.board_face.specs.Holders.{ended_in, owed_in, returned_in}
+use Rattle.board_face.specs.Holders.{lowered_in_hand, ended_in, owed_in, returned_in}
 use Rattle.board_face.specs.Relay.{Relayed, dealt_entries, IsNoLoanStray}
 use Rattle.board_face.specs.declared.views.nic.Dealt.{Dealt}
 use Rattle.board_face.specs.declared.views.nic.NicView.{NicView}
@@ -109,16 +109,17 @@ module _ (nic : NicSide) (v : NicView) (app : AppSide) (d : Dealt) (deals : v.de
       ) in
       rw more (drop-after (length (dealt_entries app.view.app nic)) app.view.written front.first front.others front.way)
 
-  pub AreReturns-dealt : AreReturns nic app → ((b : ℕ) → count_by (returns app.view.setting.layout b) front.others
+  pub AreReturns-dealt : AreReturns nic app → ((b : ℕ) → lowered_in_hand app.view.app b nic.inside.entry ≡ 0) → ((b : ℕ)
+      → count_by (returns app.view.setting.layout b) front.others
       ≤ length (owed_in b (nic_at nic v) app))
       → ((b : ℕ) → length (owed_in b (nic_at nic v) app) ≤ count_by (returns app.view.setting.layout b) front.others + abandoned_in b app)
       → IsNoLoanStray (front.first, d) → AreReturns (nic_at nic v) app
-  AreReturns-dealt h still_owed no_more good =
+  AreReturns-dealt h idle still_owed no_more good =
       let before = filter (λ (x : Dealt). x.app == app.view.app) nic.view.dealt in
       record {
         written = h.written;
-        owed = λ b. rw way-after (still_owed b);
-        no_more = λ b. rw way-after (no_more b);
+        owed = λ b. rw way-after (omega (arith, still_owed b));
+        no_more = λ b. rw way-after (omega (arith, no_more b, idle b));
         clear = λ b. rw way-after ((rw front.way at (h.clear b)).1);
         named = rw way-after (All-tail (IsNamed app.view.setting.layout) front.first front.others (rw front.way at h.named));
         settled = λ e. rw way-after (All-tail IsOfLoan front.first front.others (rw front.way at (h.settled e)));
@@ -162,7 +163,6 @@ ArePhased-dealt nic v apps d sents deals same owns pieces h = record {
   sides = All-weaker (IsPhased nic) (IsPhased (nic_at nic v))
       (λ app p. record {
         ended = λ e. (same ∙ (p.ended e).0, rw sents (p.ended e).1);
-        unscrubbed = p.unscrubbed;
         scrubbed = λ e. (
           (p.scrubbed e).0,
           λ b. omega (

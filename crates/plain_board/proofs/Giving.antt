@@ -159,14 +159,14 @@ module _ (board : Board) (a : ℕ) (x : AppSide) (place : Place) (sound : IsSoun
           left = sound.sizes.left;
         };
         cached = sound.cached;
-        set = IsSet-app board a x now sound here refl refl (record { hands = at_rest.hands; owes = at_rest.owes });
+        set = IsSet-app board a x now sound here refl refl (record { hands = at_rest.hands; owes = at_rest.owes; unscrubbed = at_rest.unscrubbed });
         counted = AreCounted-app board a x now sound here arr refl refl
             (λ b inside. omega (arith, app_count-gave b board.nic x place out (ended b)))
             (λ b inside. omega (arith, user_part-gave a b board.nic x place out (ended b)))
             (λ k b ne app inside. refl)
             (λ b past. omega (arith, app_count-gave b board.nic x place out (ended b)))
             (λ b. let e = EndedWereReturned-abandoned b board.nic x place (ended b) in record { ended = e.ended; returning = e.returning });
-        free = AreFreeOnce-app board a x now sound here _ (record { hands = at_rest.hands; owes = at_rest.owes })
+        free = AreFreeOnce-app board a x now sound here _ (record { hands = at_rest.hands; owes = at_rest.owes; unscrubbed = at_rest.unscrubbed })
             (λ b. app_count-gave b board.nic x place out (ended b)) sound.free;
         relayed = AreRelayed-app board a x now sound here arr refl
             (subst (Relayed board.nic now (map taken_of (notes_of board.arrays a)))
@@ -199,7 +199,6 @@ module _ (board : Board) (a : ℕ) (x : AppSide) (place : Place) (sound : IsSoun
             (λ k ne. refl);
         phased = ArePhased-app board a x now sound here (record {
           ended = phase.ended;
-          unscrubbed = phase.unscrubbed;
           scrubbed = λ e. absurd (loan-none board a x sound here place out (phase.scrubbed e).0);
           left = λ e. absurd (loan-none board a x sound here place out (phase.left e).loans);
         });

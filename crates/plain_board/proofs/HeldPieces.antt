@@ -116,7 +116,7 @@ module _ (board : Board) (a : ℕ) (x : AppSide) (helds : List HeldPiece) (pool 
     pub own_buffers : AppLiesInOwn side_then.view
 
   pub at-rest : IsAtRest side_then
-  at-rest = let rest = was-at_rest board a x side_then sound here in record { hands = rest.hands; owes = rest.owes }
+  at-rest = let rest = was-at_rest board a x side_then sound here in record { hands = rest.hands; owes = rest.owes; unscrubbed = rest.unscrubbed }
 
   pub IsSound-helds : IsMove → IsSound (record { arrays = arrays_then; nic = board.nic; apps = set board.apps a side_then })
   IsSound-helds move =
@@ -180,5 +180,5 @@ module _ (board : Board) (a : ℕ) (x : AppSide) (helds : List HeldPiece) (pool 
             (λ k y ne it. sound.booked.filled k y it)
             (λ k ne. refl);
         phased = ArePhased-app board a x side_then sound here
-            (record { ended = phase.ended; unscrubbed = phase.unscrubbed; scrubbed = phase.scrubbed; left = λ gone. absurd (let none : ⊥ = cc in none) });
+            (record { ended = phase.ended; scrubbed = phase.scrubbed; left = λ gone. absurd (let none : ⊥ = cc in none) });
       }

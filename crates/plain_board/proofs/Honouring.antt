@@ -16,7 +16,7 @@ use Rattle.board_face.specs.NicCalls.{FreedEntry, HonouredEntry}
 use Rattle.board_face.specs.declared.views.nic.NicLook.TheVariants.{Owed}
 use Rattle.board_face.proofs.LookLemmas.{NicRose-nic_saw, NicRose-before, NicRose-later, NicLooksStay-nic_saw}
 use Rattle.board_face.specs.Sides.{nic_at, IsApp}
-use Rattle.board_face.specs.Holders.{ended_in, owed_in, returned_in}
+use Rattle.board_face.specs.Holders.{lowered_in_hand, ended_in, owed_in, returned_in}
 use Rattle.board_face.specs.Counts.{pool_count, user_count, EndedWereReturned}
 use Rattle.board_face.specs.FreeOnce.{free_places}
 use Rattle.board_face.specs.declared.views.nic.Dealt.{Dealt}
@@ -38,7 +38,7 @@ use Rattle.plain_board.specs.Board.{Board, byte_of}
 use Rattle.plain_board.specs.Returns.{AreReturns, is_some_of, returns, names, abandoned_in}
 use Rattle.plain_board.specs.Sound.{IsSound, refills_of}
 use Rattle.plain_board.proofs.Lists.{counts-set, weight-same, weight-other, same-or-other, same-user}
-use Rattle.plain_board.proofs.Card.{IsSet-nic}
+use Rattle.plain_board.proofs.Card.{IsSet-nic, none-lowered}
 use Rattle.plain_board.proofs.Freeing.{All-at, and-true, and-right, cache_after, listed_after, places-after, cache-grows, cache-short, length-listed_after}
 use Rattle.plain_board.proofs.Freeing.{once-freed}
 use Rattle.plain_board.proofs.Shutting.{used-nowhere, none-listed}
@@ -103,6 +103,10 @@ module _ (board : Board) (a i : ℕ) (x : AppSide) (e : Rqe) (es : List Rqe) (so
       (not-eqb app.view.app a other)) board.apps sound.set.numbers a x here.there (omega arith)
       ∙ (ap (user_part a i board.nic) here.is ∙ part-all (x.view.app == a) _ (subst (λ n. (n == a) ≡ true) (sym here.number) (eqb_same a)))))
 
+  -- no entry is in hand
+  idle : (b : ℕ) → lowered_in_hand x.view.app b board.nic.inside.entry ≡ 0
+  idle = none-lowered _ board.nic board.apps sound.set x.view.app
+
   pub owes_some : 1 ≤ owed_count i board.nic x
   owes_some =
       let h = sound.returns a x here in
@@ -111,6 +115,7 @@ module _ (board : Board) (a i : ℕ) (x : AppSide) (e : Rqe) (es : List Rqe) (so
       omega (
         arith,
         rw front.way at (h.owed i),
+        idle i,
         count-first (returns x.view.setting.layout i) front.first front.others,
         ap weight counted,
         length-owed_in i board.nic x,
@@ -247,6 +252,7 @@ module _ (board : Board) (a i : ℕ) (x : AppSide) (e : Rqe) (es : List Rqe) (so
       (omega (
         arith,
         rw front.way at (h.owed i),
+        idle i,
         count-first (returns x.view.setting.layout i) front.first front.others,
         ap weight counted,
         length-owed_in i board.nic x,
@@ -260,6 +266,7 @@ module _ (board : Board) (a i : ℕ) (x : AppSide) (e : Rqe) (es : List Rqe) (so
       (λ other. omega (
         arith,
         before,
+        idle b,
         count-first test front.first front.others,
         length-owed_in b board.nic x,
         length-owed_in b (nic_then last) x,
@@ -294,8 +301,8 @@ module _ (board : Board) (a i : ℕ) (x : AppSide) (e : Rqe) (es : List Rqe) (so
       (λ t. let same : k ≡ a = t.1 in
       let is : y ≡ x = same-app board.apps a x y here (subst (λ n. IsApp board.apps n y) same it) in
       subst (AreReturns (nic_then last)) (sym is)
-      (AreReturns-dealt board.nic (honoured_if board.nic.view a e i last) x the_dealt refl front (sym here.number) (sound.returns a x here) (still_owed last)
-      (no_more last) (λ of_loan. refl)))
+      (AreReturns-dealt board.nic (honoured_if board.nic.view a e i last) x the_dealt refl front (sym here.number) (sound.returns a x here) idle
+      (still_owed last) (no_more last) (λ of_loan. refl)))
       (λ t. let ne : k ≢ a = t.1 in
       let other = other-number board.apps a k y it ne in
       AreReturns-other board.nic (honoured_if board.nic.view a e i last) y the_dealt refl (λ same. other (sym same)) (λ b. ended_others last b y other)

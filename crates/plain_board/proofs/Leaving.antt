@@ -50,14 +50,14 @@ module _ (board : Board) (a : ℕ) (x : AppSide) (sound : IsSound board) (here :
           left = length-set board.arrays.left a true ∙ sound.sizes.left;
         };
         cached = sound.cached;
-        set = IsSet-app board a x gone sound here refl refl (record { hands = rest.hands; owes = rest.owes });
+        set = IsSet-app board a x gone sound here refl refl (record { hands = rest.hands; owes = rest.owes; unscrubbed = rest.unscrubbed });
         counted = AreCounted-app board a x gone sound here _ refl refl
             (λ b within. omega (arith, app_count-same b board.nic x v same))
             (λ b within. omega (arith, user_part-same a b board.nic x v same))
             (λ k b ne app within. refl)
             (λ b past. omega (arith, app_count-same b board.nic x v same))
             (λ b. let e = was-returned board a x gone sound here b in record { ended = e.ended; returning = e.returning });
-        free = AreFreeOnce-app board a x gone sound here _ (record { hands = rest.hands; owes = rest.owes })
+        free = AreFreeOnce-app board a x gone sound here _ (record { hands = rest.hands; owes = rest.owes; unscrubbed = rest.unscrubbed })
             (λ b. app_count-same b board.nic x v same) sound.free;
         relayed = AreRelayed-kept board a x gone sound here _ refl refl refl
             (Relayed-app board.nic x v _ _ refl refl refl refl (was-relayed board a x gone sound here));
@@ -92,7 +92,6 @@ module _ (board : Board) (a : ℕ) (x : AppSide) (sound : IsSound board) (here :
             (λ k ne. refl);
         phased = ArePhased-app board a x gone sound here (record {
           ended = phase.ended;
-          unscrubbed = phase.unscrubbed;
           scrubbed = phase.scrubbed;
           left = λ e. record { scrubbed = can.scrubbed; ended = can.ended; helds = can.helds; loans = can.loans; spares = can.spares };
         });

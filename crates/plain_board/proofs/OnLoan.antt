@@ -105,14 +105,15 @@ module _ (board : Board) (a : ℕ) (x : AppSide) (buffer : ℕ) (sound : IsSound
             left = sound.sizes.left;
           };
           cached = sound.cached;
-          set = IsSet-app board a x loaned sound here refl refl (record { hands = at_rest.hands; owes = at_rest.owes });
+          set = IsSet-app board a x loaned sound here refl refl (record { hands = at_rest.hands; owes = at_rest.owes; unscrubbed = at_rest.unscrubbed });
           counted = AreCounted-app board a x loaned sound here arr refl refl
               (λ b inside. omega (arith, holders b))
               (λ b inside. omega (arith, users b, user-raised (total board.arrays.layout) board.arrays.users a buffer n within user-there user_more b inside))
               (λ k b ne app inside. user-other (total board.arrays.layout) board.arrays.users a buffer n within k b inside (inl ne))
               (λ b past. omega (arith, holders b))
               (λ b. let e = was-returned board a x loaned sound here b in record { ended = e.ended; returning = e.returning });
-          free = AreFreeOnce-app board a x loaned sound here _ (record { hands = at_rest.hands; owes = at_rest.owes }) holders sound.free;
+          free = AreFreeOnce-app board a x loaned sound here _
+              (record { hands = at_rest.hands; owes = at_rest.owes; unscrubbed = at_rest.unscrubbed }) holders sound.free;
           relayed = AreRelayed-kept board a x loaned sound here arr refl refl refl
               (Relayed-app board.nic x loaned.view _ _ refl refl refl refl (was-relayed board a x loaned sound here));
           returns = returns-app board a x loaned sound here (record {
@@ -151,7 +152,6 @@ module _ (board : Board) (a : ℕ) (x : AppSide) (buffer : ℕ) (sound : IsSound
               (λ k ne. refl);
           phased = ArePhased-app board a x loaned sound here (record {
             ended = phase.ended;
-            unscrubbed = phase.unscrubbed;
             scrubbed = λ e. absurd (not_yet e);
             left = λ e. absurd (not_yet (phase.left e).scrubbed);
           });

@@ -128,7 +128,11 @@ module _ (layout : Shape) (places : ℕ) (good : IsLayout layout) (some : 1 ≤ 
       many = length-new_apps s 0 layout.reserves;
       numbers = numbered-new_apps s 0 layout.reserves;
       roles = All-new (λ app. app.view.setting ≡ s) s 0 layout.reserves (λ a. refl);
-      roles_rest = All-new IsAtRest s 0 layout.reserves (λ a. record { hands = refl; owes = λ b. all-alike (total layout) b 0 });
+      roles_rest = All-new IsAtRest s 0 layout.reserves (λ a. record {
+        hands = refl;
+        owes = λ b. all-alike (total layout) b 0;
+        unscrubbed = λ _ b. all-alike (total layout) b 0;
+      });
     };
     counted = record {
       pool = λ b within. get_or-replicate (total layout) b 0 0 within ∙ sym (count-new b s layout.reserves);
@@ -192,7 +196,6 @@ module _ (layout : Shape) (places : ℕ) (good : IsLayout layout) (some : 1 ≤ 
       sides = All-new (IsPhased (new_nic s)) s 0 layout.reserves
           (λ n. record {
             ended = λ e. absurd (false≢true e);
-            unscrubbed = λ _ b. all-alike (total layout) b 0;
             scrubbed = λ e. absurd (false≢true e);
             left = λ e. absurd (false≢true e);
           });

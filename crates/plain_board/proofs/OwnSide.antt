@@ -38,7 +38,7 @@ module _ (board : Board) (a : ℕ) (x : AppSide) (sound : IsSound board) (here :
   no-returning b = ap (λ inside. returning_in_hand x.view.app b inside.entry) sound.set.card_rest
 
   ended-same : (b : ℕ) → x.view.scrubbed ≡ false → ended_in b board.nic self ≡ ended_in b board.nic x
-  ended-same b is = let phase = was-phased board a x x sound here in omega (arith, phase.unscrubbed is b, all-alike (all_buffers x.view.setting.layout) b 0)
+  ended-same b is = let rest = was-at_rest board a x x sound here in omega (arith, rest.unscrubbed is b, all-alike (all_buffers x.view.setting.layout) b 0)
 
   owed-by : (b : ℕ) (c : Bool) → x.view.scrubbed ≡ c → tally (λ (l : LentPiece). l.place.buffer == b)
       (if c then [] else x.view.returned) - ended_in b board.nic self ≡ owed_count b board.nic x

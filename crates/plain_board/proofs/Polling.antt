@@ -110,7 +110,7 @@ module _ (board : Board) (a : ℕ) (x : AppSide) (slot : NoteSlot) (rest : List 
   IsSound-took t helds is same by_one shown own =
       let now = took helds t in
       let rest_before = was-at_rest board a x now sound here in
-      let at_rest : IsAtRest now = record { hands = rest_before.hands; owes = rest_before.owes } in
+      let at_rest : IsAtRest now = record { hands = rest_before.hands; owes = rest_before.owes; unscrubbed = rest_before.unscrubbed } in
       let phase = was-phased board a x now sound here in
       let back = was-returns board a x now sound here in
       record {
@@ -177,7 +177,6 @@ module _ (board : Board) (a : ℕ) (x : AppSide) (slot : NoteSlot) (rest : List 
             (λ k ne. refl);
         phased = ArePhased-app board a x now sound here (record {
           ended = λ told. absurd (no-end told);
-          unscrubbed = phase.unscrubbed;
           scrubbed = phase.scrubbed;
           left = λ gone. absurd (let none : ⊥ = cc in none);
         });

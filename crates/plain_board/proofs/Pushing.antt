@@ -209,14 +209,14 @@ module _ (board : Board) (a : ℕ) (x : AppSide) (entry : Rqe) (sound : IsSound 
           left = sound.sizes.left;
         };
         cached = sound.cached;
-        set = IsSet-app board a x raw_then sound here refl refl (record { hands = rest.hands; owes = rest.owes });
+        set = IsSet-app board a x raw_then sound here refl refl (record { hands = rest.hands; owes = rest.owes; unscrubbed = rest.unscrubbed });
         counted = AreCounted-app board a x raw_then sound here _ refl refl
             (λ b within. omega (arith, app_count-same b board.nic x v same))
             (λ b within. omega (arith, user_part-same a b board.nic x v same))
             (λ k b ne app within. refl)
             (λ b past. omega (arith, app_count-same b board.nic x v same))
             (λ b. let e = was-returned board a x raw_then sound here b in record { ended = e.ended; returning = e.returning });
-        free = AreFreeOnce-app board a x raw_then sound here _ (record { hands = rest.hands; owes = rest.owes })
+        free = AreFreeOnce-app board a x raw_then sound here _ (record { hands = rest.hands; owes = rest.owes; unscrubbed = rest.unscrubbed })
             (λ b. app_count-same b board.nic x v same) sound.free;
         relayed = AreRelayed-app board a x raw_then sound here _ refl
             (rw refills-mine (Relayed-wrote board.nic x v one _ _ refl refl refl refl (was-relayed board a x raw_then sound here)))
@@ -245,7 +245,6 @@ module _ (board : Board) (a : ℕ) (x : AppSide) (entry : Rqe) (sound : IsSound 
             (λ k ne. get_or-set_other board.arrays.raw a k n 0 ne);
         phased = ArePhased-app board a x raw_then sound here (record {
           ended = phase.ended;
-          unscrubbed = phase.unscrubbed;
           scrubbed = phase.scrubbed;
           left = λ e. let can = phase.left e in record {
             scrubbed = can.scrubbed;

@@ -133,14 +133,14 @@ module _ (board : Board) (a : ℕ) (x : AppSide) (place : Place) (sound : IsSoun
         record {
           sizes = sound.sizes;
           cached = sound.cached;
-          set = IsSet-app board a x now sound here refl refl (record { hands = at_rest.hands; owes = at_rest.owes });
+          set = IsSet-app board a x now sound here refl refl (record { hands = at_rest.hands; owes = at_rest.owes; unscrubbed = at_rest.unscrubbed });
           counted = AreCounted-app board a x now sound here board.arrays refl refl
               (λ b inside. omega (arith, app_count-same b board.nic x v same))
               (λ b inside. omega (arith, user_part-same a b board.nic x v same))
               (λ k b ne app inside. refl)
               (λ b past. omega (arith, app_count-same b board.nic x v same))
               (λ b. let e = was-returned board a x now sound here b in record { ended = e.ended; returning = e.returning });
-          free = AreFreeOnce-app board a x now sound here _ (record { hands = at_rest.hands; owes = at_rest.owes })
+          free = AreFreeOnce-app board a x now sound here _ (record { hands = at_rest.hands; owes = at_rest.owes; unscrubbed = at_rest.unscrubbed })
               (λ b. app_count-same b board.nic x v same) sound.free;
           relayed = AreRelayed-kept board a x now sound here board.arrays refl refl refl kept;
           returns = returns-app board a x now sound here (record {
@@ -174,7 +174,6 @@ module _ (board : Board) (a : ℕ) (x : AppSide) (place : Place) (sound : IsSoun
               (λ k ne. refl);
           phased = ArePhased-app board a x now sound here (record {
             ended = phase.ended;
-            unscrubbed = phase.unscrubbed;
             scrubbed = phase.scrubbed;
             left = λ e. let can = phase.left e in record {
               scrubbed = can.scrubbed;

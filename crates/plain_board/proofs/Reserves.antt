@@ -23,6 +23,7 @@ use Rattle.plain_board.specs.Sound.{IsSound}
 use Rattle.plain_board.specs.Users.{UsersAreLoans}
 use Rattle.plain_board.proofs.Lists.{weight-other}
 use Rattle.plain_board.proofs.AppFrames.{has-setting, was-at_rest, was-own}
+use Rattle.plain_board.proofs.Card.{none-lowered}
 use Rattle.plain_board.proofs.Dealing.{length-owed_in}
 use Rattle.plain_board.proofs.Honouring.{part-none, part-all}
 
@@ -169,5 +170,5 @@ users-are_loans board sound a b app here =
         count-tally (λ (l : LentPiece). l.place.buffer == b) app.view.loans,
         length-owed_in b board.nic app,
       );
-      owed = λ none. omega (arith, returns.owed b, returns.no_more b, none);
+      owed = λ none. omega (arith, returns.owed b, returns.no_more b, none-lowered _ board.nic board.apps sound.set app.view.app b, none);
     }

@@ -26,6 +26,7 @@ use Rattle.plain_board.specs.Sound.{IsSound, IsAtRest}
 use Rattle.plain_board.proofs.AppFrames.{has-setting, IsSet-app, was-at_rest, AreCounted-app, was-returned, AreRelayed-kept, was-relayed, returns-app}
 use Rattle.plain_board.proofs.AppFrames.{was-returns, AreFlags-kept, free_places-side, AreKept-app, AreDue-app, was-given, was-due, AreBooked-app}
 use Rattle.plain_board.proofs.AppFrames.{was-booked_loans, was-booked_filled, was-booked_raw, ArePhased-app, was-phased, OwnBuffers-kept}
+use Rattle.plain_board.proofs.Card.{none-lowered}
 use Rattle.plain_board.proofs.Lists.{total-of}
 
 -- the user counts of an application
@@ -91,7 +92,7 @@ module _ (board : Board) (a : ℕ) (x : AppSide) (sound : IsSound board) (here :
 
     takes : (b : ℕ) → get_or took b 0 ≡ get_or x.inside.scrub_took b 0 + owed_count b board.nic x
     takes b =
-        let none = (was-phased board a x x sound here).unscrubbed can.counted b in
+        let none = (was-at_rest board a x x sound here).unscrubbed can.counted b in
         let layout = board.arrays.layout in
         let users = board.arrays.users in
         let at = user_at layout a 0 in
@@ -128,7 +129,11 @@ module _ (board : Board) (a : ℕ) (x : AppSide) (sound : IsSound board) (here :
       )
 
       at-rest : IsAtRest scrubbed_then
-      at-rest = let rest = was-at_rest board a x scrubbed_then sound here in record { hands = rest.hands; owes = rest.owes }
+      at-rest = let rest = was-at_rest board a x scrubbed_then sound here in record {
+        hands = rest.hands;
+        owes = rest.owes;
+        unscrubbed = λ e. absurd (let wrong : true ≡ false = e in cc);
+      }
 
       pools : pool_buffers board.nic.view.setting.layout ≡ pool_buffers board.arrays.layout
       pools = ap (λ s. pool_buffers s.layout) sound.set.card
@@ -214,7 +219,7 @@ module _ (board : Board) (a : ℕ) (x : AppSide) (sound : IsSound board) (here :
             returns = returns-app board a x scrubbed_then sound here (record {
               written = was.written;
               owed = λ b. rw (was.quiet can.quiet) (omega arith);
-              no_more = λ b. omega (arith, owed-none b);
+              no_more = λ b. omega (arith, owed-none b, none-lowered _ board.nic board.apps sound.set x.view.app b);
               clear = was.clear;
               named = was.named;
               settled = was.settled;
@@ -244,7 +249,6 @@ module _ (board : Board) (a : ℕ) (x : AppSide) (sound : IsSound board) (here :
                 (λ k ne. refl);
             phased = ArePhased-app board a x scrubbed_then sound here (record {
               ended = phase.ended;
-              unscrubbed = λ e. absurd (let wrong : true ≡ false = e in cc);
               scrubbed = λ e. (can.loans, owed-none);
               left = λ e. absurd (let was_scrubbed = (phase.left e).scrubbed in let wrong : false ≡ true = sym can.counted ∙ was_scrubbed in cc);
             });

@@ -170,14 +170,14 @@ module _ (board : Board) (a : ℕ) (x : AppSide) (own : Filling) (sound : IsSoun
             left = sound.sizes.left;
           };
           cached = sound.cached;
-          set = IsSet-app board a x spare_then sound here refl refl (record { hands = rest.hands; owes = rest.owes });
+          set = IsSet-app board a x spare_then sound here refl refl (record { hands = rest.hands; owes = rest.owes; unscrubbed = rest.unscrubbed });
           counted = AreCounted-app board a x spare_then sound here _ refl refl
               (λ b within. omega (arith, app_count-filled b board.nic x own bytes out))
               (λ b within. omega (arith, user_part-kept a b board.nic x v refl refl refl))
               (λ k b ne app within. refl)
               (λ b past. omega (arith, app_count-filled b board.nic x own bytes out))
               (λ b. let e = was-returned board a x spare_then sound here b in record { ended = e.ended; returning = e.returning });
-          free = AreFreeOnce-app board a x spare_then sound here _ (record { hands = rest.hands; owes = rest.owes })
+          free = AreFreeOnce-app board a x spare_then sound here _ (record { hands = rest.hands; owes = rest.owes; unscrubbed = rest.unscrubbed })
               (λ b. app_count-filled b board.nic x own bytes out) sound.free;
           relayed = AreRelayed-kept board a x spare_then sound here _ refl refl refl
               (Relayed-app board.nic x v _ _ refl refl refl refl (was-relayed board a x spare_then sound here));
@@ -218,7 +218,6 @@ module _ (board : Board) (a : ℕ) (x : AppSide) (own : Filling) (sound : IsSoun
               (λ k ne. refl);
           phased = ArePhased-app board a x spare_then sound here (record {
             ended = phase.ended;
-            unscrubbed = phase.unscrubbed;
             scrubbed = phase.scrubbed;
             left = λ e. absurd (let wrong : false ≡ true = sym stays ∙ e in cc);
           });

@@ -129,7 +129,7 @@ module _ (board : Board) (a buffer : ℕ) (x : AppSide) (listed : List Bool) (so
   now = app_at x (got_spare x.view buffer)
 
   at-rest : IsAtRest now
-  at-rest = let rest = was-at_rest board a x now sound here in record { hands = rest.hands; owes = rest.owes }
+  at-rest = let rest = was-at_rest board a x now sound here in record { hands = rest.hands; owes = rest.owes; unscrubbed = rest.unscrubbed }
 
   mine : x.view.setting ≡ setting_of board.arrays
   mine = has-setting board a x now sound here
@@ -282,7 +282,6 @@ module _ (board : Board) (a buffer : ℕ) (x : AppSide) (listed : List Bool) (so
             (λ k ne. refl);
         phased = ArePhased-app board a x now sound here (record {
           ended = phase.ended;
-          unscrubbed = phase.unscrubbed;
           scrubbed = phase.scrubbed;
           left = λ gone. absurd (let none : ⊥ = cc in none);
         });

@@ -16,7 +16,7 @@ use Rattle.board_face.specs.declared.views.nic.NicLook.TheVariants.{NotOwed}
 use Rattle.board_face.specs.declared.views.nic.NicView.{NicView}
 use Rattle.board_face.proofs.LookLemmas.{NicRose-nic_saw}
 use Rattle.board_face.specs.Sides.{nic_at, IsApp}
-use Rattle.board_face.specs.Holders.{owed_in}
+use Rattle.board_face.specs.Holders.{lowered_in_hand, owed_in}
 use Rattle.board_face.specs.Counts.{pool_count, user_count, EndedWereReturned}
 use Rattle.board_face.specs.declared.views.nic.Dealt.{Dealt}
 use Rattle.board_face.specs.declared.views.nic.Fate.TheVariants.{Stray}
@@ -34,7 +34,7 @@ use Rattle.plain_parts.specs.Counts.{user_at}
 use Rattle.plain_board.specs.Board.{Board, byte_of}
 use Rattle.plain_board.specs.Returns.{AreReturns, returns, abandoned_in, is_some_of, IsNamed}
 use Rattle.plain_board.specs.Sound.{IsSound, refills_of}
-use Rattle.plain_board.proofs.Card.{IsSet-nic}
+use Rattle.plain_board.proofs.Card.{IsSet-nic, none-lowered}
 use Rattle.plain_board.proofs.Freeing.{All-at}
 use Rattle.plain_board.proofs.Popping.{same-app, other-number, ring_then, AreRelayed-popped, AreBooked-popped}
 use Rattle.plain_board.proofs.Dealing.{HasFront, HasFront-relayed, AreReturns-dealt, AreReturns-other, ArePhased-dealt, count-first, length-owed_in}
@@ -53,6 +53,10 @@ module _ (board : Board) (a : ℕ) (x : AppSide) (e : Rqe) (es : List Rqe) (soun
   front : HasFront board.nic x e
   front = HasFront-relayed board.nic x _ e es (rw found at (sound.relayed.relayed a x here))
 
+  -- no entry is in hand
+  idle : (b : ℕ) → lowered_in_hand x.view.app b board.nic.inside.entry ≡ 0
+  idle = none-lowered _ board.nic board.apps sound.set x.view.app
+
   -- the entry came from no loan: of a loan something would be owed
   is_raw : front.first.of_loan ≡ false
   is_raw =
@@ -69,6 +73,7 @@ module _ (board : Board) (a : ℕ) (x : AppSide) (e : Rqe) (es : List Rqe) (soun
         arith,
         own-users board a x sound here i,
         rw front.way at (h.owed i),
+        idle i,
         count-first (returns x.view.setting.layout i) front.first front.others,
         ap weight counted,
         length-owed_in i board.nic x,
@@ -93,6 +98,7 @@ module _ (board : Board) (a : ℕ) (x : AppSide) (e : Rqe) (es : List Rqe) (soun
   still_owed b = omega (
     arith,
     rw front.way at ((sound.returns a x here).owed b),
+    idle b,
     count-first (returns x.view.setting.layout b) front.first front.others,
     length-owed_in b board.nic x,
     length-owed_in b nic_passed x,
@@ -118,7 +124,7 @@ module _ (board : Board) (a : ℕ) (x : AppSide) (e : Rqe) (es : List Rqe) (soun
       (λ t. let same : k ≡ a = t.1 in
       let is : y ≡ x = same-app board.apps a x y here (subst (λ n. IsApp board.apps n y) same it) in
       subst (AreReturns nic_passed) (sym is)
-      (AreReturns-dealt board.nic (passed_over board.nic.view a e) x stray_dealt refl front (sym here.number) (sound.returns a x here) still_owed no_more
+      (AreReturns-dealt board.nic (passed_over board.nic.view a e) x stray_dealt refl front (sym here.number) (sound.returns a x here) idle still_owed no_more
       (λ of_loan. absurd (let raw = is_raw in let none : ⊥ = cc in none))))
       (λ t. let ne : k ≢ a = t.1 in
       let other = other-number board.apps a k y it ne in

@@ -1,26 +1,24 @@
 -- What holds of a board between any two calls: the arrays say what the roles did.
-use Rattle.std.specs.Prelude.{◌≡◌, ℕ, ◌+◌, ◌*◌, ◌/◌, ◌<◌, ◌≤◌, Bool, true, false, if◌then◌else◌, List, [], length, map}
-use Rattle.std.specs.Prelude.{take, All, nat_eq, count_by, slice_index, slice_index_or}
+use Rattle.std.specs.Prelude.{◌≡◌, ℕ, ◌*◌, ◌<◌, ◌≤◌, false, if◌then◌else◌, List, [], length, map}
+use Rattle.std.specs.Prelude.{take, All, slice_index, slice_index_or}
 use Rattle.circular_buffer.specs.Buffer.{Buffer, buffer}
 use Rattle.zr_kinds.specs.declared.ring.Rqe.{Rqe}
 use Rattle.area_layout.specs.Layout.{IsLayout, pool_buffers, total}
-use Rattle.board_face.specs.NicEvents.{word_bits, cache_room}
+use Rattle.board_face.specs.NicEvents.{cache_room}
 use Rattle.board_face.specs.Sides.{IsApp, AreNumbered}
 use Rattle.board_face.specs.Counts.{pool_count, user_count, EndedWereReturned}
 use Rattle.board_face.specs.FreeOnce.{AreFreeOnce}
 use Rattle.board_face.specs.Relay.{Relayed}
-use Rattle.board_face.specs.Texts.{IsSplitNote, IsLinearNote}
+pub use Rattle.board_face.specs.Relay.{IsProper}
+pub use Rattle.board_face.specs.Phases.{IsPhased, ArePhased}
 use Rattle.board_face.specs.Fillings.{FillingsFit, IsFilledByOne}
 use Rattle.board_face.specs.Shown.{AreShown}
-use Rattle.board_face.specs.Holders.{on_way, owed_in}
-use Rattle.board_face.specs.NicCalls.{HasNoToken}
-use Rattle.board_face.specs.AppCalls.{CanLeave}
-use Rattle.board_face.specs.Used.{used_buffers, HasFewPicks, PicksAreGiven}
+use Rattle.board_face.specs.Used.{HasFewPicks, PicksAreGiven}
+pub use Rattle.board_face.specs.Used.{AreKept}
 use Rattle.board_face.specs.Opened.{new_nic}
 use Rattle.board_face.specs.OwnBuffers.{LieInOwn}
 use Rattle.board_face.specs.Judged.{IsHonouredAsNamed}
 use Rattle.board_face.specs.declared.views.parts.Setting.{Setting}
-use Rattle.board_face.specs.declared.views.nic.SentNote.{SentNote}
 use Rattle.board_face.specs.declared.views.nic.NicSide.{NicSide}
 use Rattle.board_face.specs.declared.views.app.AppSide.{AppSide}
 use Rattle.board_face.specs.declared.views.app.TakenNote.{TakenNote}
@@ -46,10 +44,12 @@ pub record HasSizes (arrays : Arrays) : Type 0 where
   pub raw : length arrays.raw ≡ arrays.layout.reserves
   pub left : length arrays.left ≡ arrays.layout.reserves
 
--- An application is in the middle of nothing. What a scrub took is all that it keeps beside its view.
+-- An application is in the middle of nothing. What a scrub took is all that it keeps beside its view, and before its scrub
+-- none took anything.
 pub record IsAtRest (app : AppSide) : Type 0 where
   pub hands : app.inside.hands ≡ []
   pub owes : (b : ℕ) → slice_index app.inside.scrub_owes b ≡ 0
+  pub unscrubbed : app.view.scrubbed ≡ false → (b : ℕ) → slice_index app.inside.scrub_took b ≡ 0
 
 -- All roles share the board's setting.
 pub record IsSet (setting : Setting) (nic : NicSide) (apps : List AppSide) : Type 0 where
@@ -94,22 +94,10 @@ pub record AreFlags (arrays : Arrays) (nic : NicSide) (apps : List AppSide) : Ty
   pub ended : arrays.ended ≡ nic.view.ended
   pub left : arrays.left ≡ map (λ app. app.view.left) apps
 
--- Each pool buffer is free as it was at the opening, or it was used. One whose word was swept is cached, or was used.
-pub record AreKept (listed : ℕ → Bool) (nic : NicSide) (apps : List AppSide) : Type 0 where
-  pub kept : (b : ℕ) → b < pool_buffers nic.view.setting.layout
-      → 1 ≤ (if listed b then 1 else 0) + count_by (nat_eq b) nic.view.cache + count_by (nat_eq b) (used_buffers nic apps)
-  pub swept : (b : ℕ) → b < pool_buffers nic.view.setting.layout → 1 ≤ count_by (nat_eq (b / word_bits)) nic.view.swept
-      → 1 ≤ count_by (nat_eq b) nic.view.cache + count_by (nat_eq b) (used_buffers nic apps)
-
 -- Each buffer that was picked was given, and each spare is for a byte of an unsplit note that was taken.
 pub record AreDue (apps : List AppSide) : Type 0 where
   pub picked : All PicksAreGiven apps
   pub few : All HasFewPicks apps
-
--- a note as it may be sent, with as many bytes as it tells of
-pub record IsProper (s : SentNote) : Type 0 where
-  pub split : s.note.split ≡ true → IsSplitNote s.note
-  pub linear : s.note.split ≡ false → IsLinearNote s.note × (length s.bytes ≡ s.note.total)
 
 -- What the arrays keep beside the counts: the loans that are out, the lengths of filled spares, and how far back the last
 -- raw entry lies.
@@ -118,18 +106,6 @@ pub record AreBooked (arrays : Arrays) (nic : NicSide) (apps : List AppSide) : T
       → slice_index arrays.loans (user_at arrays.layout a b) ≡ loans_out b app
   pub filled : (a : ℕ) (app : AppSide) → IsApp apps a app → All (λ s. slice_index arrays.filled s.own.buffer ≡ length s.bytes) app.view.owns
   pub raw : (a : ℕ) (app : AppSide) → IsApp apps a app → slice_index arrays.raw a ≡ reach_of (entries_on_way nic app)
-
--- How far an application has come. Once it was told the end, the card has ended and no note is on its way. Until its scrub
--- none of its user references was taken by one, and then it has no loan and owes none. When it left it could leave.
-pub record IsPhased (nic : NicSide) (app : AppSide) : Type 0 where
-  pub ended : app.view.ended ≡ true → (nic.view.ended ≡ true) × (on_way nic app ≡ [])
-  pub unscrubbed : app.view.scrubbed ≡ false → (b : ℕ) → slice_index app.inside.scrub_took b ≡ 0
-  pub scrubbed : app.view.scrubbed ≡ true → (app.view.loans ≡ []) × ((b : ℕ) → length (owed_in b nic app) ≡ 0)
-  pub left : app.view.left ≡ true → CanLeave app.view
-
-pub record ArePhased (nic : NicSide) (apps : List AppSide) : Type 0 where
-  pub card : nic.view.ended ≡ true → HasNoToken nic.view
-  pub sides : All (IsPhased nic) apps
 
 pub record IsSound (board : Board) : Type 0 where
   pub sizes : HasSizes board.arrays
