@@ -287,7 +287,7 @@ IsFilledByOne-gave b nic apps a app place here out ended sound =
     IsFilledByOne-app b nic apps a app (app_at app (gave app.view place)) here (omega arith) (omega (arith, app_count-gave b nic app place out ended)) sound
 
 -- a spare is given that nobody has
-one-spare : (b buffer : ℕ) (nic : NicSide) (apps : List AppSide) (a : ℕ) (app now : AppSide) → IsApp apps a app
+pub one-spare : (b buffer : ℕ) (nic : NicSide) (apps : List AppSide) (a : ℕ) (app now : AppSide) → IsApp apps a app
     → spares_in b now ≡ spares_in b app + weight (buffer == b) → app_count b nic now ≡ app_count b nic app + weight (buffer == b)
     → buffer < all_buffers nic.view.setting.layout → pool_count buffer nic apps ≡ 0 → IsFilledByOne b nic apps → IsFilledByOne b nic (set apps a now)
 one-spare b buffer nic apps a app now here spares count within free sound =

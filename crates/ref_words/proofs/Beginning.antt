@@ -1,0 +1,83 @@
+-- The card begins a piece.
+use Rattle.std.proofs.Common.{◌≡◌, ℕ, ◌+◌, ◌^◌, ◌<◌, ◌≤◌, false, List, [], refl, ap, sym, arith}
+use Rattle.std.specs.Prelude.{◌==◌, Some, None}
+use Rattle.std.proofs.lemmas.List.Elements.{All-contains}
+use Rattle.area_layout.specs.Layout.{total, pool_buffers}
+use Rattle.board_face.specs.NicCalls.{HasOwn}
+use Rattle.board_face.specs.Tokens.{next_place}
+use Rattle.board_face.specs.Counts.{pool_count, user_count}
+use Rattle.board_face.specs.Steps.{side_begun}
+use Rattle.board_face.specs.declared.views.parts.Setting.{Setting}
+use Rattle.board_face.specs.declared.views.parts.Filling.{Filling}
+use Rattle.board_face.specs.declared.views.nic.NicSide.{NicSide}
+use Rattle.board_face.specs.declared.views.app.AppSide.{AppSide}
+use Rattle.board_face.proofs.NicLemmas.{pool_count-begun, pool_count-shut}
+use Rattle.board_face.proofs.ArePlacedLemmas.{ArePlaced-begun}
+use Rattle.board_face.proofs.MadeLastLemmas.{IsMadeLast-begun}
+use Rattle.board_face.proofs.IsFilledByOneLemmas.{IsFilledByOne-begun}
+use Rattle.board_face.proofs.FillingsFitLemmas.{FillingsFit-begun}
+use Rattle.board_face.proofs.FewLemmas.{pool_count-few}
+use Rattle.board_face.proofs.Tallies.{weight}
+use Rattle.board_face.proofs.Tallies as tallies
+use Rattle.board_face.proofs.Parts.{user_part, user_count-parts}
+use Rattle.ref_words.specs.Words.{Words, pool_of, listed_in}
+use Rattle.ref_words.specs.Rule.{RefRule}
+use Rattle.ref_words.proofs.Counting.{weight-same, weight-other}
+use Rattle.ref_words.proofs.Frees.{AreFreeOnce-more, AreKept-card}
+use Rattle.ref_words.proofs.CardSteps.{SidesRule-card}
+use Rattle.ref_words.proofs.PoolSteps.{IsPoolStep}
+
+-- no count of a buffer within the area wraps when one is added
+pub few-holders : (setting : Setting) (words : Words) (nic : NicSide) (apps : List AppSide) (b : ℕ) → RefRule setting words nic apps
+    → b < total setting.layout → pool_of words b + 1 < 2 ^ 64
+few-holders setting words nic apps b rule there =
+    omega (
+      arith,
+      rule.pool b there,
+      rule.layout.size.most,
+      ap (λ s. s.layout.size) rule.sides.set.card,
+      pool_count-few b nic apps (rule.sides.placed b) (rule.sides.by_one b),
+    )
+
+module _ (setting : Setting) (words : Words) (nic : NicSide) (apps : List AppSide) (own : Filling) (n : ℕ) (rule : RefRule setting words nic apps)
+    (out : HasOwn nic.view own) (some_bytes : 0 < n) (within : own.start + n ≤ own.size) (idle : nic.inside.making ≡ None) where
+  abbrev now : NicSide
+  now = side_begun nic own n
+
+  of_pool : own.buffer < pool_buffers nic.view.setting.layout
+  of_pool = All-contains (λ (o : Filling). o.buffer < pool_buffers nic.view.setting.layout) nic.view.owns own rule.sides.fit.of_pool out
+
+  pub there : own.buffer < total setting.layout
+  there = let p = of_pool in omega (arith, ap (λ s. pool_buffers s.layout) rule.sides.set.card)
+
+  more : (b : ℕ) → pool_count b now apps ≡ pool_count b nic apps + weight (own.buffer == b)
+  more b = pool_count-begun b nic apps own n [] out idle
+
+  -- a buffer that the card fills has a holder
+  held : (b : ℕ) → weight (own.buffer == b) ≤ pool_count b nic apps
+  held b = omega (arith, pool_count-shut b nic apps own false out)
+
+  same_users : (a b : ℕ) → user_count a b now apps ≡ user_count a b nic apps
+  same_users a b =
+      let same : tallies.total (user_part a b now) apps ≡ tallies.total (user_part a b nic) apps = refl in
+      omega (arith, user_count-parts a b now apps, user_count-parts a b nic apps)
+
+  pub step : IsPoolStep setting words nic now apps apps own.buffer (pool_of words own.buffer + 1)
+  step = record {
+    there = there;
+    sides = SidesRule-card setting nic now apps rule.sides (record {
+      setting = refl;
+      placed = λ b. ArePlaced-begun b nic apps own n [] out some_bytes within idle rule.sides.fit (rule.sides.by_one b) (rule.sides.placed b);
+      by_one = λ b. IsFilledByOne-begun b nic apps own n [] out idle (rule.sides.by_one b);
+      fit = FillingsFit-begun nic apps own n (Some (record { place = next_place own n; words = [] })) out within rule.sides.fit;
+      made = IsMadeLast-begun nic apps own n [] out idle (rule.sides.placed own.buffer);
+      dealt = refl;
+      entry = refl;
+      unheld = λ b past none. omega (arith, more b, none, held b);
+    });
+    here = omega (arith, rule.pool own.buffer there, more own.buffer, weight-same own.buffer);
+    others = λ b other. omega (arith, more b, weight-other own.buffer b (λ e. other (sym e)));
+    users = same_users;
+    free = AreFreeOnce-more (listed_in words) nic now apps apps own.buffer refl more held (λ b. refl) rule.free;
+    kept = AreKept-card (listed_in words) nic now apps refl refl refl (λ b. omega arith) rule.kept;
+  }

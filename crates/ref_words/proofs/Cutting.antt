@@ -1,0 +1,95 @@
+-- An application cuts a held piece in two.
+use Rattle.std.proofs.Common.{◌≡◌, ⊎_elim, ℕ, ◌+◌, ◌<◌, ◌≤◌, List, set, refl, ap, sym, arith}
+use Rattle.std.specs.Prelude.{◌==◌}
+use Rattle.std.proofs.lemmas.Bool.{cases_lt}
+use Rattle.zr_kinds.specs.declared.place.Place.{Place}
+use Rattle.area_layout.specs.Layout.{total}
+use Rattle.board_face.specs.AppEvents.{reserve_of}
+use Rattle.board_face.specs.Sides.{IsApp}
+use Rattle.board_face.specs.Counts.{pool_count, EndedWereReturned}
+use Rattle.board_face.specs.Used.{HasFewPicks}
+use Rattle.board_face.specs.declared.views.parts.Setting.{Setting}
+use Rattle.board_face.specs.declared.views.nic.NicSide.{NicSide}
+use Rattle.board_face.specs.declared.views.app.AppSide.{AppSide}
+use Rattle.board_face.specs.AppEvents.{cut, released}
+use Rattle.board_face.specs.AppCalls.{HasHeld}
+use Rattle.board_face.specs.Sides.{app_at}
+use Rattle.board_face.proofs.AppLemmas.{pool_count-app, user_count-app, app_count-cut, app_count-released}
+use Rattle.board_face.proofs.ArePlacedLemmas.{ArePlaced-cut}
+use Rattle.board_face.proofs.MadeLastLemmas.{IsMadeLast-cut}
+use Rattle.board_face.proofs.IsFilledByOneLemmas.{IsFilledByOne-cut}
+use Rattle.board_face.proofs.FillingsFitLemmas.{FillingsFit-same}
+use Rattle.board_face.proofs.Tallies.{weight}
+use Rattle.ref_words.specs.Words.{Words, pool_of, listed_in}
+use Rattle.ref_words.specs.Rule.{RefRule}
+use Rattle.ref_words.proofs.Counting.{weight-same, weight-other}
+use Rattle.ref_words.proofs.Frees.{AreFreeOnce-more, AreKept-app, free_places-hands}
+use Rattle.ref_words.proofs.SideSteps.{mine, SidesRule-app}
+use Rattle.ref_words.proofs.PoolSteps.{IsPoolStep}
+
+module _ (setting : Setting) (words : Words) (nic : NicSide) (apps : List AppSide) (a : ℕ) (app : AppSide) (place : Place) (at : ℕ)
+    (rule : RefRule setting words nic apps) (here : IsApp apps a app) (out : HasHeld app.view place) (front : 0 < at) (rest : at < place.len) where
+  abbrev now : AppSide
+  now = app_at app (cut app.view place at)
+
+  abbrev apps' : List AppSide
+  apps' = set apps a now
+
+  more : (b : ℕ) → pool_count b nic apps' ≡ pool_count b nic apps + weight (place.buffer == b)
+  more b = omega (arith, pool_count-app b nic apps a app now here, app_count-cut b nic app place at out)
+
+  -- the piece is a holder
+  held : (b : ℕ) → weight (place.buffer == b) ≤ pool_count b nic apps
+  held b =
+      let less : AppSide = app_at app (released app.view place) in
+      omega (arith, pool_count-app b nic apps a app less here, app_count-released b nic app place out)
+
+  within : place.buffer < total nic.view.setting.layout
+  within =
+      ⊎_elim
+      (λ small. small)
+      (λ past. absurd (omega (arith, (rule.sides.by_one place.buffer).inside past, held place.buffer, weight-same place.buffer)))
+      (cases_lt place.buffer (total nic.view.setting.layout))
+
+  pub there : place.buffer < total setting.layout
+  there = let w = within in omega (arith, ap (λ s. total s.layout) rule.sides.set.card)
+
+  pub step : IsPoolStep setting words nic nic apps apps' place.buffer (pool_of words place.buffer + 1)
+  step = record {
+    there = there;
+    sides = SidesRule-app setting nic apps a app rule.sides here now (record {
+      setting = refl;
+      number = refl;
+      placed = λ b. ArePlaced-cut b nic apps a app place at here out front rest (rule.sides.placed b);
+      by_one = λ b. IsFilledByOne-cut b nic apps a app place at here out (rule.sides.by_one b);
+      fit = FillingsFit-same nic apps a app now here refl rule.sides.fit;
+      made = IsMadeLast-cut nic apps a app place at here out rest rule.sides.made;
+      returned = λ b. let r = mine setting nic apps a app rule.sides here (EndedWereReturned b nic) (rule.sides.returned b) in
+          record { ended = r.ended; returning = r.returning };
+      reserve = record {
+        unheld = λ free. omega (arith, more (reserve_of app.view), held (reserve_of app.view), (rule.sides.reserves a app here).unheld free);
+      };
+      unheld = λ b past ne none. omega (arith, more b, held b, none);
+      few = let f = mine setting nic apps a app rule.sides here HasFewPicks rule.sides.few in record { picks = f.picks; spares = f.spares };
+      returns = let r = rule.sides.returns a app here in record {
+        written = r.written;
+        owed = r.owed;
+        no_more = r.no_more;
+        clear = r.clear;
+        named = r.named;
+        settled = r.settled;
+        quiet = r.quiet;
+        scrubbed = r.scrubbed;
+        strays = r.strays;
+      };
+      way = refl;
+      came_back = λ b. refl;
+      ended = λ b. refl;
+    });
+    here = omega (arith, rule.pool place.buffer there, more place.buffer, weight-same place.buffer);
+    others = λ b other. omega (arith, more b, weight-other place.buffer b (λ e. other (sym e)));
+    users = λ x b. omega (arith, user_count-app x b nic apps a app now here);
+    free = AreFreeOnce-more (listed_in words) nic nic apps apps' place.buffer refl more held
+        (λ b. omega (arith, free_places-hands (listed_in words) b nic apps a app now here)) rule.free;
+    kept = AreKept-app (listed_in words) nic apps a app now here refl rule.kept;
+  }

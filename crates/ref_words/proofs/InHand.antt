@@ -1,0 +1,28 @@
+-- The entry in hand: what was lowered for it.
+use Rattle.std.proofs.Common.{◌≡◌, ℕ, Bool, true, false, refl, ap, sym, subst}
+use Rattle.std.specs.Prelude.{◌≢◌, ◌==◌, ◌&&◌, if◌then◌else◌, Option, Some}
+use Rattle.zr_kinds.specs.declared.ring.Rqe.{Rqe}
+use Rattle.board_face.specs.declared.views.nic.EntryInHand.{EntryInHand}
+use Rattle.board_face.specs.declared.views.nic.Judged.{Judged}
+use Rattle.board_face.proofs.ListLemmas.{eqb_same, not-eqb}
+use Rattle.board_face.proofs.Tallies.{weight}
+
+abbrev pub in_hand : ℕ → Rqe → Judged → Option EntryInHand
+in_hand a entry judged = Some (record { app = a; entry = entry; judged = judged })
+
+pub some-is : (x y : EntryInHand) → Some x ≡ Some y → x ≡ y
+some-is x y e = cc
+
+pub if-weight : (c d : Bool) → (if c then weight d else 0) ≡ weight (c && d)
+if-weight true d = refl
+if-weight false d = refl
+
+pub if-none : (c : Bool) → ◌≡◌ {A = ℕ} (if c then 0 else 0) 0
+if-none true = refl
+if-none false = refl
+
+pub same-if : (a n b c : ℕ) → n ≡ a → weight ((a == n) && (b == c)) ≡ weight (b == c)
+same-if a n b c e = ap (λ z. weight (z && (b == c))) (subst (λ m. (a == m) ≡ true) (sym e) (eqb_same a))
+
+pub other-if : (a n b c : ℕ) → n ≢ a → weight ((a == n) && (b == c)) ≡ 0
+other-if a n b c ne = ap (λ z. weight (z && (b == c))) (not-eqb a n (λ e. ne (sym e)))

@@ -1,0 +1,170 @@
+-- The words of a group in the table.
+use Rattle.std.proofs.Common.{◌≡◌, ℕ, zero, suc, ◌*◌, suc-mul, mul-le-mul_right, ◌+◌, ◌-◌, ◌<◌, ◌≤◌, List, [], ◌∷◌}
+use Rattle.std.proofs.Common.{◌++◌, length, set, get_or}
+use Rattle.std.proofs.Common.{refl, ap, sym, ◌∙◌, arith, length-append, map, subst}
+use Rattle.std.specs.List.{flat_map}
+use Rattle.std.specs.Prelude.{All}
+use Rattle.std.proofs.lemmas.List.{get_or-append-add, get_or_append_left, set-append_left, set-append_right}
+use Rattle.std.proofs.lemmas.List.Elements.{All-head, All-tail}
+use Rattle.area_layout.specs.Layout.{total}
+use Rattle.board_face.specs.NicCalls.{apps_of}
+use Rattle.board_face.specs.declared.views.parts.Setting.{Setting}
+use Rattle.ref_words.specs.Words.{Words, HasSizes, AreSlots, groups, group_sizes, begins, begin_at, joined, table_of, note_width, refill_width}
+use Rattle.ref_words.specs.Words.{pool_at, pool_of, with_pool, user_at, user_of, with_user, role_at, with_role, table_words}
+
+-- ---- lists that lie one behind another
+
+set-append-add : {A : Type 0} (xs ys : List A) (i : ℕ) (a : A) → set (xs ++ ys) (length xs + i) a ≡ xs ++ set ys i a
+set-append-add xs ys i a =
+    let e : length xs + i - length xs ≡ i = omega arith in
+    set-append_right xs ys (length xs) (length xs + i) a refl (omega arith) ∙ ap (λ n. xs ++ set ys n a) e
+
+-- an element of one of them
+pub joined-word : (rows : List (List ℕ)) (g i : ℕ) → g < length rows → i < length (get_or rows g [])
+    → get_or (joined rows) (begins (map length rows) g + i) 0 ≡ get_or (get_or rows g []) i 0
+joined-word [] g i there inside = absurd (omega arith)
+joined-word (row ∷ rows) zero i there inside =
+    let at : 0 + i ≡ i = omega arith in
+    ap (λ n. get_or (row ++ joined rows) n 0) at ∙ get_or_append_left row (joined rows) 0 i inside
+joined-word (row ∷ rows) (suc g) i there inside =
+    let at : begins (map length (row ∷ rows)) (suc g) + i ≡ length row + (begins (map length rows) g + i) = omega arith in
+    ap (λ n. get_or (row ++ joined rows) n 0) at
+    ∙ (get_or-append-add row (joined rows) (begins (map length rows) g + i) 0 ∙ joined-word rows g i (omega arith) inside)
+
+pub joined-set : (rows : List (List ℕ)) (g i n : ℕ) → g < length rows → i < length (get_or rows g [])
+    → set (joined rows) (begins (map length rows) g + i) n ≡ joined (set rows g (set (get_or rows g []) i n))
+joined-set [] g i n there inside = absurd (omega arith)
+joined-set (row ∷ rows) zero i n there inside =
+    let at : 0 + i ≡ i = omega arith in
+    ap (λ m. set (row ++ joined rows) m n) at ∙ set-append_left row (joined rows) i n inside
+joined-set (row ∷ rows) (suc g) i n there inside =
+    let at : begins (map length (row ∷ rows)) (suc g) + i ≡ length row + (begins (map length rows) g + i) = omega arith in
+    ap (λ m. set (row ++ joined rows) m n) at
+    ∙ (set-append-add row (joined rows) (begins (map length rows) g + i) n ∙ ap (λ xs. row ++ xs) (joined-set rows g i n (omega arith) inside))
+
+-- ---- rows of one length
+
+module _ (t : ℕ) where
+  pub begins-rows : (rows : List (List ℕ)) (a : ℕ) → All (λ r. length r ≡ t) rows → a < length rows → begins (map length rows) a ≡ a * t
+  begins-rows [] a wide there = absurd (omega arith)
+  begins-rows (row ∷ rows) zero wide there = omega arith
+  begins-rows (row ∷ rows) (suc a) wide there =
+      omega (
+        arith,
+        All-head (λ r. length r ≡ t) row rows wide,
+        begins-rows rows a (All-tail (λ r. length r ≡ t) row rows wide) (omega arith),
+        suc-mul a t,
+      )
+
+  pub joined-length : (rows : List (List ℕ)) → All (λ r. length r ≡ t) rows → length (joined rows) ≡ length rows * t
+  joined-length [] wide = omega arith
+  joined-length (row ∷ rows) wide =
+      omega (
+        arith,
+        length-append row (joined rows),
+        All-head (λ r. length r ≡ t) row rows wide,
+        joined-length rows (All-tail (λ r. length r ≡ t) row rows wide),
+        suc-mul (length rows) t,
+      )
+
+  pub row-bound : (a b n : ℕ) → a < n → b < t → a * t + b < n * t
+  row-bound a b n small less = let m : suc a * t ≤ n * t = mul-le-mul_right t small in omega (arith, suc-mul a t)
+
+-- slots of one width, in rings of as many slots
+slots-length : (places width : ℕ) (rings : List (List (List ℕ))) → All (AreSlots places width) rings
+    → length (flat_map joined rings) ≡ length rings * (places * width)
+slots-length places width [] all = omega arith
+slots-length places width (ring ∷ rings) all =
+    let here = All-head (AreSlots places width) ring rings all in
+    omega (
+      arith,
+      length-append (joined ring) (flat_map joined rings),
+      joined-length width ring here.wide,
+      ap (λ n. n * width) here.many,
+      slots-length places width rings (All-tail (AreSlots places width) ring rings all),
+      suc-mul (length rings) (places * width),
+    )
+
+-- ---- the groups
+
+module _ (setting : Setting) (w : Words) (sizes : HasSizes setting w) where
+  pub lengths : map length (groups w) ≡ group_sizes setting
+  lengths =
+      let users : length (joined w.users) ≡ apps_of setting * total setting.layout =
+      joined-length (total setting.layout) w.users sizes.rows ∙ ap (λ n. n * total setting.layout) sizes.users in
+      let notes : length (flat_map joined w.notes) ≡ apps_of setting * (setting.places * note_width) =
+      slots-length setting.places note_width w.notes sizes.note_slots ∙ ap (λ n. n * (setting.places * note_width)) sizes.notes in
+      let refills : length (flat_map joined w.refills) ≡ apps_of setting * (setting.places * refill_width) =
+      slots-length setting.places refill_width w.refills sizes.refill_slots ∙ ap (λ n. n * (setting.places * refill_width)) sizes.refills in
+      rw (sizes.roles, sizes.phases, sizes.pool, users, sizes.free, sizes.area, notes, refills) refl
+
+  pub group-word : (g i : ℕ) → g < 8 → i < length (get_or (groups w) g [])
+      → get_or (table_of w) (begin_at setting g + i) 0 ≡ get_or (get_or (groups w) g []) i 0
+  group-word g i there inside =
+      subst (λ ls. get_or (table_of w) (begins ls g + i) 0 ≡ get_or (get_or (groups w) g []) i 0) lengths (joined-word (groups w) g i there inside)
+
+  pub group-set : (g i n : ℕ) → g < 8 → i < length (get_or (groups w) g [])
+      → set (table_of w) (begin_at setting g + i) n ≡ joined (set (groups w) g (set (get_or (groups w) g []) i n))
+  group-set g i n there inside =
+      subst (λ ls. set (table_of w) (begins ls g + i) n ≡ joined (set (groups w) g (set (get_or (groups w) g []) i n))) lengths
+      (joined-set (groups w) g i n there inside)
+
+  pub role-word : (r : ℕ) → r < length w.roles → get_or (table_of w) (role_at setting r) 0 ≡ get_or w.roles r 0
+  role-word r there = group-word 0 r (omega arith) there
+
+  pub role-set : (r : ℕ) → r < length w.roles → set (table_of w) (role_at setting r) 1 ≡ table_of (with_role w r)
+  role-set r there = group-set 0 r 1 (omega arith) there
+
+  pub pool-word : (b : ℕ) → b < length w.pool → get_or (table_of w) (pool_at setting b) 0 ≡ pool_of w b
+  pool-word b there = group-word 2 b (omega arith) there
+
+  pub pool-set : (b n : ℕ) → b < length w.pool → set (table_of w) (pool_at setting b) n ≡ table_of (with_pool w b n)
+  pool-set b n there = group-set 2 b n (omega arith) there
+
+  abbrev t : ℕ
+  t = total setting.layout
+
+  user-inside : (a b : ℕ) → a < length w.users → b < t → a * t + b < length (joined w.users)
+  user-inside a b there small = omega (arith, joined-length t w.users sizes.rows, row-bound t a b (length w.users) there small)
+
+  row-length : (a : ℕ) → a < length w.users → length (get_or w.users a []) ≡ t
+  row-length a there = sizes.rows a [] there
+
+  pub user-word : (a b : ℕ) → a < length w.users → b < t → get_or (table_of w) (user_at setting a b) 0 ≡ user_of w a b
+  user-word a b there small =
+      group-word 3 (a * t + b) (omega arith) (user-inside a b there small)
+      ∙ (ap (λ n. get_or (joined w.users) (n + b) 0) (sym (begins-rows t w.users a sizes.rows there))
+      ∙ joined-word w.users a b there (omega (arith, row-length a there)))
+
+  pub user-set : (a b n : ℕ) → a < length w.users → b < t → set (table_of w) (user_at setting a b) n ≡ table_of (with_user w a b n)
+  user-set a b n there small =
+      group-set 3 (a * t + b) n (omega arith) (user-inside a b there small)
+      ∙ ap (λ us. joined (set (groups w) 3 us))
+      (ap (λ m. set (joined w.users) (m + b) n) (sym (begins-rows t w.users a sizes.rows there))
+      ∙ joined-set w.users a b n there (omega (arith, row-length a there)))
+
+  pub table-length : length (table_of w) ≡ table_words setting
+  table-length = joined-all (groups w) ∙ ap (λ ls. begins ls 8) lengths
+    where
+      joined-all : (rows : List (List ℕ)) → length (joined rows) ≡ begins (map length rows) (length rows)
+      joined-all [] = refl
+      joined-all (row ∷ rows) = omega (arith, length-append row (joined rows), joined-all rows)
+
+-- ---- no two groups share a word
+
+begins-step : (sizes : List ℕ) (g : ℕ) → begins sizes (suc g) ≡ begins sizes g + get_or sizes g 0
+begins-step [] zero = refl
+begins-step [] (suc g) = refl
+begins-step (s ∷ sizes) zero = omega arith
+begins-step (s ∷ sizes) (suc g) = omega (arith, begins-step sizes g)
+
+begins-later : (sizes : List ℕ) (g d : ℕ) → begins sizes g + get_or sizes g 0 ≤ begins sizes (suc g + d)
+begins-later sizes g zero = let e : suc g + 0 ≡ suc g = omega arith in omega (arith, begins-step sizes g, ap (begins sizes) e)
+begins-later sizes g (suc d) =
+    let e : suc g + suc d ≡ suc (suc g + d) = omega arith in
+    omega (arith, ap (begins sizes) e, begins-step sizes (suc g + d), begins-later sizes g d)
+
+pub begins-apart : (sizes : List ℕ) (g h i j : ℕ) → g < h → i < get_or sizes g 0 → begins sizes g + i < begins sizes h + j
+begins-apart sizes g h i j less inside =
+    let e : suc g + (h - suc g) ≡ h = omega arith in
+    omega (arith, begins-later sizes g (h - suc g), ap (begins sizes) e)

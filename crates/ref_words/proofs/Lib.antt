@@ -1,0 +1,17 @@
+pub mod Seating
+pub mod Roles
+pub mod Laying
+pub mod Counting
+pub mod Frees
+pub mod PoolSteps
+pub mod CardSteps
+pub mod SideSteps
+mod Taking
+mod Beginning
+mod Shutting
+mod InHand
+mod ReturnLowered
+mod Releasing
+mod Cutting
+mod Scrubbing
+mod SpareTaking

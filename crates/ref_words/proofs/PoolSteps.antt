@@ -1,0 +1,54 @@
+-- A pool count changes with the holders of its buffer.
+use Rattle.std.proofs.Common.{◌≡◌, ℕ, ◌<◌, List, sym, ◌∙◌, arith}
+use Rattle.std.specs.Prelude.{◌≢◌}
+use Rattle.std.proofs.lemmas.List.{length-set}
+use Rattle.area_layout.specs.Layout.{total}
+use Rattle.board_face.specs.Counts.{pool_count, user_count}
+use Rattle.board_face.specs.FreeOnce.{AreFreeOnce}
+use Rattle.board_face.specs.Used.{AreKept}
+use Rattle.board_face.specs.declared.views.parts.Setting.{Setting}
+use Rattle.board_face.specs.declared.views.nic.NicSide.{NicSide}
+use Rattle.board_face.specs.declared.views.app.AppSide.{AppSide}
+use Rattle.ref_words.specs.Words.{Words, with_pool, listed_in}
+use Rattle.ref_words.specs.Sides.{SidesRule}
+use Rattle.ref_words.specs.Rule.{RefRule}
+use Rattle.ref_words.proofs.Counting.{counts-set}
+
+-- What is to be known of the sides after the step, where the count of the buffer i becomes n.
+pub record IsPoolStep (setting : Setting) (words : Words) (nic now : NicSide) (apps apps' : List AppSide) (i n : ℕ) : Type 0 where
+  pub there : i < total setting.layout
+  pub sides : SidesRule setting now apps'
+  pub here : n ≡ pool_count i now apps'
+  pub others : (b : ℕ) → b ≢ i → pool_count b now apps' ≡ pool_count b nic apps
+  pub users : (a b : ℕ) → user_count a b now apps' ≡ user_count a b nic apps
+  pub free : AreFreeOnce (listed_in words) now apps'
+  pub kept : AreKept (listed_in words) now apps'
+
+pub RefRule-pool : (setting : Setting) (words : Words) (nic now : NicSide) (apps apps' : List AppSide) (i n : ℕ) → RefRule setting words nic apps
+    → IsPoolStep setting words nic now apps apps' i n → RefRule setting (with_pool words i n) now apps'
+RefRule-pool setting words nic now apps apps' i n rule step = record {
+  layout = rule.layout;
+  sizes = let s = rule.sizes in record {
+    roles = s.roles;
+    phases = s.phases;
+    pool = length-set words.pool i n ∙ s.pool;
+    users = s.users;
+    rows = s.rows;
+    free = s.free;
+    area = s.area;
+    notes = s.notes;
+    note_slots = s.note_slots;
+    refills = s.refills;
+    refill_slots = s.refill_slots;
+  };
+  sides = step.sides;
+  pool = counts-set (total setting.layout) words.pool (λ x. pool_count x nic apps) (λ x. pool_count x now apps') i n (omega (
+    arith,
+    step.there,
+    rule.sizes.pool,
+  ))
+      rule.pool step.here step.others;
+  users = λ a b app small. rule.users a b app small ∙ sym (step.users a b);
+  free = record { pool = step.free.pool; reserves = step.free.reserves };
+  kept = record { kept = step.kept.kept; swept = step.kept.swept };
+}

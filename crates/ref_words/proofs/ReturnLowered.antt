@@ -1,0 +1,165 @@
+-- The pool count is lowered for the entry in hand, whose user count was lowered before.
+use Rattle.std.proofs.Common.{◌≡◌, ℕ, ◌+◌, ◌-◌, ◌<◌, ◌≤◌, Bool, List, length, get_or, drop, refl, ap, sym}
+use Rattle.std.proofs.Common.{◌∙◌, arith, subst}
+use Rattle.std.specs.Prelude.{◌==◌, ◌&&◌, nat_lt, if◌then◌else◌, Contains}
+use Rattle.std.proofs.lemmas.List.Elements.{All-contains}
+use Rattle.std.proofs.lemmas.Bool.{lt-ltb, le-ltb}
+use Rattle.zr_kinds.specs.declared.ring.Rqe.{Rqe}
+use Rattle.area_layout.specs.Layout.{total, pool_buffers}
+use Rattle.board_face.specs.AppEvents.{reserve_of}
+use Rattle.board_face.specs.Sides.{IsApp}
+use Rattle.board_face.specs.Opened.{new_app}
+use Rattle.board_face.specs.Holders.{lowered_in_hand, returning_in_hand, ended_in, returning_count, returned_in}
+use Rattle.board_face.specs.Counts.{pool_count, user_count, EndedWereReturned}
+use Rattle.board_face.specs.Steps.{side_both_lowered}
+use Rattle.board_face.specs.declared.views.parts.Setting.{Setting}
+use Rattle.board_face.specs.declared.views.nic.Judged.TheVariants.{UserLowered, BothLowered}
+use Rattle.board_face.specs.declared.views.nic.NicSide.{NicSide}
+use Rattle.board_face.specs.declared.views.app.AppSide.{AppSide}
+use Rattle.board_face.proofs.Tallies.{weight, total-agree}
+use Rattle.board_face.proofs.Parts.{user_part, user_count-parts, loans_in, came_back_in}
+use Rattle.board_face.proofs.NicLemmas.{pool_count-stretch}
+use Rattle.board_face.proofs.ArePlacedLemmas.{ArePlaced-stretch}
+use Rattle.board_face.proofs.MadeLastLemmas.{IsMadeLast-stretch}
+use Rattle.board_face.proofs.IsFilledByOneLemmas.{IsFilledByOne-fewer}
+use Rattle.board_face.proofs.SideLemmas.{IsApp-at}
+use Rattle.ref_words.specs.Words.{Words, pool_of, listed_in}
+use Rattle.ref_words.specs.Sides.{IsInHand}
+use Rattle.ref_words.specs.Rule.{RefRule}
+use Rattle.ref_words.proofs.Counting.{weight-same, weight-other, if_so-weight, and-true, and-false}
+use Rattle.ref_words.proofs.Frees.{AreFreeOnce-fewer, AreKept-card, cache-grows}
+use Rattle.ref_words.proofs.PoolSteps.{IsPoolStep}
+use Rattle.ref_words.proofs.Shutting.{last-is, free-gave_up}
+use Rattle.ref_words.proofs.InHand.{in_hand, some-is, if-weight, if-none, same-if, other-if}
+
+module _ (setting : Setting) (words : Words) (nic : NicSide) (apps : List AppSide) (a : ℕ) (entry : Rqe) (b : ℕ) (rule : RefRule setting words nic apps)
+    (at : nic.inside.entry ≡ in_hand a entry (UserLowered b)) where
+  abbrev last : Bool
+  last = pool_of words b == 1
+
+  abbrev now : NicSide
+  now = side_both_lowered nic a entry b last
+
+  abbrev came : Bool
+  came = last && nat_lt b (pool_buffers nic.view.setting.layout)
+
+  known : IsInHand nic apps (record { app = a; entry = entry; judged = UserLowered b })
+  known = rule.sides.hand (record { app = a; entry = entry; judged = UserLowered b }) at
+
+  sound : (c k : ℕ) (d : AppSide) → k < length apps → EndedWereReturned c nic (get_or apps k d)
+  sound c = rule.sides.returned c
+
+  -- the entry is lowered as before, and returning no more
+  ends : (c : ℕ) (x : AppSide) → ended_in c now x ≡ ended_in c nic x
+  ends c x =
+      let was : lowered_in_hand x.view.app c nic.inside.entry ≡ lowered_in_hand x.view.app c (in_hand a entry (UserLowered b)) = ap
+      (lowered_in_hand x.view.app c) at in
+      omega (arith, was)
+
+  returns : (c : ℕ) (x : AppSide) → returning_count c now x + weight ((a == x.view.app) && (b == c)) ≡ returning_count c nic x
+  returns c x =
+      let was : returning_in_hand x.view.app c nic.inside.entry ≡ returning_in_hand x.view.app c (in_hand a entry (UserLowered b)) = ap
+      (returning_in_hand x.view.app c) at in
+      let none : returning_in_hand x.view.app c now.inside.entry ≡ 0 = if-none (a == x.view.app) in
+      omega (arith, was, none, if-weight (a == x.view.app) (b == c))
+
+  app : AppSide
+  app = get_or apps a (new_app setting a)
+
+  mine : IsApp apps a app
+  unfolding app
+  mine = IsApp-at apps a (new_app setting a) rule.sides.set.numbers known.app
+
+  sound-now : (c k : ℕ) (d : AppSide) → k < length apps → EndedWereReturned c now (get_or apps k d)
+  sound-now c k d small =
+      let x = get_or apps k d in
+      let was = sound c k d small in
+      record { ended = omega (arith, ends c x, was.ended); returning = omega (arith, ends c x, returns c x, was.returning) }
+
+  sound-mine : (c : ℕ) → EndedWereReturned c nic app
+  sound-mine c = subst (EndedWereReturned c nic) mine.is (sound c a app mine.there)
+
+  less : (c : ℕ) → pool_count c now apps + weight (b == c) ≡ pool_count c nic apps
+  less c =
+      let sound' : EndedWereReturned c now app = subst (EndedWereReturned c now) mine.is (sound-now c a app mine.there) in
+      pool_count-stretch c (weight (b == c)) nic now apps a app refl refl refl refl rule.sides.set.numbers mine
+      (λ x ne. ends c x)
+      (λ x ne. omega (arith, returns c x, other-if a x.view.app b c ne))
+      (sound-mine c) sound' (omega (arith, ends c app, returns c app, same-if a app.view.app b c mine.number))
+
+  users-same : (x c : ℕ) → user_count x c now apps ≡ user_count x c nic apps
+  users-same x c =
+      let each : (y : AppSide) → user_part x c now y ≡ user_part x c nic y = λ y.
+      ap (λ h. if y.view.app == x then loans_in c y + (came_back_in c y - h) else 0) (ends c y) in
+      omega (arith, user_count-parts x c now apps, user_count-parts x c nic apps, total-agree (user_part x c now) (user_part x c nic) each apps)
+
+  there : b < total setting.layout
+  there = omega (arith, known.lowered b refl, ap (λ s. total s.layout) rule.sides.set.card)
+
+  counted : pool_count b now apps + 1 ≡ pool_of words b
+  counted = omega (arith, rule.pool b there, less b, weight-same b)
+
+  pub enough : 1 ≤ pool_of words b
+  enough = let c = counted in omega arith
+
+  small-before : (c : ℕ) (x : AppSide) → Contains apps x → returning_count c nic x ≤ ended_in c nic x
+  small-before c x has = (All-contains (EndedWereReturned c nic) apps x (rule.sides.returned c) has).returning
+
+  small-now : (c : ℕ) (x : AppSide) → Contains apps x → returning_count c now x ≤ ended_in c now x
+  small-now c x has = omega (arith, small-before c x has, ends c x, returns c x)
+
+  later : (c : ℕ) (x : AppSide) → Contains apps x → ended_in c nic x + returning_count c now x ≤ ended_in c now x + returning_count c nic x
+  later c x has = omega (arith, ends c x, returns c x)
+
+  pub step : IsPoolStep setting words nic now apps apps b (pool_of words b - 1)
+  step = record {
+    there = there;
+    sides = record {
+      set = record { card = rule.sides.set.card; many = rule.sides.set.many; numbers = rule.sides.set.numbers; others = rule.sides.set.others };
+      placed = λ c. ArePlaced-stretch c nic now apps refl refl refl refl refl (small-before c) (small-now c) (later c) (rule.sides.placed c);
+      by_one = λ c. IsFilledByOne-fewer c nic now apps apps refl (omega arith) (omega arith) (omega (arith, less c)) (rule.sides.by_one c);
+      fit = record { of_pool = rule.sides.fit.of_pool; card = rule.sides.fit.card; sides = rule.sides.fit.sides };
+      made = IsMadeLast-stretch nic now apps refl refl refl small-before small-now later rule.sides.made;
+      returned = λ c k d small. sound-now c k d small;
+      reserves = λ k x here. record { unheld = λ free. omega (arith, less (reserve_of x.view), (rule.sides.reserves k x here).unheld free) };
+      few = rule.sides.few;
+      returns = λ k x here.
+          let r = rule.sides.returns k x here in
+          let was : lowered_in_hand x.view.app b nic.inside.entry ≡ lowered_in_hand x.view.app b (in_hand a entry (UserLowered b)) = ap
+          (lowered_in_hand x.view.app b) at in
+          let low : (c : ℕ) → lowered_in_hand x.view.app c nic.inside.entry ≡ lowered_in_hand x.view.app c now.inside.entry = λ c. ap
+          (lowered_in_hand x.view.app c) at in
+          let owed : (c : ℕ) → length (drop (ended_in c now x) (returned_in c x)) ≡ length (drop (ended_in c nic x) (returned_in c x)) = λ c.
+          ap (λ h. length (drop h (returned_in c x))) (ends c x) in
+          record {
+            written = r.written;
+            owed = λ c. omega (arith, r.owed c, low c, owed c);
+            no_more = λ c. omega (arith, r.no_more c, low c, owed c);
+            clear = r.clear;
+            named = r.named;
+            settled = r.settled;
+            quiet = r.quiet;
+            scrubbed = r.scrubbed;
+            strays = r.strays;
+          };
+      hand = λ it is.
+          subst
+          (IsInHand now apps)
+          (some-is (record { app = a; entry = entry; judged = BothLowered b }) it is)
+          (record {
+            app = known.app;
+            first = known.first;
+            owed = λ c e. absurd (let none : ⊥ = cc in none);
+            lowered = λ c e. absurd (let none : ⊥ = cc in none);
+          });
+    };
+    here = let c = counted in omega arith;
+    others = λ c other. omega (arith, less c, weight-other b c (λ e. other (sym e)));
+    users = users-same;
+    free = AreFreeOnce-fewer (listed_in words) nic now apps apps b 1 came refl (omega arith)
+        (λ c. omega (arith, less c, if_so-weight (b == c)))
+        (λ c. free-gave_up words nic apps b last came refl c now refl refl)
+        (λ small. and-true last _ (lt-ltb b (pool_buffers nic.view.setting.layout) small) ∙ last-is (pool_of words b) (pool_count b now apps) 1 counted)
+        (λ past. and-false last _ (le-ltb b (pool_buffers nic.view.setting.layout) past)) rule.free;
+    kept = AreKept-card (listed_in words) nic now apps refl refl refl (λ c. cache-grows came nic.view.cache b c) rule.kept;
+  }

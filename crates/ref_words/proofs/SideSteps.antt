@@ -1,0 +1,121 @@
+-- What holds of the sides holds again once an application's side changed.
+use Rattle.std.proofs.Common.{◌≡◌, ⊎_elim, ℕ, ◌<◌, ◌≤◌, List, length, set, get_or, ap, sym, ◌∙◌, arith, subst}
+use Rattle.std.specs.Prelude.{◌≢◌, All}
+use Rattle.std.proofs.lemmas.List.{length-set, get_or-set_same, get_or-set_other}
+use Rattle.std.proofs.lemmas.List.Elements.{All-set}
+use Rattle.std.proofs.lemmas.Bool.Decides.{eqb_tells}
+use Rattle.area_layout.specs.Layout.{pool_buffers}
+use Rattle.board_face.specs.AppEvents.{reserve_of}
+use Rattle.board_face.specs.Sides.{IsApp}
+use Rattle.board_face.specs.Holders.{ended_in, returned_in}
+use Rattle.board_face.specs.Counts.{pool_count, EndedWereReturned}
+use Rattle.board_face.specs.Places.{ArePlaced, IsMadeLast}
+use Rattle.board_face.specs.Fillings.{IsFilledByOne, FillingsFit}
+use Rattle.board_face.specs.Used.{HasFewPicks}
+use Rattle.board_face.specs.Returns.{AreReturns, entries_on_way}
+use Rattle.board_face.specs.declared.views.parts.Setting.{Setting}
+use Rattle.board_face.specs.declared.views.nic.NicSide.{NicSide}
+use Rattle.board_face.specs.declared.views.app.AppSide.{AppSide}
+use Rattle.board_face.proofs.SideLemmas.{AreNumbered-set}
+use Rattle.ref_words.specs.Sides.{SidesRule, HasFreeReserve, IsFirst}
+
+-- What is to be known of the application's new side.
+pub record IsAppStep (nic : NicSide) (apps : List AppSide) (a : ℕ) (app now : AppSide) : Type 0 where
+  pub setting : now.view.setting ≡ app.view.setting
+  pub number : now.view.app ≡ app.view.app
+  pub placed : (b : ℕ) → ArePlaced b nic (set apps a now)
+  pub by_one : (b : ℕ) → IsFilledByOne b nic (set apps a now)
+  pub fit : FillingsFit nic (set apps a now)
+  pub made : IsMadeLast nic (set apps a now)
+  pub returned : (b : ℕ) → EndedWereReturned b nic now
+  pub reserve : HasFreeReserve nic (set apps a now) now
+  -- a reserve of another that nobody had stays so
+  pub unheld : (b : ℕ) → pool_buffers app.view.setting.layout ≤ b → b ≢ reserve_of app.view → pool_count b nic apps ≡ 0
+      → pool_count b nic (set apps a now) ≡ 0
+  pub few : HasFewPicks now
+  pub returns : AreReturns nic now
+  pub way : entries_on_way nic now ≡ entries_on_way nic app
+  pub came_back : (b : ℕ) → returned_in b now ≡ returned_in b app
+  pub ended : (b : ℕ) → ended_in b nic now ≡ ended_in b nic app
+
+module _ (setting : Setting) (nic : NicSide) (apps : List AppSide) (a : ℕ) (app : AppSide) (rule : SidesRule setting nic apps) (here : IsApp apps a app) where
+  -- what holds of all applications holds of this one
+  pub mine : (P : AppSide → Type 0) → All P apps → P app
+  mine P all = subst P here.is (all a app here.there)
+
+  pub own-setting : app.view.setting ≡ setting
+  own-setting = mine (λ x. x.view.setting ≡ setting) rule.set.others
+
+  module _ (now : AppSide) (step : IsAppStep nic apps a app now) where
+    abbrev apps' : List AppSide
+    apps' = set apps a now
+
+    -- an application of the list is this one, or was there before
+    then-now : (P : AppSide → Type 0) (k : ℕ) → ((x : AppSide) → IsApp apps k x → P x) → (k ≡ a → P app → P now)
+        → (x : AppSide) → IsApp apps' k x → P x
+    then-now P k was mine-now x is =
+        ⊎_elim
+        (λ t. let e : k ≡ a = t.1 in
+        let found : x ≡ now = sym is.is ∙ (ap (λ n. get_or apps' n x) e ∙ get_or-set_same apps a now x here.there) in
+        subst P (sym found) (mine-now e (was app (subst (λ n. IsApp apps n app) (sym e) here))))
+        (λ t. let ne : k ≢ a = t.1 in was x (before k x is ne))
+        (eqb_tells k a)
+      where
+        before : (k : ℕ) (x : AppSide) → IsApp apps' k x → k ≢ a → IsApp apps k x
+        before k x is ne = record {
+          there = omega (arith, is.there, length-set apps a now);
+          is = sym (get_or-set_other apps a k now x ne) ∙ is.is;
+          number = is.number;
+        }
+
+    reserves-now : (k : ℕ) (x : AppSide) → IsApp apps' k x → HasFreeReserve nic apps' x
+    reserves-now k x is =
+        ⊎_elim
+        (λ t. let e : k ≡ a = t.1 in
+        let found : x ≡ now = sym is.is ∙ (ap (λ n. get_or apps' n x) e ∙ get_or-set_same apps a now x here.there) in
+        subst (HasFreeReserve nic apps') (sym found) step.reserve)
+        (λ t. let ne : k ≢ a = t.1 in
+        let was : IsApp apps k x = record {
+          there = omega (arith, is.there, length-set apps a now);
+          is = sym (get_or-set_other apps a k now x ne) ∙ is.is;
+          number = is.number;
+        } in
+        let theirs : x.view.setting ≡ setting = subst (λ y. y.view.setting ≡ setting) was.is (rule.set.others k x was.there) in
+        let pools : x.view.setting.layout.buffers ≡ app.view.setting.layout.buffers = ap (λ s. s.layout.buffers) (theirs ∙ sym own-setting) in
+        record {
+          unheld = λ free. step.unheld (reserve_of x.view) (omega (arith, pools)) (λ e. ne (omega (
+            arith,
+            e,
+            pools,
+            is.number,
+            here.number,
+          ))) ((rule.reserves k x was).unheld free);
+        })
+        (eqb_tells k a)
+
+    pub SidesRule-app : SidesRule setting nic apps'
+    SidesRule-app = record {
+      set = record {
+        card = rule.set.card;
+        many = length-set apps a now ∙ rule.set.many;
+        numbers = AreNumbered-set 0 apps a now (omega (arith, here.number, step.number)) rule.set.numbers;
+        others = All-set (λ x. x.view.setting ≡ setting) apps a now (step.setting ∙ own-setting) rule.set.others;
+      };
+      placed = step.placed;
+      by_one = step.by_one;
+      fit = step.fit;
+      made = step.made;
+      returned = λ b. All-set (EndedWereReturned b nic) apps a now (step.returned b) (rule.returned b);
+      reserves = reserves-now;
+      few = All-set HasFewPicks apps a now step.few rule.few;
+      returns = λ k. then-now (AreReturns nic) k (λ x is. rule.returns k x is) (λ e was. step.returns);
+      hand = λ inhand is. let h = rule.hand inhand is in record {
+        app = omega (arith, h.app, length-set apps a now);
+        first = then-now (λ x. IsFirst inhand.entry (entries_on_way nic x)) inhand.app h.first (λ e was. rw step.way was);
+        owed = λ b judged. (
+          (h.owed b judged).0,
+          then-now (λ x. ended_in b nic x < length (returned_in b x)) inhand.app (h.owed b judged).1 (λ e was. rw (step.ended b, step.came_back b) was),
+        );
+        lowered = h.lowered;
+      };
+    }

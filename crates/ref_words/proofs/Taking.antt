@@ -1,0 +1,119 @@
+-- The card takes the buffer that entered its cache last.
+use Rattle.std.proofs.Common.{◌≡◌, ⊎_elim, ℕ, ◌+◌, ◌<◌, List, [], ◌∷◌, ◌++◌, refl, ap, sym, ◌∙◌, arith, subst}
+use Rattle.std.specs.Prelude.{◌≢◌, ◌==◌, All, nat_eq, count_by}
+use Rattle.std.proofs.lemmas.List.Elements.{All-nil, All-cons}
+use Rattle.std.proofs.lemmas.Bool.{cases_lt}
+use Rattle.area_layout.specs.Layout.{total, pool_buffers}
+use Rattle.board_face.specs.NicEvents.{took}
+use Rattle.board_face.specs.NicCalls.{HasNothingIn}
+use Rattle.board_face.specs.Sides.{nic_at}
+use Rattle.board_face.specs.Counts.{pool_count}
+use Rattle.board_face.specs.FreeOnce.{free_places}
+use Rattle.board_face.specs.Used.{picked_buffers}
+use Rattle.board_face.specs.declared.views.parts.Setting.{Setting}
+use Rattle.board_face.specs.declared.views.nic.NicSide.{NicSide}
+use Rattle.board_face.specs.declared.views.app.AppSide.{AppSide}
+use Rattle.board_face.proofs.NicLemmas.{pool_count-took, user_count-nic}
+use Rattle.board_face.proofs.FreeLemmas.{free_places-took, IsFreeOnce-cached}
+use Rattle.board_face.proofs.ArePlacedLemmas.{ArePlaced-took}
+use Rattle.board_face.proofs.MadeLastLemmas.{IsMadeLast-nic}
+use Rattle.board_face.proofs.IsFilledByOneLemmas.{IsFilledByOne-took}
+use Rattle.board_face.proofs.FillingsFitLemmas.{FillingsFit-took}
+use Rattle.board_face.proofs.Tallies.{weight, tally}
+use Rattle.board_face.proofs.Parts.{pool_count-parts}
+use Rattle.ref_words.specs.Words.{Words, pool_of, listed_in}
+use Rattle.ref_words.specs.Rule.{RefRule}
+use Rattle.ref_words.proofs.Counting.{weight-same, weight-other, weight-swap, count-push}
+use Rattle.ref_words.proofs.Frees.{AreFreeOnce-taken, count-append}
+use Rattle.ref_words.proofs.CardSteps.{SidesRule-card}
+use Rattle.ref_words.proofs.PoolSteps.{IsPoolStep}
+
+All-none : {A : Type 0} (f : A → ℕ) (b : ℕ) (xs : List A) → tally (λ x. f x == b) xs ≡ 0 → All (λ x. f x ≢ b) xs
+All-none f b [] none = All-nil (λ x. f x ≢ b)
+All-none f b (x ∷ xs) none =
+    All-cons (λ y. f y ≢ b) x xs
+    (λ e. absurd (let one : weight (f x == b) ≡ 1 = subst (λ c. weight (f x == c) ≡ 1) e (weight-same (f x)) in omega (arith, one, none)))
+    (All-none f b xs (omega (arith, none)))
+
+module _ (setting : Setting) (words : Words) (nic : NicSide) (apps : List AppSide) (b : ℕ) (rule : RefRule setting words nic apps)
+    (last : nic.view.cache ≡ (took nic.view b).cache ++ b ∷ []) where
+  abbrev now : NicSide
+  now = nic_at nic (took nic.view b)
+
+  gone : (x : ℕ) → free_places (listed_in words) x now apps + weight (x == b) ≡ free_places (listed_in words) x nic apps
+  gone x = free_places-took (listed_in words) x nic apps b last
+
+  -- what is cached is of the pool
+  small : b < pool_buffers nic.view.setting.layout
+  small =
+      ⊎_elim
+      (λ less. less)
+      (λ past. absurd (omega (arith, rule.free.reserves b past, gone b, weight-same b)))
+      (cases_lt b (pool_buffers nic.view.setting.layout))
+
+  pools : pool_buffers nic.view.setting.layout ≡ pool_buffers setting.layout
+  pools = ap (λ s. pool_buffers s.layout) rule.sides.set.card
+
+  there : b < total setting.layout
+  there = let s = small in omega (arith, pools)
+
+  unheld : pool_count b nic apps ≡ 0
+  unheld = IsFreeOnce-cached (listed_in words) b nic apps (took nic.view b).cache last (rule.free.pool b small)
+
+  pub none : pool_of words b ≡ 0
+  none = rule.pool b there ∙ unheld
+
+  pub apart : HasNothingIn nic.view b
+  apart =
+      let parts = pool_count-parts b nic apps in
+      let zero = unheld in
+      record {
+        owns = All-none (λ o. o.buffer) b nic.view.owns (omega (arith, parts, zero));
+        pieces = All-none (λ p. p.place.buffer) b nic.view.pieces (omega (arith, parts, zero));
+      }
+
+  more : (x : ℕ) → pool_count x now apps ≡ pool_count x nic apps + weight (b == x)
+  more x = pool_count-took x nic apps b
+
+  cache-less : (x : ℕ) → count_by (nat_eq x) nic.view.cache ≡ count_by (nat_eq x) now.view.cache + weight (x == b)
+  cache-less x = ap (count_by (nat_eq x)) last ∙ count-push x b now.view.cache
+
+  used-more : (x : ℕ) → count_by (nat_eq x) (nic.view.used ++ b ∷ []) ≡ count_by (nat_eq x) nic.view.used + weight (x == b)
+  used-more x = count-push x b nic.view.used
+
+  pub step : IsPoolStep setting words nic now apps apps b (pool_of words b + 1)
+  step = record {
+    there = there;
+    sides = SidesRule-card setting nic now apps rule.sides (record {
+      setting = refl;
+      placed = λ x. ArePlaced-took x nic apps b unheld (rule.sides.placed x);
+      by_one = λ x. IsFilledByOne-took x nic apps b (let s = small in omega arith) unheld (rule.sides.by_one x);
+      fit = FillingsFit-took nic apps b (rw rule.sides.set.card rule.layout) small rule.sides.fit;
+      made = IsMadeLast-nic nic (took nic.view b) apps refl refl refl rule.sides.made;
+      dealt = refl;
+      entry = refl;
+      unheld = λ x past none. omega (arith, more x, none, weight-other b x (λ e. absurd (let s = small in omega (arith, e))));
+    });
+    here = omega (arith, more b, none, unheld, weight-same b);
+    others = λ x other. omega (arith, more x, weight-other b x (λ e. other (sym e)));
+    users = λ a x. user_count-nic a x nic (took nic.view b) apps refl;
+    free = AreFreeOnce-taken (listed_in words) nic now apps apps b refl unheld more (λ x. omega (arith, gone x, weight-swap x b)) rule.free;
+    kept = record {
+      kept = λ x within. omega (
+        arith,
+        rule.kept.kept x within,
+        cache-less x,
+        used-more x,
+        count-append x nic.view.used (picked_buffers apps),
+        count-append x (nic.view.used ++ b ∷ []) (picked_buffers apps),
+      );
+      swept = λ x within swept. omega (
+        arith,
+        rule.kept.swept x within swept,
+        cache-less x,
+        used-more x,
+        count-append x nic.view.used (picked_buffers apps),
+        count-append x (nic.view.used ++ b ∷ []) (picked_buffers apps),
+      );
+    };
+  }

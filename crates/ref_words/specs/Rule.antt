@@ -1,0 +1,23 @@
+-- The rule: what the words say of the roles' sides, between any two steps.
+use Rattle.std.specs.Prelude.{◌≡◌, ℕ, ◌<◌, List}
+use Rattle.area_layout.specs.Layout.{IsLayout, total}
+use Rattle.board_face.specs.NicCalls.{apps_of}
+use Rattle.board_face.specs.Counts.{pool_count, user_count}
+use Rattle.board_face.specs.FreeOnce.{AreFreeOnce}
+use Rattle.board_face.specs.Used.{AreKept}
+use Rattle.board_face.specs.declared.views.parts.Setting.{Setting}
+use Rattle.board_face.specs.declared.views.nic.NicSide.{NicSide}
+use Rattle.board_face.specs.declared.views.app.AppSide.{AppSide}
+use Rattle.ref_words.specs.Words.{Words, HasSizes, listed_in, pool_of, user_of}
+use Rattle.ref_words.specs.Sides.{SidesRule}
+
+pub record RefRule (setting : Setting) (words : Words) (nic : NicSide) (apps : List AppSide) : Type 0 where
+  pub layout : IsLayout setting.layout
+  pub sizes : HasSizes setting words
+  pub sides : SidesRule setting nic apps
+  -- counts are holders
+  pub pool : (b : ℕ) → b < total setting.layout → pool_of words b ≡ pool_count b nic apps
+  pub users : (a b : ℕ) → a < apps_of setting → b < total setting.layout → user_of words a b ≡ user_count a b nic apps
+  -- a pool buffer has a holder or stands in one free place, and one that nobody used is listed or cached
+  pub free : AreFreeOnce (listed_in words) nic apps
+  pub kept : AreKept (listed_in words) nic apps

@@ -1,0 +1,62 @@
+-- What holds of the sides of all roles between any two steps, whatever the words are.
+use Rattle.std.specs.Prelude.{◌≡◌, ℕ, ◌<◌, true, List, ◌∷◌, length, All, Some}
+use Rattle.zr_kinds.specs.declared.ring.Rqe.{Rqe}
+use Rattle.area_layout.specs.Layout.{total}
+use Rattle.board_face.specs.NicCalls.{apps_of}
+use Rattle.board_face.specs.AppEvents.{reserve_of}
+use Rattle.board_face.specs.Counts.{pool_count, EndedWereReturned}
+use Rattle.board_face.specs.Places.{ArePlaced, IsMadeLast}
+use Rattle.board_face.specs.Fillings.{IsFilledByOne, FillingsFit}
+use Rattle.board_face.specs.Used.{HasFewPicks}
+use Rattle.board_face.specs.Returns.{AreReturns, entries_on_way}
+use Rattle.board_face.specs.Sides.{AreNumbered, IsApp}
+use Rattle.board_face.specs.Holders.{ended_in, returned_in}
+use Rattle.board_face.specs.declared.views.parts.Setting.{Setting}
+use Rattle.board_face.specs.declared.views.nic.EntryInHand.{EntryInHand}
+use Rattle.board_face.specs.declared.views.nic.Judged.TheVariants.{Owed, UserLowered}
+use Rattle.board_face.specs.declared.views.nic.NicSide.{NicSide}
+use Rattle.board_face.specs.declared.views.app.WrittenEntry.{WrittenEntry}
+use Rattle.board_face.specs.declared.views.app.AppSide.{AppSide}
+
+-- all sides are of one board
+pub record AreOf (setting : Setting) (nic : NicSide) (apps : List AppSide) : Type 0 where
+  pub card : nic.view.setting ≡ setting
+  pub many : length apps ≡ apps_of setting
+  pub numbers : AreNumbered 0 apps
+  pub others : All (λ app. app.view.setting ≡ setting) apps
+
+-- an application that has seen its reserve free, and took no spare since, finds it so
+pub record HasFreeReserve (nic : NicSide) (apps : List AppSide) (app : AppSide) : Type 0 where
+  pub unheld : app.inside.reserve_seen_free ≡ true → pool_count (reserve_of app.view) nic apps ≡ 0
+
+-- the entry is the first of these
+pub record IsFirst (entry : Rqe) (way : List WrittenEntry) : Type 0 where
+  pub first : WrittenEntry
+  pub others : List WrittenEntry
+  pub is : way ≡ first ∷ others
+  pub same : first.entry ≡ entry
+
+-- An entry in hand is the first of those on their way. Where the user count was seen above 0 for it and isn't lowered yet, a
+-- loan is still owed that it gives back.
+pub record IsInHand (nic : NicSide) (apps : List AppSide) (inhand : EntryInHand) : Type 0 where
+  pub app : inhand.app < length apps
+  pub first : (app : AppSide) → IsApp apps inhand.app app → IsFirst inhand.entry (entries_on_way nic app)
+  pub owed : (b : ℕ) → inhand.judged ≡ Owed b
+      → (b < total nic.view.setting.layout) × ((app : AppSide) → IsApp apps inhand.app app → ended_in b nic app < length (returned_in b app))
+  pub lowered : (b : ℕ) → inhand.judged ≡ UserLowered b → b < total nic.view.setting.layout
+
+pub record SidesRule (setting : Setting) (nic : NicSide) (apps : List AppSide) : Type 0 where
+  pub set : AreOf setting nic apps
+  -- the places of a buffer's holders share no byte, one at most fills a buffer, and a piece in the making is its buffer's last
+  pub placed : (b : ℕ) → ArePlaced b nic apps
+  pub by_one : (b : ℕ) → IsFilledByOne b nic apps
+  pub fit : FillingsFit nic apps
+  pub made : IsMadeLast nic apps
+  -- no more was honoured or scrubbed than was given back or abandoned
+  pub returned : (b : ℕ) → All (EndedWereReturned b nic) apps
+  -- reserves, and picks from the free list
+  pub reserves : (a : ℕ) (app : AppSide) → IsApp apps a app → HasFreeReserve nic apps app
+  pub few : All HasFewPicks apps
+  -- returns on their way, and the entry in hand
+  pub returns : (a : ℕ) (app : AppSide) → IsApp apps a app → AreReturns nic app
+  pub hand : (inhand : EntryInHand) → nic.inside.entry ≡ Some inhand → IsInHand nic apps inhand

@@ -1,0 +1,148 @@
+-- The words of a board that threads share, group by group, and how they lie in one table. Counts, bits and slots are those of
+-- docs/WORDS.md; each group is a list, so that a store in one group leaves the others as they are.
+use Rattle.std.specs.Prelude.{◌≡◌, ℕ, zero, suc, ◌+◌, ◌*◌, ◌/◌, ◌%◌, ◌<◌, Bool, List, [], ◌∷◌, length, slice_index}
+use Rattle.std.specs.Prelude.{slice_index_or, slice_set, ◌==◌, All}
+use Rattle.std.specs.List.{flat_map}
+use Rattle.std.specs.Int.{bit_at}
+use Rattle.area_layout.specs.Layout.{total, area_words}
+use Rattle.board_face.specs.NicCalls.{apps_of, free_words_of}
+use Rattle.board_face.specs.NicEvents.{word_bits}
+use Rattle.board_face.specs.declared.views.parts.Setting.{Setting}
+
+pub record Words : Type 0 where
+  -- 1 where a role was taken: the card's, then the applications'
+  pub roles : List ℕ
+  -- 1 where a role has ended or left
+  pub phases : List ℕ
+  -- the pool count of each buffer
+  pub pool : List ℕ
+  -- the user counts of each application, by buffer
+  pub users : List (List ℕ)
+  -- the free list, a bit for each pool buffer
+  pub free : List ℕ
+  -- the area, 8 bytes to a word
+  pub area : List ℕ
+  -- the note slots and the refill slots of each application, each slot a list of words
+  pub notes : List (List (List ℕ))
+  pub refills : List (List (List ℕ))
+
+-- ---- the table
+
+abbrev pub joined : List (List ℕ) → List ℕ
+joined rows = flat_map (λ row. row) rows
+
+-- the groups in their order
+abbrev pub groups : Words → List (List ℕ)
+groups w = w.roles ∷ w.phases ∷ w.pool ∷ joined w.users ∷ w.free ∷ w.area ∷ flat_map joined w.notes ∷ flat_map joined w.refills ∷ []
+
+-- the table's words
+abbrev pub table_of : Words → List ℕ
+table_of w = joined (groups w)
+
+-- ---- where a word lies
+
+-- how many roles there are
+abbrev pub roles_of : Setting → ℕ
+roles_of setting = 1 + apps_of setting
+
+-- how many words a note slot and a refill slot have, the flag first
+abbrev pub note_width : ℕ
+note_width = 39
+
+abbrev pub refill_width : ℕ
+refill_width = 3
+
+-- how many words each group has
+abbrev pub group_sizes : Setting → List ℕ
+group_sizes setting =
+    roles_of setting ∷ roles_of setting ∷ total setting.layout ∷ apps_of setting * total setting.layout ∷ free_words_of setting ∷ area_words setting.layout
+    ∷ apps_of setting * (setting.places * note_width) ∷ apps_of setting * (setting.places * refill_width) ∷ []
+
+-- how many the first ones have
+abbrev pub begins : List ℕ → ℕ → ℕ
+begins sizes zero = 0
+begins [] (suc n) = 0
+begins (size ∷ sizes) (suc n) = size + begins sizes n
+
+-- where a group begins, and behind the last where the table ends
+abbrev pub begin_at : Setting → ℕ → ℕ
+begin_at setting group = begins (group_sizes setting) group
+
+abbrev pub table_words : Setting → ℕ
+table_words setting = begin_at setting 8
+
+-- the word of a role, of a role's phase, of a buffer's pool count, of an application's user count for a buffer,
+abbrev pub role_at : Setting → ℕ → ℕ
+role_at setting r = begin_at setting 0 + r
+
+abbrev pub phase_at : Setting → ℕ → ℕ
+phase_at setting r = begin_at setting 1 + r
+
+abbrev pub pool_at : Setting → ℕ → ℕ
+pool_at setting b = begin_at setting 2 + b
+
+abbrev pub user_at : Setting → ℕ → ℕ → ℕ
+user_at setting a b = begin_at setting 3 + (a * total setting.layout + b)
+
+-- of the free list, of the area, and of a slot of an application's rings
+abbrev pub free_at : Setting → ℕ → ℕ
+free_at setting j = begin_at setting 4 + j
+
+abbrev pub area_at : Setting → ℕ → ℕ
+area_at setting x = begin_at setting 5 + x
+
+abbrev pub note_at : Setting → ℕ → ℕ → ℕ → ℕ
+note_at setting a s i = begin_at setting 6 + (a * (setting.places * note_width) + (s * note_width + i))
+
+abbrev pub refill_at : Setting → ℕ → ℕ → ℕ → ℕ
+refill_at setting a s i = begin_at setting 7 + (a * (setting.places * refill_width) + (s * refill_width + i))
+
+-- No two groups share a word.
+abbrev pub GroupsAreApart : Type 0
+GroupsAreApart =
+    (setting : Setting) (g h i j : ℕ) → i < slice_index (group_sizes setting) g → j < slice_index (group_sizes setting) h
+    → begin_at setting g + i ≡ begin_at setting h + j → (g ≡ h) × (i ≡ j)
+
+-- ---- sizes
+
+-- so many slots of so many words
+pub record AreSlots (places width : ℕ) (slots : List (List ℕ)) : Type 0 where
+  pub many : length slots ≡ places
+  pub wide : All (λ slot. length slot ≡ width) slots
+
+pub record HasSizes (setting : Setting) (w : Words) : Type 0 where
+  pub roles : length w.roles ≡ roles_of setting
+  pub phases : length w.phases ≡ roles_of setting
+  pub pool : length w.pool ≡ total setting.layout
+  pub users : length w.users ≡ apps_of setting
+  pub rows : All (λ row. length row ≡ total setting.layout) w.users
+  pub free : length w.free ≡ free_words_of setting
+  pub area : length w.area ≡ area_words setting.layout
+  pub notes : length w.notes ≡ apps_of setting
+  pub note_slots : All (AreSlots setting.places note_width) w.notes
+  pub refills : length w.refills ≡ apps_of setting
+  pub refill_slots : All (AreSlots setting.places refill_width) w.refills
+
+-- ---- counts and bits
+
+-- a buffer's bit in the free list
+abbrev pub listed_in : Words → ℕ → Bool
+listed_in w b = bit_at (slice_index w.free (b / word_bits)) (b % word_bits) == 1
+
+-- the words with one role taken
+abbrev pub with_role : Words → ℕ → Words
+with_role w r = record w { roles = slice_set w.roles r 1 }
+
+-- the words with another pool count of a buffer
+abbrev pub with_pool : Words → ℕ → ℕ → Words
+with_pool w b n = record w { pool = slice_set w.pool b n }
+
+abbrev pub pool_of : Words → ℕ → ℕ
+pool_of w b = slice_index w.pool b
+
+abbrev pub user_of : Words → ℕ → ℕ → ℕ
+user_of w a b = slice_index (slice_index_or w.users a []) b
+
+-- the words with another user count of an application for a buffer
+abbrev pub with_user : Words → ℕ → ℕ → ℕ → Words
+with_user w a b n = record w { users = slice_set w.users a (slice_set (slice_index_or w.users a []) b n) }

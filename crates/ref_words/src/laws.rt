@@ -1,0 +1,10 @@
+//! The laws of the steps: each says, for all words and all sides that meet the rule, that they meet it again after a step
+//! of its kind. A law takes no argument and does nothing; its contract is what it is for.
+
+mod pool;
+mod roles;
+mod words;
+
+pub use pool::{k4, k5, k6};
+pub use roles::{k1, k2, k3};
+pub use words::groups_are_apart;

@@ -1,0 +1,16 @@
+ghost use Rattle.ref_words.specs.Laws.{SplitLaw, JoinLaw, TakeRoleLaw};
+
+/// The desk deals a role out to a new seat.
+pub fn k1()
+    ensures { SplitLaw }
+{}
+
+/// A seat goes back.
+pub fn k2()
+    ensures { JoinLaw }
+{}
+
+/// The word of a role is swapped with 1 by the seat to which the role is due.
+pub fn k3()
+    ensures { TakeRoleLaw }
+{}
