@@ -1,10 +1,10 @@
 -- The words of a board that threads share, group by group, and how they lie in one table. Counts, bits and slots are those of
 -- docs/WORDS.md; each group is a list, so that a store in one group leaves the others as they are.
-use Rattle.std.specs.Prelude.{◌≡◌, ℕ, zero, suc, ◌+◌, ◌*◌, ◌/◌, ◌%◌, ◌<◌, Bool, List, [], ◌∷◌, length, slice_index}
+use Rattle.std.specs.Prelude.{◌≡◌, ℕ, zero, suc, ◌+◌, ◌*◌, ◌/◌, ◌%◌, ◌^◌, ◌<◌, ◌≤◌, Bool, List, [], ◌∷◌, length, slice_index}
 use Rattle.std.specs.Prelude.{slice_index_or, slice_set, ◌==◌, All}
 use Rattle.std.specs.List.{flat_map}
 use Rattle.std.specs.Int.{bit_at}
-use Rattle.area_layout.specs.Layout.{total, area_words}
+use Rattle.area_layout.specs.Layout.{IsLayout, total, area_words}
 use Rattle.board_face.specs.NicCalls.{apps_of, free_words_of}
 use Rattle.board_face.specs.NicEvents.{word_bits}
 use Rattle.board_face.specs.declared.views.parts.Setting.{Setting}
@@ -55,8 +55,8 @@ refill_width = 3
 -- how many words each group has
 abbrev pub group_sizes : Setting → List ℕ
 group_sizes setting =
-    roles_of setting ∷ roles_of setting ∷ total setting.layout ∷ apps_of setting * total setting.layout ∷ free_words_of setting ∷ area_words setting.layout
-    ∷ apps_of setting * (setting.places * note_width) ∷ apps_of setting * (setting.places * refill_width) ∷ []
+    roles_of setting ∷ roles_of setting ∷ total setting.layout ∷ apps_of setting * total setting.layout ∷ free_words_of setting
+    ∷ area_words setting.layout ∷ apps_of setting * (setting.places * note_width) ∷ apps_of setting * (setting.places * refill_width) ∷ []
 
 -- how many the first ones have
 abbrev pub begins : List ℕ → ℕ → ℕ
@@ -96,6 +96,18 @@ note_at setting a s i = begin_at setting 6 + (a * (setting.places * note_width) 
 
 abbrev pub refill_at : Setting → ℕ → ℕ → ℕ → ℕ
 refill_at setting a s i = begin_at setting 7 + (a * (setting.places * refill_width) + (s * refill_width + i))
+
+-- what a word map keeps: where the groups begin behind the pool counts, and where the table ends
+pub record IsMap (setting : Setting) (users free area notes refills end : ℕ) : Type 0 where
+  pub layout : IsLayout setting.layout
+  pub places : (1 ≤ setting.places) × (setting.places ≤ 256)
+  pub users_at : users ≡ begin_at setting 3
+  pub free_at : free ≡ begin_at setting 4
+  pub area_at : area ≡ begin_at setting 5
+  pub notes_at : notes ≡ begin_at setting 6
+  pub refills_at : refills ≡ begin_at setting 7
+  pub end_at : end ≡ table_words setting
+  pub few : end < 2 ^ 32
 
 -- No two groups share a word.
 abbrev pub GroupsAreApart : Type 0

@@ -1,0 +1,165 @@
+ghost use Rattle.std.specs.Prelude.{◌≡◌, ◌<◌, ◌≤◌};
+ghost use Rattle.area_layout.specs.Layout.{total, area_words};
+ghost use Rattle.board_face.specs.NicCalls.{apps_of, free_words_of};
+ghost use Rattle.ref_words.specs.Words.{roles_of, note_width, refill_width, table_words, role_at, phase_at, pool_at, user_at, free_at, area_at};
+ghost use Rattle.ref_words.specs.Words.{note_at, refill_at};
+
+use area_layout::Layout;
+use std::marker::Model;
+
+/// How many words a note slot has, the flag first.
+const NOTE_WORDS: usize = 39;
+
+/// How many words a refill slot has.
+const REFILL_WORDS: usize = 3;
+
+const WORD_BYTES: usize = 8;
+
+/// How many pool buffers a word of the free list tells of.
+const WORD_BITS: usize = 64;
+
+/// Where each word of a board lies in its table. The groups follow each other in the order of its calls; the first call's
+/// words begin at 0.
+#[derive(Debug, Drop)]
+pub struct WordMap {
+    layout: Layout,
+    places: u32,
+    users: usize,
+    free: usize,
+    area: usize,
+    notes: usize,
+    refills: usize,
+    end: usize,
+}
+
+impl Model for WordMap {
+    ghost use Rattle.board_face.specs.declared.views.parts.Setting.{Setting};
+    ghost use Rattle.ref_words.specs.Words.{IsMap};
+
+    ghost Value = { Setting };
+
+    ghost view = { λ m. record { layout = m.layout; places = m.places } };
+
+    ghost invariant = { λ m. IsMap (record { layout = m.layout; places = m.places }) m.users m.free m.area m.notes m.refills m.end };
+}
+
+impl WordMap {
+    /// The words of a board with this layout and so many slots in each ring.
+    pub fn new(layout: Layout, places: u32) -> WordMap
+        requires some { 1 ≤ places }
+        requires few { places ≤ 256 }
+        ensures { result ≡ record { layout = layout; places = places } }
+    {
+        let buffers = layout.buffers() as usize;
+        let total = layout.total() as usize;
+        let apps = total - buffers;
+        let users = 2 * (1 + apps) + total;
+        let free = users + apps * total;
+        let area = free + (buffers + WORD_BITS - 1) / WORD_BITS;
+        let notes = area + total * layout.size() as usize / WORD_BYTES;
+        let refills = notes + apps * (places as usize * NOTE_WORDS);
+        let end = refills + apps * (places as usize * REFILL_WORDS);
+        WordMap {
+            layout,
+            places,
+            users,
+            free,
+            area,
+            notes,
+            refills,
+            end,
+        }
+    }
+
+    /// How many words there are.
+    pub fn words(&self) -> usize
+        ensures { result ≡ table_words self.now }
+    {
+        self.end
+    }
+
+    /// The word of a role: 0 is the card, `1 + a` the application `a`.
+    pub fn role(&self, role: u32) -> usize
+        requires { role < roles_of self.now }
+        ensures value { result ≡ role_at self.now role }
+        ensures within { result < table_words self.now }
+    {
+        role as usize
+    }
+
+    /// The word of a role's phase.
+    pub fn phase(&self, role: u32) -> usize
+        requires { role < roles_of self.now }
+        ensures value { result ≡ phase_at self.now role }
+        ensures within { result < table_words self.now }
+    {
+        self.roles() + role as usize
+    }
+
+    /// The word of a buffer's pool count.
+    pub fn pool(&self, buffer: u32) -> usize
+        requires { buffer < total self.now.layout }
+        ensures value { result ≡ pool_at self.now buffer }
+        ensures within { result < table_words self.now }
+    {
+        2 * self.roles() + buffer as usize
+    }
+
+    /// The word of an application's user count for a buffer.
+    pub fn user(&self, app: u32, buffer: u32) -> usize
+        requires app { app < apps_of self.now }
+        requires buffer { buffer < total self.now.layout }
+        ensures value { result ≡ user_at self.now app buffer }
+        ensures within { result < table_words self.now }
+    {
+        self.users + (app as usize * self.layout.total() as usize + buffer as usize)
+    }
+
+    /// A word of the free list.
+    pub fn free(&self, word: u32) -> usize
+        requires { word < free_words_of self.now }
+        ensures value { result ≡ free_at self.now word }
+        ensures within { result < table_words self.now }
+    {
+        self.free + word as usize
+    }
+
+    /// A word of the area.
+    pub fn area(&self, word: u64) -> usize
+        requires { word < area_words self.now.layout }
+        ensures value { result ≡ area_at self.now word }
+        ensures within { result < table_words self.now }
+    {
+        self.area + word as usize
+    }
+
+    /// A word of a note slot of an application; word 0 is the flag.
+    pub fn note(&self, app: u32, slot: u32, word: u32) -> usize
+        requires app { app < apps_of self.now }
+        requires slot { slot < self.now.places }
+        requires word { word < note_width }
+        ensures value { result ≡ note_at self.now app slot word }
+        ensures within { result < table_words self.now }
+    {
+        self.notes + (app as usize * (self.places as usize * NOTE_WORDS) + (slot as usize * NOTE_WORDS + word as usize))
+    }
+
+    /// A word of a refill slot of an application; word 0 is the flag.
+    pub fn refill(&self, app: u32, slot: u32, word: u32) -> usize
+        requires app { app < apps_of self.now }
+        requires slot { slot < self.now.places }
+        requires word { word < refill_width }
+        ensures value { result ≡ refill_at self.now app slot word }
+        ensures within { result < table_words self.now }
+    {
+        self.refills + (app as usize * (self.places as usize * REFILL_WORDS) + (slot as usize * REFILL_WORDS + word as usize))
+    }
+
+    /// How many roles there are.
+    fn roles(&self) -> usize
+        ensures value { result ≡ roles_of self.now }
+        ensures few { result ≤ 9 }
+    {
+        1 + (self.layout.total() - self.layout.buffers()) as usize
+    }
+}
