@@ -1,15 +1,17 @@
 -- A board that was just opened: nobody has a buffer, no text lies anywhere, and nothing is owed.
-use Rattle.std.proofs.Common.{◌≡◌, ℕ, zero, suc, ◌<◌, List, [], ◌∷◌, length, get_or, replicate, refl, sym, subst, arith}
-use Rattle.std.specs.Prelude.{All, true}
-use Rattle.std.proofs.lemmas.List.Elements.{All-nil, All-head, All-tail, All-drop, All-weaker}
+use Rattle.std.proofs.Common.{◌≡◌, ℕ, zero, suc, ◌<◌, List, [], ◌∷◌, length, get_or, replicate, Bool, refl, ap, sym, ◌∙◌, subst, arith}
+use Rattle.std.specs.List.{flat_map}
+use Rattle.std.specs.Prelude.{All, true, false, nat_eq, count_by, ◌==◌, if◌then◌else◌}
+use Rattle.std.proofs.lemmas.List.Elements.{All-nil, All-cons, All-head, All-tail, All-drop, All-weaker}
 use Rattle.area_layout.specs.Layout.{total as all_buffers, pool_buffers, size_of}
 use Rattle.board_face.specs.AppEvents.{begin_place}
 use Rattle.board_face.specs.Holders.{ended_in}
-use Rattle.board_face.specs.Counts.{pool_count, EndedWereReturned}
+use Rattle.board_face.specs.Counts.{pool_count, user_count, EndedWereReturned}
+use Rattle.board_face.specs.Sides.{AreNumbered}
 use Rattle.board_face.specs.Fillings.{IsFilledByOne, FillingsFit}
 use Rattle.board_face.specs.Places.{has_byte, is_empty, ends_behind, ArePlaced}
 use Rattle.board_face.specs.Shown.{IsShown, text_of, AppIsShown, AreShown}
-use Rattle.board_face.specs.Opened.{new_nic, new_app}
+use Rattle.board_face.specs.Opened.{new_nic, new_app, new_apps}
 use Rattle.board_face.specs.declared.views.parts.Setting.{Setting}
 use Rattle.board_face.specs.declared.views.parts.Filling.{Filling}
 use Rattle.board_face.specs.declared.views.nic.PlacedText.{PlacedText}
@@ -19,7 +21,7 @@ use Rattle.board_face.specs.declared.views.app.LentPiece.{LentPiece}
 use Rattle.board_face.specs.declared.views.app.SpareOwn.{SpareOwn}
 use Rattle.board_face.specs.declared.views.app.AppSide.{AppSide}
 use Rattle.board_face.proofs.Tallies.{total}
-use Rattle.board_face.proofs.Parts.{app_count, pool_count-parts}
+use Rattle.board_face.proofs.Parts.{app_count, user_part, pool_count-parts, user_count-parts}
 use Rattle.board_face.proofs.IsFilledByOneLemmas.{IsFilledByOne-from, fillings-held}
 use Rattle.board_face.proofs.FillingsFitLemmas.{IsFit, AreFit}
 use Rattle.board_face.proofs.ArePlacedLemmas.{IsBehind, places-none}
@@ -99,3 +101,49 @@ module _ (byte : ℕ → ℕ → ℕ) where
     apps = all-new (AppIsShown byte (new_nic setting)) setting (AppIsShown-opened setting) apps news;
     places = λ b. ArePlaced-opened b setting apps news;
   }
+
+-- ---- applications that have done nothing
+
+pub length-new_apps : (s : Setting) (first n : ℕ) → length (new_apps s first n) ≡ n
+length-new_apps s first zero = refl
+length-new_apps s first (suc n) = omega (arith, length-new_apps s (suc first) n)
+
+pub numbered-new_apps : (s : Setting) (first n : ℕ) → AreNumbered first (new_apps s first n)
+numbered-new_apps s first zero = tt
+numbered-new_apps s first (suc n) = (refl, numbered-new_apps s (suc first) n)
+
+-- what holds of each application that has done nothing
+pub All-new : (P : AppSide → Type 0) (s : Setting) (first n : ℕ) → ((a : ℕ) → P (new_app s a)) → All P (new_apps s first n)
+All-new P s first zero each = All-nil P
+All-new P s first (suc n) each = All-cons P (new_app s first) (new_apps s (suc first) n) (each first) (All-new P s (suc first) n each)
+
+sum-new : (f : AppSide → ℕ) (s : Setting) (first n : ℕ) → ((a : ℕ) → f (new_app s a) ≡ 0) → total f (new_apps s first n) ≡ 0
+sum-new f s first zero each = refl
+sum-new f s first (suc n) each = omega (arith, each first, sum-new f s (suc first) n each)
+
+pub hands-new : (b : ℕ) (s : Setting) (first n : ℕ) → count_by (nat_eq b) (flat_map (λ app. app.inside.hands) (new_apps s first n)) ≡ 0
+hands-new b s first zero = refl
+hands-new b s first (suc n) = hands-new b s (suc first) n
+
+pub picked-new : (b : ℕ) (s : Setting) (first n : ℕ) → count_by (nat_eq b) (flat_map (λ app. app.view.picked) (new_apps s first n)) ≡ 0
+picked-new b s first zero = refl
+picked-new b s first (suc n) = picked-new b s (suc first) n
+
+app-none : (b : ℕ) (s : Setting) (a : ℕ) → app_count b (new_nic s) (new_app s a) ≡ 0
+app-none b s a = omega arith
+
+user-case : (c : Bool) (n m : ℕ) → n ≡ 0 → m ≡ 0 → (if c then n else m) ≡ 0
+user-case true n m e f = e
+user-case false n m e f = f
+
+user-none : (x b : ℕ) (s : Setting) (a : ℕ) → user_part x b (new_nic s) (new_app s a) ≡ 0
+user-none x b s a = user-case (a == x) _ _ (omega arith) refl
+
+pub count-new : (b : ℕ) (s : Setting) (n : ℕ) → pool_count b (new_nic s) (new_apps s 0 n) ≡ 0
+count-new b s n = omega (arith, pool_count-parts b (new_nic s) (new_apps s 0 n), sum-new (app_count b (new_nic s)) s 0 n (app-none b s))
+
+pub users-new : (a b : ℕ) (s : Setting) (n : ℕ) → user_count a b (new_nic s) (new_apps s 0 n) ≡ 0
+users-new a b s n = omega (arith, user_count-parts a b (new_nic s) (new_apps s 0 n), sum-new (user_part a b (new_nic s)) s 0 n (user-none a b s))
+
+pub news : (s : Setting) (first n : ℕ) → All (IsNew s) (new_apps s first n)
+news s first n = All-new (IsNew s) s first n (λ a. refl)

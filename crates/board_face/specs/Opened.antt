@@ -1,5 +1,5 @@
 -- The sides of a board that was just opened: nobody has done anything.
-use Rattle.std.specs.Prelude.{ℕ, true, false, [], None, replicate}
+use Rattle.std.specs.Prelude.{ℕ, zero, suc, true, false, List, [], ◌∷◌, None, replicate}
 use Rattle.area_layout.specs.Layout.{total}
 use Rattle.board_face.specs.NicCalls.{apps_of}
 use Rattle.board_face.specs.declared.views.parts.Setting.{Setting}
@@ -79,3 +79,8 @@ new_app setting a = record {
     scrub_owes = replicate (total setting.layout) 0;
   };
 }
+
+-- applications that have done nothing, numbered from the first on
+abbrev pub new_apps : Setting → ℕ → ℕ → List AppSide
+new_apps setting first zero = []
+new_apps setting first (suc n) = new_app setting first ∷ new_apps setting (suc first) n

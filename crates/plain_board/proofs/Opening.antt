@@ -22,6 +22,7 @@ use Rattle.board_face.specs.declared.views.parts.Setting.{Setting}
 use Rattle.board_face.specs.declared.views.app.AppSide.{AppSide}
 use Rattle.board_face.proofs.Parts.{app_count, user_part, pool_count-parts, user_count-parts}
 use Rattle.board_face.proofs.Tallies.{weight, total as sum_of}
+use Rattle.board_face.proofs.OpenedLemmas.{length-new_apps, numbered-new_apps, All-new, hands-new, picked-new, count-new, users-new}
 use Rattle.board_face.proofs.OpenedLemmas.{all-alike, IsNew, FillingsFit-opened, IsFilledByOne-opened, AreShown-opened}
 use Rattle.zr_kinds.specs.declared.ring.Rqe.{Rqe}
 use Rattle.plain_parts.specs.declared.slots.NoteSlot.{NoteSlot}
@@ -32,50 +33,9 @@ use Rattle.plain_parts.specs.Counts.{user_at}
 use Rattle.plain_board.specs.Board.{Board, new_board, byte_of}
 use Rattle.plain_board.specs.Sound.{IsRing, IsSound, IsAtRest, IsProper, IsPhased}
 
-pub length-new_apps : (s : Setting) (first n : ℕ) → length (new_apps s first n) ≡ n
-length-new_apps s first zero = refl
-length-new_apps s first (suc n) = omega (arith, length-new_apps s (suc first) n)
-
-pub numbered-new_apps : (s : Setting) (first n : ℕ) → AreNumbered first (new_apps s first n)
-numbered-new_apps s first zero = tt
-numbered-new_apps s first (suc n) = (refl, numbered-new_apps s (suc first) n)
-
--- what holds of each application that has done nothing
-pub All-new : (P : AppSide → Type 0) (s : Setting) (first n : ℕ) → ((a : ℕ) → P (new_app s a)) → All P (new_apps s first n)
-All-new P s first zero each = All-nil P
-All-new P s first (suc n) each = All-cons P (new_app s first) (new_apps s (suc first) n) (each first) (All-new P s (suc first) n each)
-
-sum-new : (f : AppSide → ℕ) (s : Setting) (first n : ℕ) → ((a : ℕ) → f (new_app s a) ≡ 0) → sum_of f (new_apps s first n) ≡ 0
-sum-new f s first zero each = refl
-sum-new f s first (suc n) each = omega (arith, each first, sum-new f s (suc first) n each)
-
-hands-new : (b : ℕ) (s : Setting) (first n : ℕ) → count_by (nat_eq b) (flat_map (λ app. app.inside.hands) (new_apps s first n)) ≡ 0
-hands-new b s first zero = refl
-hands-new b s first (suc n) = hands-new b s (suc first) n
-
-picked-new : (b : ℕ) (s : Setting) (first n : ℕ) → count_by (nat_eq b) (flat_map (λ app. app.view.picked) (new_apps s first n)) ≡ 0
-picked-new b s first zero = refl
-picked-new b s first (suc n) = picked-new b s (suc first) n
-
 left-new : (s : Setting) (first n : ℕ) → replicate n false ≡ map (λ app. app.view.left) (new_apps s first n)
 left-new s first zero = refl
 left-new s first (suc n) = ap (λ xs. false ∷ xs) (left-new s (suc first) n)
-
-app-none : (b : ℕ) (s : Setting) (a : ℕ) → app_count b (new_nic s) (new_app s a) ≡ 0
-app-none b s a = omega arith
-
-user-case : (c : Bool) (n m : ℕ) → n ≡ 0 → m ≡ 0 → (if c then n else m) ≡ 0
-user-case true n m e f = e
-user-case false n m e f = f
-
-user-none : (x b : ℕ) (s : Setting) (a : ℕ) → user_part x b (new_nic s) (new_app s a) ≡ 0
-user-none x b s a = user-case (a == x) _ _ (omega arith) refl
-
-count-new : (b : ℕ) (s : Setting) (n : ℕ) → pool_count b (new_nic s) (new_apps s 0 n) ≡ 0
-count-new b s n = omega (arith, pool_count-parts b (new_nic s) (new_apps s 0 n), sum-new (app_count b (new_nic s)) s 0 n (app-none b s))
-
-users-new : (a b : ℕ) (s : Setting) (n : ℕ) → user_count a b (new_nic s) (new_apps s 0 n) ≡ 0
-users-new a b s n = omega (arith, user_count-parts a b (new_nic s) (new_apps s 0 n), sum-new (user_part a b (new_nic s)) s 0 n (user-none a b s))
 
 module _ (layout : Shape) (places : ℕ) (good : IsLayout layout) (some : 1 ≤ places) (few : places ≤ 256) where
   abbrev s : Setting

@@ -15,3 +15,4 @@ mod Releasing
 mod Cutting
 mod Scrubbing
 mod SpareTaking
+pub mod Opening

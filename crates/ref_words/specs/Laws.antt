@@ -8,12 +8,12 @@ use mathlib.Core.Option.{some}
 use lib.ListN.{get_elem?}
 use Rattle.zr_kinds.specs.declared.place.Place.{Place}
 use Rattle.zr_kinds.specs.declared.ring.Rqe.{Rqe}
-use Rattle.area_layout.specs.Layout.{total}
+use Rattle.area_layout.specs.Layout.{IsLayout, total}
 use Rattle.board_face.specs.NicEvents.{took}
 use Rattle.board_face.specs.AppEvents.{cut, reserve_of}
 use Rattle.board_face.specs.NicCalls.{HasNothingIn, HasOwn, apps_of}
 use Rattle.board_face.specs.AppCalls.{HasHeld}
-use Rattle.board_face.specs.Opened.{new_nic, new_app}
+use Rattle.board_face.specs.Opened.{new_nic, new_app, new_apps}
 use Rattle.board_face.specs.Sides.{nic_at, app_at, IsApp}
 use Rattle.board_face.specs.Texts.{unsplit_bytes}
 use Rattle.board_face.specs.Steps.{side_begun, side_shut, side_both_lowered, side_released, side_spare_begun, side_owes_lowered}
@@ -23,9 +23,19 @@ use Rattle.board_face.specs.declared.views.nic.Judged.TheVariants.{UserLowered}
 use Rattle.board_face.specs.declared.views.nic.NicSide.{NicSide}
 use Rattle.board_face.specs.declared.views.app.AppSide.{AppSide}
 use Rattle.ref_words.specs.declared.view.View.{View}
-use Rattle.ref_words.specs.Words.{Words, with_role, with_pool, pool_of}
+use Rattle.ref_words.specs.Words.{Words, opened_words, with_role, with_pool, pool_of}
 use Rattle.ref_words.specs.Seated.{Seated, times_in, due_view, card_view, app_view, dealt_out, both_sides, no_role}
 use Rattle.ref_words.specs.Rule.{RefRule}
+
+-- ---- the beginning
+
+-- A board that was just opened, where one seat is that has no role.
+pub record IsOpened (setting : Setting) : Type 0 where
+  pub seated : Seated setting (opened_words setting).roles (no_role ∷ []) (new_nic setting) (new_apps setting 0 (apps_of setting))
+  pub rule : RefRule setting (opened_words setting) (new_nic setting) (new_apps setting 0 (apps_of setting))
+
+abbrev pub OpenLaw : Type 0
+OpenLaw = (setting : Setting) → IsLayout setting.layout → IsOpened setting
 
 -- ---- roles
 

@@ -1,10 +1,11 @@
 -- The words of a board that threads share, group by group, and how they lie in one table. Counts, bits and slots are those of
 -- docs/WORDS.md; each group is a list, so that a store in one group leaves the others as they are.
-use Rattle.std.specs.Prelude.{◌≡◌, ℕ, zero, suc, ◌+◌, ◌*◌, ◌/◌, ◌%◌, ◌^◌, ◌<◌, ◌≤◌, Bool, List, [], ◌∷◌, length, slice_index}
+use Rattle.std.specs.Prelude.{◌≡◌, ℕ, zero, suc, ◌+◌, ◌-◌, ◌*◌, ◌/◌, ◌%◌, ◌^◌, ◌<◌, ◌≤◌, Bool, List, [], ◌∷◌}
+use Rattle.std.specs.Prelude.{◌++◌, length, min, replicate, slice_index}
 use Rattle.std.specs.Prelude.{slice_index_or, slice_set, ◌==◌, All}
 use Rattle.std.specs.List.{flat_map}
 use Rattle.std.specs.Int.{bit_at}
-use Rattle.area_layout.specs.Layout.{IsLayout, total, area_words}
+use Rattle.area_layout.specs.Layout.{IsLayout, pool_buffers, total, area_words}
 use Rattle.board_face.specs.NicCalls.{apps_of, free_words_of}
 use Rattle.board_face.specs.NicEvents.{word_bits}
 use Rattle.board_face.specs.declared.views.parts.Setting.{Setting}
@@ -158,3 +159,31 @@ user_of w a b = slice_index (slice_index_or w.users a []) b
 -- the words with another user count of an application for a buffer
 abbrev pub with_user : Words → ℕ → ℕ → ℕ → Words
 with_user w a b n = record w { users = slice_set w.users a (slice_set (slice_index_or w.users a []) b n) }
+
+-- ---- the beginning
+
+-- a word of the free list with the bits of so many pool buffers set, or all 64
+abbrev pub full_bits : ℕ → ℕ
+full_bits n = 2 ^ min n word_bits - 1
+
+-- the free list's word j, where all of so many pool buffers are listed
+abbrev pub free_word : ℕ → ℕ → ℕ
+free_word buffers j = full_bits (buffers - word_bits * j)
+
+-- the first n words of it
+abbrev pub free_list : ℕ → ℕ → List ℕ
+free_list buffers zero = []
+free_list buffers (suc n) = free_list buffers n ++ free_word buffers n ∷ []
+
+-- The words at the opening: each pool buffer is listed, and all else is 0.
+abbrev pub opened_words : Setting → Words
+opened_words setting = record {
+  roles = replicate (roles_of setting) 0;
+  phases = replicate (roles_of setting) 0;
+  pool = replicate (total setting.layout) 0;
+  users = replicate (apps_of setting) (replicate (total setting.layout) 0);
+  free = free_list (pool_buffers setting.layout) (free_words_of setting);
+  area = replicate (area_words setting.layout) 0;
+  notes = replicate (apps_of setting) (replicate setting.places (replicate note_width 0));
+  refills = replicate (apps_of setting) (replicate setting.places (replicate refill_width 0));
+}

@@ -6,5 +6,5 @@ mod roles;
 mod words;
 
 pub use pool::{k4, k5, k6};
-pub use roles::{k1, k2, k3};
+pub use roles::{k1, k2, k3, opened};
 pub use words::groups_are_apart;

@@ -141,7 +141,9 @@ impl WordMap {
         ensures value { result ≡ note_at self.now app slot word }
         ensures within { result < table_words self.now }
     {
-        self.notes + (app as usize * (self.places as usize * NOTE_WORDS) + (slot as usize * NOTE_WORDS + word as usize))
+        self.notes
+            + (app as usize * (self.places as usize * NOTE_WORDS)
+                + (slot as usize * NOTE_WORDS + word as usize))
     }
 
     /// A word of a refill slot of an application; word 0 is the flag.
@@ -152,7 +154,9 @@ impl WordMap {
         ensures value { result ≡ refill_at self.now app slot word }
         ensures within { result < table_words self.now }
     {
-        self.refills + (app as usize * (self.places as usize * REFILL_WORDS) + (slot as usize * REFILL_WORDS + word as usize))
+        self.refills
+            + (app as usize * (self.places as usize * REFILL_WORDS)
+                + (slot as usize * REFILL_WORDS + word as usize))
     }
 
     /// How many roles there are.

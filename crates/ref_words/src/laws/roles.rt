@@ -1,4 +1,9 @@
-ghost use Rattle.ref_words.specs.Laws.{SplitLaw, JoinLaw, TakeRoleLaw};
+ghost use Rattle.ref_words.specs.Laws.{OpenLaw, SplitLaw, JoinLaw, TakeRoleLaw};
+
+/// The words of a board that was just opened, and its one seat, meet the rule.
+pub fn opened()
+    ensures { OpenLaw }
+{}
 
 /// The desk deals a role out to a new seat.
 pub fn k1()

@@ -1,0 +1,192 @@
+-- A board that was just opened.
+use Rattle.std.proofs.Common.{◌≡◌, ⊎_elim, ℕ, zero, suc, ◌+◌, ◌-◌, ◌*◌, ◌/◌, ◌%◌, ◌<◌, ◌≤◌}
+use Rattle.std.proofs.Common.{List, [], ◌∷◌, length, get_or}
+use Rattle.std.proofs.Common.{replicate, length-drop, refl, ap, sym, ◌∙◌, arith, subst, length-append}
+use Rattle.std.specs.Prelude.{◌==◌, min}
+use Rattle.std.specs.Int.{bit_at}
+use mathlib.Core.Option.{some, some-injective, some-ne-none}
+use lib.ListN.{get_elem?}
+use Rattle.std.proofs.lemmas.List.{length-replicate, get_or-replicate, get_or_append_left, get_or-append-add, get_or_past}
+use Rattle.std.proofs.lemmas.List.Elements.{All-nil, All-replicate}
+use Rattle.std.proofs.lemmas.Bool.{cases_lt, false≢true}
+use Rattle.std.proofs.lemmas.Nat.Bits.{bit_at_ones, bit_at_ones_above, bit_at-zero}
+use Rattle.area_layout.specs.Layout.{IsLayout, total, pool_buffers, area_words}
+use Rattle.board_face.specs.NicCalls.{apps_of, free_words_of}
+use Rattle.board_face.specs.NicEvents.{word_bits}
+use Rattle.board_face.specs.Opened.{new_nic, new_app, new_apps}
+use Rattle.board_face.specs.Counts.{EndedWereReturned}
+use Rattle.board_face.specs.Holders.{ended_in}
+use Rattle.board_face.specs.Used.{HasFewPicks}
+use Rattle.board_face.specs.Returns.{AreReturns}
+use Rattle.zr_kinds.specs.declared.place.Place.{Place}
+use Rattle.board_face.specs.declared.views.parts.Setting.{Setting}
+use Rattle.board_face.specs.declared.views.app.AppSide.{AppSide}
+use Rattle.board_face.proofs.Tallies.{weight}
+use Rattle.board_face.proofs.MadeLastLemmas.{IsMadeLast-idle}
+use Rattle.board_face.proofs.OpenedLemmas.{all-alike, news, length-new_apps, numbered-new_apps, All-new, hands-new, count-new, users-new}
+use Rattle.board_face.proofs.OpenedLemmas.{FillingsFit-opened, IsFilledByOne-opened, ArePlaced-opened}
+use Rattle.ref_words.specs.declared.view.View.{View}
+use Rattle.ref_words.specs.Words.{AreSlots, opened_words, free_list, free_word, listed_in, user_of, roles_of, note_width, refill_width}
+use Rattle.ref_words.specs.Seated.{Seated, no_role, side_at}
+use Rattle.ref_words.specs.Sides.{HasFreeReserve}
+use Rattle.ref_words.specs.Rule.{RefRule}
+
+module _ (setting : Setting) where
+  abbrev apps : List AppSide
+  apps = new_apps setting 0 (apps_of setting)
+
+  -- ---- one seat, without a role
+
+  none-there : (i : ℕ) (v : View) → get_elem? (no_role ∷ []) i ≡ some v → no_role ≡ v
+  none-there zero v e = some-injective no_role v e
+  none-there (suc i) v e = absurd (some-ne-none v (sym e))
+
+  pub seated : Seated setting (opened_words setting).roles (no_role ∷ []) (new_nic setting) apps
+  seated = record {
+    card = record {
+      told = λ k small. sym (all-alike (roles_of setting) 0 0);
+      once = λ k small. omega (arith, all-alike (roles_of setting) 0 0);
+      untaken = λ k small none. refl;
+      has = λ i m v s at there. absurd (some-ne-none s (sym (ap (λ (x : View). get_elem? x.nics m) (none-there i v at) ∙ there)));
+    };
+    others = record {
+      told = λ k small. sym (all-alike (roles_of setting) (1 + k) 0);
+      once = λ k small. omega (arith, all-alike (roles_of setting) (1 + k) 0);
+      untaken = λ k small none. side-new k small;
+      has = λ i m v s at there. absurd (some-ne-none s (sym (ap (λ (x : View). get_elem? x.apps m) (none-there i v at) ∙ there)));
+    };
+    dealt = record {
+      sum = λ r small. omega (arith, all-alike (roles_of setting) r 0);
+      once = λ r small. omega arith;
+      desk = λ i v at ne. sym (ap (λ (x : View). x.dealt) (none-there i v at));
+    };
+  }
+    where
+      new-at : (first n k : ℕ) (d : AppSide) → k < n → get_or (new_apps setting first n) k d ≡ new_app setting (first + k)
+      new-at first zero k d small = absurd (omega arith)
+      new-at first (suc n) zero d small = ap (new_app setting) (omega arith)
+      new-at first (suc n) (suc k) d small = new-at (suc first) n k d (omega arith) ∙ ap (new_app setting) (omega arith)
+
+      side-new : (k : ℕ) → k < apps_of setting → side_at setting apps k ≡ new_app setting k
+      side-new k small = new-at 0 (apps_of setting) k (new_app setting k) small ∙ ap (new_app setting) (omega arith)
+
+  -- ---- the free list
+
+  length-free : (buffers n : ℕ) → length (free_list buffers n) ≡ n
+  length-free buffers zero = refl
+  length-free buffers (suc n) = omega (arith, length-append (free_list buffers n) (free_word buffers n ∷ []), length-free buffers n)
+
+  free-at : (buffers n j : ℕ) → j < n → get_or (free_list buffers n) j 0 ≡ free_word buffers j
+  free-at buffers zero j small = absurd (omega arith)
+  free-at buffers (suc n) j small =
+      ⊎_elim
+      (λ less. get_or_append_left (free_list buffers n) (free_word buffers n ∷ []) 0 j (omega (arith, less, length-free buffers n))
+      ∙ free-at buffers n j less)
+      (λ past.
+      let same : j ≡ n = omega arith in
+      let at : j ≡ length (free_list buffers n) + 0 = omega (arith, length-free buffers n) in
+      ap (λ i. get_or (free_list buffers (suc n)) i 0) at
+      ∙ (get_or-append-add (free_list buffers n) (free_word buffers n ∷ []) 0 0 ∙ ap (free_word buffers) (sym same)))
+      (cases_lt j n)
+
+  abbrev buffers : ℕ
+  buffers = pool_buffers setting.layout
+
+  bit-set : (b : ℕ) → b < buffers → weight (listed_in (opened_words setting) b) ≡ 1
+  bit-set b small =
+      let j = b / word_bits in
+      let there : j < free_words_of setting = omega arith in
+      let bit : bit_at (get_or (free_list buffers (free_words_of setting)) j 0) (b % word_bits) ≡ 1 =
+      ap (λ w. bit_at w (b % word_bits)) (free-at buffers (free_words_of setting) j there)
+      ∙ bit_at_ones (min (buffers - word_bits * j) word_bits) (b % word_bits) (omega arith) in
+      ap (λ n. weight (n == 1)) bit
+
+  bit-free : (b : ℕ) → buffers ≤ b → weight (listed_in (opened_words setting) b) ≡ 0
+  bit-free b past =
+      let j = b / word_bits in
+      let bit : bit_at (get_or (free_list buffers (free_words_of setting)) j 0) (b % word_bits) ≡ 0 =
+      ⊎_elim
+      (λ less. ap (λ w. bit_at w (b % word_bits)) (free-at buffers (free_words_of setting) j less)
+      ∙ bit_at_ones_above (min (buffers - word_bits * j) word_bits) (b % word_bits) (omega arith))
+      (λ beyond. ap (λ w. bit_at w (b % word_bits)) (get_or_past (free_list buffers (free_words_of setting)) j 0
+      (omega (arith, beyond, length-free buffers (free_words_of setting)))) ∙ bit_at-zero (b % word_bits))
+      (cases_lt j (free_words_of setting)) in
+      ap (λ n. weight (n == 1)) bit
+
+  -- ---- the rule
+
+  user-zero : (n t a b : ℕ) → a < n → user_of (record (opened_words setting) { users = replicate n (replicate t 0) }) a b ≡ 0
+  user-zero n t a b small = ap (λ row. get_or row b 0) (get_or-replicate n a (replicate t 0) [] small) ∙ all-alike t b 0
+
+  pub rule : IsLayout setting.layout → RefRule setting (opened_words setting) (new_nic setting) apps
+  rule layout = record {
+    layout = layout;
+    sizes = record {
+      roles = length-replicate (roles_of setting) 0;
+      phases = length-replicate (roles_of setting) 0;
+      pool = length-replicate (total setting.layout) 0;
+      users = length-replicate (apps_of setting) (replicate (total setting.layout) 0);
+      rows = All-replicate (λ row. length row ≡ total setting.layout) (apps_of setting) _ (length-replicate (total setting.layout) 0);
+      free = length-free buffers (free_words_of setting);
+      area = length-replicate (area_words setting.layout) 0;
+      notes = length-replicate (apps_of setting) (replicate setting.places (replicate note_width 0));
+      note_slots = All-replicate (AreSlots setting.places note_width) (apps_of setting) _ (slots note_width);
+      refills = length-replicate (apps_of setting) (replicate setting.places (replicate refill_width 0));
+      refill_slots = All-replicate (AreSlots setting.places refill_width) (apps_of setting) _ (slots refill_width);
+    };
+    sides = record {
+      set = record {
+        card = refl;
+        many = length-new_apps setting 0 (apps_of setting);
+        numbers = numbered-new_apps setting 0 (apps_of setting);
+        others = All-new (λ app. app.view.setting ≡ setting) setting 0 (apps_of setting) (λ a. refl);
+      };
+      placed = λ b. ArePlaced-opened b setting apps (news setting 0 (apps_of setting));
+      by_one = λ b. IsFilledByOne-opened b setting apps (news setting 0 (apps_of setting));
+      fit = FillingsFit-opened setting apps (news setting 0 (apps_of setting));
+      made = IsMadeLast-idle (new_nic setting) apps refl;
+      returned = λ b. All-new (EndedWereReturned b (new_nic setting)) setting 0 (apps_of setting)
+          (λ a. record { ended = omega (arith, all-alike (total setting.layout) b 0); returning = omega (arith, all-alike (total setting.layout) b 0) });
+      reserves = λ a app here. subst (HasFreeReserve (new_nic setting) apps) here.is
+          (All-new (HasFreeReserve (new_nic setting) apps) setting 0 (apps_of setting) (λ n. record {
+            unheld = λ e. absurd
+                (false≢true e);
+          }) a app here.there);
+      few = All-new HasFewPicks setting 0 (apps_of setting) (λ a. record { picks = omega arith; spares = omega arith });
+      returns = λ a app here. subst (AreReturns (new_nic setting)) here.is
+          (All-new (AreReturns (new_nic setting)) setting 0 (apps_of setting)
+          (λ n. record {
+            written = λ b. omega arith;
+            owed = λ b. omega arith;
+            no_more = λ b. omega (arith, length-drop {A = Place} (ended_in b (new_nic setting) (new_app setting n)) []);
+            clear = λ b. tt;
+            named = All-nil _;
+            settled = λ e. All-nil _;
+            quiet = λ e. refl;
+            scrubbed = λ e. refl;
+            strays = All-nil _;
+          }) a app here.there);
+      hand = λ inhand e. absurd (let none : ⊥ = cc in none);
+    };
+    pool = λ b small. all-alike (total setting.layout) b 0 ∙ sym (count-new b setting (apps_of setting));
+    users = λ a b app small. user-zero (apps_of setting) (total setting.layout) a b app ∙ sym (users-new a b setting (apps_of setting));
+    free = record {
+      pool = λ b small. omega (
+        arith,
+        bit-set b small,
+        hands-new b setting 0 (apps_of setting),
+        ap (λ n. weight (n == 0)) (count-new b setting (apps_of setting)),
+      );
+      reserves = λ b past. omega (arith, bit-free b past, hands-new b setting 0 (apps_of setting));
+    };
+    kept = record {
+      kept = λ b small. omega (arith, bit-set b small);
+      swept = λ b small gone. absurd (omega (arith, gone));
+    };
+  }
+    where
+      slots : (width : ℕ) → AreSlots setting.places width (replicate setting.places (replicate width 0))
+      slots width = record {
+        many = length-replicate setting.places (replicate width 0);
+        wide = All-replicate (λ slot. length slot ≡ width) setting.places _ (length-replicate width 0);
+      }
