@@ -79,21 +79,21 @@ impl WordMap {
     }
 
     /// The word of a role: 0 is the card, `1 + a` the application `a`.
-    pub fn role(&self, role: u32) -> usize
+    pub fn role(&self, role: usize) -> usize
         requires { role < roles_of self.now }
         ensures value { result ≡ role_at self.now role }
         ensures within { result < table_words self.now }
     {
-        role as usize
+        role
     }
 
     /// The word of a role's phase.
-    pub fn phase(&self, role: u32) -> usize
+    pub fn phase(&self, role: usize) -> usize
         requires { role < roles_of self.now }
         ensures value { result ≡ phase_at self.now role }
         ensures within { result < table_words self.now }
     {
-        self.roles() + role as usize
+        self.roles() + role
     }
 
     /// The word of a buffer's pool count.

@@ -1,0 +1,128 @@
+-- What a law says of words and sides is what the table asks of a step.
+use Rattle.std.proofs.Common.{◌≡◌, ℕ, ◌+◌, ◌-◌, ◌%◌, ◌^◌, ◌<◌, ◌≤◌, List, [], set, get_or, refl, ap, sym, ◌∙◌}
+use Rattle.std.proofs.Common.{arith, subst}
+use Rattle.atomic_table.specs.Table.{Me, keeps, Allows}
+use Rattle.area_layout.specs.Layout.{total}
+use Rattle.board_face.specs.Sides.{IsApp}
+use Rattle.board_face.specs.declared.views.parts.Setting.{Setting}
+use Rattle.board_face.specs.declared.views.nic.NicSide.{NicSide}
+use Rattle.board_face.specs.declared.views.app.AppSide.{AppSide}
+use Rattle.ref_words.specs.declared.view.View.{View}
+use Rattle.ref_words.specs.Words.{Words, table_of, pool_at, pool_of, with_pool}
+use Rattle.ref_words.specs.Seated.{Seated, card_view, app_view}
+use Rattle.ref_words.specs.Rule.{RefRule}
+use Rattle.ref_words.proofs.Roles.{card-is, card-moves, app-is, app-moves}
+use Rattle.ref_words.proofs.Laying.{pool-word, pool-set}
+use Rattle.word_board.specs.Board.{IsBoard}
+
+-- What a step on the word i makes of the board, where it leaves m there: words that stand by the rule to the sides.
+pub record Makes (setting : Setting) (words : Words) (i m : ℕ) (nic : NicSide) (apps : List AppSide) : Type 0 where
+  pub words' : Words
+  pub laid : set (table_of words) i m ≡ table_of words'
+  pub roles : words'.roles ≡ words.roles
+  pub rule : RefRule setting words' nic apps
+
+module _ (setting : Setting) (slots id i : ℕ) (f : ℕ → ℕ) (told : ℕ → Type 0) where
+  -- A step of the card's seat is allowed where its law holds for all words and applications.
+  pub card-step : (mine : NicSide) (next : ℕ → NicSide)
+      → ((words : Words) (apps : List AppSide) → RefRule setting words mine apps → get_or (table_of words) i 0 < 2 ^ 64
+      → Makes setting words i (f (get_or (table_of words) i 0)) (next (get_or (table_of words) i 0)) apps × told (get_or (table_of words) i 0))
+      → (me : Me (Unit {0}) View) → me ≡ (card_view mine, [])
+      → Allows (IsBoard setting) slots id me i f (λ n w. (w ≡ (card_view (next n), me.1)) × told n)
+  card-step mine next law me sits =
+      subst (λ (x : Me (Unit {0}) View). Allows (IsBoard setting) slots id x i f (λ n w. (w ≡ (card_view (next n), x.1)) × told n)) (sym sits)
+      (λ s board deep at small.
+      let is : mine ≡ board.nic = card-is setting board.words.roles s.views board.nic board.apps board.seated id mine at in
+      let both = law board.words board.apps (subst (λ x. RefRule setting board.words x board.apps) (sym is) board.rule) (subst
+      (λ ws. get_or ws i 0 < 2 ^ 64) board.laid small) in
+      let made = both.0 in
+      let n : ℕ = get_or s.words i 0 in
+      let found : get_or (table_of board.words) i 0 ≡ n = ap (λ ws. get_or ws i 0) (sym board.laid) in (
+        card_view (next n),
+        keeps,
+        tt,
+        record {
+          words = made.words';
+          nic = next n;
+          apps = board.apps;
+          laid = ap (λ ws. set ws i (f (get_or s.words i 0))) board.laid ∙ (ap (λ m. set (table_of board.words) i (f m)) (sym found) ∙ made.laid);
+          seated = subst (λ roles. Seated setting roles (set s.views id (card_view (next n))) (next n) board.apps) (sym made.roles)
+              (card-moves setting board.words.roles s.views board.nic board.apps board.seated id mine (next n) at);
+          rule = subst (λ m. RefRule setting made.words' (next m) board.apps) found made.rule;
+        },
+        (refl, subst told found both.1),
+      ))
+
+  -- A step of an application's seat is allowed where its law holds for all words, cards and other applications.
+  pub app-step : (mine : AppSide) (next : ℕ → AppSide) → ((n : ℕ) → (next n).view.app ≡ mine.view.app)
+      → ((words : Words) (nic : NicSide) (apps : List AppSide) → RefRule setting words nic apps → IsApp apps mine.view.app mine
+      → get_or (table_of words) i 0 < 2 ^ 64
+      → Makes setting words i (f (get_or (table_of words) i 0)) nic (set apps mine.view.app (next (get_or (table_of words) i 0))) × told (get_or
+      (table_of words) i 0))
+      → (me : Me (Unit {0}) View) → me ≡ (app_view mine, [])
+      → Allows (IsBoard setting) slots id me i f (λ n w. (w ≡ (app_view (next n), me.1)) × told n)
+  app-step mine next number law me sits =
+      subst (λ (x : Me (Unit {0}) View). Allows (IsBoard setting) slots id x i f (λ n w. (w ≡ (app_view (next n), x.1)) × told n)) (sym sits)
+      (λ s board deep at small.
+      let here = app-is setting board.words.roles s.views board.nic board.apps board.seated id mine at board.rule.sides.set.many in
+      let both = law board.words board.nic board.apps board.rule here (subst (λ ws. get_or ws i 0 < 2 ^ 64) board.laid small) in
+      let made = both.0 in
+      let n : ℕ = get_or s.words i 0 in
+      let found : get_or (table_of board.words) i 0 ≡ n = ap (λ ws. get_or ws i 0) (sym board.laid) in (
+        app_view (next n),
+        keeps,
+        tt,
+        record {
+          words = made.words';
+          nic = board.nic;
+          apps = set board.apps mine.view.app (next n);
+          laid = ap (λ ws. set ws i (f (get_or s.words i 0))) board.laid ∙ (ap (λ m. set (table_of board.words) i (f m)) (sym found) ∙ made.laid);
+          seated = subst (λ roles. Seated setting roles (set s.views id (app_view (next n))) board.nic (set board.apps mine.view.app (next n)))
+              (sym made.roles)
+              (app-moves setting board.words.roles s.views board.nic board.apps board.seated id mine (next n) at (number n) board.rule.sides.set.many);
+          rule = subst (λ m. RefRule setting made.words' board.nic (set board.apps mine.view.app (next m))) found made.rule;
+        },
+        (refl, subst told found both.1),
+      ))
+
+-- ---- a pool count
+
+mod-small : (n : ℕ) → n < 2 ^ 64 → n % 2 ^ 64 ≡ n
+mod-small n small = omega arith
+
+mod-less : (n k : ℕ) → 0 < k → k ≤ n → n < 2 ^ 64 → (n + (2 ^ 64 - k)) % 2 ^ 64 ≡ n - k
+mod-less n k some enough small = omega arith
+
+module _ (setting : Setting) (words : Words) (b i : ℕ) (at : i ≡ pool_at setting b) (within : b < total setting.layout) where
+  found : {nic : NicSide} {apps : List AppSide} → RefRule setting words nic apps → get_or (table_of words) i 0 ≡ pool_of words b
+  found rule = ap (λ x. get_or (table_of words) x 0) at ∙ pool-word setting words rule.sizes b (omega (arith, within, rule.sizes.pool))
+
+  -- the words with n in the buffer's pool count
+  makes-pool : {nic now : NicSide} {apps apps' : List AppSide} → RefRule setting words nic apps → (m n : ℕ) → m ≡ n
+      → RefRule setting (with_pool words b n) now apps' → Makes setting words i m now apps'
+  makes-pool rule m n is after = record {
+    words' = with_pool words b n;
+    laid = ap (λ x. set (table_of words) x m) at ∙ (ap (λ x. set (table_of words) (pool_at setting b) x) is
+        ∙ pool-set setting words rule.sizes b n (omega (arith, within, rule.sizes.pool)));
+    roles = refl;
+    rule = after;
+  }
+
+  -- where a law raises a pool count, adding 1 to its word does
+  pub raises : {nic now : NicSide} {apps apps' : List AppSide} → RefRule setting words nic apps → pool_of words b + 1 < 2 ^ 64
+      → RefRule setting (with_pool words b (pool_of words b + 1)) now apps' → Makes setting words i ((get_or (table_of words) i 0 + 1) % 2 ^ 64) now apps'
+  raises rule few after =
+      makes-pool rule _ (pool_of words b + 1) (ap (λ x. (x + 1) % 2 ^ 64) (found rule) ∙ mod-small (pool_of words b + 1) few) after
+
+  -- where a law takes k of it, subtracting k does
+  pub lowers : {nic now : NicSide} {apps apps' : List AppSide} → RefRule setting words nic apps → (k : ℕ) → 0 < k → k ≤ pool_of words b
+      → get_or (table_of words) i 0 < 2 ^ 64 → RefRule setting (with_pool words b (pool_of words b - k)) now apps'
+      → Makes setting words i ((get_or (table_of words) i 0 + (2 ^ 64 - k)) % 2 ^ 64) now apps'
+  lowers rule k some enough small after =
+      makes-pool rule _ (pool_of words b - k)
+      (mod-less (get_or (table_of words) i 0) k some (omega (arith, found rule, enough)) small ∙ ap (λ x. x - k) (found rule)) after
+
+  -- what an event does with the count, it does with the number found
+  pub of-count : {nic : NicSide} {apps : List AppSide} → RefRule setting words nic apps → (P : ℕ → Type 0) → P (pool_of words b)
+      → P (get_or (table_of words) i 0)
+  of-count rule P p = subst P (sym (found rule)) p

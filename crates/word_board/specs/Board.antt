@@ -1,0 +1,85 @@
+-- What holds of the table between any two steps, and what its seats are.
+use Rattle.std.specs.Prelude.{◌≡◌, ℕ, Bool, true, false, if◌then◌else◌, List, [], ◌∷◌, length, slice_index_or, slice_set, replicate}
+use Rattle.atomic_table.specs.Table.{State}
+use Rattle.atomic_table.specs.Seated.{TableId}
+use Rattle.area_layout.specs.Layout.{shape_of}
+use Rattle.board_face.specs.Opened.{new_nic, new_app}
+use Rattle.board_face.specs.declared.views.parts.Setting.{Setting}
+use Rattle.board_face.specs.declared.views.nic.NicSide.{NicSide}
+use Rattle.board_face.specs.declared.views.app.AppSide.{AppSide}
+use Rattle.ref_words.specs.declared.view.View.{View}
+use Rattle.ref_words.specs.Words.{Words, roles_of, table_of}
+use Rattle.ref_words.specs.Seated.{Seated, times_in, dealt_out, no_role}
+use Rattle.ref_words.specs.Rule.{RefRule}
+
+-- The sides of all roles, of which each seat has those of its own, and the words that stand to them by the rule.
+pub record IsBoard (setting : Setting) (s : State (Unit {0}) View) : Type 0 where
+  pub words : Words
+  pub nic : NicSide
+  pub apps : List AppSide
+  pub laid : s.words ≡ table_of words
+  pub seated : Seated setting words.roles s.views nic apps
+  pub rule : RefRule setting words nic apps
+
+-- ---- seats
+
+abbrev pub no_setting : Setting
+no_setting = record { layout = shape_of 0 0 0; places = 0 }
+
+abbrev pub first_nic : List NicSide → NicSide
+first_nic [] = new_nic no_setting
+first_nic (nic ∷ nics) = nic
+
+abbrev pub first_app : List AppSide → AppSide
+first_app [] = new_app no_setting 0
+first_app (app ∷ apps) = app
+
+-- the side of the card's seat, and that of an application's
+abbrev pub card_of : View → NicSide
+card_of v = first_nic v.nics
+
+abbrev pub app_of : View → AppSide
+app_of v = first_app v.apps
+
+-- ---- what callers see
+
+-- a board: which table it has, and its setting
+pub record TheBoard : Type 0 where
+  pub table : TableId
+  pub setting : Setting
+
+-- The desk: which table it is at, which roles it gave, the card's first, and what the roles did that are back.
+pub record TheDesk : Type 0 where
+  pub table : TableId
+  pub given : List Bool
+  pub view : View
+
+-- the card's seat, and an application's: at which board, and what it has done
+pub record TheNic : Type 0 where
+  pub board : TheBoard
+  pub side : NicSide
+
+pub record TheApp : Type 0 where
+  pub board : TheBoard
+  pub side : AppSide
+
+-- the desk belongs to this board, and has a flag for each of its roles
+pub record BelongsTo (desk : TheDesk) (board : TheBoard) : Type 0 where
+  pub table : desk.table ≡ board.table
+  pub roles : length desk.given ≡ roles_of board.setting
+
+-- a desk that gave nothing
+abbrev pub new_desk : TheBoard → TheDesk
+new_desk board = record { table = board.table; given = replicate (roles_of board.setting) false; view = no_role }
+
+-- the role was given before
+abbrev pub was_given : TheDesk → ℕ → Bool
+was_given desk r = slice_index_or desk.given r false
+
+-- the desk, once it gave a role
+abbrev pub gave_role : TheDesk → ℕ → TheDesk
+gave_role desk r = record { table = desk.table; given = slice_set desk.given r true; view = dealt_out r desk.view }
+
+-- the roles that the desk gave are those that its seat dealt out
+abbrev pub HasDealt : List Bool → View → Type 0
+HasDealt given v = (r : ℕ) → times_in {V = View} (λ v. v.dealt) (λ x. x) r v.dealt ≡ (if slice_index_or given r false then 1 else 0)

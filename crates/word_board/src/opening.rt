@@ -1,0 +1,39 @@
+//! The words of a board on which nothing has happened.
+ghost use Rattle.std.specs.Prelude.{◌≡◌, IfOk};
+ghost use Rattle.area_layout.specs.Layout.{IsLayout};
+ghost use Rattle.ref_words.specs.Words.{full_bits, table_of, opened_words};
+
+use area_layout::Layout;
+use ref_words::WordMap;
+use std::alloc::{AllocError, Global};
+
+/// How many pool buffers a word of the free list tells of.
+const WORD_BITS: u32 = 64;
+
+/// A word with its lowest `n` bits set, or all 64.
+fn full_word(n: u32) -> u64
+    ensures { result ≡ full_bits n }
+{
+    if n >= WORD_BITS {
+        u64::MAX
+    } else {
+        (1 << n) - 1
+    }
+}
+
+/// All words, in the order of the table.
+pub(crate) fn opened(alloc: Global, map: &WordMap, layout: Layout) -> Result<Vec<u64>, AllocError>
+    requires { layout ≡ map.now.layout }
+    ensures words { IfOk result (λ words. words.items ≡ table_of (opened_words map.now)) }
+    ensures sound { IfOk result (λ _. IsLayout layout) }
+{
+    let buffers = layout.buffers();
+    let free_words = (buffers + WORD_BITS - 1) / WORD_BITS;
+    let mut words = Vec::with_capacity(alloc, map.words())?;
+    words.resize(map.free(0), 0)?;
+    for word in 0..free_words {
+        words.push(full_word(buffers - WORD_BITS * word))?;
+    }
+    words.resize(map.words(), 0)?;
+    Ok(words)
+}

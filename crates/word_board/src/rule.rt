@@ -1,0 +1,92 @@
+ghost use Rattle.std.specs.Prelude.{◌≡◌, ℕ, ◌≤◌};
+ghost use Rattle.ref_words.specs.Words.{table_words};
+ghost use Rattle.ref_words.specs.declared.view.View.{View};
+
+use atomic_table::{Join, Play, Seat, Split, Table, TableRule};
+use board_face::Setting;
+use ref_words::{View, WordMap};
+use std::alloc::Global;
+use std::marker::{Brand, PhantomData};
+
+/// What holds between any two steps.
+pub struct BoardRule;
+
+impl TableRule<(), View, Setting> for BoardRule {
+    ghost use Rattle.ref_words.specs.Seated.{no_role};
+    ghost use Rattle.word_board.specs.Board.{IsBoard};
+
+    ghost holds = { IsBoard };
+
+    ghost first = { λ _. no_role };
+}
+
+pub(crate) type WordTable = Table<(), View, Setting, BoardRule, Global>;
+
+pub(crate) type WordSeat = Seat<(), View>;
+
+/// The words of a board, and where each of them lies.
+#[derive(Drop)]
+pub(crate) struct SharedWords {
+    pub(crate) table: WordTable,
+    pub(crate) map: WordMap,
+    ghost keyed: { map ≡ table.shared.key },
+    ghost wide: { table_words table.shared.key ≤ table.shared.table_id.words },
+}
+
+/// The view of a seat after a step, and what the seat is told of it by the rule, both by the number that the step found.
+/// A call passes `Brand`, and its proof picks them.
+pub trait After {
+    ghost after: { ℕ → View };
+
+    ghost told: { ℕ → Type 0 };
+}
+
+impl After for Brand {
+    ghost use Rattle.ref_words.specs.Seated.{no_role};
+
+    ghost after = { λ _. no_role };
+
+    ghost told = { λ _. Unit {0} };
+}
+
+/// A step after which the seat's view is `N.after` of what was found, and `N.told` of it holds.
+pub struct Turns<N: After> {
+    marker: PhantomData<N>,
+}
+
+impl<N: After> Play<(), View> for Turns<N> {
+    ghost then = { λ _ v n w. (w ≡ (N.after n, v.1)) × N.told n };
+}
+
+/// Which role is dealt out.
+pub trait Deals {
+    ghost role: { ℕ };
+}
+
+impl Deals for Brand {
+    ghost role = { 0 };
+}
+
+/// The desk deals a role out to a new seat.
+pub struct Deal<N: Deals> {
+    marker: PhantomData<N>,
+}
+
+impl<N: Deals> Split<View> for Deal<N> {
+    ghost use Rattle.ref_words.specs.Seated.{dealt_out, due_view};
+
+    ghost left = { dealt_out N.role };
+
+    ghost right = { λ _. due_view N.role };
+}
+
+/// A seat goes back: its sides stand behind the desk's.
+pub struct Together;
+
+impl Join<View> for Together {
+    ghost use Rattle.ref_words.specs.Seated.{no_role, both_sides};
+
+    ghost both = { both_sides };
+
+    ghost spent = { no_role };
+}
