@@ -24,4 +24,5 @@ pub mod MadeLastLemmas
 pub mod StoresAtLemmas
 pub mod AreShownLemmas
 pub mod OpenedLemmas
+pub mod ReturnLemmas
 pub mod OwnBufferLemmas

@@ -27,15 +27,8 @@ use Rattle.plain_board.proofs.AppFrames.{IsSet-app, was-at_rest, AreCounted-app,
 use Rattle.plain_board.proofs.AppFrames.{AreFlags-kept, AreFreeOnce-app, AreKept-app, AreDue-app, was-given, was-due, AreBooked-app, was-booked_loans}
 use Rattle.plain_board.proofs.AppFrames.{was-booked_raw, ArePhased-app, was-phased, OwnBuffers-app}
 use Rattle.plain_board.proofs.Users.{loans-there, users-there, user-other, user-raised}
+pub use Rattle.board_face.proofs.ReturnLemmas.{IsClear-of_loans}
 use Rattle.plain_board.proofs.TokensLie.{part-le, pool-few}
-
--- where each entry came from a loan, no raw one is in front of any
-pub IsClear-of_loans : (layout : Shape) (b n : ℕ) (ws : List WrittenEntry) → All IsOfLoan ws → IsClear layout b n ws
-IsClear-of_loans layout b n [] all = tt
-IsClear-of_loans layout b n (w ∷ ws) all = (
-  λ raw named. absurd (let wrong : true ≡ false = sym (All-head IsOfLoan w ws all) ∙ raw in cc),
-  IsClear-of_loans layout b n ws (All-tail IsOfLoan w ws all),
-)
 
 module _ (board : Board) (a : ℕ) (x : AppSide) (buffer : ℕ) (sound : IsSound board) (here : IsApp board.apps a x)
     (within : buffer < total board.arrays.layout) where

@@ -41,6 +41,7 @@ pub SidesRule-card : (setting : Setting) (nic now : NicSide) (apps : List AppSid
     → SidesRule setting now apps
 SidesRule-card setting nic now apps rule step = record {
   set = record { card = step.setting ∙ rule.set.card; many = rule.set.many; numbers = rule.set.numbers; others = rule.set.others };
+  lists = rule.lists;
   placed = step.placed;
   by_one = step.by_one;
   fit = step.fit;

@@ -1,5 +1,5 @@
 -- An application cuts a held piece in two.
-use Rattle.std.proofs.Common.{◌≡◌, ⊎_elim, ℕ, ◌+◌, ◌<◌, ◌≤◌, List, set, refl, ap, sym, arith}
+use Rattle.std.proofs.Common.{◌≡◌, ⊎_elim, ℕ, ◌+◌, ◌<◌, ◌≤◌, List, set, refl, ap, sym, arith, inr}
 use Rattle.std.specs.Prelude.{◌==◌}
 use Rattle.std.proofs.lemmas.Bool.{cases_lt}
 use Rattle.zr_kinds.specs.declared.place.Place.{Place}
@@ -60,6 +60,8 @@ module _ (setting : Setting) (words : Words) (nic : NicSide) (apps : List AppSid
     sides = SidesRule-app setting nic apps a app rule.sides here now (record {
       setting = refl;
       number = refl;
+      took = refl;
+      owes = refl;
       placed = λ b. ArePlaced-cut b nic apps a app place at here out front rest (rule.sides.placed b);
       by_one = λ b. IsFilledByOne-cut b nic apps a app place at here out (rule.sides.by_one b);
       fit = FillingsFit-same nic apps a app now here refl rule.sides.fit;
@@ -84,7 +86,7 @@ module _ (setting : Setting) (words : Words) (nic : NicSide) (apps : List AppSid
       };
       way = refl;
       came_back = λ b. refl;
-      ended = λ b. refl;
+      ended = inr (λ b. refl);
     });
     here = omega (arith, rule.pool place.buffer there, more place.buffer, weight-same place.buffer);
     others = λ b other. omega (arith, more b, weight-other place.buffer b (λ e. other (sym e)));

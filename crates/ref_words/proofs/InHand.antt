@@ -1,6 +1,7 @@
 -- The entry in hand: what was lowered for it.
-use Rattle.std.proofs.Common.{◌≡◌, ℕ, Bool, true, false, refl, ap, sym, subst}
+use Rattle.std.proofs.Common.{◌≡◌, ⊎_elim, ℕ, Bool, true, false, refl, ap, sym, ◌∙◌, subst}
 use Rattle.std.specs.Prelude.{◌≢◌, ◌==◌, ◌&&◌, if◌then◌else◌, Option, Some}
+use Rattle.std.proofs.lemmas.Bool.Decides.{eqb_tells}
 use Rattle.zr_kinds.specs.declared.ring.Rqe.{Rqe}
 use Rattle.board_face.specs.declared.views.nic.EntryInHand.{EntryInHand}
 use Rattle.board_face.specs.declared.views.nic.Judged.{Judged}
@@ -26,3 +27,14 @@ same-if a n b c e = ap (λ z. weight (z && (b == c))) (subst (λ m. (a == m) ≡
 
 pub other-if : (a n b c : ℕ) → n ≢ a → weight ((a == n) && (b == c)) ≡ 0
 other-if a n b c ne = ap (λ z. weight (z && (b == c))) (not-eqb a n (λ e. ne (sym e)))
+
+-- another application's count, or that of another buffer
+pub other-pair : (a n b c : ℕ) → (a ≡ n → b ≡ c → ⊥) → weight ((a == n) && (b == c)) ≡ 0
+other-pair a n b c other =
+    ⊎_elim
+    (λ t. ⊎_elim
+    (λ u. absurd (other t.1 u.1))
+    (λ u. ap (λ z. weight (z && (b == c))) t.0 ∙ ap weight u.0)
+    (eqb_tells b c))
+    (λ t. ap (λ z. weight (z && (b == c))) t.0)
+    (eqb_tells a n)

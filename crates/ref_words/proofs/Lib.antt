@@ -16,3 +16,9 @@ mod Cutting
 mod Scrubbing
 mod SpareTaking
 pub mod Opening
+mod UserSteps
+mod Lending
+mod SpareLending
+mod UserLowering
+mod Judging
+mod ScrubTaking

@@ -28,7 +28,7 @@ use Rattle.board_face.proofs.OpenedLemmas.{FillingsFit-opened, IsFilledByOne-ope
 use Rattle.ref_words.specs.declared.view.View.{View}
 use Rattle.ref_words.specs.Words.{AreSlots, opened_words, free_list, free_word, listed_in, user_of, roles_of, note_width, refill_width}
 use Rattle.ref_words.specs.Seated.{Seated, no_role, side_at}
-use Rattle.ref_words.specs.Sides.{HasFreeReserve}
+use Rattle.ref_words.specs.Sides.{HasScrubLists, HasFreeReserve}
 use Rattle.ref_words.specs.Rule.{RefRule}
 
 module _ (setting : Setting) where
@@ -141,6 +141,8 @@ module _ (setting : Setting) where
         numbers = numbered-new_apps setting 0 (apps_of setting);
         others = All-new (λ app. app.view.setting ≡ setting) setting 0 (apps_of setting) (λ a. refl);
       };
+      lists = All-new (HasScrubLists setting) setting 0 (apps_of setting)
+          (λ a. record { took = length-replicate (total setting.layout) 0; owes = length-replicate (total setting.layout) 0 });
       placed = λ b. ArePlaced-opened b setting apps (news setting 0 (apps_of setting));
       by_one = λ b. IsFilledByOne-opened b setting apps (news setting 0 (apps_of setting));
       fit = FillingsFit-opened setting apps (news setting 0 (apps_of setting));

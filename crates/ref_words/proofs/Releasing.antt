@@ -1,6 +1,6 @@
 -- An application gives a held piece up. A buffer of the pool that came to be free by that is in its hands.
 use Rattle.std.proofs.Common.{◌≡◌, ⊎_elim, ℕ, ◌+◌, ◌-◌, ◌<◌, ◌≤◌, Bool, true, false, List, [], ◌∷◌, ◌++◌, set, refl, ap}
-use Rattle.std.proofs.Common.{sym, ◌∙◌, arith}
+use Rattle.std.proofs.Common.{sym, ◌∙◌, arith, inr}
 use Rattle.std.specs.Prelude.{◌==◌, ◌&&◌, nat_lt, nat_eq, count_by, if◌then◌else◌}
 use Rattle.std.proofs.lemmas.Bool.{lt-ltb, le-ltb, cases_lt}
 use Rattle.zr_kinds.specs.declared.place.Place.{Place}
@@ -78,6 +78,8 @@ module _ (setting : Setting) (words : Words) (nic : NicSide) (apps : List AppSid
     sides = SidesRule-app setting nic apps a app rule.sides here now (record {
       setting = refl;
       number = refl;
+      took = refl;
+      owes = refl;
       placed = λ b. ArePlaced-app b nic apps a app now here (λ test. omega (arith, app_places-released b test nic app place out)) (rule.sides.placed b);
       by_one = λ b. IsFilledByOne-app b nic apps a app now here (omega arith) (omega (arith, app_count-released b nic app place out)) (rule.sides.by_one b);
       fit = FillingsFit-same nic apps a app now here refl rule.sides.fit;
@@ -100,7 +102,7 @@ module _ (setting : Setting) (words : Words) (nic : NicSide) (apps : List AppSid
       };
       way = refl;
       came_back = λ b. refl;
-      ended = λ b. refl;
+      ended = inr (λ b. refl);
     });
     here = let c = counted in omega arith;
     others = λ b other. omega (arith, less b, weight-other place.buffer b (λ e. other (sym e)));

@@ -116,6 +116,7 @@ module _ (setting : Setting) (words : Words) (nic : NicSide) (apps : List AppSid
     there = there;
     sides = record {
       set = record { card = rule.sides.set.card; many = rule.sides.set.many; numbers = rule.sides.set.numbers; others = rule.sides.set.others };
+      lists = rule.sides.lists;
       placed = λ c. ArePlaced-stretch c nic now apps refl refl refl refl refl (small-before c) (small-now c) (later c) (rule.sides.placed c);
       by_one = λ c. IsFilledByOne-fewer c nic now apps apps refl (omega arith) (omega arith) (omega (arith, less c)) (rule.sides.by_one c);
       fit = record { of_pool = rule.sides.fit.of_pool; card = rule.sides.fit.card; sides = rule.sides.fit.sides };

@@ -1,10 +1,10 @@
 -- What a scrub took of a buffer's user count is taken from its pool count.
 use Rattle.std.proofs.Common.{◌≡◌, ⊎_elim, ℕ, ◌+◌, ◌-◌, ◌<◌, ◌≤◌, Bool, List, length, set, get_or, refl, ap, sym}
-use Rattle.std.proofs.Common.{◌∙◌, arith}
+use Rattle.std.proofs.Common.{◌∙◌, arith, inr}
 use Rattle.std.specs.Prelude.{◌≢◌, ◌==◌, ◌&&◌, nat_lt, slice_index}
 use Rattle.std.proofs.lemmas.Bool.{lt-ltb, le-ltb, cases_lt}
 use Rattle.std.proofs.lemmas.Bool.Decides.{eqb_tells}
-use Rattle.std.proofs.lemmas.List.{get_or_past, get_or-set_same, get_or-set_other}
+use Rattle.std.proofs.lemmas.List.{length-set, get_or_past, get_or-set_same, get_or-set_other}
 use Rattle.area_layout.specs.Layout.{total, pool_buffers}
 use Rattle.board_face.specs.AppEvents.{reserve_of}
 use Rattle.board_face.specs.Sides.{IsApp}
@@ -103,6 +103,8 @@ module _ (setting : Setting) (words : Words) (nic : NicSide) (apps : List AppSid
     sides = SidesRule-app setting nic apps a app rule.sides here now (record {
       setting = refl;
       number = refl;
+      took = refl;
+      owes = length-set app.inside.scrub_owes b 0;
       placed = λ c. ArePlaced-app c nic apps a app now here
           (λ test. app_places-stretch c test nic nic app now.inside refl (sound c).returning (sound-now c).returning (omega (arith, owes-now c)))
           (rule.sides.placed c);
@@ -129,7 +131,7 @@ module _ (setting : Setting) (words : Words) (nic : NicSide) (apps : List AppSid
       };
       way = refl;
       came_back = λ b. refl;
-      ended = λ b. refl;
+      ended = inr (λ b. refl);
     });
     here = let c = counted in omega arith;
     others = λ c other. omega (arith, less c, none-other c other);

@@ -1,6 +1,6 @@
 -- What holds of the sides holds again once an application's side changed.
-use Rattle.std.proofs.Common.{◌≡◌, ⊎_elim, ℕ, ◌<◌, ◌≤◌, List, length, set, get_or, ap, sym, ◌∙◌, arith, subst}
-use Rattle.std.specs.Prelude.{◌≢◌, All}
+use Rattle.std.proofs.Common.{◌≡◌, ⊎_elim, ℕ, ◌<◌, ◌≤◌, List, [], ◌∷◌, length, set, get_or, ap, sym, ◌∙◌, arith, subst}
+use Rattle.std.specs.Prelude.{◌≢◌, ◌⊎◌, All}
 use Rattle.std.proofs.lemmas.List.{length-set, get_or-set_same, get_or-set_other}
 use Rattle.std.proofs.lemmas.List.Elements.{All-set}
 use Rattle.std.proofs.lemmas.Bool.Decides.{eqb_tells}
@@ -17,12 +17,14 @@ use Rattle.board_face.specs.declared.views.parts.Setting.{Setting}
 use Rattle.board_face.specs.declared.views.nic.NicSide.{NicSide}
 use Rattle.board_face.specs.declared.views.app.AppSide.{AppSide}
 use Rattle.board_face.proofs.SideLemmas.{AreNumbered-set}
-use Rattle.ref_words.specs.Sides.{SidesRule, HasFreeReserve, IsFirst}
+use Rattle.ref_words.specs.Sides.{SidesRule, HasScrubLists, HasFreeReserve, IsFirst}
 
 -- What is to be known of the application's new side.
 pub record IsAppStep (nic : NicSide) (apps : List AppSide) (a : ℕ) (app now : AppSide) : Type 0 where
   pub setting : now.view.setting ≡ app.view.setting
   pub number : now.view.app ≡ app.view.app
+  pub took : length now.inside.scrub_took ≡ length app.inside.scrub_took
+  pub owes : length now.inside.scrub_owes ≡ length app.inside.scrub_owes
   pub placed : (b : ℕ) → ArePlaced b nic (set apps a now)
   pub by_one : (b : ℕ) → IsFilledByOne b nic (set apps a now)
   pub fit : FillingsFit nic (set apps a now)
@@ -36,7 +38,8 @@ pub record IsAppStep (nic : NicSide) (apps : List AppSide) (a : ℕ) (app now : 
   pub returns : AreReturns nic now
   pub way : entries_on_way nic now ≡ entries_on_way nic app
   pub came_back : (b : ℕ) → returned_in b now ≡ returned_in b app
-  pub ended : (b : ℕ) → ended_in b nic now ≡ ended_in b nic app
+  -- no more was ended, but where no entry of it is on its way
+  pub ended : (entries_on_way nic app ≡ []) ⊎ ((b : ℕ) → ended_in b nic now ≡ ended_in b nic app)
 
 module _ (setting : Setting) (nic : NicSide) (apps : List AppSide) (a : ℕ) (app : AppSide) (rule : SidesRule setting nic apps) (here : IsApp apps a app) where
   -- what holds of all applications holds of this one
@@ -101,6 +104,8 @@ module _ (setting : Setting) (nic : NicSide) (apps : List AppSide) (a : ℕ) (ap
         numbers = AreNumbered-set 0 apps a now (omega (arith, here.number, step.number)) rule.set.numbers;
         others = All-set (λ x. x.view.setting ≡ setting) apps a now (step.setting ∙ own-setting) rule.set.others;
       };
+      lists = let l = mine (HasScrubLists setting) rule.lists in
+          All-set (HasScrubLists setting) apps a now (record { took = step.took ∙ l.took; owes = step.owes ∙ l.owes }) rule.lists;
       placed = step.placed;
       by_one = step.by_one;
       fit = step.fit;
@@ -114,7 +119,12 @@ module _ (setting : Setting) (nic : NicSide) (apps : List AppSide) (a : ℕ) (ap
         first = then-now (λ x. IsFirst inhand.entry (entries_on_way nic x)) inhand.app h.first (λ e was. rw step.way was);
         owed = λ b judged. (
           (h.owed b judged).0,
-          then-now (λ x. ended_in b nic x < length (returned_in b x)) inhand.app (h.owed b judged).1 (λ e was. rw (step.ended b, step.came_back b) was),
+          then-now (λ x. ended_in b nic x < length (returned_in b x)) inhand.app (h.owed b judged).1
+              (λ e was. ⊎_elim
+              (λ none. let front = h.first app (subst (λ n. IsApp apps n app) (sym e) here) in
+              absurd (let empty : front.first ∷ front.others ≡ [] = sym front.is ∙ none in let no : ⊥ = cc in no))
+              (λ same. rw (same b, step.came_back b) was)
+              step.ended),
         );
         lowered = h.lowered;
       };

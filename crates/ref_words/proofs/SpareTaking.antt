@@ -61,6 +61,8 @@ module _ (setting : Setting) (words : Words) (nic : NicSide) (apps : List AppSid
         sides = SidesRule-app setting nic apps a app rule.sides here now (record {
           setting = refl;
           number = refl;
+          took = refl;
+          owes = refl;
           placed = λ c. ArePlaced-app c nic apps a app now here (λ test. omega (arith, app_places-spare_begun c test nic app b)) (rule.sides.placed c);
           by_one = λ c. one-spare c b nic apps a app now here (spares_in-got_spare c app b) (app_count-got_spare c nic app b)
               (omega (arith, there, ap (λ s. total s.layout) rule.sides.set.card)) unheld (rule.sides.by_one c);
@@ -91,7 +93,7 @@ module _ (setting : Setting) (words : Words) (nic : NicSide) (apps : List AppSid
           };
           way = refl;
           came_back = λ b. refl;
-          ended = λ b. refl;
+          ended = inr (λ b. refl);
         });
         here = omega (arith, rule.pool b there, more b, weight-same b);
         others = λ c other. omega (arith, more c, weight-other b c (λ e. other (sym e)));

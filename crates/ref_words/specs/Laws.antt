@@ -3,27 +3,27 @@
 -- itself; it knows no seat but for those of roles, and no table.
 use Rattle.std.specs.Prelude.{◌≡◌, ◌≢◌, ◌≤◌, ◌<◌, ◌+◌, ◌-◌, ◌^◌, ◌∷◌, ◌++◌, [], ℕ, true, List}
 use Rattle.std.specs.Prelude.{map, None, Some}
-use Rattle.std.specs.Prelude.{slice_set, slice_index, ◌==◌, Contains}
+use Rattle.std.specs.Prelude.{false, slice_set, slice_index, ◌==◌, Contains}
 use mathlib.Core.Option.{some}
 use lib.ListN.{get_elem?}
 use Rattle.zr_kinds.specs.declared.place.Place.{Place}
 use Rattle.zr_kinds.specs.declared.ring.Rqe.{Rqe}
-use Rattle.area_layout.specs.Layout.{IsLayout, total}
+use Rattle.area_layout.specs.Layout.{IsLayout, total, judged}
 use Rattle.board_face.specs.NicEvents.{took}
-use Rattle.board_face.specs.AppEvents.{cut, reserve_of}
+use Rattle.board_face.specs.AppEvents.{cut, lent, lent_own, reserve_of}
 use Rattle.board_face.specs.NicCalls.{HasNothingIn, HasOwn, apps_of}
-use Rattle.board_face.specs.AppCalls.{HasHeld}
+use Rattle.board_face.specs.AppCalls.{HasHeld, HasSpare, IsFilled, CanLend, MaySpare}
 use Rattle.board_face.specs.Opened.{new_nic, new_app, new_apps}
 use Rattle.board_face.specs.Sides.{nic_at, app_at, IsApp}
-use Rattle.board_face.specs.Texts.{unsplit_bytes}
-use Rattle.board_face.specs.Steps.{side_begun, side_shut, side_both_lowered, side_released, side_spare_begun, side_owes_lowered}
+use Rattle.board_face.specs.Steps.{side_begun, side_shut, side_judged, side_user_lowered, side_both_lowered}
+use Rattle.board_face.specs.Steps.{side_released, side_spare_begun, side_user_taken, side_owes_lowered}
 use Rattle.board_face.specs.declared.views.parts.Setting.{Setting}
 use Rattle.board_face.specs.declared.views.parts.Filling.{Filling}
-use Rattle.board_face.specs.declared.views.nic.Judged.TheVariants.{UserLowered}
+use Rattle.board_face.specs.declared.views.nic.Judged.TheVariants.{Not, Owed, UserLowered}
 use Rattle.board_face.specs.declared.views.nic.NicSide.{NicSide}
 use Rattle.board_face.specs.declared.views.app.AppSide.{AppSide}
 use Rattle.ref_words.specs.declared.view.View.{View}
-use Rattle.ref_words.specs.Words.{Words, opened_words, with_role, with_pool, pool_of}
+use Rattle.ref_words.specs.Words.{Words, opened_words, with_role, with_pool, pool_of, with_user, user_of}
 use Rattle.ref_words.specs.Seated.{Seated, times_in, due_view, card_view, app_view, dealt_out, both_sides, no_role}
 use Rattle.ref_words.specs.Rule.{RefRule}
 
@@ -96,11 +96,11 @@ pub record TakeLaw : Type 0 where
       → HasNothingIn nic.view b × RaisesFree setting words b (nic_at nic (took nic.view b)) apps
   pub picked : (setting : Setting) (words : Words) (nic : NicSide) (apps : List AppSide) (a : ℕ) (app : AppSide) (b : ℕ)
       → RefRule setting words nic apps → IsApp apps a app → Contains app.inside.hands b
-      → app.view.spares < unsplit_bytes (map (λ t. t.note) app.view.taken)
+      → MaySpare app.view
       → RaisesFree setting words b nic (slice_set apps a (side_spare_begun app b))
   pub reserve : (setting : Setting) (words : Words) (nic : NicSide) (apps : List AppSide) (a : ℕ) (app : AppSide)
       → RefRule setting words nic apps → IsApp apps a app → app.inside.reserve_seen_free ≡ true
-      → app.view.spares < unsplit_bytes (map (λ t. t.note) app.view.taken)
+      → MaySpare app.view
       → RaisesFree setting words (reserve_of app.view) nic (slice_set apps a (side_spare_begun app (reserve_of app.view)))
 
 -- A buffer that the stepping role has gets one holder more: the card begins a piece, or an application cuts one in two.
@@ -128,3 +128,49 @@ pub record GiveUpLaw : Type 0 where
   pub scrub : (setting : Setting) (words : Words) (nic : NicSide) (apps : List AppSide) (a : ℕ) (app : AppSide) (b n : ℕ)
       → RefRule setting words nic apps → IsApp apps a app → b < total setting.layout → slice_index app.inside.scrub_owes b ≡ n → 0 < n
       → LowersPool setting words b n nic (slice_set apps a (side_owes_lowered app b (pool_of words b == n)))
+
+-- ---- user counts
+
+-- a user count is raised, and doesn't wrap
+pub record RaisesUserCount (setting : Setting) (words : Words) (a b : ℕ) (nic : NicSide) (apps : List AppSide) : Type 0 where
+  pub few : user_of words a b + 1 < 2 ^ 64
+  pub rule : RefRule setting (with_user words a b (user_of words a b + 1)) nic apps
+
+-- An application lends: a held piece, or a spare that it filled, becomes a loan, and the reference that it has goes on. No raw
+-- entry of the application is on its way.
+pub record LendStepLaw : Type 0 where
+  pub held : (setting : Setting) (words : Words) (nic : NicSide) (apps : List AppSide) (a : ℕ) (app : AppSide) (place : Place)
+      → RefRule setting words nic apps → IsApp apps a app → HasHeld app.view place → CanLend app.view
+      → RaisesUserCount setting words a place.buffer nic (slice_set apps a (app_at app (lent app.view place)))
+  pub spare : (setting : Setting) (words : Words) (nic : NicSide) (apps : List AppSide) (a : ℕ) (app : AppSide) (own : Filling)
+      → RefRule setting words nic apps → IsApp apps a app → HasSpare app.view own → IsFilled app.view own → CanLend app.view
+      → RaisesUserCount setting words a own.buffer nic (slice_set apps a (app_at app (lent_own app.view own)))
+
+-- The card looks at a user count for the entry in hand, which names its buffer. Above 0 the entry is a return, and a loan is
+-- owed that it gives back; at 0 it is a stray. No word changes.
+abbrev pub LookLaw : Type 0
+LookLaw =
+    (setting : Setting) (words : Words) (nic : NicSide) (apps : List AppSide) (a : ℕ) (entry : Rqe) (b : ℕ)
+    → RefRule setting words nic apps → nic.inside.entry ≡ Some (record { app = a; entry = entry; judged = Not })
+    → judged setting.layout entry ≡ Some b → b < total setting.layout
+    → RefRule setting words (side_judged nic a entry b (user_of words a b == 0)) apps
+
+-- The card lowers it, where it saw it above 0 for the entry in hand. It still is, and the loan that was owed is returning.
+pub record LowersUserCount (setting : Setting) (words : Words) (a b : ℕ) (nic : NicSide) (apps : List AppSide) : Type 0 where
+  pub owed : 0 < user_of words a b
+  pub rule : RefRule setting (with_user words a b (user_of words a b - 1)) nic apps
+
+abbrev pub ReturnLaw : Type 0
+ReturnLaw =
+    (setting : Setting) (words : Words) (nic : NicSide) (apps : List AppSide) (a : ℕ) (entry : Rqe) (b : ℕ)
+    → RefRule setting words nic apps → nic.inside.entry ≡ Some (record { app = a; entry = entry; judged = Owed b })
+    → LowersUserCount setting words a b (side_user_lowered nic a entry b) apps
+
+-- An application's scrub swaps it with 0. All slots were seen free and no loan is out, so all that the application owes in the
+-- buffer is returning.
+abbrev pub ScrubLaw : Type 0
+ScrubLaw =
+    (setting : Setting) (words : Words) (nic : NicSide) (apps : List AppSide) (a : ℕ) (app : AppSide) (b : ℕ)
+    → RefRule setting words nic apps → IsApp apps a app → b < total setting.layout → app.view.quiet ≡ true → app.view.loans ≡ []
+    → app.view.scrubbed ≡ false
+    → RefRule setting (with_user words a b 0) nic (slice_set apps a (side_user_taken app b (user_of words a b)))

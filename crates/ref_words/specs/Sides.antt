@@ -25,6 +25,11 @@ pub record AreOf (setting : Setting) (nic : NicSide) (apps : List AppSide) : Typ
   pub numbers : AreNumbered 0 apps
   pub others : All (λ app. app.view.setting ≡ setting) apps
 
+-- what a scrub takes and owes is told for each buffer
+pub record HasScrubLists (setting : Setting) (app : AppSide) : Type 0 where
+  pub took : length app.inside.scrub_took ≡ total setting.layout
+  pub owes : length app.inside.scrub_owes ≡ total setting.layout
+
 -- an application that has seen its reserve free, and took no spare since, finds it so
 pub record HasFreeReserve (nic : NicSide) (apps : List AppSide) (app : AppSide) : Type 0 where
   pub unheld : app.inside.reserve_seen_free ≡ true → pool_count (reserve_of app.view) nic apps ≡ 0
@@ -47,6 +52,7 @@ pub record IsInHand (nic : NicSide) (apps : List AppSide) (inhand : EntryInHand)
 
 pub record SidesRule (setting : Setting) (nic : NicSide) (apps : List AppSide) : Type 0 where
   pub set : AreOf setting nic apps
+  pub lists : All (HasScrubLists setting) apps
   -- the places of a buffer's holders share no byte, one at most fills a buffer, and a piece in the making is its buffer's last
   pub placed : (b : ℕ) → ArePlaced b nic apps
   pub by_one : (b : ℕ) → IsFilledByOne b nic apps

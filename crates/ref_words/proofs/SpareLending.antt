@@ -1,0 +1,124 @@
+-- An application lends a spare that it filled.
+use Rattle.std.proofs.Common.{◌≡◌, ⊎_elim, ℕ, ◌+◌, ◌^◌, ◌<◌, ◌≤◌, List, set, refl, ap, sym, ◌∙◌, arith, subst, inr}
+use Rattle.std.specs.Prelude.{◌==◌, ◌&&◌, All}
+use Rattle.std.proofs.lemmas.Bool.{cases_lt}
+use Rattle.std.proofs.lemmas.Bool.Decides.{eqb_tells}
+use Rattle.area_layout.specs.Layout.{total, pool_buffers}
+use Rattle.board_face.specs.AppEvents.{reserve_of}
+use Rattle.board_face.specs.NicCalls.{apps_of}
+use Rattle.board_face.specs.Sides.{IsApp}
+use Rattle.board_face.specs.Counts.{pool_count, user_count, EndedWereReturned}
+use Rattle.board_face.specs.Used.{HasFewPicks}
+use Rattle.board_face.specs.declared.views.parts.Setting.{Setting}
+use Rattle.board_face.specs.declared.views.nic.NicSide.{NicSide}
+use Rattle.board_face.specs.declared.views.app.AppSide.{AppSide}
+use Rattle.board_face.specs.AppCalls.{HasSpare, IsFilled, CanLend}
+use Rattle.board_face.specs.declared.views.parts.Filling.{Filling}
+use Rattle.board_face.proofs.AppLemmas.{pool_count-app, user_count-app, app_count-lent_own, user_part-lent_own}
+use Rattle.board_face.proofs.ArePlacedLemmas.{ArePlaced-lent_own}
+use Rattle.board_face.proofs.MadeLastLemmas.{IsMadeLast-lent_own}
+use Rattle.board_face.proofs.IsFilledByOneLemmas.{IsFilledByOne-lent_own}
+use Rattle.board_face.proofs.FillingsFitLemmas.{FillingsFit-lent_own}
+use Rattle.board_face.specs.AppEvents.{lent_own}
+use Rattle.board_face.specs.Sides.{app_at}
+use Rattle.board_face.specs.Returns.{loans_out, entries_on_way}
+use Rattle.board_face.proofs.FreeLemmas.{user_count-le}
+use Rattle.board_face.proofs.ReturnLemmas.{IsClear-of_loans}
+use Rattle.board_face.proofs.Tallies.{weight}
+use Rattle.ref_words.specs.Words.{Words, user_of, listed_in}
+use Rattle.ref_words.specs.Rule.{RefRule}
+use Rattle.ref_words.proofs.Counting.{weight-same}
+use Rattle.ref_words.proofs.Frees.{AreKept-app, free_places-hands}
+use Rattle.ref_words.proofs.InHand.{same-if, other-pair}
+use Rattle.ref_words.proofs.SideSteps.{mine, SidesRule-app}
+use Rattle.ref_words.proofs.UserSteps.{IsUserStep}
+use Rattle.ref_words.proofs.Beginning.{few-holders}
+
+module _ (setting : Setting) (words : Words) (nic : NicSide) (apps : List AppSide) (a : ℕ) (app : AppSide) (own : Filling)
+    (rule : RefRule setting words nic apps) (here : IsApp apps a app) (out : HasSpare app.view own) (some : IsFilled app.view own)
+        (can : CanLend app.view) where
+  abbrev now : AppSide
+  now = app_at app (lent_own app.view own)
+
+  abbrev apps' : List AppSide
+  apps' = set apps a now
+
+  same_pool : (b : ℕ) → pool_count b nic apps' ≡ pool_count b nic apps
+  same_pool b = omega (arith, pool_count-app b nic apps a app now here, app_count-lent_own b nic app own out)
+
+  more-users : (x b : ℕ) → user_count x b nic apps' ≡ user_count x b nic apps + weight ((app.view.app == x) && (own.buffer == b))
+  more-users x b = omega (arith, user_count-app x b nic apps a app now here, user_part-lent_own x b nic app own)
+
+  one : weight ((app.view.app == a) && (own.buffer == own.buffer)) ≡ 1
+  one = same-if app.view.app a own.buffer own.buffer (sym here.number) ∙ weight-same own.buffer
+
+  -- a buffer with a loan lies in the area
+  within : own.buffer < total nic.view.setting.layout
+  within =
+      ⊎_elim
+      (λ small. small)
+      (λ past. absurd (omega (
+        arith,
+        (rule.sides.by_one own.buffer).inside past,
+        same_pool own.buffer,
+        more-users a own.buffer,
+        one,
+        user_count-le a own.buffer nic apps',
+      )))
+      (cases_lt own.buffer (total nic.view.setting.layout))
+
+  there : own.buffer < total setting.layout
+  there = let w = within in omega (arith, ap (λ s. total s.layout) rule.sides.set.card)
+
+  is-app : a < apps_of setting
+  is-app = let h = here.there in omega (arith, rule.sides.set.many)
+
+  pub few : user_of words a own.buffer + 1 < 2 ^ 64
+  few =
+      omega (
+        arith,
+        rule.users a own.buffer is-app there,
+        user_count-le a own.buffer nic apps,
+        rule.pool own.buffer there,
+        few-holders setting words nic apps own.buffer rule there,
+      )
+
+  pub step : IsUserStep setting words nic nic apps apps' a own.buffer (user_of words a own.buffer + 1)
+  step = record {
+    app = is-app;
+    there = there;
+    sides = SidesRule-app setting nic apps a app rule.sides here now (record {
+      setting = refl;
+      number = refl;
+      took = refl;
+      owes = refl;
+      placed = λ b. ArePlaced-lent_own b nic apps a app own here some (rule.sides.placed b);
+      by_one = λ b. IsFilledByOne-lent_own b nic apps a app own here out (rule.sides.by_one b);
+      fit = FillingsFit-lent_own nic apps a app own here rule.sides.fit;
+      made = IsMadeLast-lent_own nic apps a app own here some rule.sides.made;
+      returned = λ b. let r = mine setting nic apps a app rule.sides here (EndedWereReturned b nic) (rule.sides.returned b) in
+          record { ended = r.ended; returning = r.returning };
+      reserve = record { unheld = λ free. same_pool (reserve_of app.view) ∙ (rule.sides.reserves a app here).unheld free };
+      unheld = λ b past ne none. same_pool b ∙ none;
+      few = let f = mine setting nic apps a app rule.sides here HasFewPicks rule.sides.few in record { picks = f.picks; spares = f.spares };
+      returns = let r = rule.sides.returns a app here in record {
+        written = r.written;
+        owed = r.owed;
+        no_more = r.no_more;
+        clear = λ b. IsClear-of_loans app.view.setting.layout b (loans_out b now) (entries_on_way nic now) (r.settled can.settled);
+        named = r.named;
+        settled = r.settled;
+        quiet = r.quiet;
+        scrubbed = r.scrubbed;
+        strays = r.strays;
+      };
+      way = refl;
+      came_back = λ b. refl;
+      ended = inr (λ b. refl);
+    });
+    here = omega (arith, rule.users a own.buffer is-app there, more-users a own.buffer, one);
+    others = λ x c other. omega (arith, more-users x c, other-pair app.view.app x own.buffer c (λ e f. other (sym e ∙ here.number, sym f)));
+    pool = same_pool;
+    free = λ b. omega (arith, free_places-hands (listed_in words) b nic apps a app now here);
+    kept = AreKept-app (listed_in words) nic apps a app now here refl rule.kept;
+  }

@@ -1,0 +1,186 @@
+-- The user count is lowered for the entry in hand: the loan that was owed is returning.
+use Rattle.std.proofs.Common.{◌≡◌, ⊎_elim, ℕ, ◌+◌, ◌-◌, ◌<◌, ◌≤◌, Bool, true, false, List, length, drop, get_or, refl, ap, sym}
+use Rattle.std.proofs.Common.{◌∙◌, arith, subst, length-drop}
+use Rattle.std.specs.Prelude.{◌≢◌, ◌==◌, ◌&&◌, if◌then◌else◌, Some, Contains, All}
+use Rattle.std.proofs.lemmas.List.Elements.{All-contains}
+use Rattle.std.proofs.lemmas.Bool.Decides.{eqb_tells}
+use Rattle.zr_kinds.specs.declared.ring.Rqe.{Rqe}
+use Rattle.area_layout.specs.Layout.{total}
+use Rattle.board_face.specs.AppEvents.{reserve_of}
+use Rattle.board_face.specs.NicCalls.{apps_of}
+use Rattle.board_face.specs.Sides.{IsApp}
+use Rattle.board_face.specs.Opened.{new_app}
+use Rattle.board_face.specs.Holders.{lowered_in_hand, returning_in_hand, ended_in, returning_count, returned_in, owed_in}
+use Rattle.board_face.specs.Counts.{pool_count, user_count, EndedWereReturned}
+use Rattle.board_face.specs.Steps.{side_user_lowered}
+use Rattle.board_face.specs.declared.views.parts.Setting.{Setting}
+use Rattle.board_face.specs.declared.views.nic.Judged.TheVariants.{Owed, UserLowered}
+use Rattle.board_face.specs.declared.views.nic.NicSide.{NicSide}
+use Rattle.board_face.specs.declared.views.app.AppSide.{AppSide}
+use Rattle.board_face.proofs.Tallies.{weight}
+use Rattle.board_face.proofs.Parts.{user_part, user_count-parts, total-shift, owed_count, loans_in, came_back_in, returned_in-count}
+use Rattle.board_face.proofs.NicLemmas.{pool_count-stretch}
+use Rattle.board_face.proofs.ArePlacedLemmas.{ArePlaced-stretch}
+use Rattle.board_face.proofs.MadeLastLemmas.{IsMadeLast-stretch}
+use Rattle.board_face.proofs.IsFilledByOneLemmas.{IsFilledByOne-fewer}
+use Rattle.board_face.proofs.SideLemmas.{IsApp-at}
+use Rattle.ref_words.specs.Words.{Words, user_of, listed_in}
+use Rattle.ref_words.specs.Sides.{IsInHand}
+use Rattle.ref_words.specs.Rule.{RefRule}
+use Rattle.ref_words.proofs.Counting.{weight-same}
+use Rattle.ref_words.proofs.Frees.{AreKept-card}
+use Rattle.ref_words.proofs.UserSteps.{IsUserStep}
+use Rattle.ref_words.proofs.InHand.{in_hand, some-is, if-weight, if-none, same-if, other-if, other-pair}
+
+user_case : (c : Bool) (l m n w : ℕ) → m ≡ n + w → (if c then l + m else 0) ≡ (if c then l + n else 0) + (if c then w else 0)
+user_case true l m n w e = omega arith
+user_case false l m n w e = refl
+
+module _ (setting : Setting) (words : Words) (nic : NicSide) (apps : List AppSide) (a : ℕ) (entry : Rqe) (b : ℕ) (rule : RefRule setting words nic apps)
+    (at : nic.inside.entry ≡ in_hand a entry (Owed b)) where
+  abbrev now : NicSide
+  now = side_user_lowered nic a entry b
+
+  known : IsInHand nic apps (record { app = a; entry = entry; judged = Owed b })
+  known = rule.sides.hand (record { app = a; entry = entry; judged = Owed b }) at
+
+  not-lowered : (x c : ℕ) → lowered_in_hand x c nic.inside.entry ≡ 0
+  not-lowered x c = ap (lowered_in_hand x c) at ∙ if-none (a == x)
+
+  ends : (c : ℕ) (x : AppSide) → ended_in c now x ≡ ended_in c nic x + weight ((a == x.view.app) && (b == c))
+  ends c x = omega (arith, not-lowered x.view.app c, if-weight (a == x.view.app) (b == c))
+
+  returns : (c : ℕ) (x : AppSide) → returning_count c now x ≡ returning_count c nic x + weight ((a == x.view.app) && (b == c))
+  returns c x =
+      let was : returning_in_hand x.view.app c nic.inside.entry ≡ 0 = ap (returning_in_hand x.view.app c) at ∙ if-none (a == x.view.app) in
+      omega (arith, was, if-weight (a == x.view.app) (b == c))
+
+  app : AppSide
+  app = get_or apps a (new_app setting a)
+
+  mine : IsApp apps a app
+  unfolding app
+  mine = IsApp-at apps a (new_app setting a) rule.sides.set.numbers known.app
+
+  sound-at : (c k : ℕ) (x : AppSide) → IsApp apps k x → EndedWereReturned c nic x
+  sound-at c k x here = subst (EndedWereReturned c nic) here.is (rule.sides.returned c k x here.there)
+
+  -- the application owes something in the buffer
+  owes : (c k : ℕ) (x : AppSide) → IsApp apps k x → ended_in c nic x + weight ((a == x.view.app) && (b == c)) ≤ length (returned_in c x)
+  owes c k x here =
+      ⊎_elim
+      (λ t. let e : k ≡ a = t.1 in
+      let m : IsApp apps a x = subst (λ n. IsApp apps n x) e here in
+      ⊎_elim
+      (λ u. let f : b ≡ c = u.1 in
+      let more : ended_in c nic x < length (returned_in c x) = subst (λ n. ended_in n nic x < length (returned_in n x)) f ((known.owed b refl).1 x m) in
+      omega (arith, more, same-if a x.view.app b c m.number, ap weight u.0))
+      (λ u. omega (arith, (sound-at c k x here).ended, same-if a x.view.app b c m.number, ap weight u.0))
+      (eqb_tells b c))
+      (λ t. omega (arith, (sound-at c k x here).ended, other-if a x.view.app b c (λ e. t.1 (sym here.number ∙ e))))
+      (eqb_tells k a)
+
+  sound-now : (c k : ℕ) (x : AppSide) → IsApp apps k x → EndedWereReturned c now x
+  sound-now c k x here = record {
+    ended = omega (arith, ends c x, owes c k x here);
+    returning = omega (arith, ends c x, returns c x, (sound-at c k x here).returning);
+  }
+
+  same_pool : (c : ℕ) → pool_count c now apps ≡ pool_count c nic apps
+  same_pool c =
+      omega (
+        arith,
+        pool_count-stretch c 0 nic now apps a app refl refl refl refl rule.sides.set.numbers mine
+            (λ x ne. omega (arith, ends c x, other-if a x.view.app b c ne))
+            (λ x ne. omega (arith, returns c x, other-if a x.view.app b c ne))
+            (sound-at c a app mine) (sound-now c a app mine) (omega (arith, ends c app, returns c app)),
+      )
+
+  fewer_users : (x c : ℕ) → user_count x c now apps + weight ((a == x) && (b == c)) ≡ user_count x c nic apps
+  fewer_users x c =
+      let w = weight ((a == x) && (b == c)) in
+      let owed : owed_count c nic app ≡ owed_count c now app + weight (b == c) =
+          omega (arith, ends c app, same-if a app.view.app b c mine.number, owes c a app mine, returned_in-count c app) in
+      let split = user_case (app.view.app == x) (loans_in c app) (owed_count c nic app) (owed_count c now app) (weight (b == c)) owed in
+      let joined : (if app.view.app == x then weight (b == c) else 0) ≡ w =
+          ap (λ n. if n == x then weight (b == c) else 0) mine.number ∙ if-weight (a == x) (b == c) in
+      let target : user_part x c nic app ≡ user_part x c now app + w = omega (arith, split, joined) in
+      let others : (y : AppSide) → y.view.app ≢ a → user_part x c nic y ≡ user_part x c now y = λ y ne.
+          ap (λ h. if y.view.app == x then loans_in c y + (came_back_in c y - h) else 0) (omega (arith, ends c y, other-if a y.view.app b c ne)) in
+      let less = total-shift 0 (user_part x c nic) (user_part x c now) w a others apps rule.sides.set.numbers a app known.app (omega arith)
+          (rw mine.is target) in
+      omega (arith, user_count-parts x c now apps, user_count-parts x c nic apps, less)
+
+  there : b < total setting.layout
+  there = let k = (known.owed b refl).0 in omega (arith, ap (λ s. total s.layout) rule.sides.set.card)
+
+  is-app : a < apps_of setting
+  is-app = let k = known.app in omega (arith, rule.sides.set.many)
+
+  and-one : weight ((a == a) && (b == b)) ≡ 1
+  and-one = same-if a a b b refl ∙ weight-same b
+
+  pub owed : 0 < user_of words a b
+  owed = omega (arith, rule.users a b is-app there, fewer_users a b, and-one)
+
+  small-before : (c : ℕ) (x : AppSide) → Contains apps x → returning_count c nic x ≤ ended_in c nic x
+  small-before c x has = (All-contains (EndedWereReturned c nic) apps x (rule.sides.returned c) has).returning
+
+  small-now : (c : ℕ) (x : AppSide) → Contains apps x → returning_count c now x ≤ ended_in c now x
+  small-now c x has = omega (arith, small-before c x has, ends c x, returns c x)
+
+  later : (c : ℕ) (x : AppSide) → Contains apps x → ended_in c nic x + returning_count c now x ≤ ended_in c now x + returning_count c nic x
+  later c x has = omega (arith, ends c x, returns c x)
+
+  pub step : IsUserStep setting words nic now apps apps a b (user_of words a b - 1)
+  step = record {
+    app = is-app;
+    there = there;
+    sides = record {
+      set = record { card = rule.sides.set.card; many = rule.sides.set.many; numbers = rule.sides.set.numbers; others = rule.sides.set.others };
+      lists = rule.sides.lists;
+      placed = λ c. ArePlaced-stretch c nic now apps refl refl refl refl refl (small-before c) (small-now c) (later c) (rule.sides.placed c);
+      by_one = λ c. IsFilledByOne-fewer c nic now apps apps refl (omega arith) (omega arith) (omega (arith, same_pool c)) (rule.sides.by_one c);
+      fit = record { of_pool = rule.sides.fit.of_pool; card = rule.sides.fit.card; sides = rule.sides.fit.sides };
+      made = IsMadeLast-stretch nic now apps refl refl refl small-before small-now later rule.sides.made;
+      returned = λ c k d small. sound-now c k (get_or apps k d) (IsApp-at apps k d rule.sides.set.numbers small);
+      reserves = λ k x here. record { unheld = λ free. same_pool (reserve_of x.view) ∙ (rule.sides.reserves k x here).unheld free };
+      few = rule.sides.few;
+      returns = λ k x here.
+          let r = rule.sides.returns k x here in
+          let less : (c : ℕ) → length (owed_in c now x) + weight ((a == x.view.app) && (b == c)) ≡ length (owed_in c nic x) = λ c.
+              omega (
+                arith,
+                ends c x,
+                length-drop (ended_in c nic x) (returned_in c x),
+                length-drop (ended_in c now x) (returned_in c x),
+                owes c k x here,
+              ) in
+          record {
+            written = r.written;
+            owed = λ c. omega (arith, r.owed c, not-lowered x.view.app c, less c, if-weight (a == x.view.app) (b == c));
+            no_more = λ c. omega (arith, r.no_more c, not-lowered x.view.app c, less c, if-weight (a == x.view.app) (b == c));
+            clear = r.clear;
+            named = r.named;
+            settled = r.settled;
+            quiet = r.quiet;
+            scrubbed = r.scrubbed;
+            strays = r.strays;
+          };
+      hand = λ it is.
+          subst
+          (IsInHand now apps)
+          (some-is (record { app = a; entry = entry; judged = UserLowered b }) it is)
+          (record {
+            app = known.app;
+            first = known.first;
+            owed = λ c e. absurd (let none : ⊥ = cc in none);
+            lowered = λ c e. let same : b ≡ c = cc in subst (λ n. n < total nic.view.setting.layout) same (known.owed b refl).0;
+          });
+    };
+    here = omega (arith, rule.users a b is-app there, fewer_users a b, and-one);
+    others = λ x c other. omega (arith, fewer_users x c, other-pair a x b c (λ e f. other (sym e, sym f)));
+    pool = same_pool;
+    free = λ c. refl;
+    kept = AreKept-card (listed_in words) nic now apps refl refl refl (λ c. omega arith) rule.kept;
+  }
