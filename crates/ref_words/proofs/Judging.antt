@@ -8,7 +8,6 @@ use Rattle.std.proofs.lemmas.Bool.Decides.{eqb_tells}
 use Rattle.std.proofs.lemmas.List.Elements.{All-contains}
 use Rattle.zr_kinds.specs.declared.ring.Rqe.{Rqe}
 use Rattle.area_layout.specs.Layout.{total, judged}
-use Rattle.board_face.specs.NicCalls.{apps_of}
 use Rattle.board_face.specs.AppEvents.{reserve_of}
 use Rattle.board_face.specs.Sides.{IsApp}
 use Rattle.board_face.specs.Holders.{lowered_in_hand, returning_in_hand, ended_in, returning_count, returned_in, owed_in}
@@ -51,15 +50,15 @@ module _ (setting : Setting) (words : Words) (nic : NicSide) (apps : List AppSid
   pools : (c : ℕ) → pool_count c like apps ≡ pool_count c nic apps
   pools c =
       let each : (x : AppSide) → app_count c like x ≡ app_count c nic x = λ x.
-          let p : owed_count c like x ≡ owed_count c nic x = omega (arith, ends c x) in
-          let q : returning_in_count c like x ≡ returning_in_count c nic x = omega (arith, ends c x, returns-same c x) in
-          omega (arith, p, q) in
+      let p : owed_count c like x ≡ owed_count c nic x = omega (arith, ends c x) in
+      let q : returning_in_count c like x ≡ returning_in_count c nic x = omega (arith, ends c x, returns-same c x) in
+      omega (arith, p, q) in
       omega (arith, pool_count-parts c like apps, pool_count-parts c nic apps, total-agree (app_count c like) (app_count c nic) each apps)
 
   users : (x c : ℕ) → user_count x c like apps ≡ user_count x c nic apps
   users x c =
       let each : (y : AppSide) → user_part x c like y ≡ user_part x c nic y = λ y.
-          ap (λ h. if y.view.app == x then loans_in c y + (came_back_in c y - h) else 0) (ends c y) in
+      ap (λ h. if y.view.app == x then loans_in c y + (came_back_in c y - h) else 0) (ends c y) in
       omega (arith, user_count-parts x c like apps, user_count-parts x c nic apps, total-agree (user_part x c like) (user_part x c nic) each apps)
 
   small : (c : ℕ) (x : AppSide) → Contains apps x → returning_count c nic x ≤ ended_in c nic x
@@ -141,11 +140,11 @@ module _ (setting : Setting) (words : Words) (nic : NicSide) (apps : List AppSid
   owes : (app : AppSide) → IsApp apps a app → 0 < user_of words a b → ended_in b nic app < length (returned_in b app)
   owes app here above =
       let layouts : app.view.setting.layout ≡ setting.layout =
-          subst (λ x. x.view.setting.layout ≡ setting.layout) here.is (ap (λ s. s.layout) (rule.sides.set.others a app here.there)) in
+      subst (λ x. x.view.setting.layout ≡ setting.layout) here.is (ap (λ s. s.layout) (rule.sides.set.others a app here.there)) in
       let front = known.first app here in
       let names_it : names app.view.setting.layout b front.first ≡ true =
-          ap (λ l. is_some_of (judged l front.first.entry) b) layouts
-          ∙ (ap (λ e. is_some_of (judged setting.layout e) b) front.same ∙ (ap (λ o. is_some_of o b) named ∙ eqb_same b)) in
+      ap (λ l. is_some_of (judged l front.first.entry) b) layouts
+      ∙ (ap (λ e. is_some_of (judged setting.layout e) b) front.same ∙ (ap (λ o. is_some_of o b) named ∙ eqb_same b)) in
       let users = own-users setting words nic apps a b app rule here within in
       let h = rule.sides.returns a app here in
       let owed : length (owed_in b nic app) ≡ length (returned_in b app) - ended_in b nic app = length-drop (ended_in b nic app) (returned_in b app) in
@@ -194,8 +193,7 @@ module _ (setting : Setting) (words : Words) (nic : NicSide) (apps : List AppSid
             subst
             (λ n. (n < total nic.view.setting.layout)
             × ((app : AppSide) → IsApp apps a app → ended_in n (side_judged nic a entry b false) app < length (returned_in n app)))
-            same
-            (
+            same (
               omega (arith, within, ap (λ s. total s.layout) rule.sides.set.card),
               λ app here. omega (arith, owes app here (above refl), not-lowered app.view.app b, if-none (a == app.view.app)),
             );

@@ -1,18 +1,18 @@
 -- A scrub takes what an application owes in a buffer: the user count is 0 then, and as many references are returning.
-use Rattle.std.proofs.Common.{◌≡◌, ⊎_elim, ℕ, ◌+◌, ◌-◌, ◌<◌, ◌≤◌, Bool, true, false, List, [], length, set, get_or, refl, ap, sym}
+use Rattle.std.proofs.Common.{◌≡◌, ⊎_elim, ℕ, ◌+◌, ◌<◌, ◌≤◌, Bool, true, false, List, [], length, set, get_or, refl, ap, sym}
 use Rattle.std.proofs.Common.{◌∙◌, arith, subst}
 use Rattle.std.proofs.Common.{length-drop, inl}
-use Rattle.std.specs.Prelude.{◌≢◌, ◌==◌, ◌&&◌, if◌then◌else◌, slice_index, count_by, All}
+use Rattle.std.specs.Prelude.{◌≢◌, ◌==◌, if◌then◌else◌, slice_index}
 use Rattle.std.proofs.lemmas.Bool.Decides.{eqb_tells}
 use Rattle.std.proofs.lemmas.List.{length-set, get_or-set_same, get_or-set_other}
 use Rattle.area_layout.specs.Layout.{total}
 use Rattle.board_face.specs.AppEvents.{reserve_of}
 use Rattle.board_face.specs.NicCalls.{apps_of}
 use Rattle.board_face.specs.Sides.{IsApp}
-use Rattle.board_face.specs.Holders.{ended_in, returning_count, returned_in, owed_in}
+use Rattle.board_face.specs.Holders.{ended_in, returning_count, returned_in}
 use Rattle.board_face.specs.Counts.{pool_count, user_count, EndedWereReturned}
 use Rattle.board_face.specs.Used.{HasFewPicks}
-use Rattle.board_face.specs.Returns.{returns, entries_on_way}
+use Rattle.board_face.specs.Returns.{entries_on_way}
 use Rattle.board_face.specs.Steps.{side_user_taken}
 use Rattle.board_face.specs.declared.views.parts.Setting.{Setting}
 use Rattle.board_face.specs.declared.views.nic.NicSide.{NicSide}
@@ -26,11 +26,10 @@ use Rattle.board_face.proofs.MadeLastLemmas.{IsMadeLast-app}
 use Rattle.board_face.proofs.IsFilledByOneLemmas.{IsFilledByOne-app}
 use Rattle.board_face.proofs.FillingsFitLemmas.{FillingsFit-same}
 use Rattle.board_face.proofs.ListLemmas.{eqb_same}
-use Rattle.board_face.proofs.Tallies.{weight}
 use Rattle.ref_words.specs.Words.{Words, user_of, listed_in}
 use Rattle.ref_words.specs.Sides.{HasScrubLists}
 use Rattle.ref_words.specs.Rule.{RefRule}
-use Rattle.ref_words.proofs.Counting.{weight-same, if_so}
+use Rattle.ref_words.proofs.Counting.{if_so}
 use Rattle.ref_words.proofs.Frees.{AreKept-app, free_places-hands}
 use Rattle.ref_words.proofs.SideSteps.{mine, SidesRule-app}
 use Rattle.ref_words.proofs.UserSteps.{IsUserStep}
@@ -118,9 +117,9 @@ module _ (setting : Setting) (words : Words) (nic : NicSide) (apps : List AppSid
   none-now : user_count a b nic apps' ≡ 0
   none-now =
       let before : user_part a b nic app ≡ loans_in b app + owed_count b nic app =
-          ap (λ c. if c then loans_in b app + owed_count b nic app else 0) (subst (λ k. (k == a) ≡ true) (sym here.number) (eqb_same a)) in
+      ap (λ c. if c then loans_in b app + owed_count b nic app else 0) (subst (λ k. (k == a) ≡ true) (sym here.number) (eqb_same a)) in
       let after : user_part a b nic now ≡ loans_in b app + owed_count b nic now =
-          ap (λ c. if c then loans_in b app + owed_count b nic now else 0) (subst (λ k. (k == a) ≡ true) (sym here.number) (eqb_same a)) in
+      ap (λ c. if c then loans_in b app + owed_count b nic now else 0) (subst (λ k. (k == a) ≡ true) (sym here.number) (eqb_same a)) in
       omega (
         arith,
         user_count-app a b nic apps a app now here,
@@ -136,15 +135,15 @@ module _ (setting : Setting) (words : Words) (nic : NicSide) (apps : List AppSid
   others-same : (x c : ℕ) → ((x ≡ a) × (c ≡ b) → ⊥) → user_count x c nic apps' ≡ user_count x c nic apps
   others-same x c other =
       let same : user_part x c nic now ≡ user_part x c nic app =
-          ⊎_elim
-          (λ t. let e : app.view.app ≡ x = t.1 in
-          ⊎_elim
-          (λ u. absurd (other (sym e ∙ here.number, sym u.1)))
-          (λ u. let zero : owed_count c nic now ≡ owed_count c nic app = omega (arith, owed-now c, ap (λ z. if_so z n) u.0) in
-          ap (λ k. if app.view.app == x then loans_in c app + k else 0) zero)
-          (eqb_tells b c))
-          (λ t. if-part (app.view.app == x) (loans_in c app) (owed_count c nic now) (owed_count c nic app) t.0)
-          (eqb_tells app.view.app x) in
+      ⊎_elim
+      (λ t. let e : app.view.app ≡ x = t.1 in
+      ⊎_elim
+      (λ u. absurd (other (sym e ∙ here.number, sym u.1)))
+      (λ u. let zero : owed_count c nic now ≡ owed_count c nic app = omega (arith, owed-now c, ap (λ z. if_so z n) u.0) in
+      ap (λ k. if app.view.app == x then loans_in c app + k else 0) zero)
+      (eqb_tells b c))
+      (λ t. if-part (app.view.app == x) (loans_in c app) (owed_count c nic now) (owed_count c nic app) t.0)
+      (eqb_tells app.view.app x) in
       omega (arith, user_count-app x c nic apps a app now here, same)
 
   pub step : IsUserStep setting words nic nic apps apps' a b 0

@@ -1,7 +1,7 @@
 -- The user count is lowered for the entry in hand: the loan that was owed is returning.
-use Rattle.std.proofs.Common.{◌≡◌, ⊎_elim, ℕ, ◌+◌, ◌-◌, ◌<◌, ◌≤◌, Bool, true, false, List, length, drop, get_or, refl, ap, sym}
+use Rattle.std.proofs.Common.{◌≡◌, ⊎_elim, ℕ, ◌+◌, ◌-◌, ◌<◌, ◌≤◌, Bool, true, false, List, length, get_or, refl, ap, sym}
 use Rattle.std.proofs.Common.{◌∙◌, arith, subst, length-drop}
-use Rattle.std.specs.Prelude.{◌≢◌, ◌==◌, ◌&&◌, if◌then◌else◌, Some, Contains, All}
+use Rattle.std.specs.Prelude.{◌≢◌, ◌==◌, ◌&&◌, if◌then◌else◌, Contains}
 use Rattle.std.proofs.lemmas.List.Elements.{All-contains}
 use Rattle.std.proofs.lemmas.Bool.Decides.{eqb_tells}
 use Rattle.zr_kinds.specs.declared.ring.Rqe.{Rqe}
@@ -100,15 +100,15 @@ module _ (setting : Setting) (words : Words) (nic : NicSide) (apps : List AppSid
   fewer_users x c =
       let w = weight ((a == x) && (b == c)) in
       let owed : owed_count c nic app ≡ owed_count c now app + weight (b == c) =
-          omega (arith, ends c app, same-if a app.view.app b c mine.number, owes c a app mine, returned_in-count c app) in
+      omega (arith, ends c app, same-if a app.view.app b c mine.number, owes c a app mine, returned_in-count c app) in
       let split = user_case (app.view.app == x) (loans_in c app) (owed_count c nic app) (owed_count c now app) (weight (b == c)) owed in
       let joined : (if app.view.app == x then weight (b == c) else 0) ≡ w =
-          ap (λ n. if n == x then weight (b == c) else 0) mine.number ∙ if-weight (a == x) (b == c) in
+      ap (λ n. if n == x then weight (b == c) else 0) mine.number ∙ if-weight (a == x) (b == c) in
       let target : user_part x c nic app ≡ user_part x c now app + w = omega (arith, split, joined) in
       let others : (y : AppSide) → y.view.app ≢ a → user_part x c nic y ≡ user_part x c now y = λ y ne.
-          ap (λ h. if y.view.app == x then loans_in c y + (came_back_in c y - h) else 0) (omega (arith, ends c y, other-if a y.view.app b c ne)) in
+      ap (λ h. if y.view.app == x then loans_in c y + (came_back_in c y - h) else 0) (omega (arith, ends c y, other-if a y.view.app b c ne)) in
       let less = total-shift 0 (user_part x c nic) (user_part x c now) w a others apps rule.sides.set.numbers a app known.app (omega arith)
-          (rw mine.is target) in
+      (rw mine.is target) in
       omega (arith, user_count-parts x c now apps, user_count-parts x c nic apps, less)
 
   there : b < total setting.layout
@@ -149,13 +149,13 @@ module _ (setting : Setting) (words : Words) (nic : NicSide) (apps : List AppSid
       returns = λ k x here.
           let r = rule.sides.returns k x here in
           let less : (c : ℕ) → length (owed_in c now x) + weight ((a == x.view.app) && (b == c)) ≡ length (owed_in c nic x) = λ c.
-              omega (
-                arith,
-                ends c x,
-                length-drop (ended_in c nic x) (returned_in c x),
-                length-drop (ended_in c now x) (returned_in c x),
-                owes c k x here,
-              ) in
+          omega (
+            arith,
+            ends c x,
+            length-drop (ended_in c nic x) (returned_in c x),
+            length-drop (ended_in c now x) (returned_in c x),
+            owes c k x here,
+          ) in
           record {
             written = r.written;
             owed = λ c. omega (arith, r.owed c, not-lowered x.view.app c, less c, if-weight (a == x.view.app) (b == c));

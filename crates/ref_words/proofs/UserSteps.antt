@@ -1,10 +1,10 @@
 -- A user count changes with the loans of its application in its buffer.
-use Rattle.std.proofs.Common.{◌≡◌, ⊎_elim, ℕ, ◌+◌, ◌<◌, ◌≤◌, List, [], length, set, get_or, refl, ap, sym, ◌∙◌, arith, subst}
-use Rattle.std.specs.Prelude.{◌≢◌, ◌==◌, if◌then◌else◌, All}
+use Rattle.std.proofs.Common.{◌≡◌, ⊎_elim, ℕ, ◌<◌, List, [], length, set, get_or, ap, sym, ◌∙◌, arith, subst}
+use Rattle.std.specs.Prelude.{◌≢◌, ◌==◌, if◌then◌else◌}
 use Rattle.std.proofs.lemmas.List.{length-set, get_or-set_same, get_or-set_other}
 use Rattle.std.proofs.lemmas.List.Elements.{All-set, All-get_or}
 use Rattle.std.proofs.lemmas.Bool.Decides.{eqb_tells}
-use Rattle.area_layout.specs.Layout.{total, pool_buffers}
+use Rattle.area_layout.specs.Layout.{total}
 use Rattle.board_face.specs.NicCalls.{apps_of}
 use Rattle.board_face.specs.Counts.{pool_count, user_count}
 use Rattle.board_face.specs.FreeOnce.{free_places, AreFreeOnce}
@@ -54,8 +54,8 @@ module _ (setting : Setting) (words : Words) (nic now : NicSide) (apps apps' : L
       ⊎_elim
       (λ t. let e : x ≡ a = t.1 in
       let here : user_of (with_user words a b n) x c ≡ get_or (set row b n) c 0 =
-          subst (λ y. user_of (with_user words a b n) y c ≡ get_or (set row b n) c 0) (sym e)
-          (ap (λ r. get_or r c 0) (get_or-set_same words.users a (set row b n) [] in_users)) in
+      subst (λ y. user_of (with_user words a b n) y c ≡ get_or (set row b n) c 0) (sym e)
+      (ap (λ r. get_or r c 0) (get_or-set_same words.users a (set row b n) [] in_users)) in
       ⊎_elim
       (λ u. let f : c ≡ b = u.1 in
       let same : get_or (set row b n) b 0 ≡ n = get_or-set_same row b n 0 (omega (arith, row-length, step.there)) in

@@ -2,7 +2,7 @@
 -- meet the rule again. A law takes the buffer or the role that its step touches, and of the stepping role what that knows of
 -- itself; it knows no seat but for those of roles, and no table.
 use Rattle.std.specs.Prelude.{◌≡◌, ◌≢◌, ◌≤◌, ◌<◌, ◌+◌, ◌-◌, ◌^◌, ◌∷◌, ◌++◌, [], ℕ, true, List}
-use Rattle.std.specs.Prelude.{map, None, Some}
+use Rattle.std.specs.Prelude.{None, Some}
 use Rattle.std.specs.Prelude.{false, slice_set, slice_index, ◌==◌, Contains}
 use mathlib.Core.Option.{some}
 use lib.ListN.{get_elem?}

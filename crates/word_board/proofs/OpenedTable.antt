@@ -1,5 +1,6 @@
 -- The words of a board that was just opened are zeros, the free list, and zeros.
-use Rattle.std.proofs.Common.{◌≡◌, ℕ, zero, suc, ◌+◌, ◌-◌, ◌*◌, ◌≤◌, List, [], ◌∷◌, ◌++◌, length, replicate, take, refl, ap, sym, ◌∙◌, arith}
+use Rattle.std.proofs.Common.{◌≡◌, ℕ, zero, suc, ◌+◌, ◌-◌, ◌*◌, ◌≤◌, List, [], ◌∷◌, ◌++◌, length, replicate, take, refl}
+use Rattle.std.proofs.Common.{ap, sym, ◌∙◌, arith}
 use Rattle.std.proofs.Common.{suc-mul, length-append}
 use Rattle.std.specs.List.{flat_map}
 use Rattle.std.proofs.lemmas.List.{append_assoc, append-nil, replicate-append-replicate, length-replicate, take_all}
@@ -71,7 +72,8 @@ module _ (setting : Setting) where
 
 -- ---- how the table is filled
 
-pub first-zeros : (n m len : ℕ) (ws xs : List ℕ) → ws ≡ take n xs ++ replicate (n - len) 0 → xs ≡ [] → len ≡ 0 → n ≡ m → ws ≡ replicate m 0 ++ []
+pub first-zeros : (n m len : ℕ) (ws xs : List ℕ) → ws ≡ take n xs ++ replicate (n - len) 0 → xs ≡ [] → len ≡ 0 → n ≡ m
+    → ws ≡ replicate m 0 ++ []
 first-zeros n m len ws xs is none empty e =
     is ∙ (ap (λ zs. take n zs ++ replicate (n - len) 0) none
     ∙ (ap (λ zs. zs ++ replicate (n - len) 0) (take-nothing n)

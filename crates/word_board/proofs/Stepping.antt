@@ -2,17 +2,19 @@
 use Rattle.std.proofs.Common.{◌≡◌, ℕ, ◌+◌, ◌-◌, ◌%◌, ◌^◌, ◌<◌, ◌≤◌, List, [], set, get_or, refl, ap, sym, ◌∙◌}
 use Rattle.std.proofs.Common.{arith, subst}
 use Rattle.atomic_table.specs.Table.{Me, keeps, Allows}
+use Rattle.std.proofs.lemmas.List.{set-get_or}
 use Rattle.area_layout.specs.Layout.{total}
+use Rattle.board_face.specs.NicCalls.{apps_of}
 use Rattle.board_face.specs.Sides.{IsApp}
 use Rattle.board_face.specs.declared.views.parts.Setting.{Setting}
 use Rattle.board_face.specs.declared.views.nic.NicSide.{NicSide}
 use Rattle.board_face.specs.declared.views.app.AppSide.{AppSide}
 use Rattle.ref_words.specs.declared.view.View.{View}
-use Rattle.ref_words.specs.Words.{Words, table_of, pool_at, pool_of, with_pool}
+use Rattle.ref_words.specs.Words.{Words, table_of, pool_at, pool_of, with_pool, user_at, user_of, with_user}
 use Rattle.ref_words.specs.Seated.{Seated, card_view, app_view}
 use Rattle.ref_words.specs.Rule.{RefRule}
 use Rattle.ref_words.proofs.Roles.{card-is, card-moves, app-is, app-moves}
-use Rattle.ref_words.proofs.Laying.{pool-word, pool-set}
+use Rattle.ref_words.proofs.Laying.{pool-word, pool-set, user-word, user-set}
 use Rattle.word_board.specs.Board.{IsBoard}
 
 -- What a step on the word i makes of the board, where it leaves m there: words that stand by the rule to the sides.
@@ -126,3 +128,46 @@ module _ (setting : Setting) (words : Words) (b i : ℕ) (at : i ≡ pool_at set
   pub of-count : {nic : NicSide} {apps : List AppSide} → RefRule setting words nic apps → (P : ℕ → Type 0) → P (pool_of words b)
       → P (get_or (table_of words) i 0)
   of-count rule P p = subst P (sym (found rule)) p
+
+-- ---- a user count
+
+module _ (setting : Setting) (words : Words) (a b i : ℕ) (at : i ≡ user_at setting a b) (few : a < apps_of setting)
+    (within : b < total setting.layout) where
+  found-user : {nic : NicSide} {apps : List AppSide} → RefRule setting words nic apps → get_or (table_of words) i 0 ≡ user_of words a b
+  found-user rule = ap (λ x. get_or (table_of words) x 0) at ∙ user-word setting words rule.sizes a b (omega (arith, few, rule.sizes.users)) within
+
+  makes-user : {nic now : NicSide} {apps apps' : List AppSide} → RefRule setting words nic apps → (m n : ℕ) → m ≡ n
+      → RefRule setting (with_user words a b n) now apps' → Makes setting words i m now apps'
+  makes-user rule m n is after = record {
+    words' = with_user words a b n;
+    laid = ap (λ x. set (table_of words) x m) at ∙ (ap (λ x. set (table_of words) (user_at setting a b) x) is
+        ∙ user-set setting words rule.sizes a b n (omega (arith, few, rule.sizes.users)) within);
+    roles = refl;
+    rule = after;
+  }
+
+  pub raises-user : {nic now : NicSide} {apps apps' : List AppSide} → RefRule setting words nic apps → user_of words a b + 1 < 2 ^ 64
+      → RefRule setting (with_user words a b (user_of words a b + 1)) now apps'
+      → Makes setting words i ((get_or (table_of words) i 0 + 1) % 2 ^ 64) now apps'
+  raises-user rule small after =
+      makes-user rule _ (user_of words a b + 1) (ap (λ x. (x + 1) % 2 ^ 64) (found-user rule) ∙ mod-small (user_of words a b + 1) small) after
+
+  pub lowers-user : {nic now : NicSide} {apps apps' : List AppSide} → RefRule setting words nic apps → 0 < user_of words a b
+      → get_or (table_of words) i 0 < 2 ^ 64 → RefRule setting (with_user words a b (user_of words a b - 1)) now apps'
+      → Makes setting words i ((get_or (table_of words) i 0 + (2 ^ 64 - 1)) % 2 ^ 64) now apps'
+  lowers-user rule enough small after =
+      makes-user rule _ (user_of words a b - 1)
+      (mod-less (get_or (table_of words) i 0) 1 (omega arith) (omega (arith, found-user rule, enough)) small ∙ ap (λ x. x - 1) (found-user rule)) after
+
+  -- where a law leaves 0, swapping the word with 0 does
+  pub clears-user : {nic now : NicSide} {apps apps' : List AppSide} → RefRule setting words nic apps → RefRule setting (with_user words a b 0) now apps'
+      → Makes setting words i 0 now apps'
+  clears-user rule after = makes-user rule 0 0 refl after
+
+  -- where a law changes no word, loading one does
+  pub looks : {now : NicSide} {apps' : List AppSide} → RefRule setting words now apps' → Makes setting words i (get_or (table_of words) i 0) now apps'
+  looks after = record { words' = words; laid = set-get_or (table_of words) i 0; roles = refl; rule = after }
+
+  pub of-user : {nic : NicSide} {apps : List AppSide} → RefRule setting words nic apps → (P : ℕ → Type 0) → P (user_of words a b)
+      → P (get_or (table_of words) i 0)
+  of-user rule P p = subst P (sym (found-user rule)) p

@@ -17,7 +17,8 @@ sub_as-requires-clause-allows c =
     let next : ℕ → AppSide = λ n. side_owes_lowered mine c.args.buffer (n == c.args.n) in
     let at = c.pool-word.ensures.value ∙ ap (λ s. pool_at s c.args.buffer) words.keyed in
     let within = subst (λ s. c.args.buffer < total s.layout) words.keyed c.requires.within in
-    app-step setting words.table.shared.table_id.slots c.args.seat.now.id c.pool-word.result (λ n. (n + (2 ^ 64 - c.args.n)) % 2 ^ 64) (λ _. Unit {0}) mine next
+    app-step setting words.table.shared.table_id.slots c.args.seat.now.id c.pool-word.result (λ n. (n + (2 ^ 64 - c.args.n)) % 2 ^ 64)
+    (λ _. Unit {0}) mine next
     (λ n. refl)
     (λ ws nic apps rule here small.
     let law = c.k6.ensures.scrub setting ws nic apps mine.view.app mine c.args.buffer c.args.n rule here within c.requires.owes c.requires.some in (

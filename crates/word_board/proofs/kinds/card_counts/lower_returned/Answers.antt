@@ -21,7 +21,8 @@ sub_as-requires-clause-allows c =
     (λ ws apps rule small.
     let law = c.k6.ensures.returning setting ws mine apps c.args.app c.args.entry c.args.buffer rule c.requires.in_hand in (
       lowers setting ws c.args.buffer c.pool-word.result at within rule 1 (omega arith) law.enough small
-          (of-count setting ws c.args.buffer c.pool-word.result at within rule (λ n. RefRule setting (with_pool ws c.args.buffer (pool_of ws c.args.buffer - 1))
+          (of-count setting ws c.args.buffer c.pool-word.result at within rule (λ n. RefRule setting (with_pool ws c.args.buffer
+          (pool_of ws c.args.buffer - 1))
           (next n) apps) law.rule),
       tt,
     ))
