@@ -107,7 +107,7 @@ losses_in-here : {T : Type 0} (losses : T → ℕ) (shelves : List T) (app : ℕ
     → losses_in losses shelves app ≡ losses shelf
 losses_in-here losses shelves app shelf is = rw is refl
 
-losses_in-same : {T : Type 0} (losses : T → ℕ) (shelves later : List T) (app : ℕ) → slice_get later app ≡ slice_get shelves app
+pub losses_in-same : {T : Type 0} (losses : T → ℕ) (shelves later : List T) (app : ℕ) → slice_get later app ≡ slice_get shelves app
     → losses_in losses later app ≡ losses_in losses shelves app
 losses_in-same losses shelves later app is = rw is refl
 
@@ -216,7 +216,8 @@ module _ {T : Type 0} {kept : T → ℕ → Option (List ℕ)} {losses : T
       (received_is : (old : Option (List ℕ)) → IsFollowed stop.No old (kept shelf n) own.base (placed n) line.bytes queue
       → IsFollowed stopped old (kept later_shelf n) own.base (after n) later_line.bytes later_queue)
       (others : (f : ℕ) → f ≢ n → Keeps (kept shelf f) (kept later_shelf f))
-      (later : losses shelf ≤ losses later_shelf) (cause : stopped ≡ stop.Write → Rose (losses shelf) (losses later_shelf)) where
+      (later : losses shelf ≤ losses later_shelf) (cause : stopped ≡ stop.Write → Rose (losses shelf) (losses later_shelf))
+      (still : stopped ≢ stop.Write → losses later_shelf ≡ losses shelf) where
     later_shelves : List T
     later_shelves = set now own.app later_shelf
 
@@ -380,6 +381,8 @@ module _ {T : Type 0} {kept : T → ℕ → Option (List ℕ)} {losses : T
           quits_not = quits_not;
           later = omega (arith, before, behind, rising, later);
           cause = λ write. (let rose : Rose (losses shelf) (losses later_shelf) = cause write in omega (arith, before, behind, rising, rose));
+          still = λ not_write. behind ∙ still not_write ∙ sym before ∙ was.still
+              (λ write. let bad : stop.No ≡ stop.Write = sym goes ∙ ap (λ x. x.stopped) (sym same_app) ∙ write in absurd (cc));
         }))
         (λ (other : a ≢ own.app).
         let same_losses : losses_in losses later_shelves a ≡ losses_in losses now a = losses_in-same losses now later_shelves a (shelf_there a other) in

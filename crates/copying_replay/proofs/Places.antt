@@ -1,6 +1,6 @@
 -- Places of a list of which one was written.
 use Rattle.std.proofs.Common.{◌≡◌, ◌≢◌, ℕ, zero, suc, ◌+◌, ◌<◌, ◌≤◌, List, [], ◌∷◌, ◌++◌, length, map, take, drop, get_or}
-use Rattle.std.proofs.Common.{set, Some, None, refl, ap, arith}
+use Rattle.std.proofs.Common.{◌-◌, ◌∙◌, set, Some, None, refl, sym, ap, arith}
 use Rattle.std.specs.List.{slice_get}
 
 pub get-set_same : {A : Type 0} (xs : List A) (i : ℕ) (x : A) → i < length xs → slice_get (set xs i x) i ≡ Some x
@@ -38,6 +38,17 @@ pub get-there : {A : Type 0} (xs : List A) (i : ℕ) → i < length xs → (x : 
 get-there [] i within = absurd (omega arith)
 get-there (y ∷ xs) zero within = (y, refl)
 get-there (y ∷ xs) (suc i) within = get-there xs i (omega arith)
+
+-- lists that are the same from a place on
+get-drop : {A : Type 0} (n : ℕ) (xs : List A) (i : ℕ) → slice_get (drop n xs) i ≡ slice_get xs (n + i)
+get-drop zero xs i = let e : 0 + i ≡ i = omega arith in rw e refl
+get-drop (suc n) [] i = refl
+get-drop (suc n) (x ∷ xs) i = let e : suc n + i ≡ suc (n + i) = omega arith in rw e (get-drop n xs i)
+
+pub get-same_rest : {A : Type 0} (n : ℕ) (xs ys : List A) (i : ℕ) → drop n ys ≡ drop n xs → n ≤ i → slice_get ys i ≡ slice_get xs i
+get-same_rest n xs ys i same past =
+    let e : n + (i - n) ≡ i = omega arith in
+    ap (slice_get ys) (sym e) ∙ sym (get-drop n ys (i - n)) ∙ ap (λ l. slice_get l (i - n)) same ∙ get-drop n xs (i - n) ∙ ap (slice_get xs) e
 
 -- an item more that was mapped in its place
 pub map-step : {A : Type 0} (f : A → A) (xs : List A) (i : ℕ) (d : A) → i < length xs

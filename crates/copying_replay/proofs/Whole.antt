@@ -49,7 +49,14 @@ module _ {T : Type 0} (kept : T → ℕ → Option (List ℕ)) (losses : T → �
             app = λ number port is. it_is_there (slice_get (map new_app ports) number)
                 (IsAppOf port (losses_in losses shelves number) (losses_in losses shelves number)) (new_app port)
                 (slice_get-map new_app ports number ∙ ap (option_map new_app) is)
-                (record { port_is = refl; nothing = (refl, refl, refl); quits_not = λ quits. cc; later = omega arith; cause = λ write. absurd (cc) });
+                (record {
+                  port_is = refl;
+                  nothing = (refl, refl, refl);
+                  quits_not = λ quits. cc;
+                  later = omega arith;
+                  cause = λ write. absurd (cc);
+                  still = λ _. refl;
+                });
             many_shelves = refl;
             beyond = refl;
           });
@@ -102,6 +109,7 @@ module _ {S T : Type 0} {left : S → Option (List ℕ)} {faults : S → ℕ} {k
           quits_not = was.quits_not;
           later = was.later;
           cause = was.cause;
+          still = was.still;
         });
     many_apps = ap length apps ∙ length-map copier.streams.apps.items (with_written copier.streams.lines.items) ∙ stands.many_apps;
     many_shelves = stands.many_shelves;

@@ -30,8 +30,9 @@ pub record IsAppLine (port losses_at_first losses : ℕ) (flows : List FlowLine)
   pub nothing : (app.loans ≡ 0) × (app.copied ≡ 0)
   pub quits_not : app.stopped ≢ stop.Quit
   pub later : losses_at_first ≤ losses
-  -- its shelf failed
+  -- its shelf failed, and otherwise none of the shelf's calls did
   pub cause : app.stopped ≡ stop.Write → Rose losses_at_first losses
+  pub still : app.stopped ≢ stop.Write → losses ≡ losses_at_first
 
 pub record Replayed {S T : Type 0} (left : S → Option (List ℕ)) (faults : S → ℕ) (kept : T → ℕ → Option (List ℕ)) (losses : T → ℕ)
     (source source_now : S) (shelves shelves_now : List T) (ports : List ℕ) (outcome : Outcome) : Type 0 where

@@ -81,7 +81,9 @@ pub record IsAppOf (port losses_at_first losses : ℕ) (app : AppLine) : Type 0 
   pub nothing : (app.written ≡ 0) × (app.loans ≡ 0) × (app.copied ≡ 0)
   pub quits_not : app.stopped ≢ stop.Quit
   pub later : losses_at_first ≤ losses
+  -- its shelf failed, and otherwise none of the shelf's calls did
   pub cause : app.stopped ≡ stop.Write → Rose losses_at_first losses
+  pub still : app.stopped ≢ stop.Write → losses ≡ losses_at_first
 
 -- what holds of something that is there
 abbrev pub There : {A : Type 0} → Option A → (A → Type 0) → Type 0

@@ -32,6 +32,7 @@ pub fn receive<T: Shelf>(
     ensures others { (flow : ℕ) → flow ≢ joined.now.flow → Keeps (T.kept shelf.old flow) (T.kept shelf.new flow) }
     ensures later { T.faults shelf.old ≤ T.faults shelf.new }
     ensures cause { result ≡ Write → Rose (T.faults shelf.old) (T.faults shelf.new) }
+    ensures still { result ≢ Write → T.faults shelf.new ≡ T.faults shelf.old }
     ensures quits_not { result ≢ Quit }
 {
     match take_copies(alloc, queue, joined.seq, payload) {
@@ -92,6 +93,7 @@ fn deliver<T: Shelf>(
     ensures others { (other : ℕ) → other ≢ flow → Keeps (T.kept shelf.old other) (T.kept shelf.new other) }
     ensures later { T.faults shelf.old ≤ T.faults shelf.new }
     ensures cause { result ≡ Write → Rose (T.faults shelf.old) (T.faults shelf.new) }
+    ensures still { result ≢ Write → T.faults shelf.new ≡ T.faults shelf.old }
     ensures kind { (result ≡ No) ⊎ (result ≡ Write) }
 {
     while let Some((piece, span)) = queue.pop_front() {

@@ -1,5 +1,5 @@
 -- What was popped is delivered.
-use Rattle.std.proofs.Common.{◌≡◌, ◌≢◌, ◌≤◌, ℕ, List, Option, length}
+use Rattle.std.proofs.Common.{◌≡◌, ◌≢◌, ℕ, List, Option, length}
 use Rattle.std.specs.Io.KnownBytes.{Keeps}
 use Rattle.zr_kinds.specs.CopyingReceiver.{Placed}
 use Rattle.copying_replay.specs.Receiving.{HasDelivered}
@@ -11,7 +11,7 @@ invariant-loop-piece g l =
     × ((first : Option (List ℕ)) (placed : Placed ℕ) → HasDelivered first (g.T.Shelf.kept l.initial.shelf l.flow) placed l.fn.queue
     → HasDelivered first (g.T.Shelf.kept l.shelf l.flow) placed l.queue)
     × ((other : ℕ) → other ≢ l.flow → Keeps (g.T.Shelf.kept l.initial.shelf other) (g.T.Shelf.kept l.shelf other))
-    × (g.T.Shelf.faults l.initial.shelf ≤ g.T.Shelf.faults l.shelf)
+    × (g.T.Shelf.faults l.shelf ≡ g.T.Shelf.faults l.initial.shelf)
 
 abbrev pub decreases-loop-piece : goal.decreases-loop-piece
 decreases-loop-piece g l = length l.queue.kept

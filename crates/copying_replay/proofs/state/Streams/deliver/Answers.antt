@@ -88,7 +88,7 @@ returns-then-ne-2-clause-delivers g c = λ first flows placed after own own_is a
     (λ old was. subst (λ p. IsFollowed stopped old (g.T.Shelf.kept c.receive-stopped.new.shelf n) own.base p c.receive-stopped.new.line.bytes
     c.receive-stopped.new.queue) (sym received_is)
     (c.receive-stopped.ensures.receives old own.base (placed n) was))
-    c.receive-stopped.ensures.others c.receive-stopped.ensures.later c.receive-stopped.ensures.cause in
+    c.receive-stopped.ensures.others c.receive-stopped.ensures.later c.receive-stopped.ensures.cause c.receive-stopped.ensures.still in
     let known : c.stop.new.self.table.flows ≡ flows = ap (λ table. table.flows) c.stop.ensures.table ∙ carries.known in
     let lines_are : c.stop.new.self.lines.items ≡ set lines n c.receive-stopped.new.line = ap (λ v. v.items) c.stop.ensures.lines in
     record {
@@ -140,7 +140,7 @@ returns-else-ne-2-clause-delivers g c = λ first flows placed after own own_is a
     (λ old was. subst (λ p. IsFollowed stopped old (g.T.Shelf.kept c.receive-stopped.new.shelf n) own.base p c.receive-stopped.new.line.bytes
     c.receive-stopped.new.queue) (sym received_is)
     (c.receive-stopped.ensures.receives old own.base (placed n) was))
-    c.receive-stopped.ensures.others c.receive-stopped.ensures.later c.receive-stopped.ensures.cause in
+    c.receive-stopped.ensures.others c.receive-stopped.ensures.later c.receive-stopped.ensures.cause c.receive-stopped.ensures.still in
     record {
       known = carries.known;
       steered = carries.steered;
