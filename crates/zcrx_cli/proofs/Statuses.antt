@@ -1,7 +1,11 @@
 -- What the status of a replay says of how it went.
 use Rattle.std.proofs.Common.{◌≡◌, ◌≢◌, nat_eq, ℕ, suc, List, [], ◌∷◌, length, ◌<◌, Bool, true, false, ◌||◌, Option, None, Some}
 use Rattle.std.proofs.Common.{refl, sym, ap, subst, ◌∙◌, ◌⊎◌, ⊎_elim, inl, inr, arith}
-use Rattle.std.specs.Prelude.{IfSome, Result, Ok, Err, ◌==◌, if◌then◌else◌}
+use Rattle.std.proofs.Common.{get_or, ◌≤◌}
+use Rattle.std.proofs.lemmas.Bool.{cases_lt}
+use Rattle.std.proofs.lemmas.List.Folds.{list_any_at}
+use Rattle.std.proofs.lemmas.Option.{get_or_from_slice_get}
+use Rattle.std.specs.Prelude.{IfSome, OnOk, Result, Ok, Err, ◌==◌, if◌then◌else◌}
 use Rattle.std.specs.List.{slice_get}
 use Rattle.std.proofs.lemmas.Bool.{cases_eq}
 use Rattle.std.proofs.lemmas.Bool.Decides.{nat_tests}
@@ -19,8 +23,8 @@ use Rattle.copying_replay.specs.Streams.{losses_in}
 use Rattle.copying_replay.specs.Replayed.{Replayed}
 use Rattle.copying_replay.specs.declared.outcome.Outcome.{Outcome}
 use Rattle.copying_replay.proofs.Turns.{some-weaker}
-use Rattle.copying_replay.proofs.Flowing.{there}
-use Rattle.copying_replay.proofs.Places.{get-there, get-within}
+use Rattle.copying_replay.proofs.Flowing.{there, losses_in-same}
+use Rattle.copying_replay.proofs.Places.{get-there, get-within, get-same_rest}
 use Rattle.run_report.specs.Report.{Reports, answer_of}
 use Rattle.run_report.specs.declared.report.Unreported.{Unreported}
 use Rattle.run_report.specs.declared.report.Unreported.TheVariants as unreported
@@ -133,6 +137,20 @@ any-write (app ∷ apps) is = by_first (is_write app.stopped) refl is (λ others
         → Stands (app ∷ apps)
     by_first true first all others = record { number = 0; app = app; at = refl; why = is_it app.stopped first }
     by_first false first all others = let rest = others all in record { number = suc rest.number; app = rest.app; at = rest.at; why = rest.why }
+
+write-any : (apps : List AppLine) (number : ℕ) (app : AppLine) → slice_get apps number ≡ Some app → app.stopped ≡ stop.Write
+    → any_stopped is_write apps ≡ true
+write-any apps number app is write =
+    let at : get_or apps number app ≡ app = get_or_from_slice_get apps number app app is in
+    list_any_at (λ (a : AppLine). is_write a.stopped) apps number app (get-within apps number app is)
+    (ap (λ (a : AppLine). is_write a.stopped) at ∙ ap is_write write)
+
+-- where a shelf failed
+lost-status : (wanting : Bool) (end : Option Fault) → (status_from wanting true end ≡ 1) ⊎ (status_from wanting true end ≡ 9)
+lost-status true end = inl refl
+lost-status false None = inr refl
+lost-status false (Some Memory) = inl refl
+lost-status false (Some fault) = inr refl
 
 -- ---- from the status to the answer
 
@@ -253,6 +271,38 @@ module _ {S T : Type 0} {left : S → Option (List ℕ)} {failed : S → ℕ} {k
       (λ (at_nine, why). ⊎_elim (λ shelf. inl (shelf-failed shelf)) (λ sink. inr sink) why)
       (λ number. absurd ((numbered outcome.end replayed.ended.kind).1 (sym number ∙ nine))) others) causes.cases
 
+  -- ---- what an answer shows by none of its faults
+
+  read_well : answer ≢ 1 → answer ≢ 8 → answer ≢ 9 → failed source_now ≡ failed source
+  read_well not_1 not_8 not_9 = replayed.ended.still (λ by_read. ⊎_elim (λ one. not_1 one) (λ others. ⊎_elim (λ (nine, why). not_9 nine)
+      (λ number. not_8 (number ∙ ap end_number by_read)) others) causes.cases)
+
+  none-lost : answer ≢ 1 → answer ≢ 9 → lost ≡ true → ⊥
+  none-lost not_1 not_9 some =
+      let wanting = any_stopped is_memory outcome.apps.items in
+      let said : (status_of outcome ≡ 1) ⊎ (status_of outcome ≡ 9) =
+      subst (λ l. (status_from wanting l outcome.end ≡ 1) ⊎ (status_from wanting l outcome.end ≡ 9)) (sym some) (lost-status wanting outcome.end) in
+      ⊎_elim (λ same. ⊎_elim (λ one. not_1 (same ∙ one)) (λ nine. not_9 (same ∙ nine)) said)
+      (λ others. ⊎_elim (λ one. not_1 one) (λ (nine, rose, other). not_9 nine) others) is.cases
+
+  kept_well : answer ≢ 1 → answer ≢ 9 → (app : ℕ) → losses_in losses shelves_now app ≡ losses_in losses shelves app
+  kept_well not_1 not_9 app = ⊎_elim
+      (λ (within : app < length ports).
+      let (port, port_is) = get-there ports app within in
+      let (line, line_is, was) = there (slice_get outcome.apps.items app) _ (replayed.app app port port_is) in
+      was.still (λ write. none-lost not_1 not_9 (write-any outcome.apps.items app line line_is write)))
+      (λ (past : length ports ≤ app). losses_in-same losses shelves shelves_now app
+      (get-same_rest (length ports) shelves shelves_now app replayed.beyond past))
+      (cases_lt app (length ports))
+
+-- the report went out whole
+told_well : (refusals refusals_now said answer : ℕ) (reported : Result (Unit {0}) Unreported) → OnOk reported (refusals_now ≡ refusals)
+    → answer ≡ answer_of said reported → answer ≢ 1 → answer ≢ 9 → refusals_now ≡ refusals
+told_well refusals refusals_now said answer (Ok done) still is not_1 not_9 = still
+told_well refusals refusals_now said answer (Err unreported.Memory) still is not_1 not_9 = absurd (not_1 is)
+told_well refusals refusals_now said answer (Err unreported.Write) still is not_1 not_9 =
+    ⊎_elim (λ one. absurd (not_1 one)) (λ nine. absurd (not_9 nine.0)) (chosen said answer is)
+
 pub replays : {S T O : Type 0} {left : S → Option (List ℕ)} {failed : S → ℕ} {kept : T → ℕ → Option (List ℕ)} {losses : T → ℕ}
     (sent : O → Option (List ℕ)) (refusals : O → ℕ)
     {source source_now : S} {shelves shelves_now : List T} (out out_now : O) {ports : List ℕ} {outcome : Outcome} {answer : ℕ}
@@ -274,4 +324,7 @@ replays {left = left} sent refusals {source = source} out out_now {outcome = out
       whole = whole-of replayed is;
       read = read-of replayed is;
       lost = lost-of replayed is;
+      sound_reads = read_well replayed is;
+      sound_shelves = kept_well replayed is;
+      sound_sink = told_well (refusals out) (refusals out_now) (status_of outcome) answer tells.reported tells.still tells.answered;
     }

@@ -1,5 +1,5 @@
 -- What a replay leaves: the streams on their shelves, the report, the status.
-use Rattle.std.specs.Prelude.{◌≡◌, ℕ, List, [], ◌∷◌, ◌==◌, true, Option, Some, None, Result, IfSome, ◌⊎◌}
+use Rattle.std.specs.Prelude.{◌≡◌, ◌≢◌, ℕ, List, [], ◌∷◌, ◌==◌, true, Option, Some, None, Result, IfSome, OnOk, ◌⊎◌}
 use Rattle.std.specs.List.{list_any}
 use Rattle.zr_kinds.specs.declared.fault.Fault.{Fault}
 use Rattle.zr_kinds.specs.declared.fault.Fault.TheVariants.{Cut}
@@ -51,6 +51,10 @@ pub record Replays {S T O : Type 0} (left : S → Option (List ℕ)) (failed : S
       × Took (left source) (left source_now) (λ taken. IsBrokenOff (ended_of ports taken).fault)
   -- 9 comes only where an application's shelf failed, or the sink.
   pub lost : answer ≡ 9 → ((app : ℕ) × Rose (losses_in losses shelves app) (losses_in losses shelves_now app)) ⊎ Rose (refusals out) (refusals out_now)
+  -- No read failed where the answer is none of 1, 8 and 9, and no call of a shelf or of the sink where it is neither 1 nor 9.
+  pub sound_reads : answer ≢ 1 → answer ≢ 8 → answer ≢ 9 → failed source_now ≡ failed source
+  pub sound_shelves : answer ≢ 1 → answer ≢ 9 → (app : ℕ) → losses_in losses shelves_now app ≡ losses_in losses shelves app
+  pub sound_sink : answer ≢ 1 → answer ≢ 9 → refusals out_now ≡ refusals out
 
 -- There was no memory before anything was read or written.
 pub record IsUntouched {S T O : Type 0} (source source_now : S) (shelves shelves_now : List T) (out out_now : O) : Type 0 where
@@ -72,4 +76,5 @@ Commands left failed kept losses sent refusals source source_now shelves shelves
 pub record Tells (sent now : Option (List ℕ)) (refusals refusals_now : ℕ) (outcome : Outcome) (answer : ℕ) : Type 0 where
   pub reported : Result (Unit {0}) Unreported
   pub report : Reports sent now refusals refusals_now (report_of outcome.tally outcome.apps.items outcome.flows.items (status_of outcome)) reported
+  pub still : OnOk reported (refusals_now ≡ refusals)
   pub answered : answer ≡ answer_of (status_of outcome) reported
