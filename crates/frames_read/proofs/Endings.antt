@@ -273,7 +273,8 @@ shown-opening ports all =
     (λ shows. leads (Some NotPcap) shows) (λ shows. leads (Some Version) shows) (λ shows. leads (Some LinkType) shows) (λ shows. leads (Some Cut) shows)
     (λ shows. tt)
 
-taken-opening : (Wants : List (List ℕ) → List ℕ → Type 0) (ports : List ℕ) (taken : List ℕ) (fault : Fault) → IsOpeningFault fault → TakenShows (records_of taken) fault
+taken-opening : (Wants : List (List ℕ) → List ℕ → Type 0) (ports : List ℕ) (taken : List ℕ) (fault : Fault) → IsOpeningFault fault
+    → TakenShows (records_of taken) fault
     → TakenEnds Wants (ended_of ports taken) [] (Some fault)
 taken-opening Wants ports taken =
     let leads : Leads (ended_of ports taken) [] (records_of taken) = opening-ends ports taken in
@@ -282,7 +283,8 @@ taken-opening Wants ports taken =
     (λ shows. ⊎_elim (λ none. inl (leads None none)) (λ cut. inr (leads (Some Cut) cut)) shows)
 
 -- the file header was refused
-pub ends-opening : (Wants : List (List ℕ) → List ℕ → Type 0) (left0 left : Option (List ℕ)) (faults0 faults : ℕ) (ports : List ℕ) (fault : Fault) → IsOpeningFault fault
+pub ends-opening : (Wants : List (List ℕ) → List ℕ → Type 0) (left0 left : Option (List ℕ)) (faults0 faults : ℕ) (ports : List ℕ)
+    (fault : Fault) → IsOpeningFault fault
     → IfSome left0 (λ all. ShowsFault (records_of all) fault) → Took left0 left (λ taken. TakenShows (records_of taken) fault)
     → (fault ≡ Read → Rose faults0 faults) → (fault ≢ Read → faults ≡ faults0) → HasEnded Wants left0 left faults0 faults ports [] (Some fault)
 ends-opening Wants left0 left faults0 faults ports fault is shows took cause same = record {

@@ -112,7 +112,8 @@ pub Accepts-kept : (was pool : PoolState) (old flushed new : NicView) (o : Offer
     → KeepsShort o kept → new ≡ nic_saw flushed look → Accepts was (record pool { short = Some kept }) old new o
 Accepts-kept was pool old flushed new o look kept all few keeps event =
     let total : kept.note.total ≡ length (payload_of o) = rw keeps.note refl in
-    Accepts-short was pool old flushed new o (Some kept) [] (rw event (sym (append-nil flushed.sent))) all few (rw event refl) (rw event (NicLooksStay-nic_saw flushed look))
+    Accepts-short was pool old flushed new o (Some kept) [] (rw event (sym (append-nil flushed.sent))) all few (rw event refl)
+    (rw event (NicLooksStay-nic_saw flushed look))
     (rw event (rw (keeps.app, keeps.note, keeps.bytes) refl))
 
 pub Accepts-either : (was pool : PoolState) (old flushed new : NicView) (o : Offer) (look : NicLook) (short : Option Short) (sent : Bool) (Told : Type 0)

@@ -19,7 +19,8 @@ use Rattle.page_pool.specs.declared.pool.Short.{Short}
 use Rattle.page_pool.specs.Pool.{PoolState, PoolStands, OnlySends, all_notes, piece_notes}
 
 pub OnlySends-none : (pool : PoolState) (v : NicView) → OnlySends pool pool v v
-OnlySends-none pool v = record { gone = []; still = λ none. (refl, refl); view = rw append-nil refl; pool = refl; notes = refl; looks = NicLooksStay-same v v refl }
+OnlySends-none pool v = record
+    { gone = []; still = λ none. (refl, refl); view = rw append-nil refl; pool = refl; notes = refl; looks = NicLooksStay-same v v refl }
 
 -- the first note wasn't sent, and the pool is as it was
 pub OnlySends-refused : (was now : PoolState) (v : NicView) (look : NicLook) → now ≡ was → OnlySends was now v (nic_saw v look)

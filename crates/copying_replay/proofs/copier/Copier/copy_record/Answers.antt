@@ -24,7 +24,8 @@ returns-in-Err-clause-turn g c = λ first_source first_shelves ports records sta
     let gives = c.in-Err.ensures.gives stands.is_open in
     record {
       before = frames_of records;
-      ended = ends-by (BeginsFlowAt ports) stands.read (g.S.Source.left c.next.new.source) (g.S.Source.faults c.next.new.source) c.in-Err.fault gives.0 gives.1 gives.2
+      ended = ends-by (BeginsFlowAt ports) stands.read (g.S.Source.left c.next.new.source)
+          (g.S.Source.faults c.next.new.source) c.in-Err.fault gives.0 gives.1 gives.2
           (λ by. c.in-Err.ensures.memory stands.is_open (ap Err by)) (λ by. (c.in-Err.ensures.cause stands.is_open).read (ap Err by))
           (λ other. (c.in-Err.ensures.cause stands.is_open).still (λ failed. other (cc)));
       follows = stands.follows;
