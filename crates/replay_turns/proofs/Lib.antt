@@ -11,3 +11,5 @@ pub mod MarksStreamed
 pub mod Accounted
 pub mod OfFlow
 pub mod Bridge
+pub mod Standing
+pub mod Beginning

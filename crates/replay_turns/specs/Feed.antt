@@ -78,6 +78,12 @@ pub record FeedStands {S : Type 0} (left : S → Option (List ℕ)) (faults : S 
   pub flows_are : feed.flows ≡ flows_of (steered_in ports frames)
   pub settled : AreSettled split (offers_of (steered_in ports frames)) feed.refused feed.at_hand (all_notes feed.pool v)
 
+-- A new feed has read nothing.
+abbrev pub NewFeedsStand : {S : Type 0} → (S → Option (List ℕ)) → (S → ℕ) → Type 0
+NewFeedsStand {S} left faults =
+    (source : S) (ports : List ℕ) (split : ℕ) (v : NicView) → v.sent ≡ []
+    → FeedStands left faults source source ports split [] (new_feed ports split) v
+
 -- ---- how far the card has come
 
 abbrev pub one_if : Bool → ℕ

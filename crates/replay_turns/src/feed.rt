@@ -2,7 +2,9 @@
 
 ghost use Rattle.std.specs.Prelude.{◌≡◌, ◌<◌, ◌≤◌, true, length, get_or, IfOk, vec_len};
 ghost use Rattle.replay_turns.specs.Plan.{IsPlan};
-ghost use Rattle.replay_turns.specs.Feed.{new_feed, end_of};
+ghost use Rattle.board_face.specs.NicCalls.{apps_of, IsOpen, HasNoToken};
+ghost use Rattle.board_face.specs.declared.views.nic.NicView.{NicView};
+ghost use Rattle.replay_turns.specs.Feed.{IsReady, new_feed, end_of};
 ghost use Rattle.replay_turns.specs.Hand.{HaveApps};
 ghost use Rattle.replay_turns.specs.Outcomes.{AreLinesOf, HavePorts, IsOutcomeOf};
 
@@ -41,7 +43,10 @@ impl Feed {
     /// A feed that has read nothing. The keys of the flows are hashed with `random`.
     pub fn new(alloc: Global, random: RandomState, plan: &Plan) -> Result<Feed, AllocError>
         requires { IsPlan plan.now }
-        ensures { IfOk result (λ feed. feed ≡ new_feed plan.now.ports.items plan.now.split) }
+        ensures value { IfOk result (λ feed. feed ≡ new_feed plan.now.ports.items plan.now.split) }
+        // It fits each face that is open and has no token out.
+        ensures ready { IfOk result (λ feed. (v : NicView) → IsOpen v → HasNoToken v → length plan.now.ports.items ≡ apps_of v.setting
+            → IsReady feed v) }
     {
         Ok(Feed {
             intake: Intake {

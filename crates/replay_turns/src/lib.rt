@@ -8,10 +8,12 @@ mod outcome;
 mod plan;
 mod playing;
 mod reading;
+mod steps;
 mod turn;
 
 pub use feed::Feed;
-pub use laws::accounts_give_streams;
+pub use laws::{accounts_give_streams, new_feeds_stand};
 pub use outcome::Outcome;
 pub use plan::Plan;
+pub use steps::{app_step, card_step};
 pub use turn::nic_turn;

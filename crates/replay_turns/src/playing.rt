@@ -143,7 +143,8 @@ pub fn play<F: NicFace>(
     ensures waits { intake.new.hand ≢ None → 0 < pending_count pool.new }
     ensures split { pool.new.split ≡ intake.new.split }
     ensures plays { Plays (feed_of intake.old pool.old closed.old) (feed_of intake.new pool.new closed.new) (F.seen face.old) (F.seen face.new) }
-    ensures same { (intake.new.stage ≡ intake.old.stage) × (intake.new.counting.tally ≡ intake.old.counting.tally) }
+    ensures same { (intake.new.stage ≡ intake.old.stage) × (intake.new.counting.tally ≡ intake.old.counting.tally)
+        × (intake.new.table.ports ≡ intake.old.table.ports) }
     ensures later { card_steps closed.old (F.seen face.old) ≤ card_steps closed.new (F.seen face.new) }
     ensures rises { result ≡ true → (intake.old.hand ≢ None → 0 < pending_count pool.old)
         → card_steps closed.old (F.seen face.old) < card_steps closed.new (F.seen face.new) }

@@ -20,6 +20,7 @@ pub fn nic_turn<S: Source, F: NicFace>(feed: &mut Feed, source: &mut S, face: &m
     ensures turns { (first : S) (ports : List ℕ) (split : ℕ) (frames : List (List ℕ))
         → FeedStands S.left S.faults first source.old ports split frames feed.old (F.seen face.old)
         → FeedTurns S.left S.faults first source.new ports split frames feed.old feed.new (F.seen face.old) (F.seen face.new) }
+    ensures ports { feed.new.ports ≡ feed.old.ports }
     ensures source { ¬ WantsRecord feed.old → source.new ≡ source.old }
     ensures answer { MatchBool result
         (feed_steps feed.old (F.seen face.old) < feed_steps feed.new (F.seen face.new))

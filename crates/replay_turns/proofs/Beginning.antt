@@ -1,0 +1,26 @@
+-- A new feed has read nothing, and nothing was offered of it.
+use Rattle.std.proofs.Common.{ℕ, List, [], Option, refl, arith}
+use Rattle.std.proofs.lemmas.List.Elements.{All-nil}
+use Rattle.std.specs.Prelude.{AllPairs, ◌<◌}
+use Rattle.frames_read.proofs.Framing.{steered-nothing}
+use Rattle.replay_turns.specs.Feed.{NewFeedsStand}
+
+no_pairs : AllPairs (λ m n. m < n) []
+no_pairs = λ i j d lt none. absurd (grind (arith, none))
+
+pub feeds_stand : {S : Type 0} (left : S → Option (List ℕ)) (faults : S → ℕ) → NewFeedsStand left faults
+feeds_stand left faults source ports split v none =
+    let nothing = steered-nothing ports in
+    record {
+      ports_are = refl;
+      split_is = refl;
+      comes = (refl, refl);
+      tally_is = rw nothing refl;
+      flows_are = rw nothing refl;
+      settled = record {
+        settled = [];
+        awaits = rw nothing refl;
+        refused_are = record { rise = no_pairs; each = All-nil _ };
+        shown = rw none refl;
+      };
+    }

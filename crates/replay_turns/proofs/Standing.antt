@@ -1,0 +1,12 @@
+-- Where what stands beside an application is as before, so are the sides of the other applications.
+use Rattle.std.proofs.Common.{◌≡◌, ◌≢◌, ℕ, sym, ◌∙◌, ap, get_or-set_other}
+use Rattle.plain_board.specs.Board.{Board, side_in, side_of, others_of}
+use Rattle.plain_parts.specs.Blank.{blank_app}
+use Rattle.plain_board.specs.declared.others.Others.{Others}
+
+pub others_stand : (old new : Board) (a now : ℕ) → others_of new now ≡ others_of old a → (b : ℕ) → b ≢ a → side_of new b ≡ side_of old b
+others_stand old new a now same b other =
+    let number : now ≡ a = ap (λ (o : Others). o.number) same in
+    let not_now : b ≢ now = λ is. other (is ∙ number) in
+    let apps = ap (λ (o : Others). side_in o.apps b) same in
+    sym (get_or-set_other new.apps now b blank_app blank_app not_now) ∙ apps ∙ get_or-set_other old.apps a b blank_app blank_app other
