@@ -59,5 +59,8 @@ SidesRule-card setting nic now apps rule step = record {
     first = λ app here. rw step.dealt (h.first app here);
     owed = λ b judged. rw (step.setting, step.dealt, step.entry) (h.owed b judged);
     lowered = λ b judged. rw step.setting (h.lowered b judged);
+    stray = λ judged app here. rw step.dealt (h.stray judged app here);
   };
+  scrubbed = λ a app here done. let none = rule.scrubbed a app here done in
+      record { loans = none.loans; owed = λ b. rw (step.dealt, step.entry) (none.owed b) };
 }

@@ -18,7 +18,7 @@ weight-other a b other = ap weight (not-eqb a b other)
 pub weight-swap : (a b : ℕ) → weight (a == b) ≡ weight (b == a)
 weight-swap a b =
     ⊎_elim
-    (λ t. let e : a ≡ b = t.1 in omega (arith, t.0, ap weight t.0, subst (λ c. weight (c == a) ≡ 1) e (weight-same a)))
+    (λ t. let e : a ≡ b = t.1 in omega (arith, ap weight t.0, subst (λ c. weight (c == a) ≡ 1) e (weight-same a)))
     (λ t. omega (arith, ap weight t.0, weight-other b a (λ e. t.1 (sym e))))
     (eqb_tells a b)
 

@@ -12,7 +12,7 @@ use Rattle.board_face.specs.AppEvents.{reserve_of}
 use Rattle.board_face.specs.Sides.{IsApp}
 use Rattle.board_face.specs.Holders.{lowered_in_hand, returning_in_hand, ended_in, returning_count, returned_in, owed_in}
 use Rattle.board_face.specs.Counts.{pool_count, user_count, EndedWereReturned}
-use Rattle.board_face.specs.Returns.{names, returns, is_some_of}
+use Rattle.board_face.specs.Returns.{names, returns, is_some_of, entries_on_way}
 use Rattle.board_face.specs.Steps.{side_judged}
 use Rattle.board_face.specs.declared.views.parts.Setting.{Setting}
 use Rattle.board_face.specs.declared.views.nic.EntryInHand.{EntryInHand}
@@ -27,7 +27,7 @@ use Rattle.board_face.proofs.ArePlacedLemmas.{ArePlaced-stretch}
 use Rattle.board_face.proofs.MadeLastLemmas.{IsMadeLast-stretch}
 use Rattle.board_face.proofs.IsFilledByOneLemmas.{IsFilledByOne-fewer}
 use Rattle.ref_words.specs.Words.{Words, user_of, listed_in}
-use Rattle.ref_words.specs.Sides.{IsInHand}
+use Rattle.ref_words.specs.Sides.{IsInHand, IsFirstRaw}
 use Rattle.ref_words.specs.Rule.{RefRule}
 use Rattle.ref_words.proofs.Frees.{AreKept-card}
 use Rattle.ref_words.proofs.UserSteps.{AreFreeOnce-same}
@@ -100,6 +100,8 @@ module _ (setting : Setting) (words : Words) (nic : NicSide) (apps : List AppSid
                 strays = r.strays;
               };
           hand = hand;
+          scrubbed = λ k x here done. let none = rule.sides.scrubbed k x here done in
+              record { loans = none.loans; owed = λ c. omega (arith, none.owed c, ap (λ h. length (drop h (returned_in c x))) (ends c x)) };
         };
         pool = λ c less. rule.pool c less ∙ sym (pools c);
         users = λ x c is less. rule.users x c is less ∙ sym (users x c);
@@ -164,8 +166,35 @@ module _ (setting : Setting) (words : Words) (nic : NicSide) (apps : List AppSid
       omega (arith, users, above, none, count-tally (λ l. l.place.buffer == b) app.view.loans, returned_in-count b app))
       (cases_Bool front.first.of_loan)
 
-  judge-case : (none : Bool) → (none ≡ false → 0 < user_of words a b) → RefRule setting words (side_judged nic a entry b none) apps
-  judge-case true above =
+  -- where it is 0 nothing is owed there, so the entry came from no loan
+  stray-raw : (app : AppSide) → IsApp apps a app → user_of words a b ≡ 0 → IsFirstRaw (entries_on_way nic app)
+  stray-raw app here zero =
+      let layouts : app.view.setting.layout ≡ setting.layout =
+      subst (λ x. x.view.setting.layout ≡ setting.layout) here.is (ap (λ s. s.layout) (rule.sides.set.others a app here.there)) in
+      let front = known.first app here in
+      let names_it : names app.view.setting.layout b front.first ≡ true =
+      ap (λ l. is_some_of (judged l front.first.entry) b) layouts
+      ∙ (ap (λ e. is_some_of (judged setting.layout e) b) front.same ∙ (ap (λ o. is_some_of o b) named ∙ eqb_same b)) in
+      ⊎_elim
+      (λ of_loan.
+      let counted : returns app.view.setting.layout b front.first ≡ true = rw of_loan names_it in
+      absurd (omega (
+        arith,
+        rw front.is at ((rule.sides.returns a app here).owed b),
+        count-tally (returns app.view.setting.layout b) (front.first ∷ front.others),
+        ap weight counted,
+        length-drop (ended_in b nic app) (returned_in b app),
+        not-lowered app.view.app b,
+        own-users setting words nic apps a b app rule here within,
+        returned_in-count b app,
+        zero,
+      )))
+      (λ raw. record { first = front.first; others = front.others; is = front.is; raw = raw })
+      (cases_Bool front.first.of_loan)
+
+  judge-case : (none : Bool) → (none ≡ false → 0 < user_of words a b) → (none ≡ true → user_of words a b ≡ 0)
+      → RefRule setting words (side_judged nic a entry b none) apps
+  judge-case true above zero =
       RefRule-judged setting words nic apps rule (side_judged nic a entry b true) refl (λ x c. if-none (a == x) ∙ sym (not-lowered x c))
       (λ x c. if-none (a == x) ∙ sym (not-returning x c))
       (λ it is.
@@ -177,8 +206,9 @@ module _ (setting : Setting) (words : Words) (nic : NicSide) (apps : List AppSid
         first = known.first;
         owed = λ c e. absurd (let none : ⊥ = cc in none);
         lowered = λ c e. absurd (let none : ⊥ = cc in none);
+        stray = λ e app here. stray-raw app here (zero refl);
       }))
-  judge-case false above =
+  judge-case false above zero =
       RefRule-judged setting words nic apps rule (side_judged nic a entry b false) refl (λ x c. if-none (a == x) ∙ sym (not-lowered x c))
       (λ x c. if-none (a == x) ∙ sym (not-returning x c))
       (λ it is.
@@ -198,6 +228,7 @@ module _ (setting : Setting) (words : Words) (nic : NicSide) (apps : List AppSid
               λ app here. omega (arith, owes app here (above refl), not-lowered app.view.app b, if-none (a == app.view.app)),
             );
         lowered = λ c e. absurd (let none : ⊥ = cc in none);
+        stray = λ e. absurd (let none : ⊥ = cc in none);
       }))
 
   pub RefRule-looked : RefRule setting words (side_judged nic a entry b (user_of words a b == 0)) apps
@@ -207,6 +238,7 @@ module _ (setting : Setting) (words : Words) (nic : NicSide) (apps : List AppSid
       (λ t. absurd (let both : true ≡ false = sym t.0 ∙ e in let none : ⊥ = cc in none))
       (λ t. let ne = t.1 in some-above (user_of words a b) ne)
       (eqb_tells (user_of words a b) 0))
+      (λ e. ⊎_elim (λ t. t.1) (λ t. absurd (let both : true ≡ false = sym e ∙ t.0 in let none : ⊥ = cc in none)) (eqb_tells (user_of words a b) 0))
     where
       some-above : (n : ℕ) → n ≢ 0 → 0 < n
       some-above n ne = ⊎_elim (λ less. less) (λ none. absurd (ne (omega arith))) (cases_lt 0 n)

@@ -2,7 +2,7 @@
 use Rattle.std.proofs.Common.{◌≡◌, ⊎_elim, ℕ, zero, suc, ◌+◌, ◌-◌, ◌*◌, ◌/◌, ◌%◌, ◌<◌, ◌≤◌}
 use Rattle.std.proofs.Common.{List, [], ◌∷◌, length, get_or}
 use Rattle.std.proofs.Common.{replicate, length-drop, refl, ap, sym, ◌∙◌, arith, subst, length-append}
-use Rattle.std.specs.Prelude.{◌==◌, min}
+use Rattle.std.specs.Prelude.{true, ◌==◌, min}
 use Rattle.std.specs.Int.{bit_at}
 use mathlib.Core.Option.{some, some-injective, some-ne-none}
 use lib.ListN.{get_elem?}
@@ -28,7 +28,7 @@ use Rattle.board_face.proofs.OpenedLemmas.{FillingsFit-opened, IsFilledByOne-ope
 use Rattle.ref_words.specs.declared.view.View.{View}
 use Rattle.ref_words.specs.Words.{AreSlots, opened_words, free_list, free_word, listed_in, user_of, roles_of, note_width, refill_width}
 use Rattle.ref_words.specs.Seated.{Seated, no_role, side_at}
-use Rattle.ref_words.specs.Sides.{HasScrubLists, HasFreeReserve}
+use Rattle.ref_words.specs.Sides.{HasScrubLists, HasFreeReserve, HasNoneOwed}
 use Rattle.ref_words.specs.Rule.{RefRule}
 
 module _ (setting : Setting) where
@@ -169,6 +169,9 @@ module _ (setting : Setting) where
             strays = All-nil _;
           }) a app here.there);
       hand = λ inhand e. absurd (let none : ⊥ = cc in none);
+      scrubbed = λ a app here. subst (λ x. x.view.scrubbed ≡ true → HasNoneOwed (new_nic setting) x) here.is
+          (All-new (λ x. x.view.scrubbed ≡ true → HasNoneOwed (new_nic setting) x) setting 0 (apps_of setting) (λ n e. absurd
+          (false≢true e)) a app here.there);
     };
     pool = λ b small. all-alike (total setting.layout) b 0 ∙ sym (count-new b setting (apps_of setting));
     users = λ a b app small. user-zero (apps_of setting) (total setting.layout) a b app ∙ sym (users-new a b setting (apps_of setting));

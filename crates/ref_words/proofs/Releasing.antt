@@ -100,6 +100,7 @@ module _ (setting : Setting) (words : Words) (nic : NicSide) (apps : List AppSid
         scrubbed = r.scrubbed;
         strays = r.strays;
       };
+      scrubbed = λ done. let none = rule.sides.scrubbed a app here done in record { loans = none.loans; owed = none.owed };
       way = refl;
       came_back = λ b. refl;
       ended = inr (λ b. refl);

@@ -152,7 +152,10 @@ module _ (setting : Setting) (words : Words) (nic : NicSide) (apps : List AppSid
             first = known.first;
             owed = λ c e. absurd (let none : ⊥ = cc in none);
             lowered = λ c e. absurd (let none : ⊥ = cc in none);
+            stray = λ e. absurd (let none : ⊥ = cc in none);
           });
+      scrubbed = λ k x here done. let none = rule.sides.scrubbed k x here done in
+          record { loans = none.loans; owed = λ c. omega (arith, none.owed c, ap (λ h. length (drop h (returned_in c x))) (ends c x)) };
     };
     here = let c = counted in omega arith;
     others = λ c other. omega (arith, less c, weight-other b c (λ e. other (sym e)));

@@ -187,6 +187,7 @@ module _ (setting : Setting) (words : Words) (nic : NicSide) (apps : List AppSid
             scrubbed = r.scrubbed;
             strays = r.strays;
           };
+      scrubbed = λ done. absurd (let wrong : true ≡ false = sym done ∙ counted in let no : ⊥ = cc in no);
       way = refl;
       came_back = λ c. refl;
       ended = inl ((rule.sides.returns a app here).quiet quiet);

@@ -1,5 +1,5 @@
 -- What holds of the sides holds again once an application's side changed.
-use Rattle.std.proofs.Common.{◌≡◌, ⊎_elim, ℕ, ◌<◌, ◌≤◌, List, [], ◌∷◌, length, set, get_or, ap, sym, ◌∙◌, arith, subst}
+use Rattle.std.proofs.Common.{◌≡◌, ⊎_elim, ℕ, ◌<◌, ◌≤◌, true, List, [], ◌∷◌, length, set, get_or, ap, sym, ◌∙◌, arith, subst}
 use Rattle.std.specs.Prelude.{◌≢◌, ◌⊎◌, All}
 use Rattle.std.proofs.lemmas.List.{length-set, get_or-set_same, get_or-set_other}
 use Rattle.std.proofs.lemmas.List.Elements.{All-set}
@@ -17,7 +17,7 @@ use Rattle.board_face.specs.declared.views.parts.Setting.{Setting}
 use Rattle.board_face.specs.declared.views.nic.NicSide.{NicSide}
 use Rattle.board_face.specs.declared.views.app.AppSide.{AppSide}
 use Rattle.board_face.proofs.SideLemmas.{AreNumbered-set}
-use Rattle.ref_words.specs.Sides.{SidesRule, HasScrubLists, HasFreeReserve, IsFirst}
+use Rattle.ref_words.specs.Sides.{SidesRule, HasScrubLists, HasFreeReserve, HasNoneOwed, IsFirst, IsFirstRaw}
 
 -- What is to be known of the application's new side.
 pub record IsAppStep (nic : NicSide) (apps : List AppSide) (a : ℕ) (app now : AppSide) : Type 0 where
@@ -36,6 +36,7 @@ pub record IsAppStep (nic : NicSide) (apps : List AppSide) (a : ℕ) (app now : 
       → pool_count b nic (set apps a now) ≡ 0
   pub few : HasFewPicks now
   pub returns : AreReturns nic now
+  pub scrubbed : now.view.scrubbed ≡ true → HasNoneOwed nic now
   pub way : entries_on_way nic now ≡ entries_on_way nic app
   pub came_back : (b : ℕ) → returned_in b now ≡ returned_in b app
   -- no more was ended, but where no entry of it is on its way
@@ -127,5 +128,8 @@ module _ (setting : Setting) (nic : NicSide) (apps : List AppSide) (a : ℕ) (ap
               step.ended),
         );
         lowered = h.lowered;
+        stray = λ judged. then-now (λ x. IsFirstRaw (entries_on_way nic x)) inhand.app (h.stray judged) (λ e was. rw step.way was);
       };
+      scrubbed = λ k x is done. then-now (λ y. y.view.scrubbed ≡ true
+          → HasNoneOwed nic y) k (λ y at. rule.scrubbed k y at) (λ e was. step.scrubbed) x is done;
     }

@@ -1,6 +1,6 @@
 -- An application lends a spare that it filled.
 use Rattle.std.proofs.Common.{◌≡◌, ⊎_elim, ℕ, ◌+◌, ◌^◌, ◌<◌, List, set, refl, ap, sym, ◌∙◌, arith, inr}
-use Rattle.std.specs.Prelude.{◌==◌, ◌&&◌}
+use Rattle.std.specs.Prelude.{true, false, ◌==◌, ◌&&◌}
 use Rattle.std.proofs.lemmas.Bool.{cases_lt}
 use Rattle.area_layout.specs.Layout.{total}
 use Rattle.board_face.specs.AppEvents.{reserve_of}
@@ -111,6 +111,7 @@ module _ (setting : Setting) (words : Words) (nic : NicSide) (apps : List AppSid
         scrubbed = r.scrubbed;
         strays = r.strays;
       };
+      scrubbed = λ done. absurd (let wrong : true ≡ false = sym done ∙ can.counted in let no : ⊥ = cc in no);
       way = refl;
       came_back = λ b. refl;
       ended = inr (λ b. refl);

@@ -176,7 +176,19 @@ module _ (setting : Setting) (words : Words) (nic : NicSide) (apps : List AppSid
             first = known.first;
             owed = λ c e. absurd (let none : ⊥ = cc in none);
             lowered = λ c e. let same : b ≡ c = cc in subst (λ n. n < total nic.view.setting.layout) same (known.owed b refl).0;
+            stray = λ e. absurd (let none : ⊥ = cc in none);
           });
+      scrubbed = λ k x here done. let none = rule.sides.scrubbed k x here done in
+          record {
+            loans = none.loans;
+            owed = λ c. omega (
+              arith,
+              none.owed c,
+              ends c x,
+              length-drop (ended_in c nic x) (returned_in c x),
+              length-drop (ended_in c now x) (returned_in c x),
+            );
+          };
     };
     here = omega (arith, rule.users a b is-app there, fewer_users a b, and-one);
     others = λ x c other. omega (arith, fewer_users x c, other-pair a x b c (λ e f. other (sym e, sym f)));

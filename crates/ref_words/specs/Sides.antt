@@ -1,5 +1,5 @@
 -- What holds of the sides of all roles between any two steps, whatever the words are.
-use Rattle.std.specs.Prelude.{◌≡◌, ℕ, ◌<◌, true, List, ◌∷◌, length, All, Some}
+use Rattle.std.specs.Prelude.{◌≡◌, ℕ, ◌<◌, true, false, List, [], ◌∷◌, length, All, Some}
 use Rattle.zr_kinds.specs.declared.ring.Rqe.{Rqe}
 use Rattle.area_layout.specs.Layout.{total}
 use Rattle.board_face.specs.NicCalls.{apps_of}
@@ -10,10 +10,10 @@ use Rattle.board_face.specs.Fillings.{IsFilledByOne, FillingsFit}
 use Rattle.board_face.specs.Used.{HasFewPicks}
 use Rattle.board_face.specs.Returns.{AreReturns, entries_on_way}
 use Rattle.board_face.specs.Sides.{AreNumbered, IsApp}
-use Rattle.board_face.specs.Holders.{ended_in, returned_in}
+use Rattle.board_face.specs.Holders.{ended_in, returned_in, owed_in}
 use Rattle.board_face.specs.declared.views.parts.Setting.{Setting}
 use Rattle.board_face.specs.declared.views.nic.EntryInHand.{EntryInHand}
-use Rattle.board_face.specs.declared.views.nic.Judged.TheVariants.{Owed, UserLowered}
+use Rattle.board_face.specs.declared.views.nic.Judged.TheVariants.{Stray, Owed, UserLowered}
 use Rattle.board_face.specs.declared.views.nic.NicSide.{NicSide}
 use Rattle.board_face.specs.declared.views.app.WrittenEntry.{WrittenEntry}
 use Rattle.board_face.specs.declared.views.app.AppSide.{AppSide}
@@ -34,6 +34,11 @@ pub record HasScrubLists (setting : Setting) (app : AppSide) : Type 0 where
 pub record HasFreeReserve (nic : NicSide) (apps : List AppSide) (app : AppSide) : Type 0 where
   pub unheld : app.inside.reserve_seen_free ≡ true → pool_count (reserve_of app.view) nic apps ≡ 0
 
+-- an application has no loan, out or owed
+pub record HasNoneOwed (nic : NicSide) (app : AppSide) : Type 0 where
+  pub loans : app.view.loans ≡ []
+  pub owed : (b : ℕ) → length (owed_in b nic app) ≡ 0
+
 -- the entry is the first of these
 pub record IsFirst (entry : Rqe) (way : List WrittenEntry) : Type 0 where
   pub first : WrittenEntry
@@ -41,14 +46,22 @@ pub record IsFirst (entry : Rqe) (way : List WrittenEntry) : Type 0 where
   pub is : way ≡ first ∷ others
   pub same : first.entry ≡ entry
 
+-- the first of these came from no loan
+pub record IsFirstRaw (way : List WrittenEntry) : Type 0 where
+  pub first : WrittenEntry
+  pub others : List WrittenEntry
+  pub is : way ≡ first ∷ others
+  pub raw : first.of_loan ≡ false
+
 -- An entry in hand is the first of those on their way. Where the user count was seen above 0 for it and isn't lowered yet, a
--- loan is still owed that it gives back.
+-- loan is still owed that it gives back. One that was judged a stray came from no loan.
 pub record IsInHand (nic : NicSide) (apps : List AppSide) (inhand : EntryInHand) : Type 0 where
   pub app : inhand.app < length apps
   pub first : (app : AppSide) → IsApp apps inhand.app app → IsFirst inhand.entry (entries_on_way nic app)
   pub owed : (b : ℕ) → inhand.judged ≡ Owed b
       → (b < total nic.view.setting.layout) × ((app : AppSide) → IsApp apps inhand.app app → ended_in b nic app < length (returned_in b app))
   pub lowered : (b : ℕ) → inhand.judged ≡ UserLowered b → b < total nic.view.setting.layout
+  pub stray : inhand.judged ≡ Stray → (app : AppSide) → IsApp apps inhand.app app → IsFirstRaw (entries_on_way nic app)
 
 pub record SidesRule (setting : Setting) (nic : NicSide) (apps : List AppSide) : Type 0 where
   pub set : AreOf setting nic apps
@@ -63,6 +76,7 @@ pub record SidesRule (setting : Setting) (nic : NicSide) (apps : List AppSide) :
   -- reserves, and picks from the free list
   pub reserves : (a : ℕ) (app : AppSide) → IsApp apps a app → HasFreeReserve nic apps app
   pub few : All HasFewPicks apps
-  -- returns on their way, and the entry in hand
+  -- returns on their way, the entry in hand, and that an application which has scrubbed has no loan and owes none
   pub returns : (a : ℕ) (app : AppSide) → IsApp apps a app → AreReturns nic app
   pub hand : (inhand : EntryInHand) → nic.inside.entry ≡ Some inhand → IsInHand nic apps inhand
+  pub scrubbed : (a : ℕ) (app : AppSide) → IsApp apps a app → app.view.scrubbed ≡ true → HasNoneOwed nic app
