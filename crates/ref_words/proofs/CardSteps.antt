@@ -53,6 +53,7 @@ SidesRule-card setting nic now apps rule step = record {
       let pools : app.view.setting.layout.buffers ≡ nic.view.setting.layout.buffers = ap (λ s. s.layout.buffers) (theirs ∙ sym rule.set.card) in
       record { unheld = λ free. step.unheld (reserve_of app.view) (omega (arith, pools)) ((rule.reserves a app here).unheld free) };
   few = rule.few;
+  dealt = λ a app here. record { order = rw step.dealt (rule.dealt a app here).order };
   returns = λ a app here. AreReturns-card nic now app step.dealt step.entry (rule.returns a app here);
   hand = λ inhand is. let h = rule.hand inhand (sym step.entry ∙ is) in record {
     app = h.app;

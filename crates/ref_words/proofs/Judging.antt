@@ -29,6 +29,7 @@ use Rattle.board_face.proofs.IsFilledByOneLemmas.{IsFilledByOne-fewer}
 use Rattle.ref_words.specs.Words.{Words, user_of, listed_in}
 use Rattle.ref_words.specs.Sides.{IsInHand, IsFirstRaw}
 use Rattle.ref_words.specs.Rule.{RefRule}
+use Rattle.ref_words.proofs.RingSteps.{refills-card}
 use Rattle.ref_words.proofs.Frees.{AreKept-card}
 use Rattle.ref_words.proofs.UserSteps.{AreFreeOnce-same}
 use Rattle.ref_words.proofs.InHand.{in_hand, some-is, if-none}
@@ -99,6 +100,7 @@ module _ (setting : Setting) (words : Words) (nic : NicSide) (apps : List AppSid
                 scrubbed = r.scrubbed;
                 strays = r.strays;
               };
+          dealt = λ k x here. record { order = (rule.sides.dealt k x here).order };
           hand = hand;
           scrubbed = λ k x here done. let none = rule.sides.scrubbed k x here done in
               record { loans = none.loans; owed = λ c. omega (arith, none.owed c, ap (λ h. length (drop h (returned_in c x))) (ends c x)) };
@@ -107,6 +109,7 @@ module _ (setting : Setting) (words : Words) (nic : NicSide) (apps : List AppSid
         users = λ x c is less. rule.users x c is less ∙ sym (users x c);
         free = AreFreeOnce-same words nic like apps apps refl pools (λ c. refl) rule.free;
         kept = AreKept-card (listed_in words) nic like apps refl refl refl (λ c. omega arith) rule.kept;
+        refills = refills-card setting words nic like apps refl refl rule.refills;
       })
 
 part-none : (c : Bool) (n : ℕ) → c ≡ false → (if c then n else 0) ≡ 0

@@ -3,6 +3,7 @@ pub mod Roles
 pub mod Laying
 pub mod Counting
 pub mod Frees
+pub mod RingSteps
 pub mod PoolSteps
 pub mod CardSteps
 pub mod SideSteps

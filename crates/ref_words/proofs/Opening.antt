@@ -1,7 +1,7 @@
 -- A board that was just opened.
 use Rattle.std.proofs.Common.{◌≡◌, ⊎_elim, ℕ, zero, suc, ◌+◌, ◌-◌, ◌*◌, ◌/◌, ◌%◌, ◌<◌, ◌≤◌}
 use Rattle.std.proofs.Common.{List, [], ◌∷◌, length, get_or}
-use Rattle.std.proofs.Common.{replicate, length-drop, refl, ap, sym, ◌∙◌, arith, subst, length-append}
+use Rattle.std.proofs.Common.{mod-lt, replicate, length-drop, refl, ap, sym, ◌∙◌, arith, subst, length-append}
 use Rattle.std.specs.Prelude.{true, ◌==◌, min}
 use Rattle.std.specs.Int.{bit_at}
 use mathlib.Core.Option.{some, some-injective, some-ne-none}
@@ -13,7 +13,7 @@ use Rattle.std.proofs.lemmas.Nat.Bits.{bit_at_ones, bit_at_ones_above, bit_at-ze
 use Rattle.area_layout.specs.Layout.{IsLayout, total, pool_buffers, area_words}
 use Rattle.board_face.specs.NicCalls.{apps_of, free_words_of}
 use Rattle.board_face.specs.NicEvents.{word_bits}
-use Rattle.board_face.specs.Opened.{new_nic, new_app, new_apps}
+use Rattle.board_face.specs.Opened.{new_nic, new_app, new_apps, unseen}
 use Rattle.board_face.specs.Counts.{EndedWereReturned}
 use Rattle.board_face.specs.Holders.{ended_in}
 use Rattle.board_face.specs.Used.{HasFewPicks}
@@ -28,7 +28,8 @@ use Rattle.board_face.proofs.OpenedLemmas.{FillingsFit-opened, IsFilledByOne-ope
 use Rattle.ref_words.specs.declared.view.View.{View}
 use Rattle.ref_words.specs.Words.{AreSlots, opened_words, free_list, free_word, listed_in, user_of, roles_of, note_width, refill_width}
 use Rattle.ref_words.specs.Seated.{Seated, no_role, side_at}
-use Rattle.ref_words.specs.Sides.{HasScrubLists, HasFreeReserve, HasNoneOwed}
+use Rattle.ref_words.specs.Sides.{HasScrubLists, HasFreeReserve, IsDealtInOrder, HasNoneOwed}
+use Rattle.ref_words.specs.Rings.{slot_of, AreRefills}
 use Rattle.ref_words.specs.Rule.{RefRule}
 
 module _ (setting : Setting) where
@@ -40,6 +41,11 @@ module _ (setting : Setting) where
   none-there : (i : ℕ) (v : View) → get_elem? (no_role ∷ []) i ≡ some v → no_role ≡ v
   none-there zero v e = some-injective no_role v e
   none-there (suc i) v e = absurd (some-ne-none v (sym e))
+
+  new-at : (first n k : ℕ) (d : AppSide) → k < n → get_or (new_apps setting first n) k d ≡ new_app setting (first + k)
+  new-at first zero k d small = absurd (omega arith)
+  new-at first (suc n) zero d small = ap (new_app setting) (omega arith)
+  new-at first (suc n) (suc k) d small = new-at (suc first) n k d (omega arith) ∙ ap (new_app setting) (omega arith)
 
   pub seated : Seated setting (opened_words setting).roles (no_role ∷ []) (new_nic setting) apps
   seated = record {
@@ -62,11 +68,6 @@ module _ (setting : Setting) where
     };
   }
     where
-      new-at : (first n k : ℕ) (d : AppSide) → k < n → get_or (new_apps setting first n) k d ≡ new_app setting (first + k)
-      new-at first zero k d small = absurd (omega arith)
-      new-at first (suc n) zero d small = ap (new_app setting) (omega arith)
-      new-at first (suc n) (suc k) d small = new-at (suc first) n k d (omega arith) ∙ ap (new_app setting) (omega arith)
-
       side-new : (k : ℕ) → k < apps_of setting → side_at setting apps k ≡ new_app setting k
       side-new k small = new-at 0 (apps_of setting) k (new_app setting k) small ∙ ap (new_app setting) (omega arith)
 
@@ -118,8 +119,31 @@ module _ (setting : Setting) where
   user-zero : (n t a b : ℕ) → a < n → user_of (record (opened_words setting) { users = replicate n (replicate t 0) }) a b ≡ 0
   user-zero n t a b small = ap (λ row. get_or row b 0) (get_or-replicate n a (replicate t 0) [] small) ∙ all-alike t b 0
 
-  pub rule : IsLayout setting.layout → RefRule setting (opened_words setting) (new_nic setting) apps
-  rule layout = record {
+  -- each slot of a ring is free
+  slot-is : 0 < setting.places → (k : ℕ) → slot_of setting.places (replicate setting.places (replicate refill_width 0)) k ≡ replicate refill_width 0
+  slot-is places_some k = get_or-replicate setting.places (k % setting.places) (replicate refill_width 0) [] (mod-lt k places_some)
+
+  ring : 0 < setting.places → (a : ℕ) → a < apps_of setting → AreRefills setting (opened_words setting) (new_nic setting) (new_app setting a)
+  ring places_some a small =
+      let slots : List (List ℕ) = replicate setting.places (replicate refill_width 0) in
+      let lie : get_or (opened_words setting).refills a [] ≡ slots = get_or-replicate (apps_of setting) a slots [] small in
+      let ends : get_or (new_nic setting).inside.refill_slots a unseen ≡ unseen = get_or-replicate (apps_of setting) a unseen unseen small in
+      rw (lie, ends) (record {
+        some = places_some;
+        many = length-replicate setting.places (replicate refill_width 0);
+        wide = λ k. ap length (slot-is places_some k);
+        order = omega arith;
+        room = omega arith;
+        full = λ k d taken written. absurd (omega (arith, taken, written));
+        free = λ k written taken. ap (λ slot. get_or slot 0 0) (slot-is places_some k);
+        writer_seen = λ e. absurd (false≢true e);
+        writer_words = λ e. absurd (false≢true e);
+        reader_seen = λ e. absurd (false≢true e);
+        reader_words = λ e. absurd (false≢true e);
+      })
+
+  pub rule : IsLayout setting.layout → 0 < setting.places → RefRule setting (opened_words setting) (new_nic setting) apps
+  rule layout places_some = record {
     layout = layout;
     sizes = record {
       roles = length-replicate (roles_of setting) 0;
@@ -168,6 +192,8 @@ module _ (setting : Setting) where
             scrubbed = λ e. refl;
             strays = All-nil _;
           }) a app here.there);
+      dealt = λ a app here. subst (IsDealtInOrder (new_nic setting)) here.is
+          (All-new (IsDealtInOrder (new_nic setting)) setting 0 (apps_of setting) (λ n. record { order = refl }) a app here.there);
       hand = λ inhand e. absurd (let none : ⊥ = cc in none);
       scrubbed = λ a app here. subst (λ x. x.view.scrubbed ≡ true → HasNoneOwed (new_nic setting) x) here.is
           (All-new (λ x. x.view.scrubbed ≡ true → HasNoneOwed (new_nic setting) x) setting 0 (apps_of setting) (λ n e. absurd
@@ -188,6 +214,10 @@ module _ (setting : Setting) where
       kept = λ b small. omega (arith, bit-set b small);
       swept = λ b small gone. absurd (omega (arith, gone));
     };
+    refills = λ a app here.
+        let inside : a < apps_of setting = omega (arith, here.there, length-new_apps setting 0 (apps_of setting)) in
+        let is : app ≡ new_app setting a = sym here.is ∙ (new-at 0 (apps_of setting) a app inside ∙ ap (new_app setting) (omega arith)) in
+        subst (AreRefills setting (opened_words setting) (new_nic setting)) (sym is) (ring places_some a inside);
   }
     where
       slots : (width : ℕ) → AreSlots setting.places width (replicate setting.places (replicate width 0))

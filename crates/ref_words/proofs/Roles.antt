@@ -119,4 +119,5 @@ role-taken setting words nic apps r rule = record {
   users = rule.users;
   free = record { pool = rule.free.pool; reserves = rule.free.reserves };
   kept = record { kept = rule.kept.kept; swept = rule.kept.swept };
+  refills = rule.refills;
 }

@@ -17,7 +17,7 @@ use Rattle.board_face.specs.declared.views.parts.Setting.{Setting}
 use Rattle.board_face.specs.declared.views.nic.NicSide.{NicSide}
 use Rattle.board_face.specs.declared.views.app.AppSide.{AppSide}
 use Rattle.board_face.proofs.SideLemmas.{AreNumbered-set}
-use Rattle.ref_words.specs.Sides.{SidesRule, HasScrubLists, HasFreeReserve, HasNoneOwed, IsFirst, IsFirstRaw}
+use Rattle.ref_words.specs.Sides.{SidesRule, HasScrubLists, HasFreeReserve, IsDealtInOrder, HasNoneOwed, IsFirst, IsFirstRaw}
 
 -- What is to be known of the application's new side.
 pub record IsAppStep (nic : NicSide) (apps : List AppSide) (a : ℕ) (app now : AppSide) : Type 0 where
@@ -35,6 +35,7 @@ pub record IsAppStep (nic : NicSide) (apps : List AppSide) (a : ℕ) (app now : 
   pub unheld : (b : ℕ) → pool_buffers app.view.setting.layout ≤ b → b ≢ reserve_of app.view → pool_count b nic apps ≡ 0
       → pool_count b nic (set apps a now) ≡ 0
   pub few : HasFewPicks now
+  pub dealt : IsDealtInOrder nic now
   pub returns : AreReturns nic now
   pub scrubbed : now.view.scrubbed ≡ true → HasNoneOwed nic now
   pub way : entries_on_way nic now ≡ entries_on_way nic app
@@ -113,6 +114,7 @@ module _ (setting : Setting) (nic : NicSide) (apps : List AppSide) (a : ℕ) (ap
       made = step.made;
       returned = λ b. All-set (EndedWereReturned b nic) apps a now (step.returned b) (rule.returned b);
       reserves = reserves-now;
+      dealt = λ k. then-now (IsDealtInOrder nic) k (λ x is. rule.dealt k x is) (λ e was. step.dealt);
       few = All-set HasFewPicks apps a now step.few rule.few;
       returns = λ k. then-now (AreReturns nic) k (λ x is. rule.returns k x is) (λ e was. step.returns);
       hand = λ inhand is. let h = rule.hand inhand is in record {

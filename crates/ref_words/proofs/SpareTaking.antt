@@ -28,6 +28,7 @@ use Rattle.board_face.proofs.TokenLemmas.{FitsBuffer-fresh}
 use Rattle.board_face.proofs.Tallies.{weight}
 use Rattle.ref_words.specs.Words.{Words, pool_of, listed_in}
 use Rattle.ref_words.specs.Rule.{RefRule}
+use Rattle.ref_words.proofs.RingSteps.{refills-app}
 use Rattle.ref_words.proofs.Counting.{weight-same, weight-other}
 use Rattle.ref_words.proofs.Frees.{AreFreeOnce-taken, AreFreeOnce-reserve, AreKept-app, free_places-hands, in-hands, count-taken, without-none}
 use Rattle.ref_words.proofs.SideSteps.{mine, own-setting, SidesRule-app}
@@ -80,6 +81,7 @@ module _ (setting : Setting) (words : Words) (nic : NicSide) (apps : List AppSid
                 weight-other b c (λ e. ⊎_elim (λ small. let no : ⊥ = omega (arith, e) in no) (λ mine. ne (sym e ∙ mine)) own),
               );
           few = let f = mine setting nic apps a app rule.sides here HasFewPicks rule.sides.few in record { picks = f.picks; spares = omega (arith, due) };
+          dealt = record { order = (rule.sides.dealt a app here).order };
           returns = let r = rule.sides.returns a app here in record {
             written = r.written;
             owed = r.owed;
@@ -101,6 +103,7 @@ module _ (setting : Setting) (words : Words) (nic : NicSide) (apps : List AppSid
         users = λ x c. omega (arith, user_count-app x c nic apps a app now here);
         free = free;
         kept = AreKept-app (listed_in words) nic apps a app now here refl rule.kept;
+        refills = refills-app setting words nic apps a app now here refl refl refl rule.refills;
       }
 
   -- ---- a buffer in hand

@@ -27,6 +27,7 @@ use Rattle.board_face.proofs.SideLemmas.{IsApp-at}
 use Rattle.ref_words.specs.Words.{Words, user_of, listed_in}
 use Rattle.ref_words.specs.Sides.{IsInHand}
 use Rattle.ref_words.specs.Rule.{RefRule}
+use Rattle.ref_words.proofs.RingSteps.{refills-card}
 use Rattle.ref_words.proofs.Counting.{weight-same}
 use Rattle.ref_words.proofs.Frees.{AreKept-card}
 use Rattle.ref_words.proofs.UserSteps.{IsUserStep}
@@ -146,6 +147,7 @@ module _ (setting : Setting) (words : Words) (nic : NicSide) (apps : List AppSid
       returned = λ c k d small. sound-now c k (get_or apps k d) (IsApp-at apps k d rule.sides.set.numbers small);
       reserves = λ k x here. record { unheld = λ free. same_pool (reserve_of x.view) ∙ (rule.sides.reserves k x here).unheld free };
       few = rule.sides.few;
+      dealt = λ k x here. record { order = (rule.sides.dealt k x here).order };
       returns = λ k x here.
           let r = rule.sides.returns k x here in
           let less : (c : ℕ) → length (owed_in c now x) + weight ((a == x.view.app) && (b == c)) ≡ length (owed_in c nic x) = λ c.
@@ -195,4 +197,5 @@ module _ (setting : Setting) (words : Words) (nic : NicSide) (apps : List AppSid
     pool = same_pool;
     free = λ c. refl;
     kept = AreKept-card (listed_in words) nic now apps refl refl refl (λ c. omega arith) rule.kept;
+    refills = refills-card setting words nic now apps refl refl rule.refills;
   }

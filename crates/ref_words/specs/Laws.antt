@@ -35,7 +35,7 @@ pub record IsOpened (setting : Setting) : Type 0 where
   pub rule : RefRule setting (opened_words setting) (new_nic setting) (new_apps setting 0 (apps_of setting))
 
 abbrev pub OpenLaw : Type 0
-OpenLaw = (setting : Setting) → IsLayout setting.layout → IsOpened setting
+OpenLaw = (setting : Setting) → IsLayout setting.layout → 0 < setting.places → IsOpened setting
 
 -- ---- roles
 

@@ -1,5 +1,5 @@
 -- What holds of the sides of all roles between any two steps, whatever the words are.
-use Rattle.std.specs.Prelude.{◌≡◌, ℕ, ◌<◌, true, false, List, [], ◌∷◌, length, All, Some}
+use Rattle.std.specs.Prelude.{◌≡◌, ℕ, ◌<◌, true, false, List, [], ◌∷◌, length, map, take, All, Some}
 use Rattle.zr_kinds.specs.declared.ring.Rqe.{Rqe}
 use Rattle.area_layout.specs.Layout.{total}
 use Rattle.board_face.specs.NicCalls.{apps_of}
@@ -8,6 +8,7 @@ use Rattle.board_face.specs.Counts.{pool_count, EndedWereReturned}
 use Rattle.board_face.specs.Places.{ArePlaced, IsMadeLast}
 use Rattle.board_face.specs.Fillings.{IsFilledByOne, FillingsFit}
 use Rattle.board_face.specs.Used.{HasFewPicks}
+use Rattle.board_face.specs.Relay.{dealt_entries}
 use Rattle.board_face.specs.Returns.{AreReturns, entries_on_way}
 use Rattle.board_face.specs.Sides.{AreNumbered, IsApp}
 use Rattle.board_face.specs.Holders.{ended_in, returned_in, owed_in}
@@ -38,6 +39,10 @@ pub record HasFreeReserve (nic : NicSide) (apps : List AppSide) (app : AppSide) 
 pub record HasNoneOwed (nic : NicSide) (app : AppSide) : Type 0 where
   pub loans : app.view.loans ≡ []
   pub owed : (b : ℕ) → length (owed_in b nic app) ≡ 0
+
+-- the entries that the card dealt with are the first of those that the application wrote
+pub record IsDealtInOrder (nic : NicSide) (app : AppSide) : Type 0 where
+  pub order : take (length (dealt_entries app.view.app nic)) (map (λ w. w.entry) app.view.written) ≡ dealt_entries app.view.app nic
 
 -- the entry is the first of these
 pub record IsFirst (entry : Rqe) (way : List WrittenEntry) : Type 0 where
@@ -76,6 +81,8 @@ pub record SidesRule (setting : Setting) (nic : NicSide) (apps : List AppSide) :
   -- reserves, and picks from the free list
   pub reserves : (a : ℕ) (app : AppSide) → IsApp apps a app → HasFreeReserve nic apps app
   pub few : All HasFewPicks apps
+  -- what the card dealt with are the first of the entries that were written, in order
+  pub dealt : (a : ℕ) (app : AppSide) → IsApp apps a app → IsDealtInOrder nic app
   -- returns on their way, the entry in hand, and that an application which has scrubbed has no loan and owes none
   pub returns : (a : ℕ) (app : AppSide) → IsApp apps a app → AreReturns nic app
   pub hand : (inhand : EntryInHand) → nic.inside.entry ≡ Some inhand → IsInHand nic apps inhand

@@ -1,6 +1,7 @@
 -- The table's words are those of the map.
-use Rattle.std.proofs.Common.{ap, sym, ◌∙◌, subst, arith, length}
+use Rattle.std.proofs.Common.{◌<◌, ap, sym, ◌∙◌, subst, arith, length}
 use Rattle.area_layout.specs.Layout.{IsLayout}
+use Rattle.board_face.specs.declared.views.parts.Setting.{Setting}
 use Rattle.ref_words.specs.Words.{opened_words, table_words}
 use Rattle.ref_words.proofs.Laying.{table-length}
 use Rattle.word_board.proofs.board.WordBoard.open.Goals as goal
@@ -11,7 +12,8 @@ invariant_of-words c =
     let made = c.in_ok-table.ensures in
     let keyed = c.new-map.ensures ∙ sym made.5 in
     let layout : IsLayout map.layout = subst (λ s. IsLayout s.layout) (sym c.new-map.ensures) c.in_ok-words.ensures.sound in
-    let many = table-length map (opened_words map) (c.opened-2.ensures map layout).rule.sizes in
+    let places : 0 < map.places = omega (arith, c.requires.some, ap (λ (s : Setting). s.places) c.new-map.ensures) in
+    let many = table-length map (opened_words map) (c.opened-2.ensures map layout places).rule.sizes in
     record {
       keyed = keyed;
       wide = omega (

@@ -1,0 +1,45 @@
+-- Rings of slots. A slot is a list of words of which the first is the flag, 1 where the slot is full. The writer and the reader use
+-- the slots in turn; what either has seen of its next slot is so until it goes on.
+use Rattle.std.specs.Prelude.{◌≡◌, ℕ, ◌+◌, ◌*◌, ◌%◌, ◌^◌, ◌<◌, ◌≤◌, true, List, [], ◌∷◌, length, take, drop}
+use Rattle.std.specs.Prelude.{slice_index, slice_index_or}
+use Rattle.zr_kinds.specs.declared.ring.Rqe.{Rqe}
+use Rattle.board_face.specs.Opened.{unseen}
+use Rattle.board_face.specs.Relay.{dealt_entries}
+use Rattle.board_face.specs.declared.views.parts.Setting.{Setting}
+use Rattle.board_face.specs.declared.views.parts.Slot.{Slot}
+use Rattle.board_face.specs.declared.views.nic.NicSide.{NicSide}
+use Rattle.board_face.specs.declared.views.app.AppSide.{AppSide}
+use Rattle.ref_words.specs.Words.{Words, refill_width}
+
+-- the slot of what was written as the k-th, counted from 0
+abbrev pub slot_of : ℕ → List (List ℕ) → ℕ → List ℕ
+slot_of places slots k = slice_index_or slots (k % places) []
+
+-- the words of a slot behind its flag, as far as an end has stored or loaded them
+abbrev pub IsSoFar : List ℕ → List ℕ → Type 0
+IsSoFar slot words = take (length words) (drop 1 slot) ≡ words
+
+-- One ring: the words that lie in the slots are those of what was written and not yet taken, in order.
+module _ {X : Type 0} (width : ℕ) (words_of : X → List ℕ) where
+  pub record IsRing (places : ℕ) (slots : List (List ℕ)) (written : List X) (taken : ℕ) (writer reader : Slot) : Type 0 where
+    pub some : 0 < places
+    pub many : length slots ≡ places
+    pub wide : (k : ℕ) → length (slot_of places slots k) ≡ width
+    pub order : taken ≤ length written
+    pub room : length written ≤ taken + places
+    pub full : (k : ℕ) (d : X) → taken ≤ k → k < length written → slot_of places slots k ≡ 1 ∷ words_of (slice_index_or written k d)
+    pub free : (k : ℕ) → length written ≤ k → k < taken + places → slice_index (slot_of places slots k) 0 ≡ 0
+    pub writer_seen : writer.seen ≡ true → length written < taken + places
+    pub writer_words : writer.seen ≡ true → IsSoFar (slot_of places slots (length written)) writer.words
+    pub reader_seen : reader.seen ≡ true → taken < length written
+    pub reader_words : reader.seen ≡ true → IsSoFar (slot_of places slots taken) reader.words
+
+-- the words of a refill entry: its offset, and its length with the pad in the upper 32 bits
+abbrev pub entry_words : Rqe → List ℕ
+entry_words entry = entry.off ∷ (entry.len + entry.pad * 2 ^ 32) ∷ []
+
+-- An application's refill ring: the entries that it has written and the card hasn't dealt with lie in the slots.
+abbrev pub AreRefills : Setting → Words → NicSide → AppSide → Type 0
+AreRefills setting words nic app =
+    IsRing refill_width (λ w. entry_words w.entry) setting.places (slice_index_or words.refills app.view.app []) app.view.written
+    (length (dealt_entries app.view.app nic)) app.inside.refill_slot (slice_index_or nic.inside.refill_slots app.view.app unseen)
