@@ -1,5 +1,5 @@
 -- Turns of an application that has nothing out.
-use Rattle.std.proofs.Common.{◌≡◌, ℕ, ◌<◌, true, false, List, [], ◌∷◌, ◌++◌, Option, length, take, refl, ap, ◌∙◌, arith, inl, inr}
+use Rattle.std.proofs.Common.{◌≡◌, ℕ, ◌<◌, true, false, List, [], ◌∷◌, ◌++◌, Option, length, take, refl, sym, ap, ◌∙◌, arith, inl, inr}
 use Rattle.zr_kinds.specs.declared.behaviour.Stopped.TheVariants as stop
 use Rattle.zr_kinds.specs.declared.place.Place.{Place}
 use Rattle.zr_kinds.specs.declared.place.Note.{Note}
@@ -52,8 +52,22 @@ module _ (st : State) (old : AppView) (bare : Bare st old) (is_bare : st.bare �
     here = λ _. ap (λ (v : AppView). v.left) took.view;
     polled = λ live. absurd (bare-live live);
     none = λ live. absurd (bare-live live);
+    cause = λ other is. absurd (other is);
+    rests = λ _. record { state = refl; view = took.view ∙ held-same; kept_is = refl };
   }
     where
+      held-same : record old { taken = old.taken ++ t ∷ []; helds = new.helds } ≡ record old {
+        left = new.left;
+        quiet = new.quiet;
+        scrubbed = new.scrubbed;
+        ended = new.ended;
+        taken = new.taken;
+        looks = new.looks;
+      }
+      held-same =
+          let helds : new.helds ≡ old.helds = none ∙ sym bare.helds in
+          rw (helds, took.view) refl
+
       -- one that wasn't stopped has nothing out only once it ended
       over : st.stopped ≡ stop.No → st.short ≡ false → ⊥
       over going split = let ended : st.ended ≡ true = (bare.whole going split).0 in absurd (cc)
@@ -89,6 +103,8 @@ module _ (st : State) (old : AppView) (bare : Bare st old) (is_bare : st.bare �
     here = λ _. ap (λ (v : AppView). v.left) saw.event;
     polled = λ live. absurd (bare-live live);
     none = λ live. absurd (bare-live live);
+    cause = λ other is. absurd (other is);
+    rests = λ _. rw saw.event (record { state = refl; view = refl; kept_is = refl });
   }
     where
       bare-live : st.bare ≡ false → ⊥
@@ -106,6 +122,8 @@ module _ (st : State) (old : AppView) (bare : Bare st old) (is_bare : st.bare �
     taken = refl;
     left = refl;
     here = here;
+    same = refl;
+    rests = λ _. record { state = refl; view = refl; kept_is = refl };
   }
 
   pub bare-finished : (new : AppView) (kept : ℕ → Option (List ℕ)) (f : ℕ) → old.left ≡ false → new ≡ left_board (scrubbed (fell_quiet old))
@@ -122,6 +140,8 @@ module _ (st : State) (old : AppView) (bare : Bare st old) (is_bare : st.bare �
     here = λ _. ap (λ (v : AppView). v.left) saw.event;
     polled = λ live. absurd (bare-live live);
     none = λ live. absurd (bare-live live);
+    cause = λ other is. absurd (other is);
+    rests = λ _. rw saw.event (record { state = refl; view = refl; kept_is = refl });
   }
     where
       bare-live : st.bare ≡ false → ⊥
@@ -155,6 +175,7 @@ module _ (st : State) (old : AppView) (bare : Bare st old) (is_bare : st.bare �
         room = common.room;
         loans = common.loans;
         written = common.written;
+        quits = common.quits;
         bound = common.bound;
       };
       reaped = reaped;
@@ -173,6 +194,8 @@ module _ (st : State) (old : AppView) (bare : Bare st old) (is_bare : st.bare �
       taken = refl;
       left = refl;
       here = here;
+      same = refl;
+      rests = λ _. record { state = refl; view = refl; kept_is = refl };
     },
     omega (arith, not_yet),
   )

@@ -17,7 +17,8 @@ use Rattle.app_worker.specs.State.{State, IsAtRest, Working, Common, Bare, app_s
 use Rattle.app_worker.specs.Moves.{Goes}
 use Rattle.app_worker.specs.Letting.{FlowFacts, facts_of, LetGo}
 use Rattle.app_worker.specs.Stages.{Through}
-use Rattle.app_worker.specs.Turns.{Turns}
+use Rattle.zr_kinds.specs.declared.behaviour.Stopped.TheVariants as stop
+use Rattle.app_worker.specs.Turns.{Rests, Turns}
 use Rattle.app_worker.proofs.Placing.{values-length}
 use Rattle.app_worker.proofs.Standing.{each-map}
 use Rattle.app_worker.proofs.EachBoth.{each-both}
@@ -26,7 +27,7 @@ use Rattle.app_worker.proofs.Moving.{looks-same, no-write}
 use Rattle.app_worker.proofs.Seeing.{common-saw, goes-saw}
 use Rattle.app_worker.proofs.Measure.{one-most}
 use Rattle.app_worker.proofs.Through.{goes-then}
-use Rattle.app_worker.proofs.TurnLemmas.{stands-bare, no-poll}
+use Rattle.app_worker.proofs.TurnLemmas.{stands-bare, no-poll, no-rest}
 
 -- all of the flow was appended
 abbrev pub IsWhole : List TakenNote → FlowQueue → Type 0
@@ -113,6 +114,7 @@ common-gone st v common = record {
   room = common.room;
   loans = common.loans;
   written = common.written;
+  quits = common.quits;
   bound = common.bound;
 }
 
@@ -140,6 +142,8 @@ pub record IsOut (a c : State) (u w : AppView) (k m : ℕ → Option (List ℕ))
   pub taken : w.taken ≡ u.taken
   pub left : w.left ≡ u.left
   pub here : u.left ≡ false
+  pub same : c.stopped ≡ a.stopped
+  pub rests : a.bare ≡ true → Rests a c u w k m
 
 pub turns-finished : (a c : State) (u w x : AppView) (k m : ℕ → Option (List ℕ)) (f f2 : ℕ) → IsOut a c u w k m
     → x ≡ left_board (scrubbed (fell_quiet w)) → Turns a c u x k m f f2 Finished
@@ -151,6 +155,12 @@ turns-finished a c u w x k m f f2 out is = rw is (record {
   here = λ other. absurd (other refl);
   polled = no-poll a c u (left_board (scrubbed (fell_quiet w))) out.taken;
   none = λ _ e. absurd (cc);
+  cause = λ other is. absurd (other (sym out.same ∙ is));
+  rests = λ bare. (let r = out.rests bare in record {
+    state = r.state;
+    view = ap (λ (v : AppView). left_board (scrubbed (fell_quiet v))) r.view;
+    kept_is = r.kept_is;
+  });
 })
 
 pub turns-not-quiet : (a c : State) (u w x : AppView) (k m : ℕ → Option (List ℕ)) (f f2 : ℕ) → IsOut a c u w k m → app_steps a u < app_steps c w
@@ -163,12 +173,18 @@ turns-not-quiet a c u w x k m f f2 out steps saw = rw saw.event (record {
   here = λ _. out.left;
   polled = no-poll a c u (app_saw w NotQuiet) out.taken;
   none = λ _ e. absurd (cc);
+  cause = λ other is. absurd (other (sym out.same ∙ is));
+  rests = λ bare. (let r = out.rests bare in record {
+    state = r.state;
+    view = ap (λ (v : AppView). app_saw v NotQuiet) r.view;
+    kept_is = r.kept_is;
+  });
 })
 
 -- by way of reading all
-pub out-of : (a b c : State) (u v w : AppView) (k m : ℕ → Option (List ℕ)) → a.ended ≡ true → u.left ≡ false → Through a b u v k m
-    → length b.unread ≤ 0 → LetGo b c v w → IsOut a c u w k m
-out-of a b c u v w k m ended here through few gone = record {
+pub out-of : (a b c : State) (u v w : AppView) (k m : ℕ → Option (List ℕ)) → a.ended ≡ true → a.stopped ≡ stop.No
+    → a.bare ≡ false → u.left ≡ false → Through a b u v k m → length b.unread ≤ 0 → LetGo b c v w → IsOut a c u w k m
+out-of a b c u v w k m ended going live here through few gone = record {
   bare = closed-bare b c v w through.working (through.ended ∙ ended) few through.reaped gone;
   is_bare = ap (λ (s : State). s.bare) gone.same;
   common = gone.common;
@@ -181,4 +197,6 @@ out-of a b c u v w k m ended here through few gone = record {
   taken = gone.taken ∙ through.taken;
   left = gone.left ∙ through.left;
   here = here;
+  same = ap (λ (s : State). s.stopped) gone.same ∙ through.working.going ∙ sym going;
+  rests = no-rest a c u w k m live;
 }

@@ -123,6 +123,7 @@ lent-bundle was own now then old new loans more count within value step works co
         room = omega (arith, places, common.room);
         loans = omega (arith, count, common.loans, one_more, ap length returned);
         written = common.written ∙ ap capped (sym written);
+        quits = common.quits;
         bound = omega (arith, one_more, ap length returned, step.helds held_len, some, common.bound, ap (total taken_len) taken);
       };
       moves = record {

@@ -133,6 +133,7 @@ gone-all was now old v1 v2 new reaped not_yet torn common first second released 
         room = common.room;
         loans = common.loans ∙ ap capped (omega (arith, count, no_more));
         written = common.written ∙ ap capped (sym (total-facts (λ x. x.bytes) was.flows now facts));
+        quits = common.quits;
         bound = omega (arith, count, no_more, ap (total held_len) helds, common.bound, ap (total taken_len) taken);
       };
       moves = record {

@@ -59,6 +59,7 @@ gave-left was l old new due step works common =
           room = common.room;
           loans = common.loans ∙ ap capped (omega (arith, one_less, one_more));
           written = common.written;
+          quits = common.quits;
           bound = omega (arith, one_less, one_more, ap (total held_len) helds, common.bound, ap (total taken_len) taken);
         };
         goes = λ kept. record {

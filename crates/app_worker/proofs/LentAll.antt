@@ -13,7 +13,7 @@ use Rattle.app_worker.specs.Moves.{Goes}
 use Rattle.app_worker.specs.Whole.{Lends}
 use Rattle.app_worker.specs.Stages.{LentSome, Through, Untouched, ReadsTo}
 use Rattle.app_worker.specs.declared.stages.Drained.{Drained}
-use Rattle.app_worker.specs.declared.stages.Drained.TheVariants.{Nothing as drain_nothing, Did as drain_did, InUse, Failed as drain_failed}
+use Rattle.app_worker.specs.declared.stages.Drained.TheVariants.{Nothing as drain_nothing, Did as drain_did, InUse, Quit as drain_quit, Failed as drain_failed}
 use Rattle.app_worker.proofs.Through.{through-none}
 
 abbrev pub with_reaped : State → State
@@ -46,6 +46,7 @@ reaped-common st v common = record {
   room = common.room;
   loans = common.loans;
   written = common.written;
+  quits = common.quits;
   bound = common.bound;
 }
 
@@ -125,11 +126,12 @@ stuck-at-once a b c u v w k l same lent =
 
 -- what reading that neither met a slot in use nor failed did
 pub drained : (keep : ℕ) (d e : State) (w x : AppView) (l m : ℕ → Option (List ℕ)) (f f1 : ℕ) (result : Drained) → result ≢ InUse
-    → result ≢ drain_failed → d.due ≡ None → Working d w → Common d w → d.posted.entries ≡ []
+    → result ≢ drain_quit → result ≢ drain_failed → d.due ≡ None → Working d w → Common d w → d.posted.entries ≡ []
     → ReadsTo keep d e w x l m f f1 result → Through d e w x l m × (e.due ≡ None) × (length e.unread ≤ keep)
-drained keep d e w x l m f f1 drain_nothing free fail due works common reaped reads =
+drained keep d e w x l m f f1 drain_nothing free quit fail due works common reaped reads =
     let same = reads.0 in
     rw (same.state, same.view, same.kept_is) (through-none d w l works common reaped, due, reads.1)
-drained keep d e w x l m f f1 drain_did free fail due works common reaped reads = (reads.0, reads.2, reads.3)
-drained keep d e w x l m f f1 InUse free fail due works common reaped reads = absurd (free refl)
-drained keep d e w x l m f f1 drain_failed free fail due works common reaped reads = absurd (fail refl)
+drained keep d e w x l m f f1 drain_did free quit fail due works common reaped reads = (reads.0, reads.2, reads.3)
+drained keep d e w x l m f f1 InUse free quit fail due works common reaped reads = absurd (free refl)
+drained keep d e w x l m f f1 drain_quit free quit fail due works common reaped reads = absurd (quit refl)
+drained keep d e w x l m f f1 drain_failed free quit fail due works common reaped reads = absurd (fail refl)

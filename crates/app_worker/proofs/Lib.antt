@@ -25,6 +25,7 @@ pub mod NoteTaken
 pub mod LetGone
 pub mod Emptied
 pub mod Through
+pub mod Quitting
 pub mod LentSoFar
 pub mod LentAll
 pub mod Measure

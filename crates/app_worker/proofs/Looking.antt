@@ -7,7 +7,7 @@ use Rattle.board_face.specs.AppEvents.{told_end}
 use Rattle.board_face.specs.declared.views.app.AppLook.TheVariants.{CardEnded, RawOnItsWay}
 use Rattle.board_face.specs.declared.views.app.AppView.{AppView}
 use Rattle.app_worker.specs.declared.stages.Lent.{Lent}
-use Rattle.app_worker.specs.declared.stages.Lent.TheVariants.{Nothing, Did as lent_some, Stuck, Failed as lent_failed}
+use Rattle.app_worker.specs.declared.stages.Lent.TheVariants.{Nothing, Did as lent_some, Stuck, Quit as lent_quit, Failed as lent_failed}
 use Rattle.app_worker.specs.declared.turn.Turn.{Turn}
 use Rattle.app_worker.specs.declared.turn.Turn.TheVariants.{Did, Idle, Finished, Failed, NotYet}
 use Rattle.app_worker.specs.declared.turn.Why.{Why}
@@ -16,12 +16,12 @@ use Rattle.app_worker.specs.State.{State, IsAtRest, Working, Common, one_if}
 use Rattle.app_worker.specs.Moves.{Moves, Goes}
 use Rattle.app_worker.specs.Whole.{TookOne, TookNone}
 use Rattle.app_worker.specs.Letting.{LetGo}
-use Rattle.app_worker.specs.Stages.{Through, WriteStopped, LendsAll}
+use Rattle.app_worker.specs.Stages.{Through, HasQuit, WriteStopped, LendsAll}
 use Rattle.app_worker.specs.Turns.{Turns, MayPoll, Polled, turn_after}
-use Rattle.app_worker.proofs.Moving.{looks-more, moves-none, moves-then, no-write}
+use Rattle.app_worker.proofs.Moving.{looks-more, moves-none, moves-then, no-write, quit-no-write}
 use Rattle.app_worker.proofs.Seeing.{working-saw, common-saw, goes-saw}
-use Rattle.app_worker.proofs.Through.{goes-then, through-none, bare-stopped}
-use Rattle.app_worker.proofs.TurnLemmas.{stands-working, stands-bare, Begins, turns-later}
+use Rattle.app_worker.proofs.Through.{goes-then, through-none, bare-stopped, common-stopped}
+use Rattle.app_worker.proofs.TurnLemmas.{stands-working, stands-bare, no-rest, Begins, turns-later}
 
 -- a note may be taken at once
 pub polled-now : (was now : State) (old new : AppView) → Working was old → MayPoll was → Moves was now old new → Polled was now old new
@@ -57,6 +57,24 @@ module _ (a b : State) (u v : AppView) (k m : ℕ → Option (List ℕ)) (f f2 :
         here = λ _. through.left ∙ took.left;
         polled = λ _ _. polled-now a c u w works may goes.moves;
         none = λ _ e. absurd (cc);
+        cause = λ _ is. absurd (no-write c.stopped through.working.going is);
+        rests = no-rest a c u w k m works.live;
+      }
+
+  -- or it has written enough
+  took-quit : (c : State) (w : AppView) → HasQuit b c v w k m → Turns a c u w k m f f2 Did
+  took-quit c w quit =
+      let goes : Goes a c u w k m = goes-then a b c u v w k k m goes-took quit.goes in
+      record {
+        stands = stands-bare c w quit.bare quit.common quit.reaped quit.is_bare;
+        goes = goes;
+        answer = omega (arith, took.steps, quit.steps);
+        few = inr (took.note, quit.taken ∙ took.taken);
+        here = λ _. quit.left ∙ took.left;
+        polled = λ _ _. polled-now a c u w works may goes.moves;
+        none = λ _ e. absurd (cc);
+        cause = λ _ is. absurd (quit-no-write c.stopped quit.stopped is);
+        rests = no-rest a c u w k m works.live;
       }
 
   -- or the shelf failed
@@ -71,6 +89,8 @@ module _ (a b : State) (u v : AppView) (k m : ℕ → Option (List ℕ)) (f f2 :
         here = λ _. stopped.left ∙ took.left;
         polled = λ _ _. polled-now a c u w works may goes.moves;
         none = λ _ e. absurd (cc);
+        cause = λ _ _. stopped.rose;
+        rests = no-rest a c u w k m works.live;
       }
 
   stuck-through : (c : State) (w : AppView) → b.posted.entries ≡ [] → c ≡ b → m ≡ k → AppOnlySaw RawOnItsWay v w → Through b c v w k m
@@ -91,6 +111,7 @@ module _ (a b : State) (u v : AppView) (k m : ℕ → Option (List ℕ)) (f f2 :
       took-through c w (rw (same.state, same.view, same.kept_is) (through-none b v k took.working took.common reaped))
   took-did c w lent_some other reaped lends = took-through c w lends.0
   took-did c w Stuck other reaped lends = took-through c w (stuck-through c w reaped lends.0 lends.1 lends.2)
+  took-did c w lent_quit other reaped lends = took-quit c w lends
   took-did c w lent_failed other reaped lends = absurd (other refl)
 
 -- ---- no note comes any more
@@ -131,6 +152,7 @@ ended-common st v mid common told = rw told.event (record {
   room = common.room;
   loans = common.loans;
   written = common.written;
+  quits = common.quits;
   bound = common.bound;
 })
 
@@ -144,6 +166,7 @@ ended-begins st v mid kept f works common here more told =
       split = works.split;
       here = here;
       still = works.live;
+      still_going = works.going;
       goes = record {
         moves = record {
           same = (refl, refl, refl, refl);
@@ -192,19 +215,10 @@ module _ (a b c : State) (u v w : AppView) (k : ℕ → Option (List ℕ)) (f : 
   -- there was no memory
   pub turns-memory : Turns a (record c { stopped = stop.Memory }) u w k k f f (Failed fault.Memory)
   turns-memory = record {
-    stands = stands-bare (record c { stopped = stop.Memory }) w (bare-stopped c w stop.Memory (λ e. absurd (cc)) b v gone) (record {
-      app = gone.common.app;
-      ended = gone.common.ended;
-      counted = gone.common.counted;
-      owns = gone.common.owns;
-      spares = gone.common.spares;
-      some_places = gone.common.some_places;
-      within = gone.common.within;
-      room = gone.common.room;
-      loans = gone.common.loans;
-      written = gone.common.written;
-      bound = gone.common.bound;
-    }) reaped-both (ap (λ (s : State). s.bare) gone.same);
+    stands = stands-bare (record c { stopped = stop.Memory }) w (bare-stopped c w stop.Memory (λ e. absurd (cc)) b v gone)
+        (common-stopped c w stop.Memory
+        (ap (λ (s : State). s.stopped) gone.same ∙ ap (λ (s : State). s.stopped) took.same ∙ works.going) (λ e. absurd (cc)) gone.common)
+        reaped-both (ap (λ (s : State). s.bare) gone.same);
     goes = record {
       moves = record {
         same = moves-both.same;
@@ -230,6 +244,8 @@ module _ (a b c : State) (u v w : AppView) (k : ℕ → Option (List ℕ)) (f : 
           stays = λ other. absurd (other works.going);
         });
     none = λ _ e. absurd (cc);
+    cause = λ _ is. absurd (cc);
+    rests = no-rest a (record c { stopped = stop.Memory }) u w k k works.live;
   }
 
   -- it was a short payload
@@ -257,6 +273,7 @@ module _ (a b c : State) (u v w : AppView) (k : ℕ → Option (List ℕ)) (f : 
           room = gone.common.room;
           loans = gone.common.loans;
           written = gone.common.written;
+          quits = gone.common.quits;
           bound = gone.common.bound;
         })
         reaped-both (ap (λ (s : State). s.bare) gone.same);
@@ -285,4 +302,6 @@ module _ (a b c : State) (u v w : AppView) (k : ℕ → Option (List ℕ)) (f : 
           stays = moves-both.stays;
         });
     none = λ _ e. absurd (cc);
+    cause = λ _ is. absurd (no-write c.stopped (ap (λ (s : State). s.stopped) gone.same ∙ ap (λ (s : State). s.stopped) took.same ∙ works.going) is);
+    rests = no-rest a (record c { short = true }) u w k k works.live;
   }

@@ -52,6 +52,10 @@ moves-then a b c u v w first second = record {
   stays = λ other. (let e : b.stopped ≡ a.stopped = first.stays other in second.stays (λ is. other (sym e ∙ is)) ∙ e);
 }
 
+-- what quit wasn't stopped by its shelf
+pub quit-no-write : (s : Stopped) → s ≡ stop.Quit → s ≡ stop.Write → ⊥
+quit-no-write s quit is = let e : stop.Quit ≡ stop.Write = sym quit ∙ is in absurd (cc)
+
 -- what wasn't stopped wasn't stopped by its shelf
 pub no-write : (s : Stopped) → s ≡ stop.No → s ≡ stop.Write → ⊥
 no-write s none is = let e : stop.No ≡ stop.Write = sym none ∙ is in absurd (cc)

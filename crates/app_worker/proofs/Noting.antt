@@ -232,6 +232,7 @@ module _ (was : State) (old new : AppView) (t : TakenNote) (took : TookView old 
           ap length (ap (λ (v : AppView). v.returned) took.view),
         )));
         written = common.written ∙ ap capped (sym bytes);
+        quits = common.quits;
         bound = omega (
           arith,
           ap length (ap (λ (v : AppView). v.loans) took.view),

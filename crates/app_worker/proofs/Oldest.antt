@@ -15,10 +15,12 @@ use Rattle.board_face.specs.declared.views.app.AppView.{AppView}
 use Rattle.app_worker.specs.declared.stack.Lending.{Lending}
 use Rattle.app_worker.specs.declared.stack.FlowQueue.{FlowQueue}
 use Rattle.app_worker.specs.Core.{total, Each, Stands, FlowStands, HasTokens, OnlyReads, IsReadOf, AreReadAt, placed_of, marks_of_loan, many, over_due}
-use Rattle.app_worker.specs.State.{State, TellsOf, Working, Common, FlowEnds, capped, held_len, taken_len, app_steps, one_if}
+use Rattle.zr_kinds.specs.declared.behaviour.Stopped.{Stopped}
+use Rattle.zr_kinds.specs.declared.behaviour.Stopped.TheVariants as stop
+use Rattle.app_worker.specs.State.{State, TellsOf, Working, Common, Quits, FlowEnds, capped, held_len, taken_len, app_steps, one_if}
 use Rattle.app_worker.specs.Shelves.{IsShelved, AreShelved, ReadsFront, IsFrontShelved, AreFronts}
 use Rattle.app_worker.specs.Moves.{Moves}
-use Rattle.app_worker.specs.Whole.{ReadOne, ReadFailed, Appended}
+use Rattle.app_worker.specs.Whole.{Torn, ReadOne, ReadQuit, ReadFailed, Appended}
 use Rattle.app_worker.proofs.Standing.{At, split-at, each-right, each-changed, many-same, total-changed, parts-alike, is_number, number-is}
 use Rattle.app_worker.proofs.Standing2.{IsNext, is-next, stands-read, tokens-read, appended, own-stands}
 use Rattle.app_worker.proofs.Shelved.{shelved-reaped, shelved-other}
@@ -60,31 +62,31 @@ front-other first kept now taken posted old new f only keeps stands shelved =
     }
 
 -- and of the flow whose loan was read
-front-own : (first kept now : ℕ → Option (List ℕ)) (taken : List TakenNote) (old new : AppView) (own : FlowQueue) (l : Lending) (bytes : ℕ)
-    (ps : List (Completion × Lending)) → OnlyReads old new → own.bytes ≤ bytes
+front-own : (first kept now : ℕ → Option (List ℕ)) (taken : List TakenNote) (old new : AppView) (own : FlowQueue) (l : Lending) (bytes most : ℕ)
+    (ps : List (Completion × Lending)) → OnlyReads old new → own.bytes ≤ bytes → most ≤ l.loan.len
     → ((q : ℕ) → q < own.queue.popped → IsSome ((placed_of own taken).at q)) → IsNext taken own l ps
-    → IsShelved first kept taken old.reads own → Gained (kept own.number) (now own.number) (IsReadOf new.reads l (bytes - own.bytes))
+    → IsShelved first kept taken old.reads own → Gained (kept own.number) (now own.number) (IsReadOf new.reads l (bytes - own.bytes) most)
     → IsFrontShelved first now taken new.reads (record own { bytes = bytes })
-front-own first kept now taken old new own l bytes ps only more there next shelved gained =
+front-own first kept now taken old new own l bytes most ps only more part there next shelved gained =
     let at : ℕ → Option Mark = (placed_of own taken).at in
     let start : 0 + own.bytes ≡ own.bytes = omega arith in
     record {
       gained = Gained-then (first own.number) (kept own.number) (now own.number) (λ xs. AreReadAt old.reads (values_from at own.bytes 0) xs)
-          (IsReadOf new.reads l (bytes - own.bytes)) (ReadsFront taken new.reads (record own { bytes = bytes }))
+          (IsReadOf new.reads l (bytes - own.bytes) most) (ReadsFront taken new.reads (record own { bytes = bytes }))
           (λ xs ys was is.
           let k : ℕ = length ys in
           let r : ℕ = l.loan.len - k in
-          let len : l.loan.len ≡ k + r = omega (arith, is.at_most) in
+          let len : l.loan.len ≡ k + r = omega (arith, is.at_most, part) in
           let grow : AreReadAt new.reads (values_from at own.bytes 0) xs = subst (λ rs. AreReadAt rs (values_from at own.bytes 0) xs) (sym only.are)
           (all-grow old.reads only.more (values_from at own.bytes 0) xs was) in
           let split_marks : marks_of_loan l ≡ marks_from l.note l.at k ++ marks_from l.note (l.at + k) r = ap (marks_from l.note l.at) len
           ∙ marks-split l.note l.at k r in
           let split_values : values_from at l.loan.len own.bytes
           ≡ values_from at k own.bytes ++ values_from at r (own.bytes + k) = ap (λ n. values_from at n own.bytes) len
-          ∙ values-split at k r own.bytes (λ q from until. there q (omega (arith, next.within, is.at_most))) in
+          ∙ values-split at k r own.bytes (λ q from until. there q (omega (arith, next.within, is.at_most, part))) in
           let size_marks : length (marks_from l.note l.at k) ≡ k = marks-length l.note l.at k in
           let size_values : length (values_from at k own.bytes)
-          ≡ k = values-length at k own.bytes (λ q from until. there q (omega (arith, next.within, is.at_most))) in
+          ≡ k = values-length at k own.bytes (λ q from until. there q (omega (arith, next.within, is.at_most, part))) in
           let (same, _) = parts-alike (marks_from l.note l.at k) (marks_from l.note (l.at + k) r) (values_from at k own.bytes)
           (values_from at r (own.bytes + k)) (size_marks ∙ sym size_values) (sym split_marks ∙ next.marks ∙ split_values) in
           let all : values_from at (own.bytes + k) 0 ≡ values_from at own.bytes 0 ++ values_from at k own.bytes =
@@ -93,7 +95,7 @@ front-own first kept now taken old new own l bytes ps only more there next shelv
           record {
             count = own.bytes + k;
             at_least = omega (arith, is.at_least, more);
-            below = λ q below. there q (omega (arith, next.within, is.at_most));
+            below = λ q below. there q (omega (arith, next.within, is.at_most, part));
             are = subst (λ ms. AreReadAt new.reads ms (xs ++ ys)) (sym all)
                 (read-append new.reads (values_from at own.bytes 0) (values_from at k own.bytes) xs ys grow
                 (subst (λ ms. AreReadAt new.reads ms ys) same is.are));
@@ -137,9 +139,9 @@ module _ (was : State) (i : ℕ) (own : FlowQueue) (p : Completion × Lending) (
   same_taken : new.taken ≡ old.taken
   same_taken = ap (λ (v : AppView). v.taken) only.view
 
-  common-read : (bytes written : ℕ) → own.bytes ≤ bytes → written ≡ min (was.written + (bytes - own.bytes)) (2 ^ 64 - 1)
-      → Common (with_read was i own bytes ps p.1 written) new
-  common-read bytes written more count =
+  common-read : (bytes written : ℕ) (stopped : Stopped) → own.bytes ≤ bytes → written ≡ min (was.written + (bytes - own.bytes)) (2 ^ 64 - 1)
+      → Quits was.how.quit written stopped → Common (record (with_read was i own bytes ps p.1 written) { stopped = stopped }) new
+  common-read bytes written stopped more count quits =
       let f : FlowQueue → ℕ = λ o. o.bytes in
       let later : FlowQueue = record own { bytes = bytes } in
       let sum : total f (set was.flows i later) + own.bytes ≡ total f was.flows + bytes =
@@ -162,6 +164,7 @@ module _ (was : State) (i : ℕ) (own : FlowQueue) (p : Completion × Lending) (
           ap length (ap (λ (v : AppView). v.returned) only.view),
         )));
         written = omega (arith, count, common.written, sum, more);
+        quits = quits;
         bound = omega (
           arith,
           ap length (ap (λ (v : AppView). v.loans) only.view),
@@ -195,17 +198,17 @@ module _ (was : State) (i : ℕ) (own : FlowQueue) (p : Completion × Lending) (
 
   -- all of it was appended
   pub oldest-read : (bytes written : ℕ) (kept kept_now : ℕ → Option (List ℕ)) → bytes ≡ own.bytes + p.1.loan.len
-      → written ≡ min (was.written + p.1.loan.len) (2 ^ 64 - 1)
-      → Gained (kept own.number) (kept_now own.number) (λ read. IsReadOf new.reads p.1 p.1.loan.len read)
+      → written ≡ min (was.written + p.1.loan.len) (2 ^ 64 - 1) → Quits was.how.quit written was.stopped
+      → Gained (kept own.number) (kept_now own.number) (λ read. IsReadOf new.reads p.1 p.1.loan.len p.1.loan.len read)
       → ((other : ℕ) → other ≢ own.number → Keeps (kept other) (kept_now other))
       → ReadOne was (with_read was i own bytes ps p.1 written) old new kept kept_now
-  oldest-read bytes written kept kept_now is count gained others =
+  oldest-read bytes written kept kept_now is count quits gained others =
       let later : FlowQueue = record own { bytes = own.bytes + p.1.loan.len } in
       let stands : Stands was.notes (at.before ++ later ∷ at.after) (ps ++ was.posted.entries) (Some p.1) new = stands-read was.notes at.before at.after own p
       (ps ++ was.posted.entries) old new number only stood in
       let told : Each (TellsOf old.setting.layout) (p ∷ (ps ++ was.posted.entries)) = subst (Each (TellsOf old.setting.layout)) all works.completions in
-      let added : Appended own old.taken new p.1.loan.len kept kept_now = appended old.taken p (ps ++ was.posted.entries) own new kept kept_now number
-      (own-stands was.notes at.before at.after own (p ∷ (ps ++ was.posted.entries)) None old stood) gained others in
+      let added : Appended own old.taken new p.1.loan.len kept kept_now = appended old.taken p (ps ++ was.posted.entries) own p.1.loan.len new kept
+      kept_now number (own-stands was.notes at.before at.after own (p ∷ (ps ++ was.posted.entries)) None old stood) (omega arith) gained others in
       rw is (record {
         working = record {
           stands = subst (λ (fs : List FlowQueue). Stands was.notes fs (ps ++ was.posted.entries) (Some p.1) new) (sym (at.set_is later)) stands;
@@ -217,11 +220,12 @@ module _ (was : State) (i : ℕ) (own : FlowQueue) (p : Completion × Lending) (
           split = works.split;
           live = works.live;
         };
-        common = common-read (own.bytes + p.1.loan.len) written (omega arith) (omega (arith, count));
+        common = common-read (own.bytes + p.1.loan.len) written was.stopped (omega arith) (omega (arith, count)) quits;
         goes = record {
           moves = moves-read (own.bytes + p.1.loan.len) written;
           shelved = λ _ first shelved. subst (λ (fs : List FlowQueue). AreShelved first kept_now fs new) (sym (at.set_is later))
-              (shelved-reaped first kept kept_now was.notes at.before at.after own p (ps ++ was.posted.entries) None old new number only stood added
+              (shelved-reaped first kept kept_now was.notes at.before at.after own p (ps ++ was.posted.entries) p.1.loan.len None old new number only stood
+              (omega arith) added
               (subst (λ (fs : List FlowQueue). AreShelved first kept fs old) at.is shelved));
           failed = λ is. absurd (no-write was.stopped works.going is);
         };
@@ -235,12 +239,12 @@ module _ (was : State) (i : ℕ) (own : FlowQueue) (p : Completion × Lending) (
 
   -- the shelf failed
   -- what the shelf has then
-  fronts-failed : (bytes : ℕ) (kept kept_now : ℕ → Option (List ℕ)) → own.bytes ≤ bytes
-      → Gained (kept own.number) (kept_now own.number) (IsReadOf new.reads p.1 (bytes - own.bytes))
+  fronts-failed : (bytes most : ℕ) (kept kept_now : ℕ → Option (List ℕ)) → own.bytes ≤ bytes → most ≤ p.1.loan.len
+      → Gained (kept own.number) (kept_now own.number) (IsReadOf new.reads p.1 (bytes - own.bytes) most)
       → ((other : ℕ) → other ≢ own.number → Keeps (kept other) (kept_now other))
       → (first : ℕ → Option (List ℕ)) → AreShelved first kept was.flows old
       → AreFronts first kept_now (set was.flows i (record own { bytes = bytes })) new
-  fronts-failed bytes kept kept_now more gained others first shelved =
+  fronts-failed bytes most kept kept_now more part gained others first shelved =
       let later : FlowQueue = record own { bytes = bytes } in
       let before : Each (IsShelved first kept old.taken old.reads) (at.before ++ own ∷ at.after) = subst
       (Each (IsShelved first kept old.taken old.reads)) at.is shelved.flows in
@@ -255,7 +259,7 @@ module _ (was : State) (i : ℕ) (own : FlowQueue) (p : Completion × Lending) (
       each-changed (λ f. FlowStands old.taken (p ∷ (ps ++ was.posted.entries)) f × IsShelved first kept old.taken old.reads f)
       (IsFrontShelved first kept_now old.taken new.reads) at.before at.after own later (stood.distinct own.number) both
       (λ f other e. front-other first kept kept_now old.taken (p ∷ (ps ++ was.posted.entries)) old new f only (others f.number other) e.0 e.1)
-      (front-own first kept kept_now old.taken old new own p.1 bytes (ps ++ was.posted.entries) only more own_stands.holds.popped next own_shelved gained) in
+      (front-own first kept kept_now old.taken old new own p.1 bytes most (ps ++ was.posted.entries) only more part own_stands.holds.popped next own_shelved gained) in
       record {
         flows = subst (λ ts. Each (IsFrontShelved first kept_now ts new.reads) (set was.flows i later)) (sym same_taken)
             (subst (Each (IsFrontShelved first kept_now old.taken new.reads)) (sym (at.set_is later)) flows);
@@ -267,12 +271,10 @@ module _ (was : State) (i : ℕ) (own : FlowQueue) (p : Completion × Lending) (
             (others n (λ e. absurd (let one : many n was.flows ≡ 1 = subst (λ k. many k was.flows ≡ 1) (sym e) here in omega (arith, one, gone))));
       }
 
-  pub oldest-failed : (bytes written faults faults_now : ℕ) (kept kept_now : ℕ → Option (List ℕ)) → own.bytes ≤ bytes
-      → bytes ≤ own.bytes + p.1.loan.len → written ≡ min (was.written + (bytes - own.bytes)) (2 ^ 64 - 1) → Rose faults faults_now
-      → Gained (kept own.number) (kept_now own.number) (IsReadOf new.reads p.1 (bytes - own.bytes))
-      → ((other : ℕ) → other ≢ own.number → Keeps (kept other) (kept_now other))
-      → ReadFailed was (with_read was i own bytes ps p.1 written) old new kept kept_now faults faults_now
-  oldest-failed bytes written faults faults_now kept kept_now more most count rose gained others =
+  -- what is left of the flows, of which one had a loan read in part
+  torn-read : (bytes written : ℕ) (stopped : Stopped) → bytes ≤ own.bytes + p.1.loan.len
+      → Torn (record (with_read was i own bytes ps p.1 written) { stopped = stopped }) new
+  torn-read bytes written stopped most =
       let later : FlowQueue = record own { bytes = bytes } in
       let flows : Each (FlowEnds old.taken) (at.before ++ later ∷ at.after) =
       each-changed (FlowStands old.taken (p ∷ (ps ++ was.posted.entries))) (FlowEnds old.taken) at.before at.after own later
@@ -281,17 +283,55 @@ module _ (was : State) (i : ℕ) (own : FlowQueue) (p : Completion × Lending) (
       (ends-of old.taken (p ∷ (ps ++ was.posted.entries)) own bytes (omega (arith, next.within))
       (own-stands was.notes at.before at.after own (p ∷ (ps ++ was.posted.entries)) None old stood)) in
       record {
-        torn = record {
-          tokens = subst (λ (fs : List FlowQueue). HasTokens fs (ps ++ was.posted.entries) (Some p.1) new) (sym (at.set_is later))
-              (tokens-read was.notes at.before at.after own bytes p (ps ++ was.posted.entries) old new only stood);
-          flows = subst (λ ts. Each (FlowEnds ts) (set was.flows i later)) (sym same_taken) (subst (Each (FlowEnds old.taken)) (sym (at.set_is later)) flows);
-          distinct = λ n. omega (arith, ap (many n) (at.set_is later), many-same at.before at.after own later refl n, stood.distinct n);
+        tokens = subst (λ (fs : List FlowQueue). HasTokens fs (ps ++ was.posted.entries) (Some p.1) new) (sym (at.set_is later))
+            (tokens-read was.notes at.before at.after own bytes p (ps ++ was.posted.entries) old new only stood);
+        flows = subst (λ ts. Each (FlowEnds ts) (set was.flows i later)) (sym same_taken) (subst (Each (FlowEnds old.taken)) (sym (at.set_is later)) flows);
+        distinct = λ n. omega (arith, ap (many n) (at.set_is later), many-same at.before at.after own later refl n, stood.distinct n);
+      }
+
+  pub oldest-failed : (bytes written most faults faults_now : ℕ) (kept kept_now : ℕ → Option (List ℕ)) → own.bytes ≤ bytes
+      → most ≤ p.1.loan.len → bytes ≤ own.bytes + most → written ≡ min (was.written + (bytes - own.bytes)) (2 ^ 64 - 1)
+      → Quits was.how.quit written was.stopped → Rose faults faults_now
+      → Gained (kept own.number) (kept_now own.number) (IsReadOf new.reads p.1 (bytes - own.bytes) most)
+      → ((other : ℕ) → other ≢ own.number → Keeps (kept other) (kept_now other))
+      → ReadFailed was (with_read was i own bytes ps p.1 written) old new kept kept_now faults faults_now
+  oldest-failed bytes written most faults faults_now kept kept_now more part few count quits rose gained others = record {
+    torn = torn-read bytes written was.stopped (omega (arith, part, few));
+    common = common-read bytes written was.stopped more count quits;
+    moves = moves-read bytes written;
+    rose = rose;
+    fronts = fronts-failed bytes most kept kept_now more part gained others;
+    same = refl;
+    taken = same_taken;
+    left = ap (λ (v : AppView). v.left) only.view;
+  }
+
+  -- it was appended up to the byte at which the application quits
+  pub oldest-quit : (bytes written most : ℕ) (kept kept_now : ℕ → Option (List ℕ)) → most ≤ p.1.loan.len → bytes ≡ own.bytes + most
+      → written ≡ min (was.written + most) (2 ^ 64 - 1) → Quits was.how.quit written stop.Quit
+      → Gained (kept own.number) (kept_now own.number) (λ read. IsReadOf new.reads p.1 most most read)
+      → ((other : ℕ) → other ≢ own.number → Keeps (kept other) (kept_now other))
+      → ReadQuit was (record (with_read was i own bytes ps p.1 written) { stopped = stop.Quit }) old new kept kept_now
+  oldest-quit bytes written most kept kept_now part is count quits gained others =
+      let later : FlowQueue = record own { bytes = own.bytes + most } in
+      let added : Appended own old.taken new most kept kept_now = appended old.taken p (ps ++ was.posted.entries) own most new kept kept_now number
+      (own-stands was.notes at.before at.after own (p ∷ (ps ++ was.posted.entries)) None old stood) part gained others in
+      rw is (record {
+        torn = torn-read (own.bytes + most) written stop.Quit (omega (arith, part));
+        common = common-read (own.bytes + most) written stop.Quit (omega arith) (omega (arith, count)) quits;
+        moves = record {
+          same = (moves-read (own.bytes + most) written).same;
+          how = (refl, refl);
+          places = refl;
+          steps = (moves-read (own.bytes + most) written).steps;
+          looks = (moves-read (own.bytes + most) written).looks;
+          stays = λ other. absurd (other works.going);
         };
-        common = common-read bytes written more count;
-        moves = moves-read bytes written;
-        rose = rose;
-        fronts = fronts-failed bytes kept kept_now more gained others;
+        shelved = λ first shelved. subst (λ (fs : List FlowQueue). AreShelved first kept_now fs new) (sym (at.set_is later))
+            (shelved-reaped first kept kept_now was.notes at.before at.after own p (ps ++ was.posted.entries) most None old new number only stood part
+            added (subst (λ (fs : List FlowQueue). AreShelved first kept fs old) at.is shelved));
+        stopped = refl;
         same = refl;
         taken = same_taken;
         left = ap (λ (v : AppView). v.left) only.view;
-      }
+      })

@@ -144,13 +144,13 @@ one-more a b c v lie l done text piece out same before added =
     before (Gained-added b c piece (λ bytes. bytes ≡ text) added same)
 
 -- the shelf failed, and took a front of it
-pub some-more : (a b c : Option (List ℕ)) (v : AppView) (lie : LieApart v) (l : Lending) (done n : ℕ) (text piece : List ℕ)
-    → IsIn (lent_piece l) v.loans → piece ≡ text → done + length text ≤ l.loan.len
-    → Gained a b (IsReadTo v.reads l done) → Appends b c (take n piece) → Gained a c (IsReadOf (has_read v l.loan done text).reads l done)
-some-more a b c v lie l done n text piece out same fits before added =
+pub some-more : (a b c : Option (List ℕ)) (v : AppView) (lie : LieApart v) (l : Lending) (done most n : ℕ) (text piece : List ℕ)
+    → IsIn (lent_piece l) v.loans → piece ≡ text → done + length text ≤ most
+    → Gained a b (IsReadTo v.reads l done) → Appends b c (take n piece) → Gained a c (IsReadOf (has_read v l.loan done text).reads l done most)
+some-more a b c v lie l done most n text piece out same fits before added =
     let w : AppView = has_read v l.loan done text in
     let only = only-read v l done text in
-    Gained-then a b c (IsReadTo v.reads l done) (λ bytes. bytes ≡ take n text) (IsReadOf w.reads l done)
+    Gained-then a b c (IsReadTo v.reads l done) (λ bytes. bytes ≡ take n text) (IsReadOf w.reads l done most)
     (λ xs ys was is.
     let few : length ys ≤ length text = ⊎_elim
     (λ (less : n < length text). let e : length (take n text) ≡ n = length-take-le n text (omega arith) in let f : length ys
@@ -179,9 +179,9 @@ some-more a b c v lie l done n text piece out same fits before added =
     front-read reads note at (suc n) [] are = tt
     front-read reads note at (suc n) (b ∷ bs) are = (are.0, front-read reads note (suc at) n bs are.1)
 
-pub read-of : (reads : List Reading) (l : Lending) (done : ℕ) (bytes : List ℕ) → done ≤ l.loan.len → IsReadTo reads l done bytes
-    → IsReadOf reads l done bytes
-read-of reads l done bytes within to = record {
+pub read-of : (reads : List Reading) (l : Lending) (done most : ℕ) (bytes : List ℕ) → done ≤ most → IsReadTo reads l done bytes
+    → IsReadOf reads l done most bytes
+read-of reads l done most bytes within to = record {
   are = subst (λ k. AreReadAt reads (marks_from l.note l.at k) bytes) (sym to.size) to.are;
   at_least = omega (arith, to.size);
   at_most = omega (arith, to.size, within);

@@ -34,6 +34,7 @@ common-saw st v look common = record {
   room = common.room;
   loans = common.loans;
   written = common.written;
+  quits = common.quits;
   bound = common.bound;
 }
 

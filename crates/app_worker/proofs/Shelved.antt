@@ -1,5 +1,5 @@
 -- What the shelf has since the first step.
-use Rattle.std.proofs.Common.{◌≡◌, ℕ, ◌+◌, ◌<◌, List, [], ◌∷◌, ◌++◌, Option, Some, None, IsSome, refl, sym, ap, subst, ◌∙◌}
+use Rattle.std.proofs.Common.{◌≤◌, ◌≡◌, ℕ, ◌+◌, ◌<◌, List, [], ◌∷◌, ◌++◌, Option, Some, None, IsSome, refl, sym, ap, subst, ◌∙◌}
 use Rattle.std.proofs.Common.{arith}
 use Rattle.std.specs.Io.KnownBytes.{Keeps}
 use Rattle.std.proofs.KnownBytes.{Keeps-trans}
@@ -63,12 +63,12 @@ shelved-appended first kept now taken old new own len only there appended shelve
 
 -- all flows, once the oldest loan was read
 pub shelved-reaped : (first kept now : ℕ → Option (List ℕ)) (count : ℕ) (before after : List FlowQueue) (own : FlowQueue) (p : Completion × Lending)
-    (ps : List (Completion × Lending)) (due : Option Lending) (old new : AppView) → p.0.user_data ≡ own.number → OnlyReads old new
-    → Stands count (before ++ own ∷ after) (p ∷ ps) due old → Appended own old.taken new p.1.loan.len kept now
+    (ps : List (Completion × Lending)) (most : ℕ) (due : Option Lending) (old new : AppView) → p.0.user_data ≡ own.number → OnlyReads old new
+    → Stands count (before ++ own ∷ after) (p ∷ ps) due old → most ≤ p.1.loan.len → Appended own old.taken new most kept now
     → AreShelved first kept (before ++ own ∷ after) old
-    → AreShelved first now (before ++ record own { bytes = own.bytes + p.1.loan.len } ∷ after) new
-shelved-reaped first kept now count before after own p ps due old new number only stands appended shelved =
-    let later : FlowQueue = record own { bytes = own.bytes + p.1.loan.len } in
+    → AreShelved first now (before ++ record own { bytes = own.bytes + most } ∷ after) new
+shelved-reaped first kept now count before after own p ps most due old new number only stands part appended shelved =
+    let later : FlowQueue = record own { bytes = own.bytes + most } in
     let of_own : FlowStands old.taken (p ∷ ps) own = own-stands count before after own (p ∷ ps) due old stands in
     let next : IsNext old.taken own p.1 ps = is-next old.taken p ps own number of_own in
     let taken : new.taken ≡ old.taken = ap (λ (v : AppView). v.taken) only.view in
@@ -77,7 +77,7 @@ shelved-reaped first kept now count before after own p ps due old new number onl
     each-changed (IsShelved first kept old.taken old.reads) (IsShelved first now old.taken new.reads) before after own later
     (stands.distinct own.number) shelved.flows
     (λ f other was. shelved-other first kept now old.taken old new f only (appended.others f.number other) was)
-    (shelved-appended first kept now old.taken old new own p.1.loan.len only (λ q below. of_own.holds.popped q (omega (arith, next.within))) appended
+    (shelved-appended first kept now old.taken old new own most only (λ q below. of_own.holds.popped q (omega (arith, next.within, part))) appended
     (each-right (IsShelved first kept old.taken old.reads) before (own ∷ after) shelved.flows).0) in
     record {
       flows = subst (λ ts. Each (IsShelved first now ts new.reads) (before ++ later ∷ after)) (sym taken) flows;
@@ -86,12 +86,12 @@ shelved-reaped first kept now count before after own p ps due old new number onl
           ≡ 0 = subst (λ k. many k (before ++ later ∷ after) ≡ 0) e none in own-there here)));
     }
   where
-    own-there : many own.number (before ++ record own { bytes = own.bytes + p.1.loan.len } ∷ after) ≡ 0 → ⊥
+    own-there : many own.number (before ++ record own { bytes = own.bytes + most } ∷ after) ≡ 0 → ⊥
     own-there none = omega (
       arith,
       none,
-      total-append (is_number own.number) before (record own { bytes = own.bytes + p.1.loan.len } ∷ after),
-      number-is own.number (record own { bytes = own.bytes + p.1.loan.len }) refl,
+      total-append (is_number own.number) before (record own { bytes = own.bytes + most } ∷ after),
+      number-is own.number (record own { bytes = own.bytes + most }) refl,
     )
 
 -- a note that is taken changes nothing of it

@@ -27,6 +27,7 @@ use Rattle.app_worker.specs.Whole.{Appended}
 use Rattle.app_worker.specs.Steps.{Gave, Given}
 use Rattle.app_worker.proofs.Tokens.{is_that_loan, that-loan, is-lent-there}
 use Rattle.app_worker.proofs.Entering.{marks-length}
+use Rattle.app_worker.proofs.ReadLemmas.{marks-split}
 use Rattle.app_worker.proofs.Placing.{own-notes-other, own-notes-here, next_note, received-push, begin-push, values-stay, values-split, values-length}
 use Rattle.app_worker.proofs.Standing.{each-map, each-right, parts-alike, is_number, total-changed, many-same, each-changed, stands-saw}
 
@@ -253,18 +254,38 @@ tokens-read count before after own b p ps old new only stands =
       loans = λ f. omega (arith, stands.tokens.loans f);
     })
 
-pub appended : (taken : List TakenNote) (p : Completion × Lending) (ps : List (Completion × Lending)) (own : FlowQueue) (new : AppView)
-    (kept kept_now : ℕ → Option (List ℕ)) → p.0.user_data ≡ own.number → FlowStands taken (p ∷ ps) own
-    → Gained (kept own.number) (kept_now own.number) (λ bytes. IsReadOf new.reads p.1 p.1.loan.len bytes)
-    → ((other : ℕ) → other ≢ own.number → Keeps (kept other) (kept_now other)) → Appended own taken new p.1.loan.len kept kept_now
-appended taken p ps own new kept kept_now number stands gained others =
-    let next : IsNext taken own p.1 ps = is-next taken p ps own number stands in
+-- the first marks of the oldest loan are those that come next
+next-front : (taken : List TakenNote) (p : Completion × Lending) (ps : List (Completion × Lending)) (own : FlowQueue) (most : ℕ)
+    → p.0.user_data ≡ own.number → FlowStands taken (p ∷ ps) own → most ≤ p.1.loan.len
+    → marks_from p.1.note p.1.at most ≡ values_from (placed_of own taken).at most own.bytes
+next-front taken p ps own most number stands part =
+    let l : Lending = p.1 in
+    let at : ℕ → Option Mark = (placed_of own taken).at in
+    let next : IsNext taken own l ps = is-next taken p ps own number stands in
+    let rest : ℕ = l.loan.len - most in
+    let len : l.loan.len ≡ most + rest = omega (arith, part) in
+    let marks : marks_of_loan l ≡ marks_from l.note l.at most ++ marks_from l.note (l.at + most) rest = ap (marks_from l.note l.at) len
+    ∙ marks-split l.note l.at most rest in
+    let values : values_from at l.loan.len own.bytes ≡ values_from at most own.bytes ++ values_from at rest (own.bytes + most) =
+    ap (λ n. values_from at n own.bytes) len
+    ∙ values-split at most rest own.bytes (λ q from until. stands.holds.popped q (omega (arith, next.within, part))) in
+    let size : length (values_from at most own.bytes) ≡ most = values-length at most own.bytes
+    (λ q from until. stands.holds.popped q (omega (arith, next.within, part))) in
+    (parts-alike (marks_from l.note l.at most) (marks_from l.note (l.at + most) rest) (values_from at most own.bytes)
+    (values_from at rest (own.bytes + most)) (marks-length l.note l.at most ∙ sym size) (sym marks ∙ next.marks ∙ values)).0
+
+pub appended : (taken : List TakenNote) (p : Completion × Lending) (ps : List (Completion × Lending)) (own : FlowQueue) (most : ℕ) (new : AppView)
+    (kept kept_now : ℕ → Option (List ℕ)) → p.0.user_data ≡ own.number → FlowStands taken (p ∷ ps) own → most ≤ p.1.loan.len
+    → Gained (kept own.number) (kept_now own.number) (λ bytes. IsReadOf new.reads p.1 most most bytes)
+    → ((other : ℕ) → other ≢ own.number → Keeps (kept other) (kept_now other)) → Appended own taken new most kept kept_now
+appended taken p ps own most new kept kept_now number stands part gained others =
+    let same = next-front taken p ps own most number stands part in
     record {
-      gained = Gained-weaker (kept own.number) (kept_now own.number) (λ bytes. IsReadOf new.reads p.1 p.1.loan.len bytes)
-          (λ bytes. AreReadAt new.reads (values_from (placed_of own taken).at p.1.loan.len own.bytes) bytes)
+      gained = Gained-weaker (kept own.number) (kept_now own.number) (λ bytes. IsReadOf new.reads p.1 most most bytes)
+          (λ bytes. AreReadAt new.reads (values_from (placed_of own taken).at most own.bytes) bytes)
           (λ bytes read.
-          let size : length bytes ≡ p.1.loan.len = omega (arith, read.at_least, read.at_most) in
-          subst (λ ms. AreReadAt new.reads ms bytes) next.marks (subst (λ n. AreReadAt new.reads (marks_from p.1.note p.1.at n) bytes) size read.are)) gained;
+          let size : length bytes ≡ most = omega (arith, read.at_least, read.at_most) in
+          subst (λ ms. AreReadAt new.reads ms bytes) same (subst (λ n. AreReadAt new.reads (marks_from p.1.note p.1.at n) bytes) size read.are)) gained;
       others = others;
     }
 

@@ -1,13 +1,13 @@
 -- Stages one after another.
-use Rattle.std.proofs.Common.{◌≡◌, ◌≢◌, ℕ, ◌<◌, ◌≤◌, List, [], Option, length, refl, sym, ap, ◌∙◌, arith}
+use Rattle.std.proofs.Common.{◌≡◌, ◌≢◌, ℕ, ◌<◌, ◌≤◌, List, [], Option, Some, None, length, refl, sym, ap, subst, ◌∙◌, arith}
 use Rattle.zr_kinds.specs.declared.behaviour.Stopped.{Stopped}
 use Rattle.zr_kinds.specs.declared.behaviour.Stopped.TheVariants as stop
 use Rattle.board_face.specs.AppCalls.{AppOnlySaw}
 use Rattle.board_face.specs.declared.views.app.AppLook.TheVariants.{RefillInUse}
 use Rattle.board_face.specs.declared.views.app.AppView.{AppView}
 use Rattle.app_worker.specs.declared.turning.Read.{Read}
-use Rattle.app_worker.specs.declared.turning.Read.TheVariants.{Did, NoneUnread, Failed}
-use Rattle.app_worker.specs.State.{State, Working, Common, Bare}
+use Rattle.app_worker.specs.declared.turning.Read.TheVariants.{Did, NoneUnread, Quit, Failed}
+use Rattle.app_worker.specs.State.{State, Working, Common, Quits, Bare}
 use Rattle.app_worker.specs.Moves.{Moves, Goes}
 use Rattle.app_worker.specs.Whole.{GaveOne, ReadOne, ReadFailed, Reads}
 use Rattle.app_worker.specs.Letting.{LetGo}
@@ -57,10 +57,11 @@ through-then a b c u v w k l m first second = record {
 -- ---- one loan
 
 pub read-did : (was now : State) (old new : AppView) (kept kept_now : ℕ → Option (List ℕ)) (faults faults_now : ℕ) (read : Read) → read ≢ Failed
-    → 0 < length was.unread → Reads was now old new kept kept_now faults faults_now read → ReadOne was now old new kept kept_now
-read-did was now old new kept kept_now faults faults_now Did other some reads = reads
-read-did was now old new kept kept_now faults faults_now NoneUnread other some reads = absurd (omega (arith, some, ap length reads.2))
-read-did was now old new kept kept_now faults faults_now Failed other some reads = absurd (other refl)
+    → read ≢ Quit → 0 < length was.unread → Reads was now old new kept kept_now faults faults_now read → ReadOne was now old new kept kept_now
+read-did was now old new kept kept_now faults faults_now Did other going some reads = reads
+read-did was now old new kept kept_now faults faults_now NoneUnread other going some reads = absurd (omega (arith, some, ap length reads.2))
+read-did was now old new kept kept_now faults faults_now Quit other going some reads = absurd (going refl)
+read-did was now old new kept kept_now faults faults_now Failed other going some reads = absurd (other refl)
 
 pub through-read : (was now : State) (old new : AppView) (kept kept_now : ℕ → Option (List ℕ)) → was.posted.entries ≡ []
     → ReadOne was now old new kept kept_now → Through was now old new kept kept_now
@@ -86,6 +87,19 @@ through-gave was now old new kept reaped working common goes gave = record {
   left = gave.left;
 }
 
+-- it has nothing out once all is given up, where something stopped it
+pub bare-of-gone : (was st : State) (old v : AppView) → st.stopped ≢ stop.No → LetGo was st old v → Bare st v
+bare-of-gone was st old v other gone = record {
+  helds = gone.helds;
+  loans = gone.loans;
+  due = ap (λ (s : State). s.due) gone.same;
+  unread = ap (λ (s : State). s.unread) gone.same;
+  flows = gone.ends;
+  distinct = gone.distinct;
+  whole = λ none. absurd (other none);
+  known = λ none. absurd (other none);
+}
+
 -- ---- the shelf failed
 
 -- all is given up for this cause
@@ -105,8 +119,14 @@ bare-stopped st v cause other was old gone = record {
   known = λ none. absurd (other none);
 }
 
-common-stopped : (st : State) (v : AppView) (cause : Stopped) → Common st v → Common (stopped_by st cause) v
-common-stopped st v cause common = record {
+-- another cause than that it has written enough
+quits-by : (quit : Option ℕ) (written : ℕ) (cause : Stopped) → cause ≢ stop.Quit → Quits quit written stop.No → Quits quit written cause
+quits-by None written cause other quits = other
+quits-by (Some n) written cause other quits = (quits.0, ((λ is. absurd (other is)), (λ is. absurd (let e : stop.No ≡ stop.Quit = quits.1.1 is in cc))))
+
+pub common-stopped : (st : State) (v : AppView) (cause : Stopped) → st.stopped ≡ stop.No → cause ≢ stop.Quit → Common st v
+    → Common (stopped_by st cause) v
+common-stopped st v cause none other common = record {
   app = common.app;
   ended = common.ended;
   counted = common.counted;
@@ -117,6 +137,7 @@ common-stopped st v cause common = record {
   room = common.room;
   loans = common.loans;
   written = common.written;
+  quits = quits-by st.how.quit st.written cause other (subst (Quits st.how.quit st.written) none common.quits);
   bound = common.bound;
 }
 
@@ -139,7 +160,8 @@ write-stopped was mid now old midv new kept kept_now faults faults_now none reap
     record {
       bare = bare-stopped now new stop.Write (λ e. absurd (cc)) mid midv gone;
       is_bare = ap (λ (s : State). s.bare) gone.same;
-      common = common-stopped now new stop.Write gone.common;
+      common = common-stopped now new stop.Write
+          (ap (λ (s : State). s.stopped) gone.same ∙ ap (λ (s : State). s.stopped) failed.same ∙ none) (λ e. absurd (cc)) gone.common;
       goes = record {
         moves = moves-stopped was now old new stop.Write none moves;
         shelved = λ other. absurd (other refl);

@@ -12,10 +12,11 @@ use Rattle.app_worker.specs.declared.turn.Turn.TheVariants.{Did, Idle, Finished,
 use Rattle.app_worker.specs.declared.turn.Why.TheVariants.{NoNote}
 use Rattle.app_worker.specs.State.{State, Working, Common, Bare, AppStands, app_steps}
 use Rattle.app_worker.specs.Moves.{Goes}
-use Rattle.app_worker.specs.Turns.{Answers, IsAsBefore, Polled, Turns, TakesFew, turn_after}
+use Rattle.zr_io.specs.Moved.{Rose}
+use Rattle.app_worker.specs.Turns.{Answers, IsAsBefore, Polled, Rests, Turns, TakesFew, turn_after}
 use Rattle.app_worker.specs.Whole.{GaveOne}
-use Rattle.app_worker.specs.Stages.{Through, WriteStopped, Untouched}
-use Rattle.app_worker.proofs.Moving.{moves-then}
+use Rattle.app_worker.specs.Stages.{Through, HasQuit, WriteStopped, Untouched}
+use Rattle.app_worker.proofs.Moving.{moves-then, no-write, quit-no-write}
 use Rattle.app_worker.proofs.Through.{goes-then}
 
 -- ---- between two turns
@@ -35,10 +36,13 @@ stands-bare st v bare common reaped is = record { common = common; reaped = reap
 pub no-poll : (was now : State) (old new : AppView) → new.taken ≡ old.taken → was.bare ≡ false → new.taken ≢ old.taken → Polled was now old new
 no-poll was now old new same live differs = absurd (differs same)
 
+pub no-rest : (was now : State) (old new : AppView) (k m : ℕ → Option (List ℕ)) → was.bare ≡ false → was.bare ≡ true → Rests was now old new k m
+no-rest was now old new k m live is = absurd (cc)
+
 -- it did something and took no note
-pub turns-did : (was now : State) (old new : AppView) (k m : ℕ → Option (List ℕ)) (f f2 : ℕ) → Through was now old new k m
-    → app_steps was old < app_steps now new → Turns was now old new k m f f2 Did
-turns-did was now old new k m f f2 through steps = record {
+pub turns-did : (was now : State) (old new : AppView) (k m : ℕ → Option (List ℕ)) (f f2 : ℕ) → was.bare ≡ false
+    → Through was now old new k m → app_steps was old < app_steps now new → Turns was now old new k m f f2 Did
+turns-did was now old new k m f f2 live through steps = record {
   stands = stands-working now new through.working through.common through.reaped;
   goes = through.goes;
   answer = steps;
@@ -46,11 +50,13 @@ turns-did was now old new k m f f2 through steps = record {
   here = λ _. through.left;
   polled = no-poll was now old new through.taken;
   none = λ _ e. absurd (cc);
+  cause = λ _ is. absurd (no-write now.stopped through.working.going is);
+  rests = no-rest was now old new k m live;
 }
 
 pub turns-failed : (was now : State) (old new : AppView) (k m : ℕ → Option (List ℕ)) (f f2 : ℕ) → was.stopped ≡ stop.No
-    → WriteStopped was now old new k m f f2 → Turns was now old new k m f f2 (Failed fault.Write)
-turns-failed was now old new k m f f2 none stopped = record {
+    → was.bare ≡ false → WriteStopped was now old new k m f f2 → Turns was now old new k m f f2 (Failed fault.Write)
+turns-failed was now old new k m f f2 none live stopped = record {
   stands = stands-bare now new stopped.bare stopped.common stopped.reaped stopped.is_bare;
   goes = stopped.goes;
   answer = (none, stopped.stopped, stopped.rose);
@@ -58,6 +64,23 @@ turns-failed was now old new k m f f2 none stopped = record {
   here = λ _. stopped.left;
   polled = no-poll was now old new stopped.taken;
   none = λ _ e. absurd (cc);
+  cause = λ _ _. stopped.rose;
+  rests = no-rest was now old new k m live;
+}
+
+-- it has written as much as it is to write
+pub turns-quit : (was now : State) (old new : AppView) (k m : ℕ → Option (List ℕ)) (f f2 : ℕ) → was.bare ≡ false
+    → HasQuit was now old new k m → Turns was now old new k m f f2 Did
+turns-quit was now old new k m f f2 live quit = record {
+  stands = stands-bare now new quit.bare quit.common quit.reaped quit.is_bare;
+  goes = quit.goes;
+  answer = quit.steps;
+  few = inl quit.taken;
+  here = λ _. quit.left;
+  polled = no-poll was now old new quit.taken;
+  none = λ _ e. absurd (cc);
+  cause = λ _ is. absurd (quit-no-write now.stopped quit.stopped is);
+  rests = no-rest was now old new k m live;
 }
 
 -- it only saw something
@@ -87,6 +110,7 @@ pub record Begins (was mid : State) (old midv : AppView) (k l : ℕ → Option (
   pub split : was.short ≡ false
   pub here : old.left ≡ false
   pub still : mid.bare ≡ false
+  pub still_going : mid.stopped ≡ stop.No
   pub goes : Goes was mid old midv k l
   pub steps : app_steps was old < app_steps mid midv
   pub taken : midv.taken ≡ old.taken
@@ -114,11 +138,16 @@ turns-later was mid now old midv new k l m f f1 f2 turn begin turns = record {
   here = λ other. turns.here (λ is. other (ap (turn_after true) is)) ∙ begin.left;
   polled = λ live. polled;
   none = λ _ is. absurd (after-busy turn is);
+  cause = cause;
+  rests = no-rest was now old new k m begin.live;
 }
   where
     few : TakesFew midv new → TakesFew old new
     few (inl same) = inl (same ∙ begin.taken)
     few (inr (t, more)) = inr (t, more ∙ ap (λ ts. ts ++ t ∷ []) begin.taken)
+
+    cause : was.stopped ≢ stop.Write → now.stopped ≡ stop.Write → Rose f f2
+    cause other is = omega (arith, begin.later, turns.cause (λ wrote. no-write mid.stopped begin.still_going wrote) is)
 
     polled : new.taken ≢ old.taken → Polled was now old new
     polled differs =
@@ -154,6 +183,8 @@ turns-earlier was now old new k m f f1 f2 turn later turns = record {
   here = turns.here;
   polled = turns.polled;
   none = turns.none;
+  cause = λ other is. omega (arith, later, turns.cause other is);
+  rests = turns.rests;
 }
 
 -- where the first part did nothing
@@ -174,6 +205,7 @@ begins-through was mid old midv k l f f1 works here through steps later = record
   split = works.split;
   here = here;
   still = through.working.live;
+  still_going = through.working.going;
   goes = through.goes;
   steps = steps;
   taken = through.taken;
@@ -193,6 +225,7 @@ turns-given was mid now old midv new k m f f2 turn true some none works here the
       split = works.split;
       here = here;
       still = then.live;
+      still_going = then.going;
       goes = goes;
       steps = gave.steps (some refl);
       taken = gave.taken;

@@ -155,8 +155,8 @@ pub record OnlyReads (old new : AppView) : Type 0 where
   pub more : List Reading
   pub are : new.reads ≡ old.reads ++ more
 
--- so many bytes of a loan were read, or a few more
-pub record IsReadOf (reads : List Reading) (lending : Lending) (done : ℕ) (bytes : List ℕ) : Type 0 where
+-- the first bytes of a loan were read, from so many on and at most so many
+pub record IsReadOf (reads : List Reading) (lending : Lending) (done most : ℕ) (bytes : List ℕ) : Type 0 where
   pub are : AreReadAt reads (marks_from lending.note lending.at (length bytes)) bytes
   pub at_least : done ≤ length bytes
-  pub at_most : length bytes ≤ lending.loan.len
+  pub at_most : length bytes ≤ most

@@ -1,11 +1,16 @@
 -- What an application's readers show.
-use Rattle.std.specs.Prelude.{◌≡◌, ℕ, ◌+◌, ◌==◌, false, if◌then◌else◌, List, [], ◌∷◌, None}
+use Rattle.std.specs.Prelude.{◌≡◌, ℕ, ◌+◌, ◌==◌, Bool, false, if◌then◌else◌, List, [], ◌∷◌, Option, Some, None}
 use Rattle.zr_kinds.specs.declared.behaviour.Behaviour.{Behaviour}
-use Rattle.zr_kinds.specs.declared.behaviour.Stopped.TheVariants.{No}
+use Rattle.zr_kinds.specs.declared.behaviour.Stopped.TheVariants.{No, Quit}
 use Rattle.completion_ring.specs.Ring.{ring}
 use Rattle.board_face.specs.declared.views.app.AppView.{AppView}
 use Rattle.app_worker.specs.declared.stack.FlowQueue.{FlowQueue}
 use Rattle.app_worker.specs.State.{State}
+
+-- it is to write nothing
+abbrev pub is_nothing : Option ℕ → Bool
+is_nothing None = false
+is_nothing (Some bytes) = bytes == 0
 
 -- one that has taken no turn
 abbrev pub new_state : ℕ → ℕ → Behaviour → State
@@ -22,9 +27,9 @@ new_state app places how = record {
   due = None;
   written = 0;
   loans = 0;
-  stopped = No;
+  stopped = if is_nothing how.quit then Quit else No;
   ended = false;
-  bare = false;
+  bare = is_nothing how.quit;
   short = false;
 }
 

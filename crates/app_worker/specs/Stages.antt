@@ -9,9 +9,10 @@ use Rattle.board_face.specs.declared.views.app.AppView.{AppView}
 use Rattle.app_worker.specs.declared.stack.Delivery.{Delivery}
 use Rattle.app_worker.specs.declared.stack.Delivery.TheVariants.{Did as lent_it}
 use Rattle.app_worker.specs.declared.stages.Drained.{Drained}
-use Rattle.app_worker.specs.declared.stages.Drained.TheVariants.{Nothing as read_nothing, Did as read_some, InUse, Failed as read_failed}
+use Rattle.app_worker.specs.declared.stages.Drained.TheVariants.{Nothing as read_nothing, Did as read_some, InUse, Quit as read_quit, Failed as read_failed}
 use Rattle.app_worker.specs.declared.stages.Lent.{Lent}
-use Rattle.app_worker.specs.declared.stages.Lent.TheVariants.{Nothing as none_in_order, Did as lent_some, Stuck, Failed as lending_failed}
+use Rattle.app_worker.specs.declared.stages.Lent.TheVariants.{Nothing as none_in_order, Did as lent_some, Stuck, Quit as lending_quit}
+use Rattle.app_worker.specs.declared.stages.Lent.TheVariants.{Failed as lending_failed}
 use Rattle.app_worker.specs.Core.{total, Each}
 use Rattle.app_worker.specs.State.{State, IsAtRest, Working, Common, Bare, app_steps}
 use Rattle.app_worker.specs.Moves.{Goes}
@@ -40,6 +41,18 @@ pub record WriteStopped (was now : State) (old new : AppView) (kept kept_now : �
   pub taken : new.taken ≡ old.taken
   pub left : new.left ≡ old.left
 
+-- it has written as much as it is to write
+pub record HasQuit (was now : State) (old new : AppView) (kept kept_now : ℕ → Option (List ℕ)) : Type 0 where
+  pub bare : Bare now new
+  pub is_bare : now.bare ≡ true
+  pub common : Common now new
+  pub goes : Goes was now old new kept kept_now
+  pub reaped : now.posted.entries ≡ []
+  pub stopped : now.stopped ≡ stop.Quit
+  pub steps : app_steps was old < app_steps now new
+  pub taken : new.taken ≡ old.taken
+  pub left : new.left ≡ old.left
+
 -- nothing changed at all
 pub record Untouched (was now : State) (old new : AppView) (kept kept_now : ℕ → Option (List ℕ)) : Type 0 where
   pub state : now ≡ was
@@ -53,6 +66,7 @@ ReadsTo keep was now old new kept kept_now faults faults_now read_nothing = Unto
 ReadsTo keep was now old new kept kept_now faults faults_now read_some = Through was now old new kept kept_now × (app_steps was old < app_steps now new)
     × (now.due ≡ None) × (length now.unread ≤ keep)
 ReadsTo keep was now old new kept kept_now faults faults_now InUse = Through was now old new kept kept_now × (app_steps was old < app_steps now new)
+ReadsTo keep was now old new kept kept_now faults faults_now read_quit = HasQuit was now old new kept kept_now
 ReadsTo keep was now old new kept kept_now faults faults_now read_failed = WriteStopped was now old new kept kept_now faults faults_now
 
 -- pieces were lent, up to one that couldn't be
@@ -74,6 +88,7 @@ abbrev pub LendsAll : State → State → AppView → AppView → (ℕ → Optio
 LendsAll was now old new kept kept_now faults faults_now none_in_order = Untouched was now old new kept kept_now × Each IsAtRest was.flows
 LendsAll was now old new kept kept_now faults faults_now lent_some = Through was now old new kept kept_now × (app_steps was old < app_steps now new)
 LendsAll was now old new kept kept_now faults faults_now Stuck = (now ≡ was) × (kept_now ≡ kept) × AppOnlySaw RawOnItsWay old new
+LendsAll was now old new kept kept_now faults faults_now lending_quit = HasQuit was now old new kept kept_now
 LendsAll was now old new kept kept_now faults faults_now lending_failed = WriteStopped was now old new kept kept_now faults faults_now
 
 -- ---- leaving

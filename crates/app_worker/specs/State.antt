@@ -1,13 +1,13 @@
 -- What an application keeps between its turns, as plain data, and how that stands to what its face has seen.
 use mir.Syntax.{w32}
 use Rattle.std.specs.Int.{cast_signed}
-use Rattle.std.specs.Prelude.{◌≡◌, ℕ, zero, suc, ◌+◌, ◌-◌, ◌*◌, ◌^◌, ◌<◌, ◌≤◌, min, Bool, true, false, if◌then◌else◌}
-use Rattle.std.specs.Prelude.{List, [], ◌∷◌, ◌++◌, length, Option, None, MatchBool, MatchOption, IsSome, slice_index_or}
+use Rattle.std.specs.Prelude.{◌≡◌, ◌≢◌, ◌↔◌, ℕ, zero, suc, ◌+◌, ◌-◌, ◌*◌, ◌^◌, ◌<◌, ◌≤◌, min, Bool, true, false, if◌then◌else◌}
+use Rattle.std.specs.Prelude.{List, [], ◌∷◌, ◌++◌, length, Option, Some, None, MatchBool, MatchOption, IsSome, slice_index_or}
 use Rattle.std.specs.Map.{lookup}
 use Rattle.std.specs.Ordering.{is_eq, nat_cmp}
 use Rattle.zr_kinds.specs.declared.behaviour.Behaviour.{Behaviour}
 use Rattle.zr_kinds.specs.declared.behaviour.Stopped.{Stopped}
-use Rattle.zr_kinds.specs.declared.behaviour.Stopped.TheVariants.{No}
+use Rattle.zr_kinds.specs.declared.behaviour.Stopped.TheVariants.{No, Quit}
 use Rattle.zr_kinds.specs.declared.ring.Completion.{Completion}
 use Rattle.zr_kinds.specs.CopyingReceiver.{next_missing}
 use Rattle.area_layout.specs.Layout.{Shape, off_of}
@@ -116,6 +116,16 @@ taken_len t = t.note.place.len
 abbrev pub held_len : HeldPiece → ℕ
 held_len h = h.place.len
 
+-- It quits exactly where it has written so many bytes, and writes no more.
+abbrev pub Quits : Option ℕ → ℕ → Stopped → Type 0
+Quits None written stopped = stopped ≢ Quit
+Quits (Some bytes) written stopped = (written ≤ bytes) × ((stopped ≡ Quit) ↔ (written ≡ bytes))
+
+-- how many of the next bytes it is to write
+abbrev pub wanted_of : Option ℕ → ℕ → ℕ → ℕ
+wanted_of None written len = len
+wanted_of (Some bytes) written len = min len (bytes - written)
+
 pub record Common (st : State) (v : AppView) : Type 0 where
   pub app : v.app ≡ st.app
   pub ended : v.ended ≡ st.ended
@@ -127,6 +137,7 @@ pub record Common (st : State) (v : AppView) : Type 0 where
   pub room : st.how.hold + st.posted.places ≤ st.room
   pub loans : st.loans ≡ capped (length v.loans + length v.returned)
   pub written : st.written ≡ capped (total (λ f. f.bytes) st.flows)
+  pub quits : Quits st.how.quit st.written st.stopped
   -- each loan was of a byte that was taken, and is of one that it doesn't hold any more
   pub bound : length v.loans + length v.returned + total held_len v.helds ≤ total taken_len v.taken
 

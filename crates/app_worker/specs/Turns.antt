@@ -67,6 +67,19 @@ Answers was now old new faults faults_now NotYet = (was.short ≡ false) × (now
 abbrev pub TakesFew : AppView → AppView → Type 0
 TakesFew old new = (new.taken ≡ old.taken) ⊎ ((t : TakenNote) × (new.taken ≡ old.taken ++ t ∷ []))
 
+-- It has nothing out: it lends, reads, writes and appends nothing, and gives up at once what a note brings.
+pub record Rests (was now : State) (old new : AppView) (kept kept_now : ℕ → Option (List ℕ)) : Type 0 where
+  pub state : now ≡ record was { ended = now.ended }
+  pub view : new ≡ record old {
+    left = new.left;
+    quiet = new.quiet;
+    scrubbed = new.scrubbed;
+    ended = new.ended;
+    taken = new.taken;
+    looks = new.looks;
+  }
+  pub kept_is : kept_now ≡ kept
+
 pub record Turns (was now : State) (old new : AppView) (kept kept_now : ℕ → Option (List ℕ)) (faults faults_now : ℕ) (result : Turn) : Type 0 where
   pub stands : AppStands now new
   pub goes : Goes was now old new kept kept_now
@@ -78,6 +91,10 @@ pub record Turns (was now : State) (old new : AppView) (kept kept_now : ℕ → 
   pub polled : was.bare ≡ false → new.taken ≢ old.taken → Polled was now old new
   -- and so is NoNote answered
   pub none : was.bare ≡ false → result ≡ Idle NoNote → MayPoll was
+  -- the shelf stops it only where that failed
+  pub cause : was.stopped ≢ stop.Write → now.stopped ≡ stop.Write → Rose faults faults_now
+  -- once it is stopped, it only takes notes
+  pub rests : was.bare ≡ true → Rests was now old new kept kept_now
 
 -- the turn, once something was done before: then it isn't idle
 abbrev pub turn_after : Bool → Turn → Turn

@@ -3,6 +3,7 @@ use Rattle.std.specs.Prelude.{◌≡◌, ◌≢◌, ℕ, ◌+◌, ◌<◌, ◌�
 use Rattle.std.specs.Prelude.{◌⊎◌, Option, None}
 use Rattle.std.specs.Io.KnownBytes.{Keeps}
 use Rattle.zr_kinds.specs.declared.place.Note.{Note}
+use Rattle.zr_kinds.specs.declared.behaviour.Stopped.TheVariants as stop
 use Rattle.zr_kinds.specs.CopyingReceiver.{values_from}
 use Rattle.zr_io.specs.Moved.{Gained, Rose}
 use Rattle.completion_ring.specs.Ring.{IsFull}
@@ -14,7 +15,7 @@ use Rattle.app_worker.specs.declared.stack.FlowQueue.{FlowQueue}
 use Rattle.app_worker.specs.declared.stack.Delivery.{Delivery}
 use Rattle.app_worker.specs.declared.stack.Delivery.TheVariants.{Did as lent_it, NoneInOrder, Full, Unsettled}
 use Rattle.app_worker.specs.declared.turning.Read.{Read}
-use Rattle.app_worker.specs.declared.turning.Read.TheVariants.{Did as read_it, NoneUnread, Failed}
+use Rattle.app_worker.specs.declared.turning.Read.TheVariants.{Did as read_it, NoneUnread, Quit, Failed}
 use Rattle.app_worker.specs.declared.turning.Taken.{Taken}
 use Rattle.app_worker.specs.declared.turning.Taken.TheVariants.{Did as took, Short, NoNote, Ended, Memory}
 use Rattle.app_worker.specs.Core.{total, HasTokens, Each, many, AreReadAt, placed_of}
@@ -90,6 +91,17 @@ pub record Torn (st : State) (v : AppView) : Type 0 where
   pub flows : Each (FlowEnds v.taken) st.flows
   pub distinct : (number : ℕ) → many number st.flows ≤ 1
 
+-- The oldest loan was appended up to the byte at which the application quits, and is due.
+pub record ReadQuit (was now : State) (old new : AppView) (kept kept_now : ℕ → Option (List ℕ)) : Type 0 where
+  pub torn : Torn now new
+  pub common : Common now new
+  pub moves : Moves was now old new
+  pub shelved : (first : ℕ → Option (List ℕ)) → AreShelved first kept was.flows old → AreShelved first kept_now now.flows new
+  pub stopped : now.stopped ≡ stop.Quit
+  pub same : now ≡ record was { flows = now.flows; unread = now.unread; due = now.due; written = now.written; stopped = now.stopped }
+  pub taken : new.taken ≡ old.taken
+  pub left : new.left ≡ old.left
+
 -- The shelf failed.
 pub record ReadFailed (was now : State) (old new : AppView) (kept kept_now : ℕ → Option (List ℕ)) (faults faults_now : ℕ) : Type 0 where
   pub torn : Torn now new
@@ -104,6 +116,7 @@ pub record ReadFailed (was now : State) (old new : AppView) (kept kept_now : ℕ
 abbrev pub Reads : State → State → AppView → AppView → (ℕ → Option (List ℕ)) → (ℕ → Option (List ℕ)) → ℕ → ℕ → Read → Type 0
 Reads was now old new kept kept_now faults faults_now read_it = ReadOne was now old new kept kept_now
 Reads was now old new kept kept_now faults faults_now NoneUnread = (now ≡ was) × (new ≡ old) × (was.unread ≡ []) × (kept_now ≡ kept)
+Reads was now old new kept kept_now faults faults_now Quit = ReadQuit was now old new kept kept_now
 Reads was now old new kept kept_now faults faults_now Failed = ReadFailed was now old new kept kept_now faults faults_now
 
 -- ---- taking a note

@@ -15,10 +15,12 @@ use zr_io::{Failed, Shelf};
 /// How many bytes are read at once.
 const CHUNK: u32 = 4096;
 
-/// Reads a loan, and appends what it reads to a flow of the shelf. `bytes` counts the appends that went well.
+/// Reads the first `most` bytes of a loan, and appends them to a flow of the shelf. `bytes` counts the appends that went
+/// well.
 pub fn read_loan<F: AppFace, T: Shelf>(
     face: &mut F,
     lending: &Lending,
+    most: u32,
     flow: u32,
     bytes: &mut u64,
     shelf: &mut T,
@@ -26,24 +28,25 @@ pub fn read_loan<F: AppFace, T: Shelf>(
     requires here { IsHere (F.seen face.old) }
     requires apart { LieApart (F.seen face.old) }
     requires out { IsIn (lent_piece lending.now) (F.seen face.old).loans }
-    requires room { bytes.old + lending.now.loan.len < 2 ^ 64 }
+    requires part { most ≤ lending.now.loan.len }
+    requires room { bytes.old + most < 2 ^ 64 }
     ensures only { OnlyReads (F.seen face.old) (F.seen face.new) }
-    ensures counted { (bytes.old ≤ bytes.new) × (bytes.new ≤ bytes.old + lending.now.loan.len) }
-    ensures whole { OnOk result (bytes.new ≡ bytes.old + lending.now.loan.len) }
+    ensures counted { (bytes.old ≤ bytes.new) × (bytes.new ≤ bytes.old + most) }
+    ensures whole { OnOk result (bytes.new ≡ bytes.old + most) }
+    ensures short { OnErr result (bytes.new < bytes.old + most) }
     ensures gained { Gained (T.kept shelf.old flow) (T.kept shelf.new flow)
-        (λ (read : List ℕ). IsReadOf (F.seen face.new).reads lending.now (bytes.new - bytes.old) read) }
+        (λ (read : List ℕ). IsReadOf (F.seen face.new).reads lending.now (bytes.new - bytes.old) most read) }
     ensures exact { OnOk result (Gained (T.kept shelf.old flow) (T.kept shelf.new flow)
-        (λ (read : List ℕ). IsReadOf (F.seen face.new).reads lending.now lending.now.loan.len read)) }
+        (λ (read : List ℕ). IsReadOf (F.seen face.new).reads lending.now most most read)) }
     ensures others { (other : ℕ) → other ≢ flow → Keeps (T.kept shelf.old other) (T.kept shelf.new other) }
     ensures later { T.faults shelf.old ≤ T.faults shelf.new }
     ensures cause { OnErr result (Rose (T.faults shelf.old) (T.faults shelf.new)) }
     ensures beside { F.beside face.new ≡ F.beside face.old }
 {
-    let len = lending.loan.place().len;
     let mut buffer = [0; 4096];
     let mut done = 0;
-    while done < len {
-        let n = (len - done).min(CHUNK);
+    while done < most {
+        let n = (most - done).min(CHUNK);
         let part = &mut buffer[..n as usize];
         face.read(&lending.loan, done, part);
         shelf.append(flow, part)?;

@@ -24,6 +24,8 @@ pub enum Drained {
     Did,
     /// A loan was read, and can't be given back yet.
     InUse,
+    /// The application has written as many bytes as it is to write, which stopped it.
+    Quit,
     /// The shelf failed, which stopped the application.
     Failed,
 }
@@ -37,6 +39,8 @@ pub enum Lent {
     Did,
     /// A piece is in order, and can't be lent yet.
     Stuck,
+    /// The application has written as many bytes as it is to write, which stopped it.
+    Quit,
     /// The shelf failed, which stopped the application.
     Failed,
 }
@@ -70,11 +74,17 @@ pub fn drain<F: AppFace, T: Shelf>(
 {
     let mut did = false;
     while st.unread.len() > keep {
-        let read = read_one(face, st, shelf);
-        if let Read::Failed = read {
-            let_go(face, st);
-            st.stopped = Stopped::Write;
-            return Drained::Failed;
+        match read_one(face, st, shelf) {
+            Read::Failed => {
+                let_go(face, st);
+                st.stopped = Stopped::Write;
+                return Drained::Failed;
+            }
+            Read::Quit => {
+                let_go(face, st);
+                return Drained::Quit;
+            }
+            _ => {}
         }
         did = true;
         if !give_one(face, st) {
@@ -132,6 +142,7 @@ pub fn lend_all<F: AppFace, T: Shelf>(face: &mut F, st: &mut Stack, shelf: &mut 
         reap_all(st);
         match drain(face, st, shelf, st.how.hold as usize) {
             Drained::InUse => return Lent::Did,
+            Drained::Quit => return Lent::Quit,
             Drained::Failed => return Lent::Failed,
             _ => {}
         }

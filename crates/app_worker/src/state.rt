@@ -52,6 +52,7 @@ impl AppState {
         let room = how.hold as usize + places as usize;
         let unread = HeapCircularBuffer::with_capacity(alloc, room)?;
         let posted = CqRing::new(alloc, places as usize)?;
+        let at_once = how.quit == Some(0);
         let stack = Stack {
             app,
             how,
@@ -64,9 +65,9 @@ impl AppState {
             due: None,
             written: 0,
             loans: 0,
-            stopped: Stopped::No,
+            stopped: if at_once { Stopped::Quit } else { Stopped::No },
             ended: false,
-            bare: false,
+            bare: at_once,
             short: false,
         };
         Ok(AppState { stack })

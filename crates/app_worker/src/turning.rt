@@ -1,11 +1,11 @@
 //! The steps of a turn, over all that an application keeps.
 ghost use Rattle.std.specs.Prelude.{◌≡◌, ◌≢◌, false, true, ℕ, ◌+◌, ◌-◌, ◌<◌, ◌≤◌, [], List, Option, None, length, MatchResult};
-ghost use Rattle.std.specs.Prelude.{OnOk};
+ghost use Rattle.std.specs.Prelude.{◌^◌, OnOk, IfSome};
 ghost use Rattle.board_face.specs.AppCalls.{IsHere};
 ghost use Rattle.board_face.specs.AppEvents.{app_gist};
 ghost use Rattle.board_face.specs.declared.views.app.AppLook.TheVariants.{RawOnItsWay, NoNote as no_note, RefillInUse};
 ghost use Rattle.app_worker.specs.Core.{Each};
-ghost use Rattle.app_worker.specs.State.{Working, Common, IsAtRest, IsIndex, place_in};
+ghost use Rattle.app_worker.specs.State.{Working, Common, IsAtRest, IsIndex, place_in, wanted_of};
 ghost use Rattle.app_worker.specs.StateOf.{state_of};
 ghost use Rattle.app_worker.specs.Moves.{Goes};
 ghost use Rattle.app_worker.specs.Whole.{Lends, Gives, Takes, Reads, IsChosen};
@@ -17,7 +17,7 @@ use std::alloc::Global;
 use std::collections::BTreeMap;
 use tcp_reorder::RecvQueue;
 use zr_io::{Failed, Shelf};
-use zr_kinds::Note;
+use zr_kinds::{Note, Stopped};
 
 /// What a look for a note did.
 #[derive(Clone, Copy, Debug, PartialEq, Eq)]
@@ -39,6 +39,8 @@ pub enum Read {
     Did,
     /// Nothing is unread.
     NoneUnread,
+    /// The application has written as many bytes as it is to write, which stopped it. The loan is due.
+    Quit,
     /// The shelf failed. The loan is due.
     Failed,
 }
@@ -88,7 +90,19 @@ fn find(index: &BTreeMap<u64, usize>, number: u64) -> Option<usize>
     index.get(&number).copied()
 }
 
-/// Reads the oldest loan that isn't read yet, and appends it. Then the loan is due.
+/// How many of the next bytes the application is to write.
+fn wanted(quit: Option<u64>, written: u64, len: u32) -> u32
+    ensures is { result ≡ wanted_of quit written len }
+    ensures range { IfSome quit (λ bytes. bytes < 2 ^ 64) }
+{
+    let Some(bytes) = quit else {
+        return len;
+    };
+    u64::from(len).min(bytes.saturating_sub(written)) as u32
+}
+
+/// Reads the oldest loan that isn't read yet, and appends it, up to the byte at which the application quits. Then the
+/// loan is due.
 pub fn read_one<F: AppFace, T: Shelf>(face: &mut F, st: &mut Stack, shelf: &mut T) -> Read
     requires here { IsHere (F.seen face.old) }
     requires working { Working (state_of st.old) (F.seen face.old) }
@@ -111,14 +125,19 @@ pub fn read_one<F: AppFace, T: Shelf>(face: &mut F, st: &mut Stack, shelf: &mut 
     let own = &mut st.flows[i];
     let _next = own.queue.next_position();
     let before = own.bytes;
-    let result = read_loan(face, &lending, own.number, &mut own.bytes, shelf);
+    let most = wanted(st.how.quit, st.written, lending.loan.place().len);
+    let result = read_loan(face, &lending, most, own.number, &mut own.bytes, shelf);
     let gained = own.bytes - before;
     st.written = st.written.saturating_add(gained);
     st.due = Some(lending);
-    match result {
-        Ok(()) => Read::Did,
-        Err(Failed) => Read::Failed,
+    if let Err(Failed) = result {
+        return Read::Failed;
     }
+    if st.how.quit == Some(st.written) {
+        st.stopped = Stopped::Quit;
+        return Read::Quit;
+    }
+    Read::Did
 }
 
 /// The place of the queue of a note's flow, which is made where there is none.

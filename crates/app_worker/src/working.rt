@@ -84,6 +84,7 @@ fn close<F: AppFace, T: Shelf>(face: &mut F, st: &mut Stack, shelf: &mut T) -> T
 {
     match drain(face, st, shelf, 0) {
         Drained::InUse => return Turn::Did,
+        Drained::Quit => return Turn::Did,
         Drained::Failed => return Turn::Failed(Fault::Write),
         _ => {}
     }
@@ -151,6 +152,7 @@ fn go_on<F: AppFace, T: Shelf>(alloc: Global, face: &mut F, st: &mut Stack, shel
 {
     match lend_all(face, st, shelf) {
         Lent::Did => Turn::Did,
+        Lent::Quit => Turn::Did,
         Lent::Failed => Turn::Failed(Fault::Write),
         Lent::Stuck => Turn::Idle(Why::Unsettled),
         Lent::Nothing => look(alloc, face, st, shelf),
@@ -176,6 +178,7 @@ fn work<F: AppFace, T: Shelf>(alloc: Global, face: &mut F, st: &mut Stack, shelf
     match drain(face, st, shelf, st.how.hold as usize) {
         Drained::Failed => Turn::Failed(Fault::Write),
         Drained::InUse => Turn::Did,
+        Drained::Quit => Turn::Did,
         Drained::Did => {
             let turn = go_on(alloc, face, st, shelf);
             after(true, turn)

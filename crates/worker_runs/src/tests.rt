@@ -344,6 +344,96 @@ fn short_payload(rt: HostRuntime) -> Result<(), Fail> {
     Ok(())
 }
 
+/// An application that is to write so many bytes.
+const fn quitting(bytes: u64) -> Behaviour {
+    Behaviour {
+        hold: 0,
+        leak: 0,
+        stray: 0,
+        quit: Some(bytes),
+    }
+}
+
+/// It stops in the middle of a payload, and goes on taking notes.
+#[test]
+fn quits_in_a_payload(rt: HostRuntime) -> Result<(), Fail> {
+    let steps = [
+        Step::Send(0, 1000, b"ab"),
+        DID,
+        Step::Send(0, 1002, b"cdefg"),
+        DID,
+        Step::Send(0, 1007, b"hi"),
+        DID,
+        NO_NOTE,
+        Step::End,
+        DID,
+        Step::Takes(Turn::Idle(Why::NotQuiet)),
+        HONOURED,
+        FINISHED,
+    ];
+    let (st, shelf) = run(&rt, rt.alloc(), quitting(4), 4, 1000, &[], &steps)?;
+    assert_eq!(rt; shelf.flow(0), b"abcd".as_slice());
+    assert_eq!(rt; st.written(), 4);
+    assert_eq!(rt; st.loans(), 2);
+    assert_eq!(rt; st.flow_bytes(0), 4);
+    assert_eq!(rt; st.stopped(), Stopped::Quit);
+    Ok(())
+}
+
+/// It stops with the last byte of a payload, and keeps no piece that waits.
+#[test]
+fn quits_behind_a_payload(rt: HostRuntime) -> Result<(), Fail> {
+    let steps = [
+        Step::Send(0, 1004, b"ef"),
+        DID,
+        Step::Send(0, 1000, b"ab"),
+        DID,
+        Step::End,
+        FINISHED,
+    ];
+    let (st, shelf) = run(&rt, rt.alloc(), quitting(2), 4, 1000, &[], &steps)?;
+    assert_eq!(rt; shelf.flow(0), b"ab".as_slice());
+    assert_eq!(rt; st.written(), 2);
+    assert_eq!(rt; st.stopped(), Stopped::Quit);
+    Ok(())
+}
+
+/// One that is to write nothing is stopped from the start.
+#[test]
+fn quits_at_once(rt: HostRuntime) -> Result<(), Fail> {
+    let steps = [
+        NO_NOTE,
+        Step::Send(0, 1000, b"ab"),
+        DID,
+        NO_NOTE,
+        Step::End,
+        FINISHED,
+    ];
+    let (st, shelf) = run(&rt, rt.alloc(), quitting(0), 4, 1000, &[], &steps)?;
+    assert_eq!(rt; shelf.flow(0), b"".as_slice());
+    assert_eq!(rt; st.written(), 0);
+    assert_eq!(rt; st.loans(), 0);
+    assert_eq!(rt; st.stopped(), Stopped::Quit);
+    Ok(())
+}
+
+/// One that is to write more than there is isn't stopped.
+#[test]
+fn quits_never(rt: HostRuntime) -> Result<(), Fail> {
+    let steps = [
+        Step::Send(0, 1000, b"ab"),
+        DID,
+        Step::End,
+        DID,
+        FREED,
+        FINISHED,
+    ];
+    let (st, shelf) = run(&rt, rt.alloc(), quitting(3), 4, 1000, &[], &steps)?;
+    assert_eq!(rt; shelf.flow(0), b"ab".as_slice());
+    assert_eq!(rt; st.stopped(), Stopped::No);
+    Ok(())
+}
+
 /// Texts that differ in each byte.
 const TEXTS: [&[u8]; 8] = [
     b"a",

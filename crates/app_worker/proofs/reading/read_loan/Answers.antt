@@ -36,11 +36,11 @@ returns-in_err-append-clause-gained g c =
     let before = g.T.Shelf.kept c.loop-done.shelf c.args.flow in
     let after = g.T.Shelf.kept c.append.new.self c.args.flow in
     let size : length c.read.new.into ≡ c.min-n.result = search rules in
-    let n : c.min-n.result ≡ min (c.place-len.result.len - c.loop-done.done) 4096 = search rules in
-    let fits : c.loop-done.done + length c.read.new.into ≤ l.loan.len = omega (arith, size, n, inv.0, inv.1) in
+    let n : c.min-n.result ≡ min (c.args.most - c.loop-done.done) 4096 = search rules in
+    let fits : c.loop-done.done + length c.read.new.into ≤ c.args.most = omega (arith, size, n, inv.0, inv.1) in
     let added : (n : ℕ) × Appends before after (take n c.read.new.into) = c.in_err-append.ensures.bytes in
     let done : c.loop-done.bytes - c.args.bytes.now ≡ c.loop-done.done = omega (arith, inv.2) in
-    rw (c.read.ensures.view, done) (some-more first before after v lie l c.loop-done.done added.0 c.read.new.into c.read.new.into out refl fits inv.5 added.1)
+    rw (c.read.ensures.view, done) (some-more first before after v lie l c.loop-done.done c.args.most added.0 c.read.new.into c.read.new.into out refl fits inv.5 added.1)
 
 pub loop-done-preserved : goal.loop-done-preserved
 loop-done-preserved g c =
@@ -54,7 +54,7 @@ loop-done-preserved g c =
     let before = g.T.Shelf.kept c.loop-done.shelf c.args.flow in
     let after = g.T.Shelf.kept c.append.new.self c.args.flow in
     let size : length c.read.new.into ≡ c.min-n.result = search rules in
-    let n : c.min-n.result ≡ min (c.place-len.result.len - c.loop-done.done) 4096 = search rules in
+    let n : c.min-n.result ≡ min (c.args.most - c.loop-done.done) 4096 = search rules in
     let from : c.from.result ≡ c.min-n.result = search rules in
     let added : Appends before after c.read.new.into = c.in_ok-append.ensures.bytes in
     let w : AppView = has_read v l.loan c.loop-done.done c.read.new.into in

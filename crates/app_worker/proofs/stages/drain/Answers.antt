@@ -1,53 +1,71 @@
 use Rattle.std.proofs.Common.{◌≢◌, ℕ, ◌<◌, List, Option, length, ap, ◌∙◌, arith}
 use Rattle.board_face.specs.declared.views.app.AppView.{AppView}
-use Rattle.app_worker.specs.declared.turning.Read.TheVariants.{Failed}
+use Rattle.app_worker.specs.declared.turning.Read.TheVariants.{Quit, Failed}
 use Rattle.zr_kinds.specs.declared.behaviour.Stopped.TheVariants.{Write}
 use Rattle.app_worker.specs.State.{State}
 use Rattle.app_worker.specs.StateOf.{state_of}
 use Rattle.app_worker.specs.Whole.{ReadOne, GaveOne}
 use Rattle.app_worker.specs.Stages.{Through}
 use Rattle.app_worker.proofs.Through.{write-stopped, write-later, read-did, through-then, through-read, through-gave, through-in-use}
+use Rattle.app_worker.proofs.Quitting.{has-quit, quit-later}
 use Rattle.app_worker.proofs.stages.drain.Goals as goal
 
 pub returns-in-Failed-clause-reads : goal.returns-in-Failed-clause-reads
 returns-in-Failed-clause-reads g c =
     let a : State = state_of c.args.st.now in
     let b : State = state_of c.loop-face.st in
-    let d : State = state_of c.read_one-read.new.st in
+    let d : State = state_of c.read_one.new.st in
     let e : State = state_of c.let_go.new.st in
     let u : AppView = g.F.AppFace.seen c.args.face.now in
     let v : AppView = g.F.AppFace.seen c.loop-face.face in
-    let w : AppView = g.F.AppFace.seen c.read_one-read.new.face in
+    let w : AppView = g.F.AppFace.seen c.read_one.new.face in
     let x : AppView = g.F.AppFace.seen c.let_go.new.face in
     let k : ℕ → Option (List ℕ) = g.T.Shelf.kept c.args.shelf.now in
     let l : ℕ → Option (List ℕ) = g.T.Shelf.kept c.loop-face.shelf in
-    let m : ℕ → Option (List ℕ) = g.T.Shelf.kept c.read_one-read.new.shelf in
+    let m : ℕ → Option (List ℕ) = g.T.Shelf.kept c.read_one.new.shelf in
     let f : ℕ = g.T.Shelf.faults c.args.shelf.now in
     let f1 : ℕ = g.T.Shelf.faults c.loop-face.shelf in
-    let f2 : ℕ = g.T.Shelf.faults c.read_one-read.new.shelf in
+    let f2 : ℕ = g.T.Shelf.faults c.read_one.new.shelf in
     let inv = c.loop-face.invariant in
     write-later a b (record e { stopped = Write }) u v x k l m f f1 f2 inv.4 inv.0
     (write-stopped b d e v w x l m f1 f2 inv.0.working.going inv.0.reaped c.in-Failed.ensures.reads c.let_go.ensures.done)
+
+pub returns-in-Quit-clause-reads : goal.returns-in-Quit-clause-reads
+returns-in-Quit-clause-reads g c =
+    let a : State = state_of c.args.st.now in
+    let b : State = state_of c.loop-face.st in
+    let d : State = state_of c.read_one.new.st in
+    let e : State = state_of c.let_go-in-Quit.new.st in
+    let u : AppView = g.F.AppFace.seen c.args.face.now in
+    let v : AppView = g.F.AppFace.seen c.loop-face.face in
+    let w : AppView = g.F.AppFace.seen c.read_one.new.face in
+    let x : AppView = g.F.AppFace.seen c.let_go-in-Quit.new.face in
+    let k : ℕ → Option (List ℕ) = g.T.Shelf.kept c.args.shelf.now in
+    let l : ℕ → Option (List ℕ) = g.T.Shelf.kept c.loop-face.shelf in
+    let m : ℕ → Option (List ℕ) = g.T.Shelf.kept c.read_one.new.shelf in
+    let inv = c.loop-face.invariant in
+    quit-later a b e u v x k l m inv.0 (has-quit b d e v w x l m inv.0.reaped c.in-Quit.ensures.reads c.let_go-in-Quit.ensures.done)
 
 pub returns-then-not-give_one : goal.returns-then-not-give_one
 returns-then-not-give_one g c =
     let a : State = state_of c.args.st.now in
     let b : State = state_of c.loop-face.st in
-    let d : State = state_of c.read_one-read.new.st in
+    let d : State = state_of c.read_one.new.st in
     let e : State = state_of c.give_one.new.st in
     let u : AppView = g.F.AppFace.seen c.args.face.now in
     let v : AppView = g.F.AppFace.seen c.loop-face.face in
-    let w : AppView = g.F.AppFace.seen c.read_one-read.new.face in
+    let w : AppView = g.F.AppFace.seen c.read_one.new.face in
     let x : AppView = g.F.AppFace.seen c.give_one.new.face in
     let k : ℕ → Option (List ℕ) = g.T.Shelf.kept c.args.shelf.now in
     let l : ℕ → Option (List ℕ) = g.T.Shelf.kept c.loop-face.shelf in
-    let m : ℕ → Option (List ℕ) = g.T.Shelf.kept c.read_one-read.new.shelf in
+    let m : ℕ → Option (List ℕ) = g.T.Shelf.kept c.read_one.new.shelf in
     let f1 : ℕ = g.T.Shelf.faults c.loop-face.shelf in
-    let f2 : ℕ = g.T.Shelf.faults c.read_one-read.new.shelf in
+    let f2 : ℕ = g.T.Shelf.faults c.read_one.new.shelf in
     let inv = c.loop-face.invariant in
     let some : 0 < length b.unread = omega (arith, c.loop-face-test.true, c.len.ensures.len) in
-    let other : c.read_one-read.result ≢ Failed = c.in_default.not-Failed in
-    let read : ReadOne b d v w l m = read-did b d v w l m f1 f2 c.read_one-read.result other some c.read_one-read.ensures.reads in
+    let other : c.read_one.result ≢ Failed = c.in_default.not-Failed in
+    let going : c.read_one.result ≢ Quit = c.in_default.not-Quit in
+    let read : ReadOne b d v w l m = read-did b d v w l m f1 f2 c.read_one.result other going some c.read_one.ensures.reads in
     let gives = c.if-not-give_one.ensures.gives in
     let first : Through b d v w l m = through-read b d v w l m inv.0.reaped read in
     let second : Through d e w x m m = through-in-use d e w x m first.reaped c.give_one.ensures.working c.give_one.ensures.common
@@ -57,29 +75,30 @@ returns-then-not-give_one g c =
         through-then a b e u v x k l m inv.0 (through-then b d e v w x l m m first second),
         omega (arith, inv.0.goes.moves.steps, read.steps, (c.give_one.ensures.goes m).moves.steps),
       );
-      later = omega (arith, inv.4, c.read_one-read.ensures.later);
-      beside = c.give_one.ensures.beside ∙ c.read_one-read.ensures.beside ∙ inv.5;
+      later = omega (arith, inv.4, c.read_one.ensures.later);
+      beside = c.give_one.ensures.beside ∙ c.read_one.ensures.beside ∙ inv.5;
     }
 
 pub loop-face-preserved : goal.loop-face-preserved
 loop-face-preserved g c =
     let a : State = state_of c.args.st.now in
     let b : State = state_of c.loop-face.st in
-    let d : State = state_of c.read_one-read.new.st in
+    let d : State = state_of c.read_one.new.st in
     let e : State = state_of c.give_one.new.st in
     let u : AppView = g.F.AppFace.seen c.args.face.now in
     let v : AppView = g.F.AppFace.seen c.loop-face.face in
-    let w : AppView = g.F.AppFace.seen c.read_one-read.new.face in
+    let w : AppView = g.F.AppFace.seen c.read_one.new.face in
     let x : AppView = g.F.AppFace.seen c.give_one.new.face in
     let k : ℕ → Option (List ℕ) = g.T.Shelf.kept c.args.shelf.now in
     let l : ℕ → Option (List ℕ) = g.T.Shelf.kept c.loop-face.shelf in
-    let m : ℕ → Option (List ℕ) = g.T.Shelf.kept c.read_one-read.new.shelf in
+    let m : ℕ → Option (List ℕ) = g.T.Shelf.kept c.read_one.new.shelf in
     let f1 : ℕ = g.T.Shelf.faults c.loop-face.shelf in
-    let f2 : ℕ = g.T.Shelf.faults c.read_one-read.new.shelf in
+    let f2 : ℕ = g.T.Shelf.faults c.read_one.new.shelf in
     let inv = c.loop-face.invariant in
     let some : 0 < length b.unread = omega (arith, c.loop-face-test.true, c.len.ensures.len) in
-    let other : c.read_one-read.result ≢ Failed = c.in_default.not-Failed in
-    let read : ReadOne b d v w l m = read-did b d v w l m f1 f2 c.read_one-read.result other some c.read_one-read.ensures.reads in
+    let other : c.read_one.result ≢ Failed = c.in_default.not-Failed in
+    let going : c.read_one.result ≢ Quit = c.in_default.not-Quit in
+    let read : ReadOne b d v w l m = read-did b d v w l m f1 f2 c.read_one.result other going some c.read_one.ensures.reads in
     let gave : GaveOne d e w x = c.if-not-give_one.ensures.gives in
     let first : Through b d v w l m = through-read b d v w l m inv.0.reaped read in
     let second : Through d e w x m m = through-gave d e w x m first.reaped c.give_one.ensures.working c.give_one.ensures.common
@@ -88,20 +107,21 @@ loop-face-preserved g c =
       ap (λ (s : State). s.due) gave.same,
       λ _. omega (arith, inv.0.goes.moves.steps, read.steps, (c.give_one.ensures.goes m).moves.steps),
       λ no. absurd (cc),
-      omega (arith, inv.4, c.read_one-read.ensures.later),
-      c.give_one.ensures.beside ∙ c.read_one-read.ensures.beside ∙ inv.5,
+      omega (arith, inv.4, c.read_one.ensures.later),
+      c.give_one.ensures.beside ∙ c.read_one.ensures.beside ∙ inv.5,
     )
 
 pub loop-face-smaller : goal.loop-face-smaller
 loop-face-smaller g c =
     let b : State = state_of c.loop-face.st in
-    let d : State = state_of c.read_one-read.new.st in
+    let d : State = state_of c.read_one.new.st in
     let v : AppView = g.F.AppFace.seen c.loop-face.face in
-    let w : AppView = g.F.AppFace.seen c.read_one-read.new.face in
+    let w : AppView = g.F.AppFace.seen c.read_one.new.face in
     let l : ℕ → Option (List ℕ) = g.T.Shelf.kept c.loop-face.shelf in
-    let m : ℕ → Option (List ℕ) = g.T.Shelf.kept c.read_one-read.new.shelf in
+    let m : ℕ → Option (List ℕ) = g.T.Shelf.kept c.read_one.new.shelf in
     let some : 0 < length b.unread = omega (arith, c.loop-face-test.true, c.len.ensures.len) in
     let read : ReadOne b d v w l m = read-did b d v w l m (g.T.Shelf.faults c.loop-face.shelf)
-    (g.T.Shelf.faults c.read_one-read.new.shelf) c.read_one-read.result c.in_default.not-Failed some c.read_one-read.ensures.reads in
+    (g.T.Shelf.faults c.read_one.new.shelf) c.read_one.result c.in_default.not-Failed c.in_default.not-Quit some
+    c.read_one.ensures.reads in
     let gave : GaveOne d (state_of c.give_one.new.st) w (g.F.AppFace.seen c.give_one.new.face) = c.if-not-give_one.ensures.gives in
     omega (arith, read.unread, ap (λ (s : State). length s.unread) gave.same)

@@ -7,6 +7,7 @@ use Rattle.app_worker.specs.StateOf.{state_of}
 use Rattle.app_worker.specs.Stages.{LentSome, Through}
 use Rattle.app_worker.proofs.Measure.{working-within}
 use Rattle.app_worker.proofs.Through.{through-then, write-later}
+use Rattle.app_worker.proofs.Quitting.{quit-later}
 use Rattle.app_worker.proofs.LentAll.{with_reaped, through-reaped, through-end, drained}
 use Rattle.app_worker.proofs.stages.lend_all.Goals as goal
 
@@ -55,6 +56,33 @@ returns-in-InUse-clause-lends g c =
     let steps_d : app_steps d w ≡ app_steps cs w = ap (λ (s : State). app_steps s w) reaped in
     let reads = c.in-InUse.ensures.reads in
     (through-then a d e u w x k l m to_d reads.0, omega (arith, inv.0.goes.moves.steps, lent.steps refl, steps_d, reads.1))
+
+pub returns-in-Quit-clause-lends : goal.returns-in-Quit-clause-lends
+returns-in-Quit-clause-lends g c =
+    let a : State = state_of c.args.st.now in
+    let b : State = state_of c.loop-end.st in
+    let cs : State = state_of c.lend_some-lent.new.st in
+    let d : State = state_of c.reap_all.new.st in
+    let e : State = state_of c.drain.new.st in
+    let u : AppView = g.F.AppFace.seen c.args.face.now in
+    let v : AppView = g.F.AppFace.seen c.loop-end.face in
+    let w : AppView = g.F.AppFace.seen c.lend_some-lent.new.face in
+    let x : AppView = g.F.AppFace.seen c.drain.new.face in
+    let k : ℕ → Option (List ℕ) = g.T.Shelf.kept c.args.shelf.now in
+    let l : ℕ → Option (List ℕ) = g.T.Shelf.kept c.loop-end.shelf in
+    let m : ℕ → Option (List ℕ) = g.T.Shelf.kept c.drain.new.shelf in
+    let f : ℕ = g.T.Shelf.faults c.args.shelf.now in
+    let f1 : ℕ = g.T.Shelf.faults c.loop-end.shelf in
+    let f2 : ℕ = g.T.Shelf.faults c.drain.new.shelf in
+    let inv = c.loop-end.invariant in
+    let yes : c.lend_some-lent.result.0 ≡ true = search rules in
+    let lent : LentSome b cs v w true c.lend_some-lent.result.1 = subst
+    (λ did. LentSome b cs v w did c.lend_some-lent.result.1) yes c.lend_some-lent.ensures.lends in
+    let reaped : d ≡ with_reaped cs = c.reap_all.ensures in
+    let first : Through b d v w l l = subst (λ s. Through b s v w l l) (sym reaped) (through-reaped b cs v w true c.lend_some-lent.result.1 l lent) in
+    let to_d : Through a d u w k l = through-then a b d u v w k l l inv.0 first in
+    let steps_d : app_steps d w ≡ app_steps cs w = ap (λ (s : State). app_steps s w) reaped in
+    quit-later a d e u w x k l m to_d c.in-Quit.ensures.reads
 
 pub returns-in-Failed-clause-lends : goal.returns-in-Failed-clause-lends
 returns-in-Failed-clause-lends g c =
@@ -109,7 +137,8 @@ loop-end-preserved g c =
     let to_d : Through a d u w k l = through-then a b d u v w k l l inv.0 first in
     let steps_d : app_steps d w ≡ app_steps cs w = ap (λ (s : State). app_steps s w) reaped in
     let due : d.due ≡ None = ap (λ (s : State). s.due) reaped ∙ ap (λ (s : State). s.due) lent.same ∙ inv.1 in
-    let then = drained d.how.hold d e w x l m f1 f2 c.drain.result c.in_default-drain.not-InUse c.in_default-drain.not-Failed due first.working first.common
+    let then = drained d.how.hold d e w x l m f1 f2 c.drain.result c.in_default-drain.not-InUse c.in_default-drain.not-Quit
+    c.in_default-drain.not-Failed due first.working first.common
     first.reaped c.drain.ensures.reads in (
       through-then a d e u w x k l m to_d then.0,
       then.1,
@@ -146,7 +175,8 @@ loop-end-smaller g c =
     let to_d : Through a d u w k l = through-then a b d u v w k l l inv.0 first in
     let steps_d : app_steps d w ≡ app_steps cs w = ap (λ (s : State). app_steps s w) reaped in
     let due : d.due ≡ None = ap (λ (s : State). s.due) reaped ∙ ap (λ (s : State). s.due) lent.same ∙ inv.1 in
-    let then = drained d.how.hold d e w x l m f1 f2 c.drain.result c.in_default-drain.not-InUse c.in_default-drain.not-Failed due first.working first.common
+    let then = drained d.how.hold d e w x l m f1 f2 c.drain.result c.in_default-drain.not-InUse c.in_default-drain.not-Quit
+    c.in_default-drain.not-Failed due first.working first.common
     first.reaped c.drain.ensures.reads in
     let further : app_steps b v < app_steps e x = omega (arith, lent.steps refl, steps_d, then.0.goes.moves.steps) in
     let within : app_steps e x ≤ furthest x = working-within e x then.0.working then.0.common in

@@ -1,16 +1,18 @@
-use Rattle.std.proofs.Common.{rules, ◌≡◌, ◌<◌, ◌+◌, ◌-◌, ◌^◌, min, ℕ, List, drop, length, get_or, sym, ap, subst, ◌∙◌, arith}
-use Rattle.std.proofs.Common.{◌++◌, ◌∷◌}
+use Rattle.std.proofs.Common.{rules, ◌≡◌, ◌≢◌, ◌<◌, ◌+◌, ◌-◌, ◌^◌, min, ℕ, List, drop, length, get_or, sym, ap, subst, ◌∙◌, arith}
+use Rattle.std.proofs.Common.{◌++◌, ◌∷◌, ◌≤◌, Some}
 use Rattle.zr_kinds.specs.declared.ring.Completion.{Completion}
 use Rattle.zr_io.specs.Moved.{Gained}
 use Rattle.circular_buffer.specs.Buffer.{Buffer}
 use Rattle.app_worker.specs.declared.stack.Lending.{Lending}
 use Rattle.app_worker.specs.declared.stack.FlowQueue.{FlowQueue}
 use Rattle.app_worker.specs.Core.{Stands, IsReadOf}
-use Rattle.app_worker.specs.State.{State}
+use Rattle.zr_kinds.specs.declared.behaviour.Stopped.TheVariants as stop
+use Rattle.app_worker.specs.State.{State, Quits, wanted_of}
 use Rattle.app_worker.specs.StateOf.{state_of}
 use Rattle.app_worker.proofs.Standing2.{oldest-out}
 use Rattle.app_worker.proofs.Indexing.{found-at}
-use Rattle.app_worker.proofs.Oldest.{front-of, oldest-read, oldest-failed}
+use Rattle.app_worker.proofs.Oldest.{front-of, oldest-read, oldest-quit, oldest-failed}
+use Rattle.app_worker.proofs.Quitting.{wanted-part, quits-short, quits-not, quits-now}
 use Rattle.app_worker.proofs.turning.read_one.Goals as goal
 
 pub read_loan-result-requires-clause-out : goal.read_loan-result-requires-clause-out
@@ -20,32 +22,6 @@ read_loan-result-requires-clause-out g c =
     let unread : st.unread ≡ p ∷ drop 1 st.unread = front-of st.unread p (search rules) in
     oldest-out st.notes st.flows p (drop 1 st.unread ++ st.posted.entries) st.due (g.F.AppFace.seen c.args.face.now)
     (subst (λ es. Stands st.notes st.flows (es ++ st.posted.entries) st.due (g.F.AppFace.seen c.args.face.now)) unread c.requires.working.stands)
-
-pub returns-in-Ok-clause-reads : goal.returns-in-Ok-clause-reads
-returns-in-Ok-clause-reads g c =
-    let st : State = state_of c.args.st.now in
-    let p : Completion × Lending = (c.in-Some.completion, c.in-Some.lending) in
-    let unread : st.unread ≡ p ∷ drop 1 st.unread = front-of st.unread p (search rules) in
-    let own : FlowQueue = c.index_mut-own.result.now in
-    let i : ℕ = c.in-Some-find.i in
-    let at_place : (i < length st.flows) × ((d : FlowQueue)
-    → (get_or st.flows i d).number ≡ c.in-Some.completion.user_data) = found-at st.index st.flows c.in-Some.completion.user_data i
-    (search rules) c.requires.working.index in
-    let within : i < length st.flows = at_place.0 in
-    let value : own ≡ get_or st.flows i own = c.index_mut-own.ensures.value in
-    let found : (get_or st.flows i own).number ≡ c.in-Some.completion.user_data = at_place.1 own in
-    let number : own.number ≡ c.in-Some.completion.user_data = ap (λ (f : FlowQueue). f.number) value ∙ found in
-    let bytes : c.read_loan-result.new.bytes ≡ own.bytes + c.in-Some.lending.loan.len = search rules in
-    let count : c.saturating_add-st.result ≡ min (st.written + c.in-Some.lending.loan.len) (2 ^ 64 - 1) = omega (arith, bytes) in
-    let items : c.pop_front.new.self.items ≡ drop 1 st.unread = ap (λ (b : Buffer (Completion × Lending)). b.items) c.pop_front.ensures.items in
-    let capacity : c.pop_front.new.self.capacity ≡ st.room = ap (λ (b : Buffer (Completion × Lending)). b.capacity) c.pop_front.ensures.items in
-    let exact : Gained (g.T.Shelf.kept c.args.shelf.now own.number) (g.T.Shelf.kept c.read_loan-result.new.shelf own.number)
-    (λ (read : List ℕ). IsReadOf (g.F.AppFace.seen c.read_loan-result.new.face).reads c.in-Some.lending c.in-Some.lending.loan.len read) = search rules in
-    rw (items, capacity) (oldest-read st i own p (drop 1 st.unread) (g.F.AppFace.seen c.args.face.now)
-    (g.F.AppFace.seen c.read_loan-result.new.face) unread c.requires.due within value
-    (sym number) c.read_loan-result.ensures.only c.requires.working c.requires.common
-    c.read_loan-result.new.bytes c.saturating_add-st.result (g.T.Shelf.kept c.args.shelf.now)
-    (g.T.Shelf.kept c.read_loan-result.new.shelf) bytes count exact c.read_loan-result.ensures.others)
 
 pub returns-in-Err-clause-reads : goal.returns-in-Err-clause-reads
 returns-in-Err-clause-reads g c =
@@ -61,13 +37,91 @@ returns-in-Err-clause-reads g c =
     let value : own ≡ get_or st.flows i own = c.index_mut-own.ensures.value in
     let found : (get_or st.flows i own).number ≡ c.in-Some.completion.user_data = at_place.1 own in
     let number : own.number ≡ c.in-Some.completion.user_data = ap (λ (f : FlowQueue). f.number) value ∙ found in
-    let count : c.saturating_add-st.result ≡ min (st.written + (c.read_loan-result.new.bytes - own.bytes)) (2 ^ 64 - 1) = omega arith in
     let items : c.pop_front.new.self.items ≡ drop 1 st.unread = ap (λ (b : Buffer (Completion × Lending)). b.items) c.pop_front.ensures.items in
     let capacity : c.pop_front.new.self.capacity ≡ st.room = ap (λ (b : Buffer (Completion × Lending)). b.capacity) c.pop_front.ensures.items in
+    let most : ℕ = c.wanted-most.result in
+    let is : most ≡ wanted_of st.how.quit st.written c.in-Some.lending.loan.len = search rules in
+    let part : most ≤ c.in-Some.lending.loan.len = wanted-part st.how.quit st.written c.in-Some.lending.loan.len most is in
+    let going : Quits st.how.quit st.written stop.No = subst (Quits st.how.quit st.written) c.requires.working.going c.requires.common.quits in
+    let count : c.saturating_add-st.result ≡ min (st.written + (c.read_loan-result.new.bytes - own.bytes)) (2 ^ 64 - 1) = omega arith in
     let counted = c.read_loan-result.ensures.counted in
+    let short : c.read_loan-result.new.bytes < own.bytes + most = search rules in
+    let quits : Quits st.how.quit c.saturating_add-st.result stop.No = quits-short st.how.quit st.written (c.read_loan-result.new.bytes - own.bytes)
+    most c.saturating_add-st.result c.in-Some.lending.loan.len is (omega (arith, short, counted.0)) count going in
     rw (items, capacity) (oldest-failed st i own p (drop 1 st.unread) (g.F.AppFace.seen c.args.face.now)
     (g.F.AppFace.seen c.read_loan-result.new.face) unread c.requires.due within value
     (sym number) c.read_loan-result.ensures.only c.requires.working c.requires.common
-    c.read_loan-result.new.bytes c.saturating_add-st.result (g.T.Shelf.faults c.args.shelf.now) (g.T.Shelf.faults c.read_loan-result.new.shelf)
-    (g.T.Shelf.kept c.args.shelf.now) (g.T.Shelf.kept c.read_loan-result.new.shelf) counted.0 counted.1 count
+    c.read_loan-result.new.bytes c.saturating_add-st.result most (g.T.Shelf.faults c.args.shelf.now) (g.T.Shelf.faults c.read_loan-result.new.shelf)
+    (g.T.Shelf.kept c.args.shelf.now) (g.T.Shelf.kept c.read_loan-result.new.shelf) counted.0 part counted.1 count
+    (subst (Quits st.how.quit c.saturating_add-st.result) (sym c.requires.working.going) quits)
     (search rules) c.read_loan-result.ensures.gained c.read_loan-result.ensures.others)
+
+pub returns-then-eq-clause-reads : goal.returns-then-eq-clause-reads
+returns-then-eq-clause-reads g c =
+    let st : State = state_of c.args.st.now in
+    let p : Completion × Lending = (c.in-Some.completion, c.in-Some.lending) in
+    let unread : st.unread ≡ p ∷ drop 1 st.unread = front-of st.unread p (search rules) in
+    let own : FlowQueue = c.index_mut-own.result.now in
+    let i : ℕ = c.in-Some-find.i in
+    let at_place : (i < length st.flows) × ((d : FlowQueue)
+    → (get_or st.flows i d).number ≡ c.in-Some.completion.user_data) = found-at st.index st.flows c.in-Some.completion.user_data i
+    (search rules) c.requires.working.index in
+    let within : i < length st.flows = at_place.0 in
+    let value : own ≡ get_or st.flows i own = c.index_mut-own.ensures.value in
+    let found : (get_or st.flows i own).number ≡ c.in-Some.completion.user_data = at_place.1 own in
+    let number : own.number ≡ c.in-Some.completion.user_data = ap (λ (f : FlowQueue). f.number) value ∙ found in
+    let items : c.pop_front.new.self.items ≡ drop 1 st.unread = ap (λ (b : Buffer (Completion × Lending)). b.items) c.pop_front.ensures.items in
+    let capacity : c.pop_front.new.self.capacity ≡ st.room = ap (λ (b : Buffer (Completion × Lending)). b.capacity) c.pop_front.ensures.items in
+    let most : ℕ = c.wanted-most.result in
+    let is : most ≡ wanted_of st.how.quit st.written c.in-Some.lending.loan.len = search rules in
+    let part : most ≤ c.in-Some.lending.loan.len = wanted-part st.how.quit st.written c.in-Some.lending.loan.len most is in
+    let going : Quits st.how.quit st.written stop.No = subst (Quits st.how.quit st.written) c.requires.working.going c.requires.common.quits in
+    let bytes : c.read_loan-result.new.bytes ≡ own.bytes + most = search rules in
+    let count : c.saturating_add-st.result ≡ min (st.written + most) (2 ^ 64 - 1) = omega (arith, bytes) in
+    let all : st.how.quit ≡ Some c.saturating_add-st.result = search rules in
+    let exact : Gained (g.T.Shelf.kept c.args.shelf.now own.number) (g.T.Shelf.kept c.read_loan-result.new.shelf own.number)
+    (λ (read : List ℕ). IsReadOf (g.F.AppFace.seen c.read_loan-result.new.face).reads c.in-Some.lending most most read) = search rules in
+    rw (items, capacity) (oldest-quit st i own p (drop 1 st.unread) (g.F.AppFace.seen c.args.face.now)
+    (g.F.AppFace.seen c.read_loan-result.new.face) unread c.requires.due within value
+    (sym number) c.read_loan-result.ensures.only c.requires.working c.requires.common
+    c.read_loan-result.new.bytes c.saturating_add-st.result most (g.T.Shelf.kept c.args.shelf.now)
+    (g.T.Shelf.kept c.read_loan-result.new.shelf) part bytes count (quits-now st.how.quit st.written c.saturating_add-st.result all) exact
+    c.read_loan-result.ensures.others)
+
+pub returns-clause-reads : goal.returns-clause-reads
+returns-clause-reads g c =
+    let st : State = state_of c.args.st.now in
+    let p : Completion × Lending = (c.in-Some.completion, c.in-Some.lending) in
+    let unread : st.unread ≡ p ∷ drop 1 st.unread = front-of st.unread p (search rules) in
+    let own : FlowQueue = c.index_mut-own.result.now in
+    let i : ℕ = c.in-Some-find.i in
+    let at_place : (i < length st.flows) × ((d : FlowQueue)
+    → (get_or st.flows i d).number ≡ c.in-Some.completion.user_data) = found-at st.index st.flows c.in-Some.completion.user_data i
+    (search rules) c.requires.working.index in
+    let within : i < length st.flows = at_place.0 in
+    let value : own ≡ get_or st.flows i own = c.index_mut-own.ensures.value in
+    let found : (get_or st.flows i own).number ≡ c.in-Some.completion.user_data = at_place.1 own in
+    let number : own.number ≡ c.in-Some.completion.user_data = ap (λ (f : FlowQueue). f.number) value ∙ found in
+    let items : c.pop_front.new.self.items ≡ drop 1 st.unread = ap (λ (b : Buffer (Completion × Lending)). b.items) c.pop_front.ensures.items in
+    let capacity : c.pop_front.new.self.capacity ≡ st.room = ap (λ (b : Buffer (Completion × Lending)). b.capacity) c.pop_front.ensures.items in
+    let most : ℕ = c.wanted-most.result in
+    let is : most ≡ wanted_of st.how.quit st.written c.in-Some.lending.loan.len = search rules in
+    let part : most ≤ c.in-Some.lending.loan.len = wanted-part st.how.quit st.written c.in-Some.lending.loan.len most is in
+    let going : Quits st.how.quit st.written stop.No = subst (Quits st.how.quit st.written) c.requires.working.going c.requires.common.quits in
+    let bytes : c.read_loan-result.new.bytes ≡ own.bytes + most = search rules in
+    let count : c.saturating_add-st.result ≡ min (st.written + most) (2 ^ 64 - 1) = omega (arith, bytes) in
+    let other : st.how.quit ≢ Some c.saturating_add-st.result = search rules in
+    let not = quits-not st.how.quit st.written most c.saturating_add-st.result c.in-Some.lending.loan.len (search rules) is count other going in
+    let whole : most ≡ c.in-Some.lending.loan.len = not.1 in
+    let exact : Gained (g.T.Shelf.kept c.args.shelf.now own.number) (g.T.Shelf.kept c.read_loan-result.new.shelf own.number)
+    (λ (read : List ℕ). IsReadOf (g.F.AppFace.seen c.read_loan-result.new.face).reads c.in-Some.lending most most read) = search rules in
+    rw (items, capacity) (oldest-read st i own p (drop 1 st.unread) (g.F.AppFace.seen c.args.face.now)
+    (g.F.AppFace.seen c.read_loan-result.new.face) unread c.requires.due within value
+    (sym number) c.read_loan-result.ensures.only c.requires.working c.requires.common
+    c.read_loan-result.new.bytes c.saturating_add-st.result (g.T.Shelf.kept c.args.shelf.now)
+    (g.T.Shelf.kept c.read_loan-result.new.shelf) (bytes ∙ ap (λ n. own.bytes + n) whole)
+    (count ∙ ap (λ n. min (st.written + n) (2 ^ 64 - 1)) whole)
+    (subst (Quits st.how.quit c.saturating_add-st.result) (sym c.requires.working.going) not.0)
+    (subst (λ (n : ℕ). Gained (g.T.Shelf.kept c.args.shelf.now own.number) (g.T.Shelf.kept c.read_loan-result.new.shelf own.number)
+    (λ (read : List ℕ). IsReadOf (g.F.AppFace.seen c.read_loan-result.new.face).reads c.in-Some.lending n n read)) whole exact)
+    c.read_loan-result.ensures.others)

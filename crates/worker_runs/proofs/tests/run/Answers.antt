@@ -1,4 +1,4 @@
-use Rattle.std.proofs.Common.{rules, ◌≡◌, ◌≢◌, false, sym, subst}
+use Rattle.std.proofs.Common.{rules, ◌≡◌, ◌≢◌, false, sym, subst, ◌∙◌}
 use Rattle.board_face.specs.AppCalls.{IsHere}
 use Rattle.board_face.specs.declared.views.app.AppSide.{AppSide}
 use Rattle.plain_board.specs.Board.{side_of}
@@ -9,6 +9,15 @@ use Rattle.worker_runs.proofs.tests.run.Goals.{in-Takes+else-left+else-assert_eq
 
 pub card_step-board-requires : goal.card_step-board-requires
 card_step-board-requires g c = rw c.in_ok-board.ensures (c.new-hand.ensures _)
+
+pub loop-step-init : goal.loop-step-init
+loop-step-init g c =
+    let same : side_of c.card_step-board-2.result.0 0 ≡ side_of c.in_ok-board.board 0 = c.card_step-board-2.ensures.side ∙ c.card_step-board.ensures.side in
+    record {
+      hand = c.card_step-board-2.ensures.hand;
+      stands = c.in_ok-st.ensures.stands _ (rw same (search rules));
+      here = λ _. rw same (search rules);
+    }
 
 pub loop-step-preserved : goal.loop-step-preserved
 loop-step-preserved g c =
