@@ -17,7 +17,7 @@ use Rattle.app_worker.specs.declared.turn.Why.TheVariants.{NoNote, NotQuiet as n
 use Rattle.app_worker.specs.Core.{total}
 use Rattle.app_worker.specs.State.{State, Common, Bare, held_len, app_steps, one_if}
 use Rattle.app_worker.specs.Turns.{Turns}
-use Rattle.app_worker.proofs.Moving.{looks-more}
+use Rattle.app_worker.proofs.Moving.{looks-more, same-leaked}
 use Rattle.app_worker.proofs.Seeing.{goes-none, goes-saw, common-saw}
 use Rattle.app_worker.proofs.Noting.{TookView, common-noted, steps-noted, moves-noted, ends-kept, shelves-kept, fronts-kept}
 use Rattle.app_worker.proofs.TurnLemmas.{stands-bare, as-before}
@@ -35,6 +35,7 @@ module _ (st : State) (old : AppView) (bare : Bare st old) (is_bare : st.bare â‰
           helds = none;
           loans = ap (Î» (v : AppView). v.loans) took.view âˆ™ bare.loans;
           due = bare.due;
+          leaked = bare.leaked;
           unread = bare.unread;
           flows = ends-kept st.flows old new t took bare.flows;
           distinct = bare.distinct;
@@ -157,6 +158,7 @@ module _ (st : State) (old : AppView) (bare : Bare st old) (is_bare : st.bare â‰
         helds = bare.helds;
         loans = bare.loans;
         due = bare.due;
+        leaked = bare.leaked;
         unread = bare.unread;
         flows = bare.flows;
         distinct = bare.distinct;
@@ -176,6 +178,9 @@ module _ (st : State) (old : AppView) (bare : Bare st old) (is_bare : st.bare â‰
         loans = common.loans;
         written = common.written;
         quits = common.quits;
+        leaks = common.leaks;
+        leak_room = common.leak_room;
+        leak_aside = common.leak_aside;
         bound = common.bound;
       };
       reaped = reaped;
@@ -187,6 +192,7 @@ module _ (st : State) (old : AppView) (bare : Bare st old) (is_bare : st.bare â‰
           steps = omega (arith, not_yet);
           looks = looks-more old (told_end old) CardEnded refl;
           stays = Î» _. refl;
+          leaked = same-leaked st (record st { ended = true }) refl refl;
         };
         shelved = Î» _ begin shelved. record { flows = shelved.flows; others = shelved.others };
         failed = Î» is begin exact front. (let f = front is in record { flows = f.flows; others = f.others });

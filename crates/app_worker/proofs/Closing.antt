@@ -23,7 +23,7 @@ use Rattle.app_worker.proofs.Placing.{values-length}
 use Rattle.app_worker.proofs.Standing.{each-map}
 use Rattle.app_worker.proofs.EachBoth.{each-both}
 use Rattle.app_worker.proofs.LetGone.{each-facts, total-facts}
-use Rattle.app_worker.proofs.Moving.{looks-same, no-write}
+use Rattle.app_worker.proofs.Moving.{looks-same, same-leaked, no-write}
 use Rattle.app_worker.proofs.Seeing.{common-saw, goes-saw}
 use Rattle.app_worker.proofs.Measure.{one-most}
 use Rattle.app_worker.proofs.Through.{goes-then}
@@ -64,6 +64,7 @@ closed-bare b c v w works ended few reaped gone =
       helds = gone.helds;
       loans = gone.loans;
       due = ap (λ (s : State). s.due) gone.same;
+      leaked = ap (λ (s : State). s.leaked.items) gone.same;
       unread = ap (λ (s : State). s.unread) gone.same;
       flows = gone.ends;
       distinct = gone.distinct;
@@ -83,6 +84,7 @@ bare-saw st v look bare = record {
   helds = bare.helds;
   loans = bare.loans;
   due = bare.due;
+  leaked = bare.leaked;
   unread = bare.unread;
   flows = bare.flows;
   distinct = bare.distinct;
@@ -95,6 +97,7 @@ bare-gone st v bare = record {
   helds = bare.helds;
   loans = bare.loans;
   due = bare.due;
+  leaked = bare.leaked;
   unread = bare.unread;
   flows = bare.flows;
   distinct = bare.distinct;
@@ -115,6 +118,9 @@ common-gone st v common = record {
   loans = common.loans;
   written = common.written;
   quits = common.quits;
+  leaks = common.leaks;
+  leak_room = common.leak_room;
+  leak_aside = common.leak_aside;
   bound = common.bound;
 }
 
@@ -127,6 +133,7 @@ goes-gone st v kept = record {
     steps = omega (arith, one-most v.left);
     looks = looks-same v (left_board (scrubbed (fell_quiet v))) refl;
     stays = λ _. refl;
+    leaked = same-leaked st st refl refl;
   };
   shelved = λ _ begin shelved. record { flows = shelved.flows; others = shelved.others };
   failed = λ is begin exact front. (let f = front is in record { flows = f.flows; others = f.others });

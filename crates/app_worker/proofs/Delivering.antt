@@ -11,7 +11,7 @@ use Rattle.app_worker.specs.declared.stack.Piece.{Piece}
 use Rattle.app_worker.specs.declared.stack.Lending.{Lending}
 use Rattle.app_worker.specs.declared.stack.FlowQueue.{FlowQueue}
 use Rattle.app_worker.specs.Core.{total, is_odd, Each, Stands, many}
-use Rattle.app_worker.specs.State.{State, TellsOf, Working, Common, capped, held_len, taken_len, app_steps, one_if}
+use Rattle.app_worker.specs.State.{State, read_of, TellsOf, Working, Common, capped, held_len, taken_len, app_steps, one_if}
 use Rattle.app_worker.specs.Shelves.{IsShelved}
 use Rattle.app_worker.specs.Moves.{Moves}
 use Rattle.board_face.specs.declared.views.app.AppLook.TheVariants.{RawOnItsWay}
@@ -21,7 +21,7 @@ use Rattle.app_worker.specs.Steps.{Delivers, Delivered, lending_of}
 use Rattle.app_worker.specs.Whole.{LentOne, KeepsShelves, Lends}
 use Rattle.app_worker.proofs.Tokens.{some-bytes}
 use Rattle.app_worker.proofs.Standing.{At, split-at, each-join, each-right, each-left, stands-lent, total-changed, many-same}
-use Rattle.app_worker.proofs.Moving.{total-one, looks-same}
+use Rattle.app_worker.proofs.Moving.{total-one, looks-same, aside-same, leaked-aside, same-leaked}
 use Rattle.app_worker.proofs.Resting.{rest-set, rest-too}
 use Rattle.app_worker.proofs.Indexing.{index-set}
 use Rattle.app_worker.proofs.Seeing.{Left, left-none, left-saw}
@@ -73,11 +73,11 @@ lent-bundle was own now then old new loans more count within value step works co
       helds = step.helds;
       loans = step.loans;
     } in
-    let stood : Stands was.notes (at.before ++ own ∷ at.after) (was.unread ++ was.posted.entries) was.due old = subst
-    (λ (fs : List FlowQueue). Stands was.notes fs (was.unread ++ was.posted.entries) was.due old) at.is works.stands in
-    let stands : Stands was.notes (at.before ++ now ∷ at.after) (was.unread ++ then.entries) was.due new =
+    let stood : Stands was.notes (at.before ++ own ∷ at.after) (was.unread ++ was.posted.entries) (read_of was) old = subst
+    (λ (fs : List FlowQueue). Stands was.notes fs (was.unread ++ was.posted.entries) (read_of was) old) at.is works.stands in
+    let stands : Stands was.notes (at.before ++ now ∷ at.after) (was.unread ++ then.entries) (read_of was) new =
     stands-lent was.notes at.before at.after own now (ring (was.unread ++ was.posted.entries) size)
-    (ring (was.unread ++ then.entries) size) was.due old new stood step2 in
+    (ring (was.unread ++ then.entries) size) (read_of was) old new stood step2 in
     let setting : new.setting ≡ old.setting = ap (λ (v : AppView). v.setting) step.view in
     let taken : new.taken ≡ old.taken = ap (λ (v : AppView). v.taken) step.view in
     let returned : new.returned ≡ old.returned = ap (λ (v : AppView). v.returned) step.view in
@@ -101,7 +101,7 @@ lent-bundle was own now then old new loans more count within value step works co
     ≡ app_steps was old + 1 = omega (arith, ap length taken, ap length returned, one_more, ap (λ b. one_if b) ended, ap (λ b. one_if b) left) in
     record {
       working = record {
-        stands = subst (λ (fs : List FlowQueue). Stands was.notes fs (was.unread ++ then.entries) was.due new) (sym (at.set_is now)) stands;
+        stands = subst (λ (fs : List FlowQueue). Stands was.notes fs (was.unread ++ then.entries) (read_of was) new) (sym (at.set_is now)) stands;
         completions = subst (λ (s : Setting). Each (TellsOf s.layout) (was.unread ++ then.entries)) (sym setting)
             (subst (Each (TellsOf old.setting.layout)) (sym all)
             (each-join (TellsOf old.setting.layout) (was.unread ++ was.posted.entries) (p ∷ []) works.completions (step.tells, tt)));
@@ -111,6 +111,7 @@ lent-bundle was own now then old new loans more count within value step works co
         going = works.going;
         split = works.split;
         live = works.live;
+        keeps_first = λ some. works.keeps_first (omega (arith, some, aside-same old new returned setting own_app));
       };
       common = record {
         app = own_app ∙ common.app;
@@ -124,6 +125,9 @@ lent-bundle was own now then old new loans more count within value step works co
         loans = omega (arith, count, common.loans, one_more, ap length returned);
         written = common.written ∙ ap capped (sym written);
         quits = common.quits;
+        leaks = common.leaks;
+        leak_room = common.leak_room;
+        leak_aside = leaked-aside was.leaked.items old new setting own_app common.leak_aside;
         bound = omega (arith, one_more, ap length returned, step.helds held_len, some, common.bound, ap (total taken_len) taken);
       };
       moves = record {
@@ -133,6 +137,7 @@ lent-bundle was own now then old new loans more count within value step works co
         steps = omega (arith, steps);
         looks = looks-same old new (ap (λ (v : AppView). v.looks) step.view);
         stays = λ _. refl;
+        leaked = same-leaked was (with_lent was now then loans) refl refl;
       };
       shelved = λ first kept was_shelved. record {
         flows = subst (Each (IsShelved first kept new.taken new.reads)) (sym (at.set_is now))

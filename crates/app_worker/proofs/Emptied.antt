@@ -12,11 +12,13 @@ use Rattle.board_face.specs.declared.views.app.LentPiece.{LentPiece}
 use Rattle.board_face.specs.declared.views.app.AppView.{AppView}
 use Rattle.app_worker.specs.declared.stack.Lending.{Lending}
 use Rattle.app_worker.specs.declared.stack.FlowQueue.{FlowQueue}
-use Rattle.app_worker.specs.Core.{total, Each, over_due, lent_piece, own_notes, BeginAt, received_notes, AreReadAt}
+use Rattle.app_worker.specs.Core.{total, Each, over_due, over_read, lent_piece, own_notes, BeginAt, received_notes, AreReadAt}
 use Rattle.app_worker.specs.State.{State, Common, FlowEnds, capped, held_len, taken_len, app_steps, one_if}
 use Rattle.app_worker.specs.Shelves.{IsShelved, AreShelved, ReadsFront, IsFrontShelved, AreFronts}
 use Rattle.app_worker.specs.Whole.{Torn}
 use Rattle.app_worker.specs.Letting.{FlowFacts, facts_of, Abandons, LetGo}
+use Rattle.circular_buffer.specs.Buffer.{buffer}
+use Rattle.app_worker.proofs.Measure.{read-one, due-most}
 use Rattle.app_worker.proofs.Tokens.{total-append}
 use Rattle.app_worker.proofs.Moving.{total-one, looks-same}
 use Rattle.app_worker.proofs.LetGone.{total-none, each-facts, total-facts}
@@ -80,15 +82,17 @@ all-fronts-facts first kept flows now old new facts taken reads shelved = record
   others = λ n none. shelved.others n (sym (total-facts (λ x. if x.number == n then 1 else 0) flows now facts) ∙ none);
 }
 
-pub gone-all : (was : State) (now : List FlowQueue) (old v1 v2 new : AppView) → was.posted.entries ≡ [] → was.bare ≡ false → Torn was old
+pub gone-all : (was : State) (now : List FlowQueue) (old v1 v2 v3 new : AppView) → was.posted.entries ≡ [] → was.bare ≡ false → Torn was old
     → Common was old
-    → Abandons old v1 (λ f. total (λ p. f (lent_piece p.1)) was.unread) → Abandons v1 v2 (λ f. over_due f was.due) → new ≡ record v2 { helds = [] }
+    → Abandons old v1 (λ f. total (λ p. f (lent_piece p.1)) was.unread) → Abandons v1 v2 (λ f. over_due f was.due)
+    → Abandons v2 v3 (λ f. over_read f was.leaked.items) → new ≡ record v3 { helds = [] }
     → map facts_of now ≡ map facts_of was.flows
-    → LetGo was (record was { flows = now; unread = []; due = None; bare = true }) old new
-gone-all was now old v1 v2 new reaped not_yet torn common first second released facts =
-    let tokens : v2 ≡ record old { helds = v2.helds; loans = v2.loans; returned = v2.returned } = second.only.view
-    ∙ ap (λ (x : AppView). record x { helds = v2.helds; loans = v2.loans; returned = v2.returned }) first.only.view in
-    let view : new ≡ record old { helds = []; loans = v2.loans; returned = v2.returned } = released
+    → LetGo was (record was { flows = now; unread = []; due = None; leaked = buffer [] was.leaked.capacity; bare = true }) old new
+gone-all was now old v1 v2 v3 new reaped not_yet torn common first second third released facts =
+    let tokens : v3 ≡ record old { helds = v3.helds; loans = v3.loans; returned = v3.returned } = third.only.view
+    ∙ ap (λ (x : AppView). record x { helds = v3.helds; loans = v3.loans; returned = v3.returned }) second.only.view
+    ∙ ap (λ (x : AppView). record x { helds = v3.helds; loans = v3.loans; returned = v3.returned }) first.only.view in
+    let view : new ≡ record old { helds = []; loans = v3.loans; returned = v3.returned } = released
     ∙ ap (λ (x : AppView). record x { helds = [] }) tokens in
     let taken : new.taken ≡ old.taken = ap (λ (v : AppView). v.taken) view in
     let reads : new.reads ≡ old.reads = ap (λ (v : AppView). v.reads) view in
@@ -96,24 +100,27 @@ gone-all was now old v1 v2 new reaped not_yet torn common first second released 
     let ended : new.ended ≡ old.ended = ap (λ (v : AppView). v.ended) view in
     let scrubbed : new.scrubbed ≡ old.scrubbed = ap (λ (v : AppView). v.scrubbed) view in
     let helds : new.helds ≡ [] = ap (λ (v : AppView). v.helds) view in
-    let lent : new.loans ≡ v2.loans = ap (λ (v : AppView). v.loans) view in
-    let returned : new.returned ≡ v2.returned = ap (λ (v : AppView). v.returned) view in
+    let lent : new.loans ≡ v3.loans = ap (λ (v : AppView). v.loans) view in
+    let returned : new.returned ≡ v3.returned = ap (λ (v : AppView). v.returned) view in
     let one : LentPiece → ℕ = λ _. 1 in
     let due : ℕ = over_due one was.due in
+    let kept : ℕ = length was.leaked.items in
     let unread : ℕ = total (λ (p : Completion × Lending). one (lent_piece p.1)) was.unread in
     let posted : total (λ (p : Completion × Lending). one (lent_piece p.1)) was.posted.entries
     ≡ 0 = ap (total (λ (p : Completion × Lending). one (lent_piece p.1))) reaped in
-    let all : total one old.loans ≡ unread + due =
-    omega (arith, torn.tokens.loans one, total-append (λ (p : Completion × Lending). one (lent_piece p.1)) was.unread was.posted.entries, posted) in
-    let none : total one v2.loans ≡ 0 = omega (arith, first.loans one, second.loans one, all) in
-    let no_loan : new.loans ≡ [] = lent ∙ total-none v2.loans none in
+    let all : total one old.loans ≡ unread + (due + kept) =
+    omega (arith, torn.tokens.loans one, read-one was.due was.leaked.items, total-append (λ (p : Completion × Lending). one (lent_piece p.1)) was.unread was.posted.entries, posted) in
+    let none : total one v3.loans ≡ 0 = omega (arith, first.loans one, second.loans one, third.loans one, all, total-one was.leaked.items) in
+    let no_loan : new.loans ≡ [] = lent ∙ total-none v3.loans none in
     let count : length new.returned ≡ length old.returned + length old.loans =
-    omega (arith, ap length returned, first.returned, second.returned, all, total-one old.loans) in
+    omega (arith, ap length returned, first.returned, second.returned, third.returned, all, total-one old.loans, total-one was.leaked.items) in
     let no_more : length new.loans ≡ 0 = ap length no_loan in
     let bare : one_if was.bare ≡ 0 = ap one_if not_yet in
-    let few : due ≤ length old.loans = omega (arith, all, total-one old.loans) in
-    let steps : app_steps was old < app_steps (record was { flows = now; unread = []; due = None; bare = true }) new =
-    omega (arith, ap length taken, count, no_more, bare, few, ap one_if ended, ap one_if left) in
+    let few : due + kept ≤ length old.loans = omega (arith, all, total-one old.loans) in
+    let due_few : due ≤ 1 = due-most was.due in
+    let steps : app_steps was old
+    < app_steps (record was { flows = now; unread = []; due = None; leaked = buffer [] was.leaked.capacity; bare = true }) new =
+    omega (arith, ap length taken, count, no_more, bare, few, due_few, ap one_if ended, ap one_if left) in
     record {
       helds = helds;
       loans = no_loan;
@@ -134,6 +141,9 @@ gone-all was now old v1 v2 new reaped not_yet torn common first second released 
         loans = common.loans ∙ ap capped (omega (arith, count, no_more));
         written = common.written ∙ ap capped (sym (total-facts (λ x. x.bytes) was.flows now facts));
         quits = common.quits;
+        leaks = omega arith;
+        leak_room = common.leak_room;
+        leak_aside = tt;
         bound = omega (arith, count, no_more, ap (total held_len) helds, common.bound, ap (total taken_len) taken);
       };
       moves = record {
@@ -148,6 +158,7 @@ gone-all was now old v1 v2 new reaped not_yet torn common first second released 
         steps = omega (arith, steps);
         looks = looks-same old new (ap (λ (v : AppView). v.looks) view);
         stays = λ _. refl;
+        leaked = λ live. absurd (cc);
       };
       steps = steps;
       shelved = λ begin kept shelved. shelves-facts begin kept was.flows now old new facts taken reads shelved;

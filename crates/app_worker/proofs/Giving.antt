@@ -1,25 +1,51 @@
 -- A loan is given back: all that is kept then.
-use Rattle.std.proofs.Common.{◌≡◌, ◌+◌, ◌<◌, true, false, Bool, [], ◌∷◌, ◌++◌, Option, Some, None, length, refl, sym, ap, subst}
+use Rattle.std.proofs.Common.{◌≡◌, ◌≢◌, ℕ, ◌+◌, ◌<◌, ◌≤◌, ⊎_elim, true, false, Bool, [], ◌∷◌, ◌++◌, Option, Some, None, length, refl, sym, ap, subst}
 use Rattle.std.proofs.Common.{◌∙◌, arith, length-append}
+use Rattle.std.specs.Prelude.{◌==◌, if◌then◌else◌}
+use Rattle.std.proofs.lemmas.Bool.{cases_eq, eq-eqb}
 use Rattle.board_face.specs.declared.views.parts.Setting.{Setting}
 use Rattle.board_face.specs.declared.views.app.AppView.{AppView}
 use Rattle.board_face.specs.declared.views.app.AppLook.TheVariants.{RefillInUse}
 use Rattle.app_worker.specs.declared.stack.Lending.{Lending}
-use Rattle.app_worker.specs.Core.{total, Each, Stands, over_due, lent_piece}
-use Rattle.app_worker.specs.State.{State, TellsOf, Working, Common, capped, held_len, taken_len, app_steps, one_if}
+use Rattle.circular_buffer.specs.Buffer.{Buffer}
+use Rattle.board_face.specs.AppEvents.{reserve_of}
+use Rattle.board_face.specs.declared.views.app.LentPiece.{LentPiece}
+use Rattle.app_worker.specs.Core.{total, Each, Stands, over_due, over_read, read_out, lent_piece}
+use Rattle.app_worker.specs.State.{State, returned_aside, TellsOf, Working, Common, capped, held_len, taken_len, app_steps, one_if}
 use Rattle.app_worker.specs.Shelves.{IsShelved}
-use Rattle.app_worker.specs.Steps.{Gave, Given}
+use Rattle.app_worker.specs.Steps.{Gave, Given, KeptDue}
+use Rattle.app_worker.specs.Moves.{Moves}
 use Rattle.app_worker.specs.Whole.{Gives}
 use Rattle.app_worker.proofs.Standing2.{given-stands}
-use Rattle.app_worker.proofs.Moving.{total-one, looks-same, no-write}
+use Rattle.app_worker.proofs.Moving.{total-one, looks-same, no-write, reserve-same, leaked-aside, same-leaked}
+use Rattle.app_worker.proofs.Tokens.{total-append}
+use Rattle.app_worker.proofs.Standing.{each-join}
 use Rattle.app_worker.proofs.Seeing.{Left, left-none, left-saw}
 
 abbrev pub with_due : State → Option Lending → State
 with_due was due = record was { due = due }
 
-gave-left : (was : State) (l : Lending) (old new : AppView) → was.due ≡ Some l → Gave old new l → Working was old → Common was old
+-- one that is given back lies in the reserve, or enough are kept
+aside-gave : (was : State) (l : Lending) (old new : AppView) → new.returned ≡ old.returned ++ lent_piece l ∷ [] → new.setting ≡ old.setting
+    → new.app ≡ old.app → (l.loan.buffer ≢ reserve_of old → was.how.leak ≤ length was.leaked.items) → length was.leaked.items ≤ was.how.leak
+    → (0 < returned_aside old → length was.leaked.items ≡ was.how.leak) → 0 < returned_aside new → length was.leaked.items ≡ was.how.leak
+aside-gave was l old new returned setting app enough few first some =
+    let one : LentPiece → ℕ = λ (x : LentPiece). if x.place.buffer == reserve_of old then 0 else 1 in
+    let sum : returned_aside new ≡ total one old.returned + one (lent_piece l) =
+    ap (λ xs. total (λ (x : LentPiece). if x.place.buffer == reserve_of new then 0 else 1) xs) returned
+    ∙ ap (λ n. total (λ (x : LentPiece). if x.place.buffer == n then 0 else 1) (old.returned ++ lent_piece l ∷ [])) (reserve-same old new setting app)
+    ∙ omega (arith, total-append one old.returned (lent_piece l ∷ [])) in
+    ⊎_elim
+    (λ (same : l.loan.buffer ≡ reserve_of old). let none : one (lent_piece l)
+    ≡ 0 = (let yes : (l.loan.buffer == reserve_of old) ≡ true = eq-eqb l.loan.buffer (reserve_of old) same in rw yes refl) in
+    first (omega (arith, sum, none, some)))
+    (λ (other : l.loan.buffer ≢ reserve_of old). omega (arith, enough other, few))
+    (cases_eq l.loan.buffer (reserve_of old))
+
+gave-left : (was : State) (l : Lending) (old new : AppView) → was.due ≡ Some l → Gave old new l
+    → (l.loan.buffer ≢ reserve_of old → was.how.leak ≤ length was.leaked.items) → Working was old → Common was old
     → Left was (with_due was None) old new × (app_steps was old < app_steps (with_due was None) new) × (new.taken ≡ old.taken) × (new.left ≡ old.left)
-gave-left was l old new due step works common =
+gave-left was l old new due step enough works common =
     let setting : new.setting ≡ old.setting = ap (λ (v : AppView). v.setting) step.view in
     let taken : new.taken ≡ old.taken = ap (λ (v : AppView). v.taken) step.view in
     let helds : new.helds ≡ old.helds = ap (λ (v : AppView). v.helds) step.view in
@@ -33,13 +59,14 @@ gave-left was l old new due step works common =
     let one_less : length new.loans + 1 ≡ length old.loans = omega (arith, step.loans (λ _. 1), total-one new.loans, total-one old.loans) in
     let one_more : length new.returned ≡ length old.returned + 1 = ap length step.returned ∙ length-append old.returned (lent_piece l ∷ []) in
     let due_one : over_due (λ _. 1) was.due ≡ 1 = ap (over_due (λ _. 1)) due in
-    let steps : app_steps (with_due was None) new ≡ app_steps was old + 1 = omega
+    let steps : app_steps (with_due was None) new ≡ app_steps was old + 2 = omega
     (arith, ap length taken, one_less, one_more, due_one, ap one_if ended, ap one_if left) in
-    let stood : Stands was.notes was.flows (was.unread ++ was.posted.entries) (Some l) old = subst
-    (λ d. Stands was.notes was.flows (was.unread ++ was.posted.entries) d old) due works.stands in (
+    let stood : Stands was.notes was.flows (was.unread ++ was.posted.entries) (l ∷ was.leaked.items) old = subst
+    (λ d. Stands was.notes was.flows (was.unread ++ was.posted.entries) (read_out d was.leaked.items) old) due works.stands in (
       record {
         working = record {
-          stands = given-stands was.notes was.flows (was.unread ++ was.posted.entries) (Some l) None old new true stood (step, refl);
+          stands = given-stands was.notes was.flows (was.unread ++ was.posted.entries) (Some l) None was.leaked.items old new true stood
+              (step, refl);
           completions = subst (λ (s : Setting). Each (TellsOf s.layout) (was.unread ++ was.posted.entries)) (sym setting) works.completions;
           rest = works.rest;
           index = works.index;
@@ -47,6 +74,7 @@ gave-left was l old new due step works common =
           going = works.going;
           split = works.split;
           live = works.live;
+          keeps_first = aside-gave was l old new step.returned setting own_app enough common.leaks works.keeps_first;
         };
         common = record {
           app = own_app ∙ common.app;
@@ -60,6 +88,9 @@ gave-left was l old new due step works common =
           loans = common.loans ∙ ap capped (omega (arith, one_less, one_more));
           written = common.written;
           quits = common.quits;
+          leaks = common.leaks;
+          leak_room = common.leak_room;
+          leak_aside = leaked-aside was.leaked.items old new setting own_app common.leak_aside;
           bound = omega (arith, one_less, one_more, ap (total held_len) helds, common.bound, ap (total taken_len) taken);
         };
         goes = λ kept. record {
@@ -70,6 +101,7 @@ gave-left was l old new due step works common =
             steps = omega (arith, steps);
             looks = looks-same old new (ap (λ (v : AppView). v.looks) step.view);
             stays = λ _. refl;
+            leaked = same-leaked was (with_due was None) refl refl;
           };
           shelved = λ _ first shelved. record {
             flows = subst (λ ts. Each (IsShelved first kept ts new.reads) was.flows) (sym taken)
@@ -84,19 +116,105 @@ gave-left was l old new due step works common =
       left,
     )
 
-pub given-left : (was : State) (due then : Option Lending) (old new : AppView) (result : Bool) → was.due ≡ due → Given old new due then result
-    → Working was old → Common was old → Left was (with_due was then) old new × Gives was (with_due was then) old new result
-given-left was None then old new true is step works common =
+pub given-left : (was : State) (due now : Option Lending) (old new : AppView) (result : Bool) → was.due ≡ due → Given old new due now result
+    → ((l : Lending) → due ≡ Some l → l.loan.buffer ≢ reserve_of old → was.how.leak ≤ length was.leaked.items) → Working was old → Common was old → Left was (with_due was now) old new × Gives was (with_due was now) old new result
+given-left was None now old new true is step enough works common =
     let same : with_due was None ≡ was = ap (with_due was) (sym is) in
     let view : new ≡ old = step.0 in
     rw (step.1, same, step.0) (
       left-none was old works common,
-      record { same = sym same; nothing = λ _. refl; steps = λ other. absurd (other is); taken = refl; left = refl },
+      record { same = sym same; nothing = λ _. (refl, refl); steps = λ other. absurd (other is); taken = refl; left = refl },
     )
-given-left was None then old new false is step works common = absurd (cc)
-given-left was (Some l) then old new true is step works common =
-    let gone = gave-left was l old new is step.0 works common in
+given-left was None now old new false is step enough works common = absurd (cc)
+given-left was (Some l) now old new true is step enough works common =
+    let gone = gave-left was l old new is step.0 (enough l refl) works common in
     rw step.1 (gone.0, record { same = refl; nothing = λ none. absurd (cc); steps = λ _. gone.1; taken = gone.2; left = gone.3 })
-given-left was (Some l) then old new false is step works common =
+given-left was (Some l) now old new false is step enough works common =
     let same : with_due was (Some l) ≡ was = ap (with_due was) (sym is) in
     rw (step.1, same) (left-saw was old new RefillInUse step.0 works common, (refl, (λ none. absurd (cc)), step.0))
+
+-- ---- a loan is kept to the end
+
+abbrev pub with_leaked : State → Buffer Lending → State
+with_leaked was leaked = record was { due = None; leaked = leaked }
+
+pub kept-left : (was : State) (rest : Option Lending) (leaked : Buffer Lending) (v : AppView)
+    → KeptDue (reserve_of v) was.how.leak was.due rest was.leaked leaked → Working was v → Common was v
+    → Left was (record was { due = rest; leaked = leaked }) v v × Gives was (record was { due = rest; leaked = leaked }) v v true
+kept-left was rest leaked v step works common =
+    let l : Lending = step.lending in
+    let items : leaked.items ≡ was.leaked.items ++ l ∷ [] = ap (λ (b : Buffer Lending). b.items) step.more in
+    let longer : length leaked.items ≡ length was.leaked.items + 1 = ap length items ∙ length-append was.leaked.items (l ∷ []) in
+    let now : State = with_leaked was leaked in
+    let stood : Stands was.notes was.flows (was.unread ++ was.posted.entries) (l ∷ was.leaked.items) v = subst
+    (λ d. Stands was.notes was.flows (was.unread ++ was.posted.entries) (read_out d was.leaked.items) v) step.due works.stands in
+    let same : (f : LentPiece → ℕ) → over_read f leaked.items ≡ over_read f (l ∷ was.leaked.items) = λ f.
+    ap (over_read f) items ∙ omega (arith, total-append (λ x. f (lent_piece x)) was.leaked.items (l ∷ [])) in
+    let due_one : over_due (λ _. 1) was.due ≡ 1 = ap (over_due (λ _. 1)) step.due in
+    let steps : app_steps now v ≡ app_steps was v + 1 = omega (arith, due_one, longer) in
+    let moves : Moves was now v v = record {
+      same = (refl, refl, refl, refl);
+      how = (refl, refl);
+      places = refl;
+      steps = omega (arith, steps);
+      looks = looks-same v v refl;
+      stays = λ _. refl;
+      leaked = λ live. (live, (l ∷ [], items));
+    } in
+    rw step.none (
+      record {
+        working = record {
+          stands = record {
+            tokens = record {
+              apart = stood.tokens.apart;
+              helds = stood.tokens.helds;
+              loans = λ f. omega (arith, stood.tokens.loans f, same f);
+            };
+            notes = stood.notes;
+            distinct = stood.distinct;
+            flows = stood.flows;
+            known = stood.known;
+            posted = stood.posted;
+            counted = stood.counted;
+          };
+          completions = works.completions;
+          rest = works.rest;
+          index = works.index;
+          over = works.over;
+          going = works.going;
+          split = works.split;
+          live = works.live;
+          keeps_first = λ some. absurd (omega (arith, works.keeps_first some, step.few));
+        };
+        common = record {
+          app = common.app;
+          ended = common.ended;
+          counted = common.counted;
+          owns = common.owns;
+          spares = common.spares;
+          some_places = common.some_places;
+          within = common.within;
+          room = common.room;
+          loans = common.loans;
+          written = common.written;
+          quits = common.quits;
+          leaks = omega (arith, longer, step.few);
+          leak_room = ap (λ (b : Buffer Lending). b.capacity) step.more ∙ common.leak_room;
+          leak_aside = subst (Each (λ (x : Lending). x.loan.buffer ≢ reserve_of v)) (sym items)
+              (each-join (λ (x : Lending). x.loan.buffer ≢ reserve_of v) was.leaked.items (l ∷ []) common.leak_aside (step.aside, tt));
+          bound = common.bound;
+        };
+        goes = λ kept. record {
+          moves = moves;
+          shelved = λ _ first shelved. shelved;
+          failed = λ is. absurd (no-write was.stopped works.going is);
+        };
+      },
+      record {
+        same = refl;
+        nothing = λ none. absurd (let e : Some l ≡ None = sym step.due ∙ none in cc);
+        steps = λ _. omega (arith, steps);
+        taken = refl;
+        left = refl;
+      },
+    )

@@ -8,7 +8,7 @@ use Rattle.board_face.specs.declared.views.app.AppLook.TheVariants.{RawOnItsWay}
 use Rattle.app_worker.specs.declared.stack.Delivery.{Delivery}
 use Rattle.app_worker.specs.declared.stack.Delivery.TheVariants.{Did, NoneInOrder, Full, Unsettled}
 use Rattle.app_worker.specs.Core.{Each, Stands}
-use Rattle.app_worker.specs.State.{State, TellsOf, IsAtRest, Working, Common}
+use Rattle.app_worker.specs.State.{State, read_of, TellsOf, IsAtRest, Working, Common}
 use Rattle.app_worker.specs.Moves.{Goes}
 use Rattle.app_worker.specs.Whole.{Lends}
 use Rattle.app_worker.specs.Stages.{LentSome, Through, Untouched, ReadsTo}
@@ -24,7 +24,7 @@ pub reaped-working : (st : State) (v : AppView) → Working st v → Working (wi
 reaped-working st v works =
     let same : (st.unread ++ st.posted.entries) ++ [] ≡ st.unread ++ st.posted.entries = append-nil (st.unread ++ st.posted.entries) in
     record {
-      stands = subst (λ es. Stands st.notes st.flows es st.due v) (sym same) works.stands;
+      stands = subst (λ es. Stands st.notes st.flows es (read_of st) v) (sym same) works.stands;
       completions = subst (Each (TellsOf v.setting.layout)) (sym same) works.completions;
       rest = works.rest;
       index = works.index;
@@ -32,6 +32,7 @@ reaped-working st v works =
       going = works.going;
       split = works.split;
       live = works.live;
+      keeps_first = works.keeps_first;
     }
 
 reaped-common : (st : State) (v : AppView) → Common st v → Common (with_reaped st) v
@@ -47,6 +48,9 @@ reaped-common st v common = record {
   loans = common.loans;
   written = common.written;
   quits = common.quits;
+  leaks = common.leaks;
+  leak_room = common.leak_room;
+  leak_aside = common.leak_aside;
   bound = common.bound;
 }
 
@@ -66,6 +70,7 @@ through-reaped b c v w did end_by kept lent =
           steps = goes.moves.steps;
           looks = goes.moves.looks;
           stays = goes.moves.stays;
+          leaked = goes.moves.leaked;
         };
         shelved = goes.shelved;
         failed = goes.failed;

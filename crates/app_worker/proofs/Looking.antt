@@ -18,7 +18,7 @@ use Rattle.app_worker.specs.Whole.{TookOne, TookNone}
 use Rattle.app_worker.specs.Letting.{LetGo}
 use Rattle.app_worker.specs.Stages.{Through, HasQuit, WriteStopped, LendsAll}
 use Rattle.app_worker.specs.Turns.{Turns, MayPoll, Polled, turn_after}
-use Rattle.app_worker.proofs.Moving.{looks-more, moves-none, moves-then, no-write, quit-no-write}
+use Rattle.app_worker.proofs.Moving.{looks-more, same-leaked, moves-none, moves-then, no-write, quit-no-write}
 use Rattle.app_worker.proofs.Seeing.{working-saw, common-saw, goes-saw}
 use Rattle.app_worker.proofs.Through.{goes-then, through-none, bare-stopped, common-stopped}
 use Rattle.app_worker.proofs.TurnLemmas.{stands-working, stands-bare, no-rest, Begins, turns-later}
@@ -138,6 +138,7 @@ ended-working st v mid works rest told = rw told.event (record {
   going = works.going;
   split = works.split;
   live = works.live;
+  keeps_first = works.keeps_first;
 })
 
 pub ended-common : (st : State) (v mid : AppView) → Common st v → ToldEnd v mid → Common (record st { ended = true }) mid
@@ -153,6 +154,9 @@ ended-common st v mid common told = rw told.event (record {
   loans = common.loans;
   written = common.written;
   quits = common.quits;
+  leaks = common.leaks;
+  leak_room = common.leak_room;
+  leak_aside = common.leak_aside;
   bound = common.bound;
 })
 
@@ -175,6 +179,7 @@ ended-begins st v mid kept f works common here more told =
           steps = omega (arith, not_yet);
           looks = looks-more v (told_end v) CardEnded refl;
           stays = λ _. refl;
+          leaked = same-leaked st (record st { ended = true }) refl refl;
         };
         shelved = λ _ begin shelved. record { flows = shelved.flows; others = shelved.others };
         failed = λ is. absurd (no-write st.stopped works.going is);
@@ -227,6 +232,7 @@ module _ (a b c : State) (u v w : AppView) (k : ℕ → Option (List ℕ)) (f : 
         steps = moves-both.steps;
         looks = moves-both.looks;
         stays = λ other. absurd (other works.going);
+        leaked = moves-both.leaked;
       };
       shelved = λ _ begin shelved. gone.shelved begin k (took.shelved begin k shelved);
       failed = λ is. absurd (cc);
@@ -242,6 +248,7 @@ module _ (a b c : State) (u v w : AppView) (k : ℕ → Option (List ℕ)) (f : 
           steps = moves-both.steps;
           looks = moves-both.looks;
           stays = λ other. absurd (other works.going);
+          leaked = moves-both.leaked;
         });
     none = λ _ e. absurd (cc);
     cause = λ _ is. absurd (cc);
@@ -256,6 +263,7 @@ module _ (a b c : State) (u v w : AppView) (k : ℕ → Option (List ℕ)) (f : 
           helds = gone.helds;
           loans = gone.loans;
           due = ap (λ (s : State). s.due) gone.same;
+          leaked = ap (λ (s : State). s.leaked.items) gone.same;
           unread = ap (λ (s : State). s.unread) gone.same;
           flows = gone.ends;
           distinct = gone.distinct;
@@ -274,6 +282,9 @@ module _ (a b c : State) (u v w : AppView) (k : ℕ → Option (List ℕ)) (f : 
           loans = gone.common.loans;
           written = gone.common.written;
           quits = gone.common.quits;
+          leaks = gone.common.leaks;
+          leak_room = gone.common.leak_room;
+          leak_aside = gone.common.leak_aside;
           bound = gone.common.bound;
         })
         reaped-both (ap (λ (s : State). s.bare) gone.same);
@@ -285,6 +296,7 @@ module _ (a b c : State) (u v w : AppView) (k : ℕ → Option (List ℕ)) (f : 
         steps = moves-both.steps;
         looks = moves-both.looks;
         stays = moves-both.stays;
+        leaked = moves-both.leaked;
       };
       shelved = λ _ begin shelved. gone.shelved begin k (took.shelved begin k shelved);
       failed = λ is. absurd (no-write c.stopped (ap (λ (s : State). s.stopped) gone.same ∙ ap (λ (s : State). s.stopped) took.same ∙ works.going) is);
@@ -300,6 +312,7 @@ module _ (a b c : State) (u v w : AppView) (k : ℕ → Option (List ℕ)) (f : 
           steps = moves-both.steps;
           looks = moves-both.looks;
           stays = moves-both.stays;
+          leaked = moves-both.leaked;
         });
     none = λ _ e. absurd (cc);
     cause = λ _ is. absurd (no-write c.stopped (ap (λ (s : State). s.stopped) gone.same ∙ ap (λ (s : State). s.stopped) took.same ∙ works.going) is);

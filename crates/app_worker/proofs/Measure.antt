@@ -1,8 +1,9 @@
 -- How far an application may come.
-use Rattle.std.proofs.Common.{◌≡◌, ℕ, ◌≤◌, Bool, true, false, length, ap, arith}
+use Rattle.std.proofs.Common.{◌≡◌, ℕ, ◌+◌, ◌≤◌, Bool, true, false, List, Option, Some, None, length, ap, arith}
 use Rattle.board_face.specs.declared.views.app.LentPiece.{LentPiece}
 use Rattle.board_face.specs.declared.views.app.AppView.{AppView}
-use Rattle.app_worker.specs.Core.{over_due}
+use Rattle.app_worker.specs.declared.stack.Lending.{Lending}
+use Rattle.app_worker.specs.Core.{over_due, over_read, read_out}
 use Rattle.app_worker.specs.State.{State, Working, Bare, Common, app_steps, furthest, one_if}
 use Rattle.app_worker.proofs.Moving.{total-one}
 
@@ -10,13 +11,23 @@ pub one-most : (b : Bool) → one_if b ≤ 1
 one-most true = omega arith
 one-most false = omega arith
 
+pub read-one : (due : Option Lending) (leaked : List Lending) → over_read (λ _. 1) (read_out due leaked) ≡ over_due (λ _. 1) due + length leaked
+read-one None leaked = omega (arith, total-one leaked)
+read-one (Some l) leaked = omega (arith, total-one leaked)
+
+pub due-most : (due : Option Lending) → over_due (λ _. 1) due ≤ 1
+due-most None = omega arith
+due-most (Some l) = omega arith
+
 pub working-within : (st : State) (v : AppView) → Working st v → Common st v → app_steps st v ≤ furthest v
 working-within st v works common =
     let one : LentPiece → ℕ = λ _. 1 in
-    let due : over_due one st.due ≤ length v.loans = omega (arith, works.stands.tokens.loans one, total-one v.loans) in
-    omega (arith, due, common.bound, one-most v.ended, one-most st.bare, one-most v.left)
+    let few : over_due one st.due + length st.leaked.items ≤ length v.loans = omega
+    (arith, works.stands.tokens.loans one, total-one v.loans, read-one st.due st.leaked.items) in
+    let due : over_due one st.due ≤ 1 = due-most st.due in
+    omega (arith, few, due, common.bound, one-most v.ended, one-most st.bare, one-most v.left)
 
 pub bare-within : (st : State) (v : AppView) → Bare st v → Common st v → app_steps st v ≤ furthest v
 bare-within st v bare common =
     let due : over_due (λ _. 1) st.due ≡ 0 = ap (over_due (λ _. 1)) bare.due in
-    omega (arith, due, common.bound, one-most v.ended, one-most st.bare, one-most v.left)
+    omega (arith, due, ap length bare.leaked, common.bound, one-most v.ended, one-most st.bare, one-most v.left)

@@ -1,13 +1,19 @@
 -- From one moment to a later one.
-use Rattle.std.proofs.Common.{◌≡◌, List, [], ◌∷◌, length, refl, sym, ap, ◌∙◌, arith}
+use Rattle.std.proofs.Common.{◌≡◌, ◌≢◌, ◌+◌, false, List, [], ◌∷◌, ◌++◌, length, refl, sym, ap, subst, ◌∙◌, arith, append-nil, append_assoc}
+use Rattle.std.specs.Prelude.{◌==◌, if◌then◌else◌}
+use Rattle.area_layout.specs.Layout.{pool_buffers}
+use Rattle.board_face.specs.AppEvents.{reserve_of}
+use Rattle.board_face.specs.declared.views.parts.Setting.{Setting}
+use Rattle.board_face.specs.declared.views.app.LentPiece.{LentPiece}
+use Rattle.app_worker.specs.declared.stack.Lending.{Lending}
 use Rattle.zr_kinds.specs.declared.behaviour.Stopped.TheVariants as stop
 use Rattle.zr_kinds.specs.declared.behaviour.Stopped.{Stopped}
 use Rattle.board_face.specs.Looks.{AppLooksStay, app_looks, times, same_app_look}
 use Rattle.board_face.specs.declared.views.app.AppLook.{AppLook}
 use Rattle.board_face.specs.declared.views.app.AppView.{AppView}
-use Rattle.app_worker.specs.Core.{total}
-use Rattle.app_worker.specs.State.{State}
-use Rattle.app_worker.specs.Moves.{Moves}
+use Rattle.app_worker.specs.Core.{total, Each}
+use Rattle.app_worker.specs.State.{State, returned_aside}
+use Rattle.app_worker.specs.Moves.{Moves, KeepsLeaked}
 
 pub total-one : {A : Type 0} (xs : List A) → total (λ _. 1) xs ≡ length xs
 total-one [] = refl
@@ -30,6 +36,30 @@ looks-more old new seen more = record {
 pub looks-trans : (u v w : AppView) → AppLooksStay u v → AppLooksStay v w → AppLooksStay u w
 looks-trans u v w first second = record { later = λ look. omega (arith, first.later look, second.later look) }
 
+-- ---- what is kept to the end
+
+pub reserve-same : (old new : AppView) → new.setting ≡ old.setting → new.app ≡ old.app → reserve_of new ≡ reserve_of old
+reserve-same old new setting app = ap (λ (s : Setting). pool_buffers s.layout + new.app) setting ∙ ap (λ n. pool_buffers old.setting.layout + n) app
+
+pub aside-same : (old new : AppView) → new.returned ≡ old.returned → new.setting ≡ old.setting → new.app ≡ old.app
+    → returned_aside new ≡ returned_aside old
+aside-same old new returned setting app =
+    ap (λ ls. total (λ (l : LentPiece). if l.place.buffer == reserve_of new then 0 else 1) ls) returned
+    ∙ ap (λ n. total (λ (l : LentPiece). if l.place.buffer == n then 0 else 1) old.returned) (reserve-same old new setting app)
+
+pub leaked-aside : (leaked : List Lending) (old new : AppView) → new.setting ≡ old.setting → new.app ≡ old.app
+    → Each (λ (l : Lending). l.loan.buffer ≢ reserve_of old) leaked → Each (λ (l : Lending). l.loan.buffer ≢ reserve_of new) leaked
+leaked-aside leaked old new setting app each = subst (λ n. Each (λ (l : Lending). l.loan.buffer ≢ n) leaked) (sym (reserve-same old new setting app)) each
+
+pub same-leaked : (was now : State) → now.bare ≡ was.bare → now.leaked.items ≡ was.leaked.items → now.bare ≡ false → KeepsLeaked was now
+same-leaked was now bare items live = (sym bare ∙ live, ([], items ∙ sym (append-nil was.leaked.items)))
+
+leaked-then : (a b c : State) → KeepsLeaked a b → KeepsLeaked b c → KeepsLeaked a c
+leaked-then a b c (live, (more, are)) (_, (more_then, are_then)) = (
+  live,
+  (more ++ more_then, are_then ∙ ap (λ ls. ls ++ more_then) are ∙ append_assoc a.leaked.items more more_then),
+)
+
 -- ---- steps one after another
 
 pub moves-none : (st : State) (v : AppView) → Moves st st v v
@@ -40,6 +70,7 @@ moves-none st v = record {
   steps = omega arith;
   looks = looks-same v v refl;
   stays = λ _. refl;
+  leaked = same-leaked st st refl refl;
 }
 
 pub moves-then : (a b c : State) (u v w : AppView) → Moves a b u v → Moves b c v w → Moves a c u w
@@ -50,6 +81,7 @@ moves-then a b c u v w first second = record {
   steps = omega (arith, first.steps, second.steps);
   looks = looks-trans u v w first.looks second.looks;
   stays = λ other. (let e : b.stopped ≡ a.stopped = first.stays other in second.stays (λ is. other (sym e ∙ is)) ∙ e);
+  leaked = λ live. (let later = second.leaked live in leaked-then a b c (first.leaked later.0) later);
 }
 
 -- what quit wasn't stopped by its shelf

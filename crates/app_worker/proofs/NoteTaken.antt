@@ -15,7 +15,8 @@ use Rattle.app_worker.specs.declared.stack.Piece.{Piece}
 use Rattle.app_worker.specs.declared.stack.FlowQueue.{FlowQueue}
 use Rattle.app_worker.specs.Marks.{Mark}
 use Rattle.app_worker.specs.Core.{total, Each, HasTokens, Stands, FlowStands, many, over_kept, held_piece, marks_of_piece, received_note, own_notes}
-use Rattle.app_worker.specs.State.{State, TellsOf, IsAtRest, RestBut, IsIndex, Working, Common, FlowEnds, held_len}
+use Rattle.app_worker.proofs.Moving.{aside-same}
+use Rattle.app_worker.specs.State.{State, read_of, TellsOf, IsAtRest, RestBut, IsIndex, Working, Common, FlowEnds, held_len}
 use Rattle.app_worker.specs.Steps.{OnlyHelds, whole_piece}
 use Rattle.app_worker.specs.Whole.{fresh_flow, IsChosen, TookOne, TookNone}
 use Rattle.app_worker.proofs.Tokens.{is-released}
@@ -40,7 +41,7 @@ short-taken was old new linear note took works common =
     let t : TakenNote = record { note = note; bytes = take note.total linear } in
     let helds : new.helds ≡ old.helds = ap (λ (v : AppView). v.helds) took.event in
     let view : TookView old new t = record { view = rw took.event refl; held = omega (arith, ap (total held_len) helds) } in
-    let tokens : HasTokens was.flows (was.unread ++ was.posted.entries) was.due new = rw took.event
+    let tokens : HasTokens was.flows (was.unread ++ was.posted.entries) (read_of was) new = rw took.event
     (record {
       apart = record { once = works.stands.tokens.apart.once; some = works.stands.tokens.apart.some };
       helds = works.stands.tokens.helds;
@@ -70,7 +71,7 @@ module _ (was : State) (old mid : AppView) (note : Note) (held : Place) (took : 
       let view : TookView old (released mid held) t = record { view = rw took.event refl; held = omega (arith, gone.moved held_len, step.moved held_len) } in
       rw is (record {
         torn = record {
-          tokens = released-tokens was.notes was.flows (was.unread ++ was.posted.entries) was.due old mid note held was.notes refl took works.stands;
+          tokens = released-tokens was.notes was.flows (was.unread ++ was.posted.entries) (read_of was) old mid note held was.notes refl took works.stands;
           flows = ends-kept was.flows old (released mid held) t view (all-end was old works);
           distinct = works.stands.distinct;
         };
@@ -113,7 +114,7 @@ module _ (was : State) (old mid : AppView) (note : Note) (held : Place) (took : 
         let now : List FlowQueue = set flows i (record own { queue = q }) in
         record {
           torn = record {
-            tokens = entered-tokens was.notes (was.unread ++ was.posted.entries) was.due old mid new note held took was.notes refl was.flows flows i own q
+            tokens = entered-tokens was.notes (was.unread ++ was.posted.entries) (read_of was) old mid new note held took was.notes refl was.flows flows i own q
                 chosen within value works.stands only;
             flows = ends-noted was.flows old new (taken_note note) view-in (all-end was old works) known-in own (λ x. set flows i x) put-in q base;
             distinct = λ n. (many-noted was.flows note own (λ x. set flows i x) q base put-in n).1 (works.stands.distinct n);
@@ -136,13 +137,13 @@ module _ (was : State) (old mid : AppView) (note : Note) (held : Place) (took : 
     entered-taken notes is_index count rest more popped enters =
         let x : FlowQueue = record own { queue = q } in
         let now : List FlowQueue = set flows i x in
-        let stands : Stands (was.notes + 1) now (was.unread ++ was.posted.entries) was.due new =
-        entered-stands was.notes (was.unread ++ was.posted.entries) was.due old mid new note held took was.notes refl was.flows flows i own q chosen within
+        let stands : Stands (was.notes + 1) now (was.unread ++ was.posted.entries) (read_of was) new =
+        entered-stands was.notes (was.unread ++ was.posted.entries) (read_of was) old mid new note held took was.notes refl was.flows flows i own q chosen within
         value works.stands only base popped enters in
         let setting : new.setting ≡ old.setting = ap (λ (v : AppView). v.setting) view-in.view in
         record {
           working = record {
-            stands = subst (λ n. Stands n now (was.unread ++ was.posted.entries) was.due new) (sym count) stands;
+            stands = subst (λ n. Stands n now (was.unread ++ was.posted.entries) (read_of was) new) (sym count) stands;
             completions = subst (λ (s : Setting). Each (TellsOf s.layout) (was.unread ++ was.posted.entries)) (sym setting) works.completions;
             rest = resting chosen x;
             index = index-set index flows i own x within value refl is_index;
@@ -150,6 +151,12 @@ module _ (was : State) (old mid : AppView) (note : Note) (held : Place) (took : 
             going = works.going;
             split = works.split;
             live = works.live;
+            keeps_first = λ some. works.keeps_first (omega (
+              arith,
+              some,
+              aside-same old new (ap (λ (v : AppView). v.returned) view-in.view) setting
+                  (ap (λ (v : AppView). v.app) view-in.view),
+            ));
           };
           common = common-noted was old new (taken_note note) view-in notes i index now bytes-in common;
           moves = moves-noted was old new (taken_note note) view-in notes i index now;

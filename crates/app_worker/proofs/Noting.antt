@@ -26,7 +26,7 @@ use Rattle.app_worker.proofs.Placing.{own-notes-other, own-notes-here, next_note
 use Rattle.app_worker.proofs.Standing.{At, split-at, each-map, each-join, each-left, each-right, is_number, number-is, total-changed, many-same}
 use Rattle.app_worker.proofs.Took.{get-last, set-last}
 use Rattle.app_worker.proofs.EachBoth.{each-both}
-use Rattle.app_worker.proofs.Moving.{looks-same}
+use Rattle.app_worker.proofs.Moving.{looks-same, leaked-aside, same-leaked}
 
 -- ---- one flow
 
@@ -233,6 +233,9 @@ module _ (was : State) (old new : AppView) (t : TakenNote) (took : TookView old 
         )));
         written = common.written ∙ ap capped (sym bytes);
         quits = common.quits;
+        leaks = common.leaks;
+        leak_room = common.leak_room;
+        leak_aside = leaked-aside was.leaked.items old new (ap (λ (v : AppView). v.setting) took.view) (ap (λ (v : AppView). v.app) took.view) common.leak_aside;
         bound = omega (
           arith,
           ap length (ap (λ (v : AppView). v.loans) took.view),
@@ -268,6 +271,7 @@ module _ (was : State) (old new : AppView) (t : TakenNote) (took : TookView old 
     steps = omega (arith, steps-noted);
     looks = looks-same old new (ap (λ (v : AppView). v.looks) took.view);
     stays = λ _. refl;
+    leaked = same-leaked was (with_note was notes flows index active) refl refl;
   }
 
 -- what the flows were, and what the shelf had of them

@@ -14,10 +14,10 @@ use Rattle.board_face.specs.declared.views.app.TakenNote.{TakenNote}
 use Rattle.board_face.specs.declared.views.app.AppView.{AppView}
 use Rattle.app_worker.specs.declared.stack.Lending.{Lending}
 use Rattle.app_worker.specs.declared.stack.FlowQueue.{FlowQueue}
-use Rattle.app_worker.specs.Core.{total, Each, Stands, FlowStands, HasTokens, OnlyReads, IsReadOf, AreReadAt, placed_of, marks_of_loan, many, over_due}
+use Rattle.app_worker.specs.Core.{total, Each, Stands, FlowStands, HasTokens, OnlyReads, IsReadOf, AreReadAt, placed_of, marks_of_loan, many, over_due, read_out}
 use Rattle.zr_kinds.specs.declared.behaviour.Stopped.{Stopped}
 use Rattle.zr_kinds.specs.declared.behaviour.Stopped.TheVariants as stop
-use Rattle.app_worker.specs.State.{State, TellsOf, Working, Common, Quits, FlowEnds, capped, held_len, taken_len, app_steps, one_if}
+use Rattle.app_worker.specs.State.{State, read_of, TellsOf, Working, Common, Quits, FlowEnds, capped, held_len, taken_len, app_steps, one_if}
 use Rattle.app_worker.specs.Shelves.{IsShelved, AreShelved, ReadsFront, IsFrontShelved, AreFronts}
 use Rattle.app_worker.specs.Moves.{Moves}
 use Rattle.app_worker.specs.Whole.{Torn, ReadOne, ReadQuit, ReadFailed, Appended}
@@ -29,7 +29,7 @@ use Rattle.app_worker.proofs.Entering.{marks-length}
 use Rattle.app_worker.proofs.ReadLemmas.{all-grow, read-append, marks-split}
 use Rattle.app_worker.proofs.Placing.{values-split, values-length}
 use Rattle.app_worker.proofs.EachBoth.{each-both}
-use Rattle.app_worker.proofs.Moving.{looks-same, no-write}
+use Rattle.app_worker.proofs.Moving.{looks-same, no-write, aside-same, leaked-aside, same-leaked}
 use Rattle.app_worker.proofs.Indexing.{index-set}
 use Rattle.app_worker.proofs.Resting.{rest-same, each-same}
 
@@ -124,17 +124,20 @@ module _ (was : State) (i : ℕ) (own : FlowQueue) (p : Completion × Lending) (
   all : was.unread ++ was.posted.entries ≡ p ∷ (ps ++ was.posted.entries)
   all = ap (λ es. es ++ was.posted.entries) unread
 
-  stood : Stands was.notes (at.before ++ own ∷ at.after) (p ∷ (ps ++ was.posted.entries)) None old
-  stood = subst (λ d. Stands was.notes (at.before ++ own ∷ at.after) (p ∷ (ps ++ was.posted.entries)) d old) due
-      (subst (λ es. Stands was.notes (at.before ++ own ∷ at.after) es was.due old) all
-      (subst (λ (fs : List FlowQueue). Stands was.notes fs (was.unread ++ was.posted.entries) was.due old) at.is works.stands))
+  stood : Stands was.notes (at.before ++ own ∷ at.after) (p ∷ (ps ++ was.posted.entries)) was.leaked.items old
+  stood = subst (λ d. Stands was.notes (at.before ++ own ∷ at.after) (p ∷ (ps ++ was.posted.entries)) (read_out d was.leaked.items) old) due
+      (subst (λ es. Stands was.notes (at.before ++ own ∷ at.after) es (read_of was) old) all
+      (subst (λ (fs : List FlowQueue). Stands was.notes fs (was.unread ++ was.posted.entries) (read_of was) old) at.is works.stands))
 
   next : IsNext old.taken own p.1 (ps ++ was.posted.entries)
   next = is-next old.taken p (ps ++ was.posted.entries) own number
-      (own-stands was.notes at.before at.after own (p ∷ (ps ++ was.posted.entries)) None old stood)
+      (own-stands was.notes at.before at.after own (p ∷ (ps ++ was.posted.entries)) was.leaked.items old stood)
 
   same_setting : new.setting ≡ old.setting
   same_setting = ap (λ (v : AppView). v.setting) only.view
+
+  same_returned : new.returned ≡ old.returned
+  same_returned = ap (λ (v : AppView). v.returned) only.view
 
   same_taken : new.taken ≡ old.taken
   same_taken = ap (λ (v : AppView). v.taken) only.view
@@ -165,6 +168,9 @@ module _ (was : State) (i : ℕ) (own : FlowQueue) (p : Completion × Lending) (
         )));
         written = omega (arith, count, common.written, sum, more);
         quits = quits;
+        leaks = common.leaks;
+        leak_room = common.leak_room;
+        leak_aside = leaked-aside was.leaked.items old new same_setting (ap (λ (v : AppView). v.app) only.view) common.leak_aside;
         bound = omega (
           arith,
           ap length (ap (λ (v : AppView). v.loans) only.view),
@@ -194,6 +200,7 @@ module _ (was : State) (i : ℕ) (own : FlowQueue) (p : Completion × Lending) (
     steps = omega (arith, steps-read bytes written);
     looks = looks-same old new (ap (λ (v : AppView). v.looks) only.view);
     stays = λ _. refl;
+    leaked = same-leaked was (with_read was i own bytes ps p.1 written) refl refl;
   }
 
   -- all of it was appended
@@ -204,14 +211,14 @@ module _ (was : State) (i : ℕ) (own : FlowQueue) (p : Completion × Lending) (
       → ReadOne was (with_read was i own bytes ps p.1 written) old new kept kept_now
   oldest-read bytes written kept kept_now is count quits gained others =
       let later : FlowQueue = record own { bytes = own.bytes + p.1.loan.len } in
-      let stands : Stands was.notes (at.before ++ later ∷ at.after) (ps ++ was.posted.entries) (Some p.1) new = stands-read was.notes at.before at.after own p
-      (ps ++ was.posted.entries) old new number only stood in
+      let stands : Stands was.notes (at.before ++ later ∷ at.after) (ps ++ was.posted.entries) (p.1 ∷ was.leaked.items) new = stands-read was.notes at.before at.after own p
+      (ps ++ was.posted.entries) was.leaked.items old new number only stood in
       let told : Each (TellsOf old.setting.layout) (p ∷ (ps ++ was.posted.entries)) = subst (Each (TellsOf old.setting.layout)) all works.completions in
       let added : Appended own old.taken new p.1.loan.len kept kept_now = appended old.taken p (ps ++ was.posted.entries) own p.1.loan.len new kept
-      kept_now number (own-stands was.notes at.before at.after own (p ∷ (ps ++ was.posted.entries)) None old stood) (omega arith) gained others in
+      kept_now number (own-stands was.notes at.before at.after own (p ∷ (ps ++ was.posted.entries)) was.leaked.items old stood) (omega arith) gained others in
       rw is (record {
         working = record {
-          stands = subst (λ (fs : List FlowQueue). Stands was.notes fs (ps ++ was.posted.entries) (Some p.1) new) (sym (at.set_is later)) stands;
+          stands = subst (λ (fs : List FlowQueue). Stands was.notes fs (ps ++ was.posted.entries) (p.1 ∷ was.leaked.items) new) (sym (at.set_is later)) stands;
           completions = subst (λ (s : Setting). Each (TellsOf s.layout) (ps ++ was.posted.entries)) (sym same_setting) told.1;
           rest = rest-same was.active i was.flows own later within (sym value) refl works.rest;
           index = index-set was.index was.flows i own later within value refl works.index;
@@ -219,12 +226,13 @@ module _ (was : State) (i : ℕ) (own : FlowQueue) (p : Completion × Lending) (
           going = works.going;
           split = works.split;
           live = works.live;
+          keeps_first = λ some. works.keeps_first (omega (arith, some, aside-same old new same_returned same_setting (ap (λ (v : AppView). v.app) only.view)));
         };
         common = common-read (own.bytes + p.1.loan.len) written was.stopped (omega arith) (omega (arith, count)) quits;
         goes = record {
           moves = moves-read (own.bytes + p.1.loan.len) written;
           shelved = λ _ first shelved. subst (λ (fs : List FlowQueue). AreShelved first kept_now fs new) (sym (at.set_is later))
-              (shelved-reaped first kept kept_now was.notes at.before at.after own p (ps ++ was.posted.entries) p.1.loan.len None old new number only stood
+              (shelved-reaped first kept kept_now was.notes at.before at.after own p (ps ++ was.posted.entries) p.1.loan.len was.leaked.items old new number only stood
               (omega arith) added
               (subst (λ (fs : List FlowQueue). AreShelved first kept fs old) at.is shelved));
           failed = λ is. absurd (no-write was.stopped works.going is);
@@ -252,7 +260,7 @@ module _ (was : State) (i : ℕ) (own : FlowQueue) (p : Completion × Lending) (
       (at.before ++ own ∷ at.after) = each-both (FlowStands old.taken (p ∷ (ps ++ was.posted.entries))) (IsShelved first kept old.taken old.reads)
       (at.before ++ own ∷ at.after) stood.flows before in
       let own_stands : FlowStands old.taken (p ∷ (ps ++ was.posted.entries)) own = own-stands was.notes at.before at.after own
-      (p ∷ (ps ++ was.posted.entries)) None old stood in
+      (p ∷ (ps ++ was.posted.entries)) was.leaked.items old stood in
       let own_shelved : IsShelved first kept old.taken old.reads own =
       (each-right (IsShelved first kept old.taken old.reads) at.before (own ∷ at.after) before).0 in
       let flows : Each (IsFrontShelved first kept_now old.taken new.reads) (at.before ++ later ∷ at.after) =
@@ -281,10 +289,10 @@ module _ (was : State) (i : ℕ) (own : FlowQueue) (p : Completion × Lending) (
       (stood.distinct own.number) stood.flows
       (λ f other stands. ends-of old.taken (p ∷ (ps ++ was.posted.entries)) f f.bytes stands.counted stands)
       (ends-of old.taken (p ∷ (ps ++ was.posted.entries)) own bytes (omega (arith, next.within))
-      (own-stands was.notes at.before at.after own (p ∷ (ps ++ was.posted.entries)) None old stood)) in
+      (own-stands was.notes at.before at.after own (p ∷ (ps ++ was.posted.entries)) was.leaked.items old stood)) in
       record {
-        tokens = subst (λ (fs : List FlowQueue). HasTokens fs (ps ++ was.posted.entries) (Some p.1) new) (sym (at.set_is later))
-            (tokens-read was.notes at.before at.after own bytes p (ps ++ was.posted.entries) old new only stood);
+        tokens = subst (λ (fs : List FlowQueue). HasTokens fs (ps ++ was.posted.entries) (p.1 ∷ was.leaked.items) new) (sym (at.set_is later))
+            (tokens-read was.notes at.before at.after own bytes p (ps ++ was.posted.entries) was.leaked.items old new only stood);
         flows = subst (λ ts. Each (FlowEnds ts) (set was.flows i later)) (sym same_taken) (subst (Each (FlowEnds old.taken)) (sym (at.set_is later)) flows);
         distinct = λ n. omega (arith, ap (many n) (at.set_is later), many-same at.before at.after own later refl n, stood.distinct n);
       }
@@ -315,7 +323,7 @@ module _ (was : State) (i : ℕ) (own : FlowQueue) (p : Completion × Lending) (
   oldest-quit bytes written most kept kept_now part is count quits gained others =
       let later : FlowQueue = record own { bytes = own.bytes + most } in
       let added : Appended own old.taken new most kept kept_now = appended old.taken p (ps ++ was.posted.entries) own most new kept kept_now number
-      (own-stands was.notes at.before at.after own (p ∷ (ps ++ was.posted.entries)) None old stood) part gained others in
+      (own-stands was.notes at.before at.after own (p ∷ (ps ++ was.posted.entries)) was.leaked.items old stood) part gained others in
       rw is (record {
         torn = torn-read (own.bytes + most) written stop.Quit (omega (arith, part));
         common = common-read (own.bytes + most) written stop.Quit (omega arith) (omega (arith, count)) quits;
@@ -326,9 +334,10 @@ module _ (was : State) (i : ℕ) (own : FlowQueue) (p : Completion × Lending) (
           steps = (moves-read (own.bytes + most) written).steps;
           looks = (moves-read (own.bytes + most) written).looks;
           stays = λ other. absurd (other works.going);
+          leaked = (moves-read (own.bytes + most) written).leaked;
         };
         shelved = λ first shelved. subst (λ (fs : List FlowQueue). AreShelved first kept_now fs new) (sym (at.set_is later))
-            (shelved-reaped first kept kept_now was.notes at.before at.after own p (ps ++ was.posted.entries) most None old new number only stood part
+            (shelved-reaped first kept kept_now was.notes at.before at.after own p (ps ++ was.posted.entries) most was.leaked.items old new number only stood part
             added (subst (λ (fs : List FlowQueue). AreShelved first kept fs old) at.is shelved));
         stopped = refl;
         same = refl;

@@ -4,15 +4,15 @@ use Rattle.board_face.specs.AppEvents.{app_saw}
 use Rattle.board_face.specs.AppCalls.{AppOnlySaw}
 use Rattle.board_face.specs.declared.views.app.AppLook.{AppLook}
 use Rattle.board_face.specs.declared.views.app.AppView.{AppView}
-use Rattle.app_worker.specs.State.{State, Working, Common}
+use Rattle.app_worker.specs.State.{State, read_of, Working, Common}
 use Rattle.app_worker.specs.Moves.{Moves, Goes}
 use Rattle.app_worker.specs.Whole.{KeepsShelves}
 use Rattle.app_worker.proofs.Standing.{stands-saw}
-use Rattle.app_worker.proofs.Moving.{looks-more, moves-none}
+use Rattle.app_worker.proofs.Moving.{looks-more, moves-none, same-leaked}
 
 pub working-saw : (st : State) (v : AppView) (look : AppLook) → Working st v → Working st (app_saw v look)
 working-saw st v look works = record {
-  stands = stands-saw st.notes st.flows (st.unread ++ st.posted.entries) st.due v look works.stands;
+  stands = stands-saw st.notes st.flows (st.unread ++ st.posted.entries) (read_of st) v look works.stands;
   completions = works.completions;
   rest = works.rest;
   index = works.index;
@@ -20,6 +20,7 @@ working-saw st v look works = record {
   going = works.going;
   split = works.split;
   live = works.live;
+  keeps_first = works.keeps_first;
 }
 
 pub common-saw : (st : State) (v : AppView) (look : AppLook) → Common st v → Common st (app_saw v look)
@@ -35,6 +36,9 @@ common-saw st v look common = record {
   loans = common.loans;
   written = common.written;
   quits = common.quits;
+  leaks = common.leaks;
+  leak_room = common.leak_room;
+  leak_aside = common.leak_aside;
   bound = common.bound;
 }
 
@@ -46,6 +50,7 @@ moves-saw st v look = record {
   steps = omega arith;
   looks = looks-more v (app_saw v look) look refl;
   stays = λ _. refl;
+  leaked = same-leaked st st refl refl;
 }
 
 pub shelves-saw : (st : State) (v : AppView) (look : AppLook) → KeepsShelves st st v (app_saw v look)

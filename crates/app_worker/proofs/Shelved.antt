@@ -63,7 +63,7 @@ shelved-appended first kept now taken old new own len only there appended shelve
 
 -- all flows, once the oldest loan was read
 pub shelved-reaped : (first kept now : ℕ → Option (List ℕ)) (count : ℕ) (before after : List FlowQueue) (own : FlowQueue) (p : Completion × Lending)
-    (ps : List (Completion × Lending)) (most : ℕ) (due : Option Lending) (old new : AppView) → p.0.user_data ≡ own.number → OnlyReads old new
+    (ps : List (Completion × Lending)) (most : ℕ) (due : List Lending) (old new : AppView) → p.0.user_data ≡ own.number → OnlyReads old new
     → Stands count (before ++ own ∷ after) (p ∷ ps) due old → most ≤ p.1.loan.len → Appended own old.taken new most kept now
     → AreShelved first kept (before ++ own ∷ after) old
     → AreShelved first now (before ++ record own { bytes = own.bytes + most } ∷ after) new

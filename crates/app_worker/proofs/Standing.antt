@@ -1,6 +1,6 @@
 -- How what is kept stands to what was seen, step by step.
 use Rattle.std.proofs.Common.{◌≡◌, ◌≢◌, ℕ, zero, suc, ◌+◌, ◌-◌, ◌<◌, ◌≤◌, true, false, if◌then◌else◌, List, [], ◌∷◌}
-use Rattle.std.proofs.Common.{◌++◌, Option, length, set, get_or, refl, sym, ap, subst, ◌∙◌, arith, inl, inr, append_assoc, append-nil}
+use Rattle.std.proofs.Common.{◌++◌, length, set, get_or, refl, sym, ap, subst, ◌∙◌, arith, inl, inr, append_assoc, append-nil}
 use Rattle.std.specs.Prelude.{◌==◌}
 use Rattle.std.proofs.lemmas.Bool.{eq-eqb}
 use Rattle.std.proofs.lemmas.Bool.Decides.{nat_tests}
@@ -21,7 +21,7 @@ use Rattle.app_worker.specs.declared.stack.Lending.{Lending}
 use Rattle.app_worker.specs.declared.stack.FlowQueue.{FlowQueue}
 use Rattle.app_worker.specs.Marks.{Mark}
 use Rattle.app_worker.specs.Core.{total, IsIn, lent_piece, over_kept, marks_of_piece, marks_of_loan, received_notes, own_notes, BeginAt, lent_marks, placed_of}
-use Rattle.app_worker.specs.Core.{FlowStands, Each, many, over_due, Stands}
+use Rattle.app_worker.specs.Core.{FlowStands, Each, many, over_read, Stands}
 use Rattle.board_face.specs.AppEvents.{app_saw}
 use Rattle.board_face.specs.declared.views.app.AppLook.{AppLook}
 use Rattle.board_face.specs.declared.views.app.AppLook.TheVariants.{RawOnItsWay}
@@ -170,7 +170,7 @@ flow-lent taken posted own q piece span completion number loses begins stands =
     }
 
 -- all that is kept, once a piece was lent
-pub stands-lent : (count : ℕ) (before after : List FlowQueue) (own now : FlowQueue) (posted after_it : Ring (Completion × Lending)) (due : Option Lending)
+pub stands-lent : (count : ℕ) (before after : List FlowQueue) (own now : FlowQueue) (posted after_it : Ring (Completion × Lending)) (due : List Lending)
     (old new : AppView)
     → Stands count (before ++ own ∷ after) posted.entries due old → Delivers old new own now posted after_it
     → Stands count (before ++ now ∷ after) after_it.entries due new
@@ -198,7 +198,7 @@ stands-lent count before after own now posted after_it due old new stands step =
       total-changed before after own now (λ flow. over_kept f flow.queue),
       over-first f own.queue now.queue step.piece step.span step.loses,
     ) in
-    let loans : (f : LentPiece → ℕ) → total f new.loans ≡ total (λ p. f (lent_piece p.1)) (posted.entries ++ p ∷ []) + over_due f due = λ f.
+    let loans : (f : LentPiece → ℕ) → total f new.loans ≡ total (λ p. f (lent_piece p.1)) (posted.entries ++ p ∷ []) + over_read f due = λ f.
     omega (arith, step.loans f, stands.tokens.loans f, total-append (λ p. f (lent_piece p.1)) posted.entries (p ∷ [])) in
     rw entries (record {
       tokens = record { apart = step.apart; helds = helds; loans = loans };
@@ -213,13 +213,13 @@ stands-lent count before after own now posted after_it due old new stands step =
       counted = ap (λ (v : AppView). v.scrubbed) step.view ∙ stands.counted;
     })
 
-pub flow-out : (count : ℕ) (before after : List FlowQueue) (own : FlowQueue) (posted : List (Completion × Lending)) (due : Option Lending) (v : AppView)
+pub flow-out : (count : ℕ) (before after : List FlowQueue) (own : FlowQueue) (posted : List (Completion × Lending)) (due : List Lending) (v : AppView)
     → Stands count (before ++ own ∷ after) posted due v → (f : HeldPiece → ℕ) → over_kept f own.queue ≤ total f v.helds
 flow-out count before after own posted due v stands f = omega
     (arith, stands.tokens.helds f, total-append (λ flow. over_kept f flow.queue) before (own ∷ after))
 
 -- a look changes nothing of it
-pub stands-saw : (count : ℕ) (flows : List FlowQueue) (posted : List (Completion × Lending)) (due : Option Lending) (old : AppView) (look : AppLook)
+pub stands-saw : (count : ℕ) (flows : List FlowQueue) (posted : List (Completion × Lending)) (due : List Lending) (old : AppView) (look : AppLook)
     → Stands count flows posted due old → Stands count flows posted due (app_saw old look)
 stands-saw count flows posted due old look stands = record {
   tokens = record {
@@ -236,7 +236,7 @@ stands-saw count flows posted due old look stands = record {
 }
 
 pub delivered-stands : (count : ℕ) (before after : List FlowQueue) (own now : FlowQueue) (posted after_it : Ring (Completion × Lending))
-    (due : Option Lending) (old new : AppView) (result : Delivery)
+    (due : List Lending) (old new : AppView) (result : Delivery)
     → Stands count (before ++ own ∷ after) posted.entries due old → Delivered old new own now posted after_it result
     → Stands count (before ++ now ∷ after) after_it.entries due new
 delivered-stands count before after own now posted after_it due old new Did stands step = stands-lent count before after own now posted after_it due old new

@@ -19,7 +19,7 @@ use Rattle.app_worker.specs.declared.stack.Lending.{Lending}
 use Rattle.app_worker.specs.declared.stack.FlowQueue.{FlowQueue}
 use Rattle.app_worker.specs.Marks.{Mark, marks_from, Numbered}
 use Rattle.app_worker.specs.Core.{total, IsIn, lent_piece, over_kept, marks_of_piece, marks_of_loan, received_note, received_notes, own_notes, BeginAt}
-use Rattle.app_worker.specs.Core.{lent_marks, placed_of, FlowStands, Each, many, HasTokens, Stands, OnlyReads, AreReadAt, IsReadOf}
+use Rattle.app_worker.specs.Core.{lent_marks, placed_of, FlowStands, Each, many, over_read, read_out, HasTokens, Stands, OnlyReads, AreReadAt, IsReadOf}
 use Rattle.std.specs.Io.KnownBytes.{Keeps}
 use Rattle.zr_io.specs.Moved.{Gained}
 use Rattle.zr_io.proofs.Moved.{Gained-weaker}
@@ -155,10 +155,10 @@ flow-read-other taken p ps f other stands = record {
 
 -- all that is kept, once the oldest loan was read and is due
 pub stands-read : (count : ℕ) (before after : List FlowQueue) (own : FlowQueue) (p : Completion × Lending) (ps : List (Completion × Lending))
-    (old new : AppView) → p.0.user_data ≡ own.number → OnlyReads old new
-    → Stands count (before ++ own ∷ after) (p ∷ ps) None old
-    → Stands count (before ++ record own { bytes = own.bytes + p.1.loan.len } ∷ after) ps (Some p.1) new
-stands-read count before after own p ps old new number only stands =
+    (leaked : List Lending) (old new : AppView) → p.0.user_data ≡ own.number → OnlyReads old new
+    → Stands count (before ++ own ∷ after) (p ∷ ps) leaked old
+    → Stands count (before ++ record own { bytes = own.bytes + p.1.loan.len } ∷ after) ps (p.1 ∷ leaked) new
+stands-read count before after own p ps leaked old new number only stands =
     let now : FlowQueue = record own { bytes = own.bytes + p.1.loan.len } in
     let same : (n : ℕ) → many n (before ++ now ∷ after) ≡ many n (before ++ own ∷ after) = many-same before after own now refl in
     rw only.view (record {
@@ -180,13 +180,13 @@ stands-read count before after own p ps old new number only stands =
 
 -- ---- a loan was given back
 
-pub stands-gave : (count : ℕ) (flows : List FlowQueue) (posted : List (Completion × Lending)) (l : Lending) (old new : AppView)
-    → Stands count flows posted (Some l) old → Gave old new l → Stands count flows posted None new
-stands-gave count flows posted l old new stands step =
+pub stands-gave : (count : ℕ) (flows : List FlowQueue) (posted : List (Completion × Lending)) (l : Lending) (leaked : List Lending)
+    (old new : AppView) → Stands count flows posted (l ∷ leaked) old → Gave old new l → Stands count flows posted leaked new
+stands-gave count flows posted l leaked old new stands step =
     let helds : (f : HeldPiece → ℕ) → total f new.helds
     ≡ total (λ flow. over_kept f flow.queue) flows = λ f. ap (λ (v : AppView). total f v.helds) step.view ∙ stands.tokens.helds f in
     let loans : (f : LentPiece → ℕ) → total f new.loans
-    ≡ total (λ p. f (lent_piece p.1)) posted + 0 = λ f. omega (arith, step.loans f, stands.tokens.loans f) in
+    ≡ total (λ p. f (lent_piece p.1)) posted + over_read f leaked = λ f. omega (arith, step.loans f, stands.tokens.loans f) in
     let taken : new.taken ≡ old.taken = ap (λ (v : AppView). v.taken) step.view in
     record {
       tokens = record { apart = step.apart; helds = helds; loans = loans };
@@ -198,24 +198,25 @@ stands-gave count flows posted l old new stands step =
       counted = ap (λ (v : AppView). v.scrubbed) step.view ∙ stands.counted;
     }
 
-pub given-stands : (count : ℕ) (flows : List FlowQueue) (posted : List (Completion × Lending)) (due now : Option Lending) (old new : AppView) (given : Bool)
-    → Stands count flows posted due old → Given old new due now given → Stands count flows posted now new
-given-stands count flows posted None now old new given stands step = rw (step.0, step.1) stands
-given-stands count flows posted (Some l) now old new true stands step = rw step.1 (stands-gave count flows posted l old new stands step.0)
-given-stands count flows posted (Some l) now old new false stands step = rw (step.0.event, step.1)
-    (stands-saw count flows posted (Some l) old RefillInUse stands)
+pub given-stands : (count : ℕ) (flows : List FlowQueue) (posted : List (Completion × Lending)) (due now : Option Lending)
+    (leaked : List Lending) (old new : AppView) (given : Bool) → Stands count flows posted (read_out due leaked) old → Given old new due now given
+    → Stands count flows posted (read_out now leaked) new
+given-stands count flows posted None now leaked old new given stands step = rw (step.0, step.1) stands
+given-stands count flows posted (Some l) now leaked old new true stands step = rw step.1 (stands-gave count flows posted l leaked old new stands step.0)
+given-stands count flows posted (Some l) now leaked old new false stands step = rw (step.0.event, step.1)
+    (stands-saw count flows posted (l ∷ leaked) old RefillInUse stands)
 
 -- ---- what is kept is out
 
-pub due-out : (count : ℕ) (flows : List FlowQueue) (posted : List (Completion × Lending)) (due : Option Lending) (v : AppView)
-    → Stands count flows posted due v → IfSome due (λ l. IsIn (lent_piece l) v.loans)
-due-out count flows posted None v stands = tt
-due-out count flows posted (Some l) v stands =
+pub due-out : (count : ℕ) (flows : List FlowQueue) (posted : List (Completion × Lending)) (due : Option Lending) (leaked : List Lending)
+    (v : AppView) → Stands count flows posted (read_out due leaked) v → IfSome due (λ l. IsIn (lent_piece l) v.loans)
+due-out count flows posted None leaked v stands = tt
+due-out count flows posted (Some l) leaked v stands =
     let test : LentPiece → ℕ = is_that_loan l.loan l.note l.at in
     let one : test (lent_piece l) ≡ 1 = that-loan l.loan l.note l.at in
     is-lent-there l.loan l.note l.at v.loans (omega (arith, stands.tokens.loans test, one))
 
-pub oldest-out : (count : ℕ) (flows : List FlowQueue) (p : Completion × Lending) (ps : List (Completion × Lending)) (due : Option Lending) (v : AppView)
+pub oldest-out : (count : ℕ) (flows : List FlowQueue) (p : Completion × Lending) (ps : List (Completion × Lending)) (due : List Lending) (v : AppView)
     → Stands count flows (p ∷ ps) due v → IsIn (lent_piece p.1) v.loans
 oldest-out count flows p ps due v stands =
     let l : Lending = p.1 in
@@ -245,9 +246,9 @@ get-same (x ∷ xs) (suc i) d e within = get-same xs i d e (omega arith)
 -- ---- reaping
 
 pub tokens-read : (count : ℕ) (before after : List FlowQueue) (own : FlowQueue) (b : ℕ) (p : Completion × Lending) (ps : List (Completion × Lending))
-    (old new : AppView) → OnlyReads old new
-    → Stands count (before ++ own ∷ after) (p ∷ ps) None old → HasTokens (before ++ record own { bytes = b } ∷ after) ps (Some p.1) new
-tokens-read count before after own b p ps old new only stands =
+    (leaked : List Lending) (old new : AppView) → OnlyReads old new → Stands count (before ++ own ∷ after) (p ∷ ps) leaked old
+    → HasTokens (before ++ record own { bytes = b } ∷ after) ps (p.1 ∷ leaked) new
+tokens-read count before after own b p ps leaked old new only stands =
     rw only.view (record {
       apart = record { once = stands.tokens.apart.once; some = stands.tokens.apart.some };
       helds = λ f. stands.tokens.helds f ∙ (omega (arith, total-changed before after own (record own { bytes = b }) (λ flow. over_kept f flow.queue)));
@@ -290,6 +291,6 @@ appended taken p ps own most new kept kept_now number stands part gained others 
     }
 
 -- a flow among the others stands
-pub own-stands : (count : ℕ) (before after : List FlowQueue) (own : FlowQueue) (posted : List (Completion × Lending)) (due : Option Lending) (v : AppView)
+pub own-stands : (count : ℕ) (before after : List FlowQueue) (own : FlowQueue) (posted : List (Completion × Lending)) (due : List Lending) (v : AppView)
     → Stands count (before ++ own ∷ after) posted due v → FlowStands v.taken posted own
 own-stands count before after own posted due v stands = (each-right (FlowStands v.taken posted) before (own ∷ after) stands.flows).0

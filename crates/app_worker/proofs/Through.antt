@@ -93,6 +93,7 @@ bare-of-gone was st old v other gone = record {
   helds = gone.helds;
   loans = gone.loans;
   due = ap (λ (s : State). s.due) gone.same;
+  leaked = ap (λ (s : State). s.leaked.items) gone.same;
   unread = ap (λ (s : State). s.unread) gone.same;
   flows = gone.ends;
   distinct = gone.distinct;
@@ -112,6 +113,7 @@ bare-stopped st v cause other was old gone = record {
   helds = gone.helds;
   loans = gone.loans;
   due = ap (λ (s : State). s.due) gone.same;
+  leaked = ap (λ (s : State). s.leaked.items) gone.same;
   unread = ap (λ (s : State). s.unread) gone.same;
   flows = gone.ends;
   distinct = gone.distinct;
@@ -138,6 +140,9 @@ common-stopped st v cause none other common = record {
   loans = common.loans;
   written = common.written;
   quits = quits-by st.how.quit st.written cause other (subst (Quits st.how.quit st.written) none common.quits);
+  leaks = common.leaks;
+  leak_room = common.leak_room;
+  leak_aside = common.leak_aside;
   bound = common.bound;
 }
 
@@ -150,6 +155,7 @@ moves-stopped was st old v cause none moves = record {
   steps = moves.steps;
   looks = moves.looks;
   stays = λ other. absurd (other none);
+  leaked = moves.leaked;
 }
 
 pub write-stopped : (was mid now : State) (old midv new : AppView) (kept kept_now : ℕ → Option (List ℕ)) (faults faults_now : ℕ)

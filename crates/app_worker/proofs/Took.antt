@@ -1,5 +1,5 @@
 -- A note was taken, and its piece entered.
-use Rattle.std.proofs.Common.{◌≡◌, ◌≢◌, ℕ, ◌+◌, ◌<◌, ◌≤◌, false, List, [], ◌∷◌, ◌++◌, Option, length, set, get_or, refl}
+use Rattle.std.proofs.Common.{◌≡◌, ◌≢◌, ℕ, ◌+◌, ◌<◌, ◌≤◌, false, List, [], ◌∷◌, ◌++◌, length, set, get_or, refl}
 use Rattle.std.proofs.Common.{sym, ap, subst, ◌∙◌, arith, ⊎_elim, inl, inr, length-append}
 use Rattle.std.specs.Prelude.{◌==◌, All}
 use Rattle.std.proofs.lemmas.Bool.{cases_lt, cases_eq}
@@ -115,7 +115,7 @@ is-took old mid note number held lie count took =
 abbrev pub taken_note : Note → TakenNote
 taken_note note = record { note = note; bytes = [] }
 
-module _ (count : ℕ) (posted : List (Completion × Lending)) (due : Option Lending) (old mid new : AppView) (note : Note) (held : Place)
+module _ (count : ℕ) (posted : List (Completion × Lending)) (due : List Lending) (old mid new : AppView) (note : Note) (held : Place)
     (took : TookNote old mid note held) (number : ℕ) (count_is : number ≡ count) where
   views : (gone come : (HeldPiece → ℕ) → ℕ) → OnlyHelds mid new gone come
       → new ≡ record old { taken = old.taken ++ taken_note note ∷ []; helds = new.helds }
@@ -229,7 +229,7 @@ pub set-last : (was : List FlowQueue) (f x : FlowQueue) → set (was ++ f ∷ []
 set-last [] f x = refl
 set-last (w ∷ was) f x = ap (λ fs. w ∷ fs) (set-last was f x)
 
-module _ (count : ℕ) (posted : List (Completion × Lending)) (due : Option Lending) (old mid new : AppView) (note : Note) (held : Place)
+module _ (count : ℕ) (posted : List (Completion × Lending)) (due : List Lending) (old mid new : AppView) (note : Note) (held : Place)
     (took : TookNote old mid note held) (number : ℕ) (count_is : number ≡ count)
     (was flows : List FlowQueue) (i : ℕ) (own : FlowQueue) (q : Queue Piece) (chosen : IsChosen was flows note i) (within : i < length flows)
     (value : own ≡ get_or flows i own)
@@ -309,7 +309,7 @@ module _ (count : ℕ) (posted : List (Completion × Lending)) (due : Option Len
       chosen
 
 -- the piece is given up at once
-pub released-tokens : (count : ℕ) (flows : List FlowQueue) (posted : List (Completion × Lending)) (due : Option Lending) (old mid : AppView) (note : Note)
+pub released-tokens : (count : ℕ) (flows : List FlowQueue) (posted : List (Completion × Lending)) (due : List Lending) (old mid : AppView) (note : Note)
     (held : Place) (number : ℕ) → number ≡ count → TookNote old mid note held
     → Stands count flows posted due old → HasTokens flows posted due (released mid held)
 released-tokens count flows posted due old mid note held number count_is took stands =

@@ -9,15 +9,19 @@ use Rattle.board_face.specs.declared.views.app.AppLook.{AppLook}
 use Rattle.board_face.specs.declared.views.app.AppView.{AppView}
 use Rattle.app_worker.specs.declared.turn.Turn.{Turn}
 use Rattle.app_worker.specs.declared.turn.Turn.TheVariants.{Did, Idle, Finished, Failed, NotYet}
+use Rattle.app_worker.specs.declared.turn.Why.{Why}
 use Rattle.app_worker.specs.declared.turn.Why.TheVariants.{NoNote}
 use Rattle.app_worker.specs.State.{State, Working, Common, Bare, AppStands, app_steps}
 use Rattle.app_worker.specs.Moves.{Goes}
 use Rattle.zr_io.specs.Moved.{Rose}
-use Rattle.app_worker.specs.Turns.{Answers, IsAsBefore, Polled, Rests, Turns, TakesFew, turn_after}
+use Rattle.app_worker.specs.Turns.{Answers, IsAsBefore, MayPoll, look_of, Polled, Rests, Turns, TakesFew, turn_after}
 use Rattle.app_worker.specs.Whole.{GaveOne}
 use Rattle.app_worker.specs.Stages.{Through, HasQuit, WriteStopped, Untouched}
 use Rattle.app_worker.proofs.Moving.{moves-then, no-write, quit-no-write}
 use Rattle.app_worker.proofs.Through.{goes-then}
+use Rattle.app_worker.proofs.Seeing.{working-saw, common-saw, goes-saw}
+use Rattle.board_face.specs.AppEvents.{app_saw}
+use Rattle.board_face.specs.Looks.{AppRose}
 
 -- ---- between two turns
 
@@ -87,16 +91,54 @@ turns-quit was now old new k m f f2 live quit = record {
 pub as-before : (st : State) (v new : AppView) (look : AppLook) → AppOnlySaw look v new → IsAsBefore st st v new
 as-before st v new look saw = rw saw.event (record { state = refl; view = refl })
 
+pub turns-saw : (st : State) (v new : AppView) (why : Why) (kept : ℕ → Option (List ℕ)) (f : ℕ) → Working st v → Common st v
+    → st.posted.entries ≡ [] → (why ≡ NoNote → MayPoll st) → AppOnlySaw (look_of why) v new → Turns st st v new kept kept f f (Idle why)
+turns-saw st v new why kept f works common reaped may saw = rw saw.event (record {
+  stands = stands-working st (app_saw v (look_of why)) (working-saw st v (look_of why) works) (common-saw st v (look_of why) common) reaped;
+  goes = goes-saw st v (look_of why) kept;
+  answer = (record { state = refl; view = refl }, subst (AppRose (look_of why) v) saw.event saw.rose);
+  few = inl refl;
+  here = λ _. refl;
+  polled = no-poll st st v (app_saw v (look_of why)) refl;
+  none = λ _ is. may (let e : why ≡ NoNote = cc in e);
+  cause = λ other is. absurd (other is);
+  rests = no-rest st st v (app_saw v (look_of why)) kept kept works.live;
+})
+
+-- of faults it says nothing
+pub turns-idle : (st : State) (v new : AppView) (kept : ℕ → Option (List ℕ)) (f f2 : ℕ) (why : Why) → Turns st st v new kept kept f f (Idle why)
+    → Turns st st v new kept kept f f2 (Idle why)
+turns-idle st v new kept f f2 why turns = record {
+  stands = turns.stands;
+  goes = turns.goes;
+  answer = turns.answer;
+  few = turns.few;
+  here = turns.here;
+  polled = turns.polled;
+  none = turns.none;
+  cause = λ other is. absurd (other is);
+  rests = turns.rests;
+}
+
 -- ---- one part after another
 
-after-none : (turn : Turn) → turn_after false turn ≡ turn
+pub after-none : (turn : Turn) → turn_after false turn ≡ turn
 after-none Did = refl
 after-none (Idle why) = refl
 after-none Finished = refl
 after-none (Failed fault) = refl
 after-none NotYet = refl
 
-after-busy : (turn : Turn) → turn_after true turn ≢ Idle NoNote
+-- what is idle in the end was idle, and nothing was done before
+pub after-idle : (did : Bool) (turn : Turn) (why : Why) → turn_after did turn ≡ Idle why → turn ≡ Idle why
+after-idle did Did why is = absurd (cc)
+after-idle true (Idle other) why is = absurd (cc)
+after-idle false (Idle other) why is = is
+after-idle did Finished why is = absurd (cc)
+after-idle did (Failed fault) why is = absurd (cc)
+after-idle did NotYet why is = absurd (cc)
+
+pub after-busy : (turn : Turn) → turn_after true turn ≢ Idle NoNote
 after-busy Did = λ e. absurd (cc)
 after-busy (Idle why) = λ e. absurd (cc)
 after-busy Finished = λ e. absurd (cc)
@@ -197,6 +239,11 @@ turns-at-once was mid now old midv new k l m f f1 f2 turn same later turns =
     (subst (λ q. Turns mid now midv new q m f1 f2 turn) same.kept_is turns)) in
     subst (Turns was now old new k m f f2) (sym (after-none turn)) (turns-earlier was now old new k m f f1 f2 turn later moved)
 
+pub turns-first : (was mid now : State) (old midv new : AppView) (k l m : ℕ → Option (List ℕ)) (f f1 f2 : ℕ) (turn : Turn)
+    → Untouched was mid old midv k l → f ≤ f1 → Turns mid now midv new l m f1 f2 turn → Turns was now old new k m f f2 turn
+turns-first was mid now old midv new k l m f f1 f2 turn same later turns = subst (Turns was now old new k m f f2) (after-none turn)
+    (turns-at-once was mid now old midv new k l m f f1 f2 turn same later turns)
+
 pub begins-through : (was mid : State) (old midv : AppView) (k l : ℕ → Option (List ℕ)) (f f1 : ℕ) → Working was old → old.left ≡ false
     → Through was mid old midv k l → app_steps was old < app_steps mid midv → f ≤ f1 → Begins was mid old midv k l f f1
 begins-through was mid old midv k l f f1 works here through steps later = record {
@@ -234,5 +281,5 @@ turns-given was mid now old midv new k m f f2 turn true some none works here the
     }) turns
 turns-given was mid now old midv new k m f f2 turn false some none works here then goes gave turns =
     let nothing : was.due ≡ None = none (λ is. absurd (cc)) in
-    let same : mid ≡ was = gave.same ∙ ap (λ d. record was { due = d }) (sym nothing) in
-    turns-at-once was mid now old midv new k k m f f f2 turn (record { state = same; view = gave.nothing nothing; kept_is = refl }) (omega arith) turns
+    let none = gave.nothing nothing in
+    turns-at-once was mid now old midv new k k m f f f2 turn (record { state = none.0; view = none.1; kept_is = refl }) (omega arith) turns

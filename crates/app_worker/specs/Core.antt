@@ -114,14 +114,22 @@ abbrev pub over_due : (LentPiece → ℕ) → Option Lending → ℕ
 over_due f None = 0
 over_due f (Some l) = f (lent_piece l)
 
+-- the loans that were read and are still out: that which is to be given back, and those that are kept to the end
+abbrev pub read_out : Option Lending → List Lending → List Lending
+read_out None leaked = leaked
+read_out (Some l) leaked = l ∷ leaked
+
+abbrev pub over_read : (LentPiece → ℕ) → List Lending → ℕ
+over_read f read = total (λ l. f (lent_piece l)) read
+
 -- the tokens that are out are those that are kept
-pub record HasTokens (flows : List FlowQueue) (posted : List (Completion × Lending)) (due : Option Lending) (v : AppView) : Type 0 where
+pub record HasTokens (flows : List FlowQueue) (posted : List (Completion × Lending)) (read : List Lending) (v : AppView) : Type 0 where
   pub apart : LieApart v
   pub helds : (f : HeldPiece → ℕ) → total f v.helds ≡ total (λ flow. over_kept f flow.queue) flows
-  pub loans : (f : LentPiece → ℕ) → total f v.loans ≡ total (λ p. f (lent_piece p.1)) posted + over_due f due
+  pub loans : (f : LentPiece → ℕ) → total f v.loans ≡ total (λ p. f (lent_piece p.1)) posted + over_read f read
 
-pub record Stands (count : ℕ) (own : List FlowQueue) (ring : List (Completion × Lending)) (due : Option Lending) (v : AppView) : Type 0 where
-  pub tokens : HasTokens own ring due v
+pub record Stands (count : ℕ) (own : List FlowQueue) (ring : List (Completion × Lending)) (read : List Lending) (v : AppView) : Type 0 where
+  pub tokens : HasTokens own ring read v
   pub notes : count ≡ length v.taken
   pub distinct : (number : ℕ) → many number own ≤ 1
   pub flows : Each (FlowStands v.taken ring) own

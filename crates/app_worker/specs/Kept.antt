@@ -2,6 +2,7 @@
 use Rattle.std.specs.Prelude.{◌≡◌, ℕ, ◌+◌, ◌==◌, Bool, false, if◌then◌else◌, List, [], ◌∷◌, Option, Some, None}
 use Rattle.zr_kinds.specs.declared.behaviour.Behaviour.{Behaviour}
 use Rattle.zr_kinds.specs.declared.behaviour.Stopped.TheVariants.{No, Quit}
+use Rattle.circular_buffer.specs.Buffer.{buffer}
 use Rattle.completion_ring.specs.Ring.{ring}
 use Rattle.board_face.specs.declared.views.app.AppView.{AppView}
 use Rattle.app_worker.specs.declared.stack.FlowQueue.{FlowQueue}
@@ -25,6 +26,7 @@ new_state app places how = record {
   room = how.hold + places;
   posted = ring [] places;
   due = None;
+  leaked = buffer [] how.leak;
   written = 0;
   loans = 0;
   stopped = if is_nothing how.quit then Quit else No;

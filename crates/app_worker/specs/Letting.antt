@@ -1,5 +1,6 @@
 -- All that an application has out is given up.
 use Rattle.std.specs.Prelude.{◌≡◌, ℕ, ◌+◌, ◌<◌, ◌≤◌, true, List, [], map, length, Option, None}
+use Rattle.circular_buffer.specs.Buffer.{buffer}
 use Rattle.board_face.specs.declared.views.app.LentPiece.{LentPiece}
 use Rattle.board_face.specs.declared.views.app.AppView.{AppView}
 use Rattle.app_worker.specs.declared.stack.FlowQueue.{FlowQueue}
@@ -34,7 +35,7 @@ pub record Abandons (old new : AppView) (gone : (LentPiece → ℕ) → ℕ) : T
 pub record LetGo (was now : State) (old new : AppView) : Type 0 where
   pub helds : new.helds ≡ []
   pub loans : new.loans ≡ []
-  pub same : now ≡ record was { flows = now.flows; unread = []; due = None; bare = true }
+  pub same : now ≡ record was { flows = now.flows; unread = []; due = None; leaked = buffer [] was.leaked.capacity; bare = true }
   pub facts : map facts_of now.flows ≡ map facts_of was.flows
   pub ends : Each (FlowEnds new.taken) now.flows
   pub distinct : (number : ℕ) → many number now.flows ≤ 1

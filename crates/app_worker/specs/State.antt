@@ -1,7 +1,7 @@
 -- What an application keeps between its turns, as plain data, and how that stands to what its face has seen.
 use mir.Syntax.{w32}
 use Rattle.std.specs.Int.{cast_signed}
-use Rattle.std.specs.Prelude.{◌≡◌, ◌≢◌, ◌↔◌, ℕ, zero, suc, ◌+◌, ◌-◌, ◌*◌, ◌^◌, ◌<◌, ◌≤◌, min, Bool, true, false, if◌then◌else◌}
+use Rattle.std.specs.Prelude.{◌≡◌, ◌≢◌, ◌↔◌, ℕ, zero, suc, ◌+◌, ◌-◌, ◌*◌, ◌^◌, ◌<◌, ◌≤◌, ◌==◌, min, Bool, true, false, if◌then◌else◌}
 use Rattle.std.specs.Prelude.{List, [], ◌∷◌, ◌++◌, length, Option, Some, None, MatchBool, MatchOption, IsSome, slice_index_or}
 use Rattle.std.specs.Map.{lookup}
 use Rattle.std.specs.Ordering.{is_eq, nat_cmp}
@@ -11,14 +11,16 @@ use Rattle.zr_kinds.specs.declared.behaviour.Stopped.TheVariants.{No, Quit}
 use Rattle.zr_kinds.specs.declared.ring.Completion.{Completion}
 use Rattle.zr_kinds.specs.CopyingReceiver.{next_missing}
 use Rattle.area_layout.specs.Layout.{Shape, off_of}
+use Rattle.circular_buffer.specs.Buffer.{Buffer}
 use Rattle.completion_ring.specs.Ring.{Ring}
 use Rattle.tcp_reorder.specs.Queue.{next_of}
+use Rattle.board_face.specs.AppEvents.{reserve_of}
 use Rattle.board_face.specs.declared.views.app.HeldPiece.{HeldPiece}
 use Rattle.board_face.specs.declared.views.app.TakenNote.{TakenNote}
 use Rattle.board_face.specs.declared.views.app.AppView.{AppView}
 use Rattle.app_worker.specs.declared.stack.Lending.{Lending}
 use Rattle.app_worker.specs.declared.stack.FlowQueue.{FlowQueue}
-use Rattle.app_worker.specs.Core.{total, Each, many, over_due, own_notes, BeginAt, placed_of, Stands}
+use Rattle.app_worker.specs.Core.{total, Each, many, over_due, read_out, own_notes, BeginAt, placed_of, Stands}
 
 pub record State : Type 0 where
   pub app : ℕ
@@ -36,6 +38,8 @@ pub record State : Type 0 where
   pub posted : Ring (Completion × Lending)
   -- the loan that is to be given back
   pub due : Option Lending
+  -- those that are kept to the end
+  pub leaked : Buffer Lending
   pub written : ℕ
   pub loans : ℕ
   pub stopped : Stopped
@@ -73,9 +77,17 @@ pub record TellsOf (layout : Shape) (p : Completion × Lending) : Type 0 where
   pub flags : p.0.flags ≡ 2
   pub off : p.0.off ≡ off_of layout p.1.loan
 
+-- the loans that were read and are still out
+abbrev pub read_of : State → List Lending
+read_of st = read_out st.due st.leaked.items
+
+-- how many loans were given back or abandoned, those in the reserve aside
+abbrev pub returned_aside : AppView → ℕ
+returned_aside v = total (λ l. if l.place.buffer == reserve_of v then 0 else 1) v.returned
+
 -- What it has out, and how far its flows are.
 pub record Working (st : State) (v : AppView) : Type 0 where
-  pub stands : Stands st.notes st.flows (st.unread ++ st.posted.entries) st.due v
+  pub stands : Stands st.notes st.flows (st.unread ++ st.posted.entries) (read_of st) v
   pub completions : Each (TellsOf v.setting.layout) (st.unread ++ st.posted.entries)
   pub rest : RestBut st.active st.flows
   pub index : IsIndex st.index st.flows
@@ -84,6 +96,8 @@ pub record Working (st : State) (v : AppView) : Type 0 where
   pub going : st.stopped ≡ No
   pub split : st.short ≡ false
   pub live : st.bare ≡ false
+  -- a loan is given back only once as many are kept as are to be, those in the reserve aside
+  pub keeps_first : 0 < returned_aside v → length st.leaked.items ≡ st.how.leak
 
 -- ---- once it has stopped, or has read all
 
@@ -97,6 +111,7 @@ pub record Bare (st : State) (v : AppView) : Type 0 where
   pub helds : v.helds ≡ []
   pub loans : v.loans ≡ []
   pub due : st.due ≡ None
+  pub leaked : st.leaked.items ≡ []
   pub unread : st.unread ≡ []
   pub flows : Each (FlowEnds v.taken) st.flows
   pub distinct : (number : ℕ) → many number st.flows ≤ 1
@@ -138,6 +153,10 @@ pub record Common (st : State) (v : AppView) : Type 0 where
   pub loans : st.loans ≡ capped (length v.loans + length v.returned)
   pub written : st.written ≡ capped (total (λ f. f.bytes) st.flows)
   pub quits : Quits st.how.quit st.written st.stopped
+  -- no more are kept to the end than are to be, and none in the reserve
+  pub leaks : length st.leaked.items ≤ st.how.leak
+  pub leak_room : st.leaked.capacity ≡ st.how.leak
+  pub leak_aside : Each (λ l. l.loan.buffer ≢ reserve_of v) st.leaked.items
   -- each loan was of a byte that was taken, and is of one that it doesn't hold any more
   pub bound : length v.loans + length v.returned + total held_len v.helds ≤ total taken_len v.taken
 
@@ -155,8 +174,9 @@ one_if b = if b then 1 else 0
 -- Notes, loans and entries, each at the place that it has come to, and what comes once. Each turn that did something
 -- raises it, and none lowers it.
 abbrev pub app_steps : State → AppView → ℕ
-app_steps st v = length v.taken + length v.loans + 3 * length v.returned + over_due (λ _. 1) st.due + one_if v.ended + one_if st.bare + one_if v.left
+app_steps st v = length v.taken + length v.loans + 4 * length v.returned + over_due (λ _. 1) st.due + 2 * length st.leaked.items + one_if v.ended
+    + one_if st.bare + one_if v.left
 
 -- it goes no further than the notes that were taken, and their bytes, let it
 abbrev pub furthest : AppView → ℕ
-furthest v = length v.taken + 3 * total taken_len v.taken + 4
+furthest v = length v.taken + 4 * total taken_len v.taken + 4

@@ -14,6 +14,7 @@ state_of st = record {
   room = st.unread.capacity;
   posted = st.posted;
   due = st.due;
+  leaked = st.leaked;
   written = st.written;
   loans = st.loans;
   stopped = st.stopped;

@@ -1,5 +1,5 @@
 -- What each step of the core does.
-use Rattle.std.specs.Prelude.{◌≡◌, ℕ, ◌+◌, ◌<◌, Bool, true, false, [], ◌∷◌, ◌++◌, Option, Some, None, length}
+use Rattle.std.specs.Prelude.{◌≡◌, ◌≢◌, ℕ, ◌+◌, ◌<◌, ◌≤◌, Bool, true, false, [], ◌∷◌, ◌++◌, Option, Some, None, length}
 use Rattle.zr_kinds.specs.declared.place.Place.{Place}
 use Rattle.board_face.specs.Texts.{front_place, rest_place}
 use Rattle.board_face.specs.declared.views.app.HeldPiece.{HeldPiece}
@@ -11,6 +11,7 @@ use Rattle.zr_kinds.specs.declared.ring.Completion.{Completion}
 use Rattle.tcp_reorder.specs.declared.places.Span.{Span}
 use Rattle.tcp_reorder.specs.Queue.{next_of}
 use Rattle.tcp_reorder.specs.Gaps.{LosesFirst}
+use Rattle.circular_buffer.specs.Buffer.{Buffer, buffer}
 use Rattle.completion_ring.specs.Ring.{Ring, ring, IsFull}
 use Rattle.board_face.specs.AppCalls.{AppOnlySaw}
 use Rattle.board_face.specs.AppEvents.{gave}
@@ -103,3 +104,20 @@ abbrev pub Given : AppView → AppView → Option Lending → Option Lending →
 Given old new None due given = (new ≡ old) × (due ≡ None) × (given ≡ true)
 Given old new (Some lending) due true = Gave old new lending × (due ≡ None)
 Given old new (Some lending) due false = AppOnlySaw RefillInUse old new × (due ≡ Some lending)
+
+-- ---- keeping to the end
+
+-- the loan that was due is kept
+pub record KeptDue (reserve most : ℕ) (was then : Option Lending) (leaked leaked_now : Buffer Lending) : Type 0 where
+  pub lending : Lending
+  pub due : was ≡ Some lending
+  pub none : then ≡ None
+  pub few : length leaked.items < most
+  pub aside : lending.loan.buffer ≢ reserve
+  pub more : leaked_now ≡ buffer (leaked.items ++ lending ∷ []) leaked.capacity
+
+-- it isn't: there are enough, or it lies in the reserve
+pub record NotKept (reserve most : ℕ) (was then : Option Lending) (leaked leaked_now : Buffer Lending) : Type 0 where
+  pub due : then ≡ was
+  pub same : leaked_now ≡ leaked
+  pub enough : (l : Lending) → was ≡ Some l → l.loan.buffer ≢ reserve → most ≤ length leaked.items

@@ -19,7 +19,7 @@ use Rattle.app_worker.specs.declared.turning.Read.TheVariants.{Did as read_it, N
 use Rattle.app_worker.specs.declared.turning.Taken.{Taken}
 use Rattle.app_worker.specs.declared.turning.Taken.TheVariants.{Did as took, Short, NoNote, Ended, Memory}
 use Rattle.app_worker.specs.Core.{total, HasTokens, Each, many, AreReadAt, placed_of}
-use Rattle.app_worker.specs.State.{State, IsAtRest, Working, Common, FlowEnds, app_steps}
+use Rattle.app_worker.specs.State.{State, read_of, IsAtRest, Working, Common, FlowEnds, app_steps}
 use Rattle.app_worker.specs.Shelves.{AreShelved, AreFronts}
 use Rattle.app_worker.specs.Moves.{Moves, Goes}
 
@@ -59,10 +59,10 @@ Lends was now old new Unsettled = (now ≡ was) × AppOnlySaw RawOnItsWay old ne
 
 -- ---- giving back
 
--- nothing is due any more
+-- nothing is due any more: what was is given back, or kept to the end
 pub record GaveOne (was now : State) (old new : AppView) : Type 0 where
-  pub same : now ≡ record was { due = None }
-  pub nothing : was.due ≡ None → new ≡ old
+  pub same : now ≡ record was { due = None; leaked = now.leaked }
+  pub nothing : was.due ≡ None → (now ≡ was) × (new ≡ old)
   pub steps : was.due ≢ None → app_steps was old < app_steps now new
   pub taken : new.taken ≡ old.taken
   pub left : new.left ≡ old.left
@@ -87,7 +87,7 @@ pub record ReadOne (was now : State) (old new : AppView) (kept kept_now : ℕ �
 
 -- The tokens that are out are kept, and what was appended has its place.
 pub record Torn (st : State) (v : AppView) : Type 0 where
-  pub tokens : HasTokens st.flows (st.unread ++ st.posted.entries) st.due v
+  pub tokens : HasTokens st.flows (st.unread ++ st.posted.entries) (read_of st) v
   pub flows : Each (FlowEnds v.taken) st.flows
   pub distinct : (number : ℕ) → many number st.flows ≤ 1
 

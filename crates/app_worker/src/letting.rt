@@ -4,7 +4,7 @@ ghost use Rattle.circular_buffer.specs.Buffer.{buffer};
 ghost use Rattle.board_face.specs.declared.views.app.HeldPiece.{HeldPiece};
 ghost use Rattle.board_face.specs.declared.views.app.LentPiece.{LentPiece};
 ghost use Rattle.board_face.specs.AppCalls.{IsHere};
-ghost use Rattle.app_worker.specs.Core.{LieApart, total, over_kept, lent_piece, over_due};
+ghost use Rattle.app_worker.specs.Core.{LieApart, total, over_kept, lent_piece, over_due, over_read};
 ghost use Rattle.app_worker.specs.Steps.{OnlyHelds};
 ghost use Rattle.app_worker.specs.State.{Common};
 ghost use Rattle.app_worker.specs.StateOf.{state_of};
@@ -76,6 +76,20 @@ fn abandon_due<F: AppFace>(face: &mut F, due: &mut Option<Lending>)
     }
 }
 
+/// Abandons the loans that were kept to the end.
+fn abandon_leaked<F: AppFace>(face: &mut F, leaked: &mut HeapCircularBuffer<Lending>)
+    requires here { IsHere (F.seen face.old) }
+    requires apart { LieApart (F.seen face.old) }
+    requires out { (f : LentPiece → ℕ) → over_read f leaked.old.items ≤ total f (F.seen face.old).loans }
+    ensures abandons { Abandons (F.seen face.old) (F.seen face.new) (λ f. over_read f leaked.old.items) }
+    ensures empty { leaked.new ≡ buffer [] leaked.old.capacity }
+    ensures beside { F.beside face.new ≡ F.beside face.old }
+{
+    while let Some(lending) = leaked.pop_front() {
+        face.abandon(lending.loan);
+    }
+}
+
 /// Gives up all pieces and all loans.
 pub fn let_go<F: AppFace>(face: &mut F, st: &mut Stack)
     requires here { IsHere (F.seen face.old) }
@@ -88,6 +102,7 @@ pub fn let_go<F: AppFace>(face: &mut F, st: &mut Stack)
 {
     abandon_all(face, &mut st.unread);
     abandon_due(face, &mut st.due);
+    abandon_leaked(face, &mut st.leaked);
     release_all(face, &mut st.flows);
     st.bare = true;
 }

@@ -1,15 +1,16 @@
 //! A loan is read, and what was read is appended; and a loan is given back.
-ghost use Rattle.std.specs.Prelude.{◌≡◌, false, ◌≢◌, ℕ, ◌+◌, ◌-◌, ◌^◌, ◌<◌, ◌≤◌, List, length, IfSome, OnOk, OnErr};
+ghost use Rattle.std.specs.Prelude.{◌≡◌, false, ◌≢◌, ℕ, ◌+◌, ◌-◌, ◌^◌, ◌<◌, ◌≤◌, List, length, IfSome, OnOk, OnErr, MatchBool};
 ghost use Rattle.std.specs.Io.KnownBytes.{Keeps};
 ghost use Rattle.zr_io.specs.Moved.{Gained, Rose};
 ghost use Rattle.board_face.specs.AppCalls.{IsHere};
 ghost use Rattle.app_worker.specs.Core.{LieApart, IsIn, lent_piece, OnlyReads, IsReadOf};
 ghost use Rattle.board_face.specs.AppEvents.{app_gist};
 ghost use Rattle.board_face.specs.declared.views.app.AppLook.TheVariants.{RefillInUse};
-ghost use Rattle.app_worker.specs.Steps.{Given};
+ghost use Rattle.app_worker.specs.Steps.{Given, KeptDue, NotKept};
 
 use crate::stack::Lending;
 use board_face::AppFace;
+use circular_buffer::HeapCircularBuffer;
 use zr_io::{Failed, Shelf};
 
 /// How many bytes are read at once.
@@ -54,6 +55,33 @@ pub fn read_loan<F: AppFace, T: Shelf>(
         *bytes += u64::from(n);
     }
     Ok(())
+}
+
+/// Keeps the loan that is due to the end, where it is one of the first `most` that would be given back, reserves aside:
+/// whether it did.
+pub fn keep_due(
+    reserve: u32,
+    most: u32,
+    due: &mut Option<Lending>,
+    leaked: &mut HeapCircularBuffer<Lending>,
+) -> bool
+    requires room { leaked.old.capacity ≡ most }
+    ensures kept { MatchBool result (KeptDue reserve most due.old due.new leaked.old leaked.new) (NotKept reserve most due.old due.new leaked.old leaked.new) }
+{
+    let Some(lending) = due.take() else {
+        return false;
+    };
+    if lending.loan.place().buffer == reserve {
+        *due = Some(lending);
+        return false;
+    }
+    match leaked.try_push_back(lending) {
+        Ok(()) => true,
+        Err(lending) => {
+            *due = Some(lending);
+            false
+        }
+    }
 }
 
 /// Gives a loan back that is due, if there is one: whether there is none any more. `false` says that the next refill

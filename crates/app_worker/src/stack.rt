@@ -246,6 +246,8 @@ pub struct Stack {
     pub posted: CqRing<Lending>,
     /// The loan that is to be given back.
     pub due: Option<Lending>,
+    /// Those that are kept to the end, as many as `how` says.
+    pub leaked: HeapCircularBuffer<Lending>,
     /// How many bytes the appends that went well took.
     pub written: u64,
     /// How many loans were posted.

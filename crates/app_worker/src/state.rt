@@ -42,7 +42,7 @@ impl Model for AppState {
 
 impl AppState {
     /// An application that has taken no turn, with this many places in its completion ring. It takes the memory for
-    /// its rings here.
+    /// its rings, and for the loans that it leaks, here.
     pub fn new(alloc: Global, app: u32, places: u32, how: Behaviour) -> Result<AppState, AllocError>
         requires least { 1 ≤ places }
         requires most { places ≤ 256 }
@@ -52,6 +52,7 @@ impl AppState {
         let room = how.hold as usize + places as usize;
         let unread = HeapCircularBuffer::with_capacity(alloc, room)?;
         let posted = CqRing::new(alloc, places as usize)?;
+        let leaked = HeapCircularBuffer::with_capacity(alloc, how.leak as usize)?;
         let at_once = how.quit == Some(0);
         let stack = Stack {
             app,
@@ -63,6 +64,7 @@ impl AppState {
             unread,
             posted,
             due: None,
+            leaked,
             written: 0,
             loans: 0,
             stopped: if at_once { Stopped::Quit } else { Stopped::No },

@@ -10,7 +10,7 @@ ghost use Rattle.app_worker.specs.StateOf.{state_of};
 ghost use Rattle.app_worker.specs.Moves.{Goes};
 ghost use Rattle.app_worker.specs.Whole.{Lends, Gives, Takes, Reads, IsChosen};
 
-use crate::reading::{give_due, read_loan};
+use crate::reading::{give_due, keep_due, read_loan};
 use crate::stack::{Delivery, FlowQueue, Stack, Wanting, deliver, enter};
 use board_face::{AppFace, Polled};
 use std::alloc::Global;
@@ -68,7 +68,7 @@ pub fn deliver_one<F: AppFace>(face: &mut F, st: &mut Stack) -> Delivery
     delivery
 }
 
-/// Gives the loan back that is due, if one is: whether none is due any more.
+/// Gives the loan back that is due, if one is, or keeps it to the end: whether none is due any more.
 pub fn give_one<F: AppFace>(face: &mut F, st: &mut Stack) -> bool
     requires here { IsHere (F.seen face.old) }
     requires working { Working (state_of st.old) (F.seen face.old) }
@@ -80,6 +80,10 @@ pub fn give_one<F: AppFace>(face: &mut F, st: &mut Stack) -> bool
     ensures told { result ≡ false → F.tells RefillInUse (app_gist (F.seen face.new)) (F.beside face.new) }
     ensures beside { F.beside face.new ≡ F.beside face.old }
 {
+    let reserve = face.reserve();
+    if keep_due(reserve, st.how.leak, &mut st.due, &mut st.leaked) {
+        return true;
+    }
     give_due(face, &mut st.due)
 }
 

@@ -434,6 +434,82 @@ fn quits_never(rt: HostRuntime) -> Result<(), Fail> {
     Ok(())
 }
 
+/// An application that keeps so many loans to the end.
+const fn leaking(leak: u32, hold: u32) -> Behaviour {
+    Behaviour {
+        hold,
+        leak,
+        stray: 0,
+        quit: None,
+    }
+}
+
+/// The first loan that would be given back is kept to the end, and the next are given back.
+#[test]
+fn leaks_the_first(rt: HostRuntime) -> Result<(), Fail> {
+    let steps = [
+        Step::Send(0, 1000, b"ab"),
+        DID,
+        Step::Dealt(Entry::Empty),
+        Step::Send(0, 1002, b"cd"),
+        DID,
+        HONOURED,
+        Step::Dealt(Entry::Empty),
+        NO_NOTE,
+        Step::End,
+        FINISHED,
+    ];
+    let (st, shelf) = run(&rt, rt.alloc(), leaking(1, 0), 4, 1000, &[], &steps)?;
+    assert_eq!(rt; shelf.flow(0), b"abcd".as_slice());
+    assert_eq!(rt; st.written(), 4);
+    assert_eq!(rt; st.loans(), 2);
+    assert_eq!(rt; st.stopped(), Stopped::No);
+    Ok(())
+}
+
+/// All loans are kept where more may be than there are, also those that are read at the end.
+#[test]
+fn leaks_all(rt: HostRuntime) -> Result<(), Fail> {
+    let steps = [
+        Step::Send(0, 1002, b"cd"),
+        DID,
+        Step::Send(0, 1000, b"ab"),
+        DID,
+        Step::End,
+        FINISHED,
+    ];
+    let (st, shelf) = run(&rt, rt.alloc(), leaking(9, 1), 1, 1000, &[], &steps)?;
+    assert_eq!(rt; shelf.flow(0), b"abcd".as_slice());
+    assert_eq!(rt; st.loans(), 2);
+    Ok(())
+}
+
+/// What is leaked is abandoned where the application quits.
+#[test]
+fn leaks_and_quits(rt: HostRuntime) -> Result<(), Fail> {
+    let how = Behaviour {
+        hold: 0,
+        leak: 2,
+        stray: 0,
+        quit: Some(10),
+    };
+    let steps = [
+        Step::Send(0, 100, b"abcdefgh"),
+        DID,
+        Step::Send(0, 108, b"ijklmnop"),
+        DID,
+        Step::Dealt(Entry::Empty),
+        Step::End,
+        FINISHED,
+    ];
+    let (st, shelf) = run(&rt, rt.alloc(), how, 4, 100, &[], &steps)?;
+    assert_eq!(rt; shelf.flow(0), b"abcdefghij".as_slice());
+    assert_eq!(rt; st.written(), 10);
+    assert_eq!(rt; st.loans(), 2);
+    assert_eq!(rt; st.stopped(), Stopped::Quit);
+    Ok(())
+}
+
 /// Texts that differ in each byte.
 const TEXTS: [&[u8]; 8] = [
     b"a",

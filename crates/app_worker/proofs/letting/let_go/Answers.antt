@@ -11,7 +11,9 @@ returns-clause-done g c =
     let items : c.abandon_all.new.unread.items ≡ [] = ap (λ (b : Buffer (Completion × Lending)). b.items) c.abandon_all.ensures.empty in
     let capacity : c.abandon_all.new.unread.capacity ≡ c.args.st.now.unread.capacity = ap
     (λ (b : Buffer (Completion × Lending)). b.capacity) c.abandon_all.ensures.empty in
-    rw (items, capacity, c.abandon_due.ensures.none) (gone-all (state_of c.args.st.now) c.release_all.new.flows.items (g.F.AppFace.seen c.args.face.now)
-    (g.F.AppFace.seen c.abandon_all.new.face) (g.F.AppFace.seen c.abandon_due.new.face) (g.F.AppFace.seen c.release_all.new.face)
+    rw (items, capacity, c.abandon_due.ensures.none, c.abandon_leaked.ensures.empty) (gone-all (state_of c.args.st.now) c.release_all.new.flows.items (g.F.AppFace.seen c.args.face.now)
+    (g.F.AppFace.seen c.abandon_all.new.face) (g.F.AppFace.seen c.abandon_due.new.face)
+    (g.F.AppFace.seen c.abandon_leaked.new.face) (g.F.AppFace.seen c.release_all.new.face)
     c.requires.reaped c.requires.not_yet c.requires.torn c.requires.common c.abandon_all.ensures.abandons c.abandon_due.ensures.abandons
+    c.abandon_leaked.ensures.abandons
     c.release_all.ensures.view c.release_all.ensures.facts)

@@ -180,5 +180,5 @@ loop-end-smaller g c =
     first.reaped c.drain.ensures.reads in
     let further : app_steps b v < app_steps e x = omega (arith, lent.steps refl, steps_d, then.0.goes.moves.steps) in
     let within : app_steps e x ≤ furthest x = working-within e x then.0.working then.0.common in
-    let same : furthest x ≡ furthest v = ap (λ ts. length ts + 3 * total taken_len ts + 4) (then.0.taken ∙ lent.taken) in
+    let same : furthest x ≡ furthest v = ap (λ ts. length ts + 4 * total taken_len ts + 4) (then.0.taken ∙ lent.taken) in
     omega (arith, further, within, same)

@@ -3,7 +3,7 @@ use Rattle.board_face.specs.declared.views.app.AppView.{AppView}
 use Rattle.app_worker.specs.declared.stack.Delivery.TheVariants.{Did}
 use Rattle.app_worker.specs.declared.stack.FlowQueue.{FlowQueue}
 use Rattle.app_worker.specs.Core.{Stands}
-use Rattle.app_worker.specs.State.{State}
+use Rattle.app_worker.specs.State.{State, read_of}
 use Rattle.app_worker.specs.StateOf.{state_of}
 use Rattle.app_worker.proofs.Standing.{At, split-at, flow-out}
 use Rattle.app_worker.proofs.Delivering.{lent-bundle, none-lent}
@@ -18,8 +18,8 @@ deliver-delivery-requires-clause-out g c =
     let v : AppView = g.F.AppFace.seen c.args.face.now in
     let within : st.active < length st.flows = search rules in
     let at : At st.flows st.active own = split-at st.flows st.active own within c.index_mut.ensures.value in
-    flow-out st.notes at.before at.after own (st.unread ++ st.posted.entries) st.due v
-    (subst (λ (fs : List FlowQueue). Stands st.notes fs (st.unread ++ st.posted.entries) st.due v) at.is c.requires.working.stands)
+    flow-out st.notes at.before at.after own (st.unread ++ st.posted.entries) (read_of st) v
+    (subst (λ (fs : List FlowQueue). Stands st.notes fs (st.unread ++ st.posted.entries) (read_of st) v) at.is c.requires.working.stands)
 
 pub returns-then-st-len-clause-lends : goal.returns-then-st-len-clause-lends
 returns-then-st-len-clause-lends g c = (refl, refl, rest-none c.args.st.now.active c.args.st.now.flows.items (search rules) c.requires.working.rest)

@@ -1,25 +1,55 @@
-use Rattle.std.proofs.Common.{refl, ◌++◌}
+use Rattle.std.proofs.Common.{rules, ◌≡◌, ◌≢◌, ◌≤◌, refl, subst, ◌++◌, ◌∙◌, Some, length}
+use Rattle.board_face.specs.AppEvents.{reserve_of}
+use Rattle.board_face.specs.declared.views.app.AppView.{AppView}
+use Rattle.app_worker.specs.declared.stack.Lending.{Lending}
+use Rattle.app_worker.specs.Steps.{KeptDue, NotKept, Given}
 use Rattle.app_worker.specs.State.{State}
 use Rattle.app_worker.specs.StateOf.{state_of}
 use Rattle.app_worker.proofs.Standing2.{due-out}
-use Rattle.app_worker.proofs.Giving.{given-left}
+use Rattle.app_worker.proofs.Giving.{given-left, kept-left}
 use Rattle.app_worker.proofs.turning.give_one.Goals as goal
 
 pub give_due-requires-clause-out : goal.give_due-requires-clause-out
 give_due-requires-clause-out g c =
     let st : State = state_of c.args.st.now in
-    due-out st.notes st.flows (st.unread ++ st.posted.entries) st.due (g.F.AppFace.seen c.args.face.now) c.requires.working.stands
+    let not : NotKept c.reserve-reserve.result st.how.leak st.due c.keep_due.new.due st.leaked c.keep_due.new.leaked = search rules in
+    rw not.due
+    (due-out st.notes st.flows (st.unread ++ st.posted.entries) st.due st.leaked.items (g.F.AppFace.seen c.args.face.now) c.requires.working.stands)
+
+pub returns-then-keep_due : goal.returns-then-keep_due
+returns-then-keep_due g c =
+    let st : State = state_of c.args.st.now in
+    let v : AppView = g.F.AppFace.seen c.args.face.now in
+    let is : c.reserve-reserve.result ≡ reserve_of v = c.reserve-reserve.ensures.value in
+    let kept : KeptDue c.reserve-reserve.result st.how.leak st.due c.keep_due.new.due st.leaked c.keep_due.new.leaked = search rules in
+    let left = kept-left st c.keep_due.new.due c.keep_due.new.leaked v
+    (subst (λ n. KeptDue n st.how.leak st.due c.keep_due.new.due st.leaked c.keep_due.new.leaked) is kept) c.requires.working c.requires.common in
+    record {
+      working = left.0.working;
+      common = left.0.common;
+      goes = left.0.goes;
+      gives = left.1;
+      told = λ no. absurd (cc);
+      beside = refl;
+    }
 
 pub returns : goal.returns
 returns g c =
     let st : State = state_of c.args.st.now in
-    let given = given-left st st.due c.give_due.new.due (g.F.AppFace.seen c.args.face.now)
-    (g.F.AppFace.seen c.give_due.new.face) c.give_due.result refl c.give_due.ensures.given c.requires.working c.requires.common in
-    record {
+    let v : AppView = g.F.AppFace.seen c.args.face.now in
+    let is : c.reserve-reserve.result ≡ reserve_of v = c.reserve-reserve.ensures.value in
+    let not : NotKept c.reserve-reserve.result st.how.leak st.due c.keep_due.new.due st.leaked c.keep_due.new.leaked = search rules in
+    let step : Given v (g.F.AppFace.seen c.give_due.new.face) st.due c.give_due.new.due c.give_due.result = subst
+    (λ d. Given v (g.F.AppFace.seen c.give_due.new.face) d c.give_due.new.due c.give_due.result) not.due c.give_due.ensures.given in
+    let enough : (l : Lending) → st.due ≡ Some l → l.loan.buffer ≢ reserve_of v → st.how.leak ≤ length st.leaked.items =
+    λ l due aside. not.enough l due (λ e. aside (e ∙ is)) in
+    let given = given-left st st.due c.give_due.new.due v (g.F.AppFace.seen c.give_due.new.face) c.give_due.result refl step enough c.requires.working
+    c.requires.common in
+    rw not.same (record {
       working = given.0.working;
       common = given.0.common;
       goes = given.0.goes;
       gives = given.1;
       told = c.give_due.ensures.told;
       beside = c.give_due.ensures.beside;
-    }
+    })

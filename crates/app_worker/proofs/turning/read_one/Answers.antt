@@ -7,7 +7,7 @@ use Rattle.app_worker.specs.declared.stack.Lending.{Lending}
 use Rattle.app_worker.specs.declared.stack.FlowQueue.{FlowQueue}
 use Rattle.app_worker.specs.Core.{Stands, IsReadOf}
 use Rattle.zr_kinds.specs.declared.behaviour.Stopped.TheVariants as stop
-use Rattle.app_worker.specs.State.{State, Quits, wanted_of}
+use Rattle.app_worker.specs.State.{State, read_of, Quits, wanted_of}
 use Rattle.app_worker.specs.StateOf.{state_of}
 use Rattle.app_worker.proofs.Standing2.{oldest-out}
 use Rattle.app_worker.proofs.Indexing.{found-at}
@@ -20,8 +20,8 @@ read_loan-result-requires-clause-out g c =
     let st : State = state_of c.args.st.now in
     let p : Completion × Lending = (c.in-Some.completion, c.in-Some.lending) in
     let unread : st.unread ≡ p ∷ drop 1 st.unread = front-of st.unread p (search rules) in
-    oldest-out st.notes st.flows p (drop 1 st.unread ++ st.posted.entries) st.due (g.F.AppFace.seen c.args.face.now)
-    (subst (λ es. Stands st.notes st.flows (es ++ st.posted.entries) st.due (g.F.AppFace.seen c.args.face.now)) unread c.requires.working.stands)
+    oldest-out st.notes st.flows p (drop 1 st.unread ++ st.posted.entries) (read_of st) (g.F.AppFace.seen c.args.face.now)
+    (subst (λ es. Stands st.notes st.flows (es ++ st.posted.entries) (read_of st) (g.F.AppFace.seen c.args.face.now)) unread c.requires.working.stands)
 
 pub returns-in-Err-clause-reads : goal.returns-in-Err-clause-reads
 returns-in-Err-clause-reads g c =

@@ -1,11 +1,42 @@
-use Rattle.std.proofs.Common.{◌≡◌, ℕ, true, [], List, Option, ap, subst, ◌∙◌}
+use Rattle.std.proofs.Common.{◌≡◌, ℕ, true, [], List, Option, sym, ap, subst, ◌∙◌}
 use Rattle.board_face.specs.declared.views.app.AppView.{AppView}
-use Rattle.app_worker.specs.State.{State}
+use Rattle.app_worker.specs.declared.turn.Turn.TheVariants.{Idle}
+use Rattle.app_worker.specs.declared.turn.Why.TheVariants.{NoNote}
+use Rattle.app_worker.specs.State.{State, Working, Common}
 use Rattle.app_worker.specs.StateOf.{state_of}
 use Rattle.app_worker.specs.Whole.{TookOne, TookNone}
 use Rattle.app_worker.specs.Turns.{MayPoll, Turns}
-use Rattle.app_worker.proofs.Looking.{took-failed, took-did, turns-ended, turns-memory, turns-short}
+use Rattle.app_worker.proofs.TurnLemmas.{turns-saw}
+use Rattle.app_worker.proofs.Looking.{ended-working, ended-common, took-failed, took-did, turns-ended, turns-memory, turns-short}
 use Rattle.app_worker.proofs.working.look.Goals as goal
+
+pub close-requires-clause-working : goal.close-requires-clause-working
+close-requires-clause-working g c =
+    let a : State = state_of c.args.st.now in
+    let v : AppView = g.F.AppFace.seen c.take_note.new.face in
+    let takes = c.in-Ended.ensures.takes in
+    subst (λ (s : State). Working (record s { ended = true }) v) (sym takes.0)
+    (ended-working a (g.F.AppFace.seen c.args.face.now) v c.requires.working c.requires.rest takes.1)
+
+pub close-requires-clause-common : goal.close-requires-clause-common
+close-requires-clause-common g c =
+    let a : State = state_of c.args.st.now in
+    let v : AppView = g.F.AppFace.seen c.take_note.new.face in
+    let takes = c.in-Ended.ensures.takes in
+    subst (λ (s : State). Common (record s { ended = true }) v) (sym takes.0)
+    (ended-common a (g.F.AppFace.seen c.args.face.now) v c.requires.common takes.1)
+
+pub returns-in-NoNote-clause-turns : goal.returns-in-NoNote-clause-turns
+returns-in-NoNote-clause-turns g c =
+    let a : State = state_of c.args.st.now in
+    let u : AppView = g.F.AppFace.seen c.args.face.now in
+    let v : AppView = g.F.AppFace.seen c.take_note.new.face in
+    let k : ℕ → Option (List ℕ) = g.T.Shelf.kept c.args.shelf.now in
+    let f : ℕ = g.T.Shelf.faults c.args.shelf.now in
+    let may : MayPoll a = record { in_order = c.requires.rest; given = c.requires.due; posted = c.requires.reaped; unread = c.requires.few } in
+    let takes = c.in-NoNote.ensures.takes in
+    subst (λ (s : State). Turns a s u v k k f f (Idle NoNote)) (sym takes.0)
+    (turns-saw a u v NoNote k f c.requires.working c.requires.common c.requires.reaped (λ _. may) takes.1)
 
 pub returns-in-Failed-clause-turns : goal.returns-in-Failed-clause-turns
 returns-in-Failed-clause-turns g c =

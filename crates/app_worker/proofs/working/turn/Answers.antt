@@ -1,11 +1,11 @@
-use Rattle.std.proofs.Common.{rules, ◌≡◌, ◌≢◌, ℕ, List, Option, None, sym, subst}
+use Rattle.std.proofs.Common.{rules, ◌≡◌, ◌≢◌, ℕ, List, Option, None, sym, subst, ◌∙◌}
 use Rattle.std.specs.Prelude.{IsTrue}
 use Rattle.board_face.specs.declared.views.app.AppView.{AppView}
 use Rattle.app_worker.specs.State.{State, Working}
 use Rattle.app_worker.specs.StateOf.{state_of}
 use Rattle.app_worker.specs.Whole.{GaveOne}
 use Rattle.app_worker.specs.Turns.{Turns, turn_after}
-use Rattle.app_worker.proofs.TurnLemmas.{turns-given}
+use Rattle.app_worker.proofs.TurnLemmas.{turns-given, after-idle}
 use Rattle.app_worker.proofs.working.turn.Goals as goal
 
 pub returns-then-st-clause-turns : goal.returns-then-st-clause-turns
@@ -31,3 +31,8 @@ returns-clause-turns g c =
     subst (Turns a e u w k m f f2) (sym is)
     (turns-given a b e u v w k m f f2 c.work-turn.result c.is_some-was_due.result some none works c.requires.here c.give_one.ensures.working
     (c.give_one.ensures.goes k) gave c.work-turn.ensures.turns)
+
+pub returns-clause-told : goal.returns-clause-told
+returns-clause-told g c = λ why idle.
+    let is : c.after.result ≡ turn_after c.is_some-was_due.result c.work-turn.result = search rules in
+    c.work-turn.ensures.told why (after-idle c.is_some-was_due.result c.work-turn.result why (sym is ∙ idle))

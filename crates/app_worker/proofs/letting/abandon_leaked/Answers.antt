@@ -1,0 +1,44 @@
+use Rattle.std.proofs.Common.{rules, ◌≡◌, ℕ, ◌+◌, List, ◌∷◌, drop, refl, subst, ap, ◌∙◌}
+use Rattle.circular_buffer.specs.Buffer.{Buffer}
+use Rattle.board_face.specs.declared.views.app.LentPiece.{LentPiece}
+use Rattle.board_face.specs.declared.views.app.AppView.{AppView}
+use Rattle.app_worker.specs.declared.stack.Lending.{Lending}
+use Rattle.app_worker.specs.Core.{lent_piece, over_read}
+use Rattle.app_worker.proofs.Tokens.{in-contains}
+use Rattle.app_worker.proofs.Oldest.{front-of}
+use Rattle.app_worker.proofs.LetGone.{AbandonsSome, abandons-none, abandons-one, first-lent}
+use Rattle.app_worker.proofs.letting.abandon_leaked.Goals as goal
+
+pub loop-lending-init : goal.loop-lending-init
+loop-lending-init g c = (abandons-none (g.F.AppFace.seen c.args.face.now) c.requires.apart (λ f. over_read f c.args.leaked.now.items), refl, refl)
+
+pub abandon-requires-clause-out : goal.abandon-requires-clause-out
+abandon-requires-clause-out g c =
+    let u : AppView = g.F.AppFace.seen c.args.face.now in
+    let v : AppView = g.F.AppFace.seen c.loop-lending.face in
+    let l : Lending = c.in-Some.lending in
+    let xs : List Lending = c.loop-lending.leaked.items in
+    let first : xs ≡ l ∷ drop 1 xs = front-of xs l (search rules) in
+    let all : (LentPiece → ℕ) → ℕ = λ f. over_read f c.args.leaked.now.items in
+    let some : AbandonsSome u v all (λ f. f (lent_piece l) + over_read f (drop 1 xs)) = subst
+    (λ ys. AbandonsSome u v all (λ f. over_read f ys)) first c.loop-lending.invariant.0 in
+    in-contains (λ l. l.place) (lent_piece l) v.loans (first-lent u v all (λ f. over_read f (drop 1 xs)) l c.requires.out some)
+
+pub loop-lending-preserved : goal.loop-lending-preserved
+loop-lending-preserved g c =
+    let u : AppView = g.F.AppFace.seen c.args.face.now in
+    let v : AppView = g.F.AppFace.seen c.loop-lending.face in
+    let l : Lending = c.in-Some.lending in
+    let xs : List Lending = c.loop-lending.leaked.items in
+    let first : xs ≡ l ∷ drop 1 xs = front-of xs l (search rules) in
+    let all : (LentPiece → ℕ) → ℕ = λ f. over_read f c.args.leaked.now.items in
+    let left : (LentPiece → ℕ) → ℕ = λ f. over_read f (drop 1 xs) in
+    let some : AbandonsSome u v all (λ f. f (lent_piece l) + left f) = subst (λ ys. AbandonsSome u v all (λ f. over_read f ys)) first
+    c.loop-lending.invariant.0 in
+    let items : c.pop_front.new.self.items ≡ drop 1 xs = ap (λ (b : Buffer Lending). b.items) c.pop_front.ensures.items in
+    let capacity : c.pop_front.new.self.capacity ≡ c.loop-lending.leaked.capacity = ap (λ (b : Buffer Lending). b.capacity) c.pop_front.ensures.items in
+    rw (c.abandon.ensures.view, items) (
+      abandons-one u v all left l (first-lent u v all left l c.requires.out some) some,
+      capacity ∙ c.loop-lending.invariant.1,
+      search rules,
+    )
