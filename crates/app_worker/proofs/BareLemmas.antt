@@ -36,6 +36,7 @@ module _ (st : State) (old : AppView) (bare : Bare st old) (is_bare : st.bare â‰
           loans = ap (Î» (v : AppView). v.loans) took.view âˆ™ bare.loans;
           due = bare.due;
           leaked = bare.leaked;
+          none_left = bare.none_left;
           unread = bare.unread;
           flows = ends-kept st.flows old new t took bare.flows;
           distinct = bare.distinct;
@@ -159,6 +160,7 @@ module _ (st : State) (old : AppView) (bare : Bare st old) (is_bare : st.bare â‰
         loans = bare.loans;
         due = bare.due;
         leaked = bare.leaked;
+        none_left = bare.none_left;
         unread = bare.unread;
         flows = bare.flows;
         distinct = bare.distinct;
@@ -181,6 +183,9 @@ module _ (st : State) (old : AppView) (bare : Bare st old) (is_bare : st.bare â‰
         leaks = common.leaks;
         leak_room = common.leak_room;
         leak_aside = common.leak_aside;
+        strays = common.strays;
+        entries = common.entries;
+        names = common.names;
         bound = common.bound;
       };
       reaped = reaped;

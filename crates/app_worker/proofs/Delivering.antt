@@ -21,7 +21,7 @@ use Rattle.app_worker.specs.Steps.{Delivers, Delivered, lending_of}
 use Rattle.app_worker.specs.Whole.{LentOne, KeepsShelves, Lends}
 use Rattle.app_worker.proofs.Tokens.{some-bytes}
 use Rattle.app_worker.proofs.Standing.{At, split-at, each-join, each-right, each-left, stands-lent, total-changed, many-same}
-use Rattle.app_worker.proofs.Moving.{total-one, looks-same, aside-same, leaked-aside, same-leaked}
+use Rattle.app_worker.proofs.Moving.{total-one, looks-same, aside-same, leaked-aside, same-leaked, strays-same, entries-same, names-same, most-same}
 use Rattle.app_worker.proofs.Resting.{rest-set, rest-too}
 use Rattle.app_worker.proofs.Indexing.{index-set}
 use Rattle.app_worker.proofs.Seeing.{Left, left-none, left-saw}
@@ -90,15 +90,16 @@ lent-bundle was own now then old new loans more count within value step works co
     let spares : new.spares ≡ old.spares = ap (λ (v : AppView). v.spares) step.view in
     let one_more : length new.loans ≡ length old.loans + 1 = omega (arith, step.loans (λ _. 1), total-one new.loans, total-one old.loans) in
     let one_less : total (λ _. 1) new.helds + 1 ≡ total (λ _. 1) old.helds = step.helds (λ _. 1) in
-    let even : is_odd step.piece.held ≡ 0 = omega (arith, step.loans (λ l. is_odd l.place), step.apart.some) in
-    let some : 0 < step.piece.held.len = some-bytes step.piece.held even in
+    let even : is_odd new.setting.layout step.piece.held ≡ 0 = omega
+    (arith, step.loans (λ l. is_odd new.setting.layout l.place), step.apart.some) in
+    let some : 0 < step.piece.held.len = some-bytes new.setting.layout step.piece.held even in
     let bytes : FlowQueue → ℕ = λ f. f.bytes in
     let same_bytes : bytes now ≡ bytes own = ap bytes step.flow in
     let written : total bytes (set was.flows was.active now) ≡ total bytes was.flows =
     ap (total bytes) (at.set_is now) ∙ omega (arith, total-changed at.before at.after own now bytes, same_bytes) ∙ sym (ap (total bytes) at.is) in
     let longer : length then.entries ≡ length was.posted.entries + 1 = ap length entries ∙ length-append was.posted.entries (p ∷ []) in
     let steps : app_steps (with_lent was now then loans) new
-    ≡ app_steps was old + 1 = omega (arith, ap length taken, ap length returned, one_more, ap (λ b. one_if b) ended, ap (λ b. one_if b) left) in
+    ≡ app_steps was old + 1 = omega (arith, ap length taken, ap length returned, most-same was.how.stray old new returned, one_more, ap (λ b. one_if b) ended, ap (λ b. one_if b) left) in
     record {
       working = record {
         stands = subst (λ (fs : List FlowQueue). Stands was.notes fs (was.unread ++ then.entries) (read_of was) new) (sym (at.set_is now)) stands;
@@ -112,6 +113,7 @@ lent-bundle was own now then old new loans more count within value step works co
         split = works.split;
         live = works.live;
         keeps_first = λ some. works.keeps_first (omega (arith, some, aside-same old new returned setting own_app));
+        waits = works.waits;
       };
       common = record {
         app = own_app ∙ common.app;
@@ -128,6 +130,9 @@ lent-bundle was own now then old new loans more count within value step works co
         leaks = common.leaks;
         leak_room = common.leak_room;
         leak_aside = leaked-aside was.leaked.items old new setting own_app common.leak_aside;
+        strays = strays-same was.how.stray was.stray.left old new (ap (λ (v : AppView). v.written) step.view) common.strays;
+        entries = entries-same old new (ap (λ (v : AppView). v.written) step.view) returned common.entries;
+        names = names-same was.stray old new setting common.names;
         bound = omega (arith, one_more, ap length returned, step.helds held_len, some, common.bound, ap (total taken_len) taken);
       };
       moves = record {

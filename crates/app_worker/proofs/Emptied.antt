@@ -15,6 +15,10 @@ use Rattle.app_worker.specs.declared.stack.FlowQueue.{FlowQueue}
 use Rattle.app_worker.specs.Core.{total, Each, over_due, over_read, lent_piece, own_notes, BeginAt, received_notes, AreReadAt}
 use Rattle.app_worker.specs.State.{State, Common, FlowEnds, capped, held_len, taken_len, app_steps, one_if}
 use Rattle.app_worker.specs.Shelves.{IsShelved, AreShelved, ReadsFront, IsFrontShelved, AreFronts}
+use Rattle.std.proofs.Math.Nat.{mul-le-mul_left}
+use Rattle.std.proofs.Common.{◌*◌}
+use Rattle.board_face.specs.declared.views.app.WrittenEntry.{WrittenEntry}
+use Rattle.app_worker.proofs.Moving.{strays-same, names-same}
 use Rattle.app_worker.specs.Whole.{Torn}
 use Rattle.app_worker.specs.Letting.{FlowFacts, facts_of, Abandons, LetGo}
 use Rattle.circular_buffer.specs.Buffer.{buffer}
@@ -82,13 +86,14 @@ all-fronts-facts first kept flows now old new facts taken reads shelved = record
   others = λ n none. shelved.others n (sym (total-facts (λ x. if x.number == n then 1 else 0) flows now facts) ∙ none);
 }
 
-pub gone-all : (was : State) (now : List FlowQueue) (old v1 v2 v3 new : AppView) → was.posted.entries ≡ [] → was.bare ≡ false → Torn was old
+pub gone-all : (was : State) (now : List FlowQueue) (old v1 v2 v3 new : AppView) → was.posted.entries ≡ [] → was.bare ≡ false → was.stray.left ≡ 0
+    → Torn was old
     → Common was old
     → Abandons old v1 (λ f. total (λ p. f (lent_piece p.1)) was.unread) → Abandons v1 v2 (λ f. over_due f was.due)
     → Abandons v2 v3 (λ f. over_read f was.leaked.items) → new ≡ record v3 { helds = [] }
     → map facts_of now ≡ map facts_of was.flows
     → LetGo was (record was { flows = now; unread = []; due = None; leaked = buffer [] was.leaked.capacity; bare = true }) old new
-gone-all was now old v1 v2 v3 new reaped not_yet torn common first second third released facts =
+gone-all was now old v1 v2 v3 new reaped not_yet pushed torn common first second third released facts =
     let tokens : v3 ≡ record old { helds = v3.helds; loans = v3.loans; returned = v3.returned } = third.only.view
     ∙ ap (λ (x : AppView). record x { helds = v3.helds; loans = v3.loans; returned = v3.returned }) second.only.view
     ∙ ap (λ (x : AppView). record x { helds = v3.helds; loans = v3.loans; returned = v3.returned }) first.only.view in
@@ -118,9 +123,10 @@ gone-all was now old v1 v2 v3 new reaped not_yet torn common first second third 
     let bare : one_if was.bare ≡ 0 = ap one_if not_yet in
     let few : due + kept ≤ length old.loans = omega (arith, all, total-one old.loans) in
     let due_few : due ≤ 1 = due-most was.due in
+    let further : was.how.stray * length old.returned ≤ was.how.stray * length new.returned = mul-le-mul_left was.how.stray (omega (arith, count)) in
     let steps : app_steps was old
     < app_steps (record was { flows = now; unread = []; due = None; leaked = buffer [] was.leaked.capacity; bare = true }) new =
-    omega (arith, ap length taken, count, no_more, bare, few, due_few, ap one_if ended, ap one_if left) in
+    omega (arith, ap length taken, count, no_more, bare, few, due_few, further, ap one_if ended, ap one_if left) in
     record {
       helds = helds;
       loans = no_loan;
@@ -144,6 +150,10 @@ gone-all was now old v1 v2 v3 new reaped not_yet torn common first second third 
         leaks = omega arith;
         leak_room = common.leak_room;
         leak_aside = tt;
+        strays = strays-same was.how.stray was.stray.left old new (ap (λ (v : AppView). v.written) view) common.strays;
+        entries = subst (λ ws. total (λ (w : WrittenEntry). if w.of_loan then 1 else 0) ws ≤ length new.returned)
+            (sym (ap (λ (v : AppView). v.written) view)) (omega (arith, common.entries, count));
+        names = names-same was.stray old new (ap (λ (v : AppView). v.setting) view) common.names;
         bound = omega (arith, count, no_more, ap (total held_len) helds, common.bound, ap (total taken_len) taken);
       };
       moves = record {
@@ -163,6 +173,7 @@ gone-all was now old v1 v2 v3 new reaped not_yet torn common first second third 
       steps = steps;
       shelved = λ begin kept shelved. shelves-facts begin kept was.flows now old new facts taken reads shelved;
       fronts = λ begin kept shelved. all-fronts-facts begin kept was.flows now old new facts taken reads shelved;
+      none_left = pushed;
       taken = taken;
       left = left;
     }

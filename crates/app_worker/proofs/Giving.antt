@@ -11,9 +11,15 @@ use Rattle.circular_buffer.specs.Buffer.{Buffer}
 use Rattle.board_face.specs.AppEvents.{reserve_of}
 use Rattle.board_face.specs.declared.views.app.LentPiece.{LentPiece}
 use Rattle.app_worker.specs.Core.{total, Each, Stands, over_due, over_read, read_out, lent_piece}
-use Rattle.app_worker.specs.State.{State, returned_aside, TellsOf, Working, Common, capped, held_len, taken_len, app_steps, one_if}
+use Rattle.app_worker.specs.State.{State, returned_aside, raw_entries, loan_entries, TellsOf, Working, Common, capped, held_len, taken_len, app_steps, one_if}
 use Rattle.app_worker.specs.Shelves.{IsShelved}
-use Rattle.app_worker.specs.Steps.{Gave, Given, KeptDue}
+use Rattle.app_worker.specs.Steps.{Gave, Given, IsToFollow, KeptDue}
+use Rattle.std.proofs.Common.{◌*◌}
+use Rattle.std.proofs.lemmas.Bool.{cases_lt}
+use Rattle.area_layout.specs.Layout.{judged}
+use Rattle.board_face.specs.AppEvents.{entry_of}
+use Rattle.board_face.specs.declared.views.app.WrittenEntry.{WrittenEntry}
+use Rattle.app_worker.specs.declared.stack.Stray.{Stray}
 use Rattle.app_worker.specs.Moves.{Moves}
 use Rattle.app_worker.specs.Whole.{Gives}
 use Rattle.app_worker.proofs.Standing2.{given-stands}
@@ -22,8 +28,17 @@ use Rattle.app_worker.proofs.Tokens.{total-append}
 use Rattle.app_worker.proofs.Standing.{each-join}
 use Rattle.app_worker.proofs.Seeing.{Left, left-none, left-saw}
 
-abbrev pub with_due : State → Option Lending → State
-with_due was due = record was { due = due }
+abbrev pub with_due : State → Option Lending → Stray → State
+with_due was due stray = record was { due = due; stray = stray }
+
+abbrev raw_one : WrittenEntry → ℕ
+raw_one w = if w.of_loan then 0 else 1
+
+abbrev loan_one : WrittenEntry → ℕ
+loan_one w = if w.of_loan then 1 else 0
+
+mul-one : (k n : ℕ) → k * (n + 1) ≡ k * n + k
+mul-one k n = omega arith
 
 -- one that is given back lies in the reserve, or enough are kept
 aside-gave : (was : State) (l : Lending) (old new : AppView) → new.returned ≡ old.returned ++ lent_piece l ∷ [] → new.setting ≡ old.setting
@@ -42,10 +57,22 @@ aside-gave was l old new returned setting app enough few first some =
     (λ (other : l.loan.buffer ≢ reserve_of old). omega (arith, enough other, few))
     (cases_eq l.loan.buffer (reserve_of old))
 
-gave-left : (was : State) (l : Lending) (old new : AppView) → was.due ≡ Some l → Gave old new l
-    → (l.loan.buffer ≢ reserve_of old → was.how.leak ≤ length was.leaked.items) → Working was old → Common was old
-    → Left was (with_due was None) old new × (app_steps was old < app_steps (with_due was None) new) × (new.taken ≡ old.taken) × (new.left ≡ old.left)
-gave-left was l old new due step enough works common =
+gave-left : (was : State) (l : Lending) (stray : Stray) (old new : AppView) → was.due ≡ Some l → Gave old new l
+    → IsToFollow old.setting.layout l was.how.stray stray → (l.loan.buffer ≢ reserve_of old → was.how.leak ≤ length was.leaked.items) → Working was old
+    → Common was old → Left was (with_due was None stray) old new × (app_steps was old < app_steps (with_due was None stray) new)
+    × (new.taken ≡ old.taken) × (new.left ≡ old.left)
+gave-left was l stray old new due step follow enough works common =
+    let no_left : was.stray.left ≡ 0 = ⊎_elim (λ (some : 0 < was.stray.left). absurd (let none = works.waits some in let e : Some l
+    ≡ None = sym due ∙ none in cc)) (λ (none : was.stray.left ≤ 0). omega (arith, none)) (cases_lt 0 was.stray.left) in
+    let written : new.written ≡ old.written ++ record { entry = entry_of old.setting.layout l.loan; of_loan = true } ∷ [] =
+    ap (λ (v : AppView). v.written) step.view in
+    let raws : raw_entries new ≡ raw_entries old = ap (total raw_one) written
+    ∙ omega (arith, total-append raw_one old.written (record { entry = entry_of old.setting.layout l.loan; of_loan = true } ∷ [])) in
+    let entries : loan_entries new ≡ loan_entries old + 1 = ap (total loan_one) written
+    ∙ omega (arith, total-append loan_one old.written (record { entry = entry_of old.setting.layout l.loan; of_loan = true } ∷ [])) in
+    let left_is : stray.left ≡ was.how.stray = ap (λ (s : Stray). s.left) follow.is in
+    let may : was.how.stray * loan_entries new ≡ was.how.stray * loan_entries old + was.how.stray = ap (λ n. was.how.stray * n) entries
+    ∙ mul-one was.how.stray (loan_entries old) in
     let setting : new.setting ≡ old.setting = ap (λ (v : AppView). v.setting) step.view in
     let taken : new.taken ≡ old.taken = ap (λ (v : AppView). v.taken) step.view in
     let helds : new.helds ≡ old.helds = ap (λ (v : AppView). v.helds) step.view in
@@ -59,14 +86,16 @@ gave-left was l old new due step enough works common =
     let one_less : length new.loans + 1 ≡ length old.loans = omega (arith, step.loans (λ _. 1), total-one new.loans, total-one old.loans) in
     let one_more : length new.returned ≡ length old.returned + 1 = ap length step.returned ∙ length-append old.returned (lent_piece l ∷ []) in
     let due_one : over_due (λ _. 1) was.due ≡ 1 = ap (over_due (λ _. 1)) due in
-    let steps : app_steps (with_due was None) new ≡ app_steps was old + 2 = omega
-    (arith, ap length taken, one_less, one_more, due_one, ap one_if ended, ap one_if left) in
+    let more : was.how.stray * length new.returned ≡ was.how.stray * length old.returned + was.how.stray = ap (λ n. was.how.stray * n) one_more
+    ∙ mul-one was.how.stray (length old.returned) in
+    let steps : app_steps (with_due was None stray) new ≡ app_steps was old + 2 = omega
+    (arith, ap length taken, one_less, one_more, due_one, more, left_is, no_left, ap one_if ended, ap one_if left) in
     let stood : Stands was.notes was.flows (was.unread ++ was.posted.entries) (l ∷ was.leaked.items) old = subst
     (λ d. Stands was.notes was.flows (was.unread ++ was.posted.entries) (read_out d was.leaked.items) old) due works.stands in (
       record {
         working = record {
-          stands = given-stands was.notes was.flows (was.unread ++ was.posted.entries) (Some l) None was.leaked.items old new true stood
-              (step, refl);
+          stands = given-stands was.notes was.flows (was.unread ++ was.posted.entries) (Some l) None was.leaked.items was.how.stray was.stray stray old new true stood
+              (step, refl, follow);
           completions = subst (λ (s : Setting). Each (TellsOf s.layout) (was.unread ++ was.posted.entries)) (sym setting) works.completions;
           rest = works.rest;
           index = works.index;
@@ -75,6 +104,7 @@ gave-left was l old new due step enough works common =
           split = works.split;
           live = works.live;
           keeps_first = aside-gave was l old new step.returned setting own_app enough common.leaks works.keeps_first;
+          waits = λ _. refl;
         };
         common = record {
           app = own_app ∙ common.app;
@@ -91,6 +121,9 @@ gave-left was l old new due step enough works common =
           leaks = common.leaks;
           leak_room = common.leak_room;
           leak_aside = leaked-aside was.leaked.items old new setting own_app common.leak_aside;
+          strays = omega (arith, raws, left_is, may, common.strays);
+          entries = omega (arith, entries, one_more, common.entries);
+          names = λ _. subst (λ (s : Setting). judged s.layout stray.entry ≡ Some stray.buffer) (sym setting) follow.names;
           bound = omega (arith, one_less, one_more, ap (total held_len) helds, common.bound, ap (total taken_len) taken);
         };
         goes = λ kept. record {
@@ -101,7 +134,7 @@ gave-left was l old new due step enough works common =
             steps = omega (arith, steps);
             looks = looks-same old new (ap (λ (v : AppView). v.looks) step.view);
             stays = λ _. refl;
-            leaked = same-leaked was (with_due was None) refl refl;
+            leaked = same-leaked was (with_due was None stray) refl refl;
           };
           shelved = λ _ first shelved. record {
             flows = subst (λ ts. Each (IsShelved first kept ts new.reads) was.flows) (sym taken)
@@ -116,22 +149,23 @@ gave-left was l old new due step enough works common =
       left,
     )
 
-pub given-left : (was : State) (due now : Option Lending) (old new : AppView) (result : Bool) → was.due ≡ due → Given old new due now result
-    → ((l : Lending) → due ≡ Some l → l.loan.buffer ≢ reserve_of old → was.how.leak ≤ length was.leaked.items) → Working was old → Common was old → Left was (with_due was now) old new × Gives was (with_due was now) old new result
-given-left was None now old new true is step enough works common =
-    let same : with_due was None ≡ was = ap (with_due was) (sym is) in
-    let view : new ≡ old = step.0 in
-    rw (step.1, same, step.0) (
+pub given-left : (was : State) (due now : Option Lending) (stray : Stray) (old new : AppView) (result : Bool) → was.due ≡ due
+    → Given was.how.stray old new due now was.stray stray result
+    → ((l : Lending) → due ≡ Some l → l.loan.buffer ≢ reserve_of old → was.how.leak ≤ length was.leaked.items) → Working was old → Common was old
+    → Left was (with_due was now stray) old new × Gives was (with_due was now stray) old new result
+given-left was None now stray old new true is step enough works common =
+    let same : with_due was None was.stray ≡ was = ap (λ d. with_due was d was.stray) (sym is) in
+    rw (step.1, step.2, same, step.0) (
       left-none was old works common,
-      record { same = sym same; nothing = λ _. (refl, refl); steps = λ other. absurd (other is); taken = refl; left = refl },
+      record { same = sym same; steps = λ other. absurd (other is); taken = refl; left = refl },
     )
-given-left was None now old new false is step enough works common = absurd (cc)
-given-left was (Some l) now old new true is step enough works common =
-    let gone = gave-left was l old new is step.0 (enough l refl) works common in
-    rw step.1 (gone.0, record { same = refl; nothing = λ none. absurd (cc); steps = λ _. gone.1; taken = gone.2; left = gone.3 })
-given-left was (Some l) now old new false is step enough works common =
-    let same : with_due was (Some l) ≡ was = ap (with_due was) (sym is) in
-    rw (step.1, same) (left-saw was old new RefillInUse step.0 works common, (refl, (λ none. absurd (cc)), step.0))
+given-left was None now stray old new false is step enough works common = absurd (cc)
+given-left was (Some l) now stray old new true is step enough works common =
+    let gone = gave-left was l stray old new is step.0 step.2 (enough l refl) works common in
+    rw step.1 (gone.0, record { same = refl; steps = λ _. gone.1; taken = gone.2; left = gone.3 })
+given-left was (Some l) now stray old new false is step enough works common =
+    let same : with_due was (Some l) was.stray ≡ was = ap (λ d. with_due was d was.stray) (sym is) in
+    rw (step.1, step.2, same) (left-saw was old new RefillInUse step.0 works common, (refl, (λ none. absurd (cc)), step.0))
 
 -- ---- a loan is kept to the end
 
@@ -185,6 +219,7 @@ kept-left was rest leaked v step works common =
           split = works.split;
           live = works.live;
           keeps_first = λ some. absurd (omega (arith, works.keeps_first some, step.few));
+          waits = λ _. refl;
         };
         common = record {
           app = common.app;
@@ -202,6 +237,9 @@ kept-left was rest leaked v step works common =
           leak_room = ap (λ (b : Buffer Lending). b.capacity) step.more ∙ common.leak_room;
           leak_aside = subst (Each (λ (x : Lending). x.loan.buffer ≢ reserve_of v)) (sym items)
               (each-join (λ (x : Lending). x.loan.buffer ≢ reserve_of v) was.leaked.items (l ∷ []) common.leak_aside (step.aside, tt));
+          strays = common.strays;
+          entries = common.entries;
+          names = common.names;
           bound = common.bound;
         };
         goes = λ kept. record {
@@ -212,7 +250,6 @@ kept-left was rest leaked v step works common =
       },
       record {
         same = refl;
-        nothing = λ none. absurd (let e : Some l ≡ None = sym step.due ∙ none in cc);
         steps = λ _. omega (arith, steps);
         taken = refl;
         left = refl;

@@ -33,6 +33,7 @@ reaped-working st v works =
       split = works.split;
       live = works.live;
       keeps_first = works.keeps_first;
+      waits = works.waits;
     }
 
 reaped-common : (st : State) (v : AppView) → Common st v → Common (with_reaped st) v
@@ -51,6 +52,9 @@ reaped-common st v common = record {
   leaks = common.leaks;
   leak_room = common.leak_room;
   leak_aside = common.leak_aside;
+  strays = common.strays;
+  entries = common.entries;
+  names = common.names;
   bound = common.bound;
 }
 
@@ -131,12 +135,12 @@ stuck-at-once a b c u v w k l same lent =
 
 -- what reading that neither met a slot in use nor failed did
 pub drained : (keep : ℕ) (d e : State) (w x : AppView) (l m : ℕ → Option (List ℕ)) (f f1 : ℕ) (result : Drained) → result ≢ InUse
-    → result ≢ drain_quit → result ≢ drain_failed → d.due ≡ None → Working d w → Common d w → d.posted.entries ≡ []
-    → ReadsTo keep d e w x l m f f1 result → Through d e w x l m × (e.due ≡ None) × (length e.unread ≤ keep)
-drained keep d e w x l m f f1 drain_nothing free quit fail due works common reaped reads =
+    → result ≢ drain_quit → result ≢ drain_failed → d.due ≡ None → d.stray.left ≡ 0 → Working d w → Common d w → d.posted.entries ≡ []
+    → ReadsTo keep d e w x l m f f1 result → Through d e w x l m × (e.due ≡ None) × (length e.unread ≤ keep) × (e.stray.left ≡ 0)
+drained keep d e w x l m f f1 drain_nothing free quit fail due pushed works common reaped reads =
     let same = reads.0 in
-    rw (same.state, same.view, same.kept_is) (through-none d w l works common reaped, due, reads.1)
-drained keep d e w x l m f f1 drain_did free quit fail due works common reaped reads = (reads.0, reads.2, reads.3)
-drained keep d e w x l m f f1 InUse free quit fail due works common reaped reads = absurd (free refl)
-drained keep d e w x l m f f1 drain_quit free quit fail due works common reaped reads = absurd (quit refl)
-drained keep d e w x l m f f1 drain_failed free quit fail due works common reaped reads = absurd (fail refl)
+    rw (same.state, same.view, same.kept_is) (through-none d w l works common reaped, due, reads.1, pushed)
+drained keep d e w x l m f f1 drain_did free quit fail due pushed works common reaped reads = (reads.0, reads.2, reads.3, reads.4)
+drained keep d e w x l m f f1 InUse free quit fail due pushed works common reaped reads = absurd (free refl)
+drained keep d e w x l m f f1 drain_quit free quit fail due pushed works common reaped reads = absurd (quit refl)
+drained keep d e w x l m f f1 drain_failed free quit fail due pushed works common reaped reads = absurd (fail refl)

@@ -18,6 +18,7 @@ pub mod Resting
 pub mod Delivering
 pub mod Seeing
 pub mod Giving
+pub mod Pushing
 pub mod Oldest
 pub mod Shrinking
 pub mod Noting

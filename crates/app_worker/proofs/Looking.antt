@@ -139,6 +139,7 @@ ended-working st v mid works rest told = rw told.event (record {
   split = works.split;
   live = works.live;
   keeps_first = works.keeps_first;
+  waits = works.waits;
 })
 
 pub ended-common : (st : State) (v mid : AppView) → Common st v → ToldEnd v mid → Common (record st { ended = true }) mid
@@ -157,6 +158,9 @@ ended-common st v mid common told = rw told.event (record {
   leaks = common.leaks;
   leak_room = common.leak_room;
   leak_aside = common.leak_aside;
+  strays = common.strays;
+  entries = common.entries;
+  names = common.names;
   bound = common.bound;
 })
 
@@ -264,6 +268,7 @@ module _ (a b c : State) (u v w : AppView) (k : ℕ → Option (List ℕ)) (f : 
           loans = gone.loans;
           due = ap (λ (s : State). s.due) gone.same;
           leaked = ap (λ (s : State). s.leaked.items) gone.same;
+          none_left = gone.none_left;
           unread = ap (λ (s : State). s.unread) gone.same;
           flows = gone.ends;
           distinct = gone.distinct;
@@ -285,6 +290,9 @@ module _ (a b c : State) (u v w : AppView) (k : ℕ → Option (List ℕ)) (f : 
           leaks = gone.common.leaks;
           leak_room = gone.common.leak_room;
           leak_aside = gone.common.leak_aside;
+          strays = gone.common.strays;
+          entries = gone.common.entries;
+          names = gone.common.names;
           bound = gone.common.bound;
         })
         reaped-both (ap (λ (s : State). s.bare) gone.same);

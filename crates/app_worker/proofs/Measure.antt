@@ -3,8 +3,10 @@ use Rattle.std.proofs.Common.{◌≡◌, ℕ, ◌+◌, ◌≤◌, Bool, true, fa
 use Rattle.board_face.specs.declared.views.app.LentPiece.{LentPiece}
 use Rattle.board_face.specs.declared.views.app.AppView.{AppView}
 use Rattle.app_worker.specs.declared.stack.Lending.{Lending}
-use Rattle.app_worker.specs.Core.{over_due, over_read, read_out}
-use Rattle.app_worker.specs.State.{State, Working, Bare, Common, app_steps, furthest, one_if}
+use Rattle.std.proofs.Math.Nat.{mul-le-mul_left}
+use Rattle.std.proofs.Common.{◌*◌}
+use Rattle.app_worker.specs.Core.{total, over_due, over_read, read_out}
+use Rattle.app_worker.specs.State.{State, Working, Bare, Common, app_steps, furthest, taken_len, one_if}
 use Rattle.app_worker.proofs.Moving.{total-one}
 
 pub one-most : (b : Bool) → one_if b ≤ 1
@@ -19,15 +21,18 @@ pub due-most : (due : Option Lending) → over_due (λ _. 1) due ≤ 1
 due-most None = omega arith
 due-most (Some l) = omega arith
 
-pub working-within : (st : State) (v : AppView) → Working st v → Common st v → app_steps st v ≤ furthest v
+follow-within : (st : State) (v : AppView) → Common st v → st.how.stray * length v.returned ≤ st.how.stray * total taken_len v.taken
+follow-within st v common = mul-le-mul_left st.how.stray (omega (arith, common.bound))
+
+pub working-within : (st : State) (v : AppView) → Working st v → Common st v → app_steps st v ≤ furthest st.how.stray v
 working-within st v works common =
     let one : LentPiece → ℕ = λ _. 1 in
     let few : over_due one st.due + length st.leaked.items ≤ length v.loans = omega
     (arith, works.stands.tokens.loans one, total-one v.loans, read-one st.due st.leaked.items) in
     let due : over_due one st.due ≤ 1 = due-most st.due in
-    omega (arith, few, due, common.bound, one-most v.ended, one-most st.bare, one-most v.left)
+    omega (arith, few, due, follow-within st v common, common.bound, one-most v.ended, one-most st.bare, one-most v.left)
 
-pub bare-within : (st : State) (v : AppView) → Bare st v → Common st v → app_steps st v ≤ furthest v
+pub bare-within : (st : State) (v : AppView) → Bare st v → Common st v → app_steps st v ≤ furthest st.how.stray v
 bare-within st v bare common =
     let due : over_due (λ _. 1) st.due ≡ 0 = ap (over_due (λ _. 1)) bare.due in
-    omega (arith, due, ap length bare.leaked, common.bound, one-most v.ended, one-most st.bare, one-most v.left)
+    omega (arith, due, ap length bare.leaked, follow-within st v common, common.bound, one-most v.ended, one-most st.bare, one-most v.left)

@@ -1,7 +1,10 @@
 -- From one moment to a later one.
 use Rattle.std.proofs.Common.{◌≡◌, ◌≢◌, ◌+◌, false, List, [], ◌∷◌, ◌++◌, length, refl, sym, ap, subst, ◌∙◌, arith, append-nil, append_assoc}
 use Rattle.std.specs.Prelude.{◌==◌, if◌then◌else◌}
-use Rattle.area_layout.specs.Layout.{pool_buffers}
+use Rattle.std.proofs.Common.{ℕ, ◌*◌, ◌<◌, ◌≤◌, ◌+◌, Some}
+use Rattle.area_layout.specs.Layout.{pool_buffers, judged}
+use Rattle.board_face.specs.declared.views.app.WrittenEntry.{WrittenEntry}
+use Rattle.app_worker.specs.declared.stack.Stray.{Stray}
 use Rattle.board_face.specs.AppEvents.{reserve_of}
 use Rattle.board_face.specs.declared.views.parts.Setting.{Setting}
 use Rattle.board_face.specs.declared.views.app.LentPiece.{LentPiece}
@@ -12,7 +15,7 @@ use Rattle.board_face.specs.Looks.{AppLooksStay, app_looks, times, same_app_look
 use Rattle.board_face.specs.declared.views.app.AppLook.{AppLook}
 use Rattle.board_face.specs.declared.views.app.AppView.{AppView}
 use Rattle.app_worker.specs.Core.{total, Each}
-use Rattle.app_worker.specs.State.{State, returned_aside}
+use Rattle.app_worker.specs.State.{State, returned_aside, raw_entries, loan_entries}
 use Rattle.app_worker.specs.Moves.{Moves, KeepsLeaked}
 
 pub total-one : {A : Type 0} (xs : List A) → total (λ _. 1) xs ≡ length xs
@@ -59,6 +62,26 @@ leaked-then a b c (live, (more, are)) (_, (more_then, are_then)) = (
   live,
   (more ++ more_then, are_then ∙ ap (λ ls. ls ++ more_then) are ∙ append_assoc a.leaked.items more more_then),
 )
+
+-- ---- what follows loans
+
+pub strays-same : (most left : ℕ) (old new : AppView) → new.written ≡ old.written → raw_entries old + left ≤ most * loan_entries old
+    → raw_entries new + left ≤ most * loan_entries new
+strays-same most left old new written few = subst
+    (λ ws. total (λ (w : WrittenEntry). if w.of_loan then 0 else 1) ws + left ≤ most * total (λ (w : WrittenEntry). if w.of_loan then 1 else 0) ws)
+    (sym written) few
+
+pub entries-same : (old new : AppView) → new.written ≡ old.written → new.returned ≡ old.returned → loan_entries old ≤ length old.returned
+    → loan_entries new ≤ length new.returned
+entries-same old new written returned few = subst (λ ws. total (λ (w : WrittenEntry). if w.of_loan then 1 else 0) ws ≤ length new.returned) (sym written)
+    (omega (arith, few, ap length returned))
+
+pub names-same : (stray : Stray) (old new : AppView) → new.setting ≡ old.setting
+    → (0 < stray.left → judged old.setting.layout stray.entry ≡ Some stray.buffer) → 0 < stray.left → judged new.setting.layout stray.entry ≡ Some stray.buffer
+names-same stray old new setting names some = subst (λ (s : Setting). judged s.layout stray.entry ≡ Some stray.buffer) (sym setting) (names some)
+
+pub most-same : (most : ℕ) (old new : AppView) → new.returned ≡ old.returned → most * length new.returned ≡ most * length old.returned
+most-same most old new returned = ap (λ (ls : List LentPiece). most * length ls) returned
 
 -- ---- steps one after another
 

@@ -157,6 +157,7 @@ module _ (was : State) (old mid : AppView) (note : Note) (held : Place) (took : 
               aside-same old new (ap (λ (v : AppView). v.returned) view-in.view) setting
                   (ap (λ (v : AppView). v.app) view-in.view),
             ));
+            waits = works.waits;
           };
           common = common-noted was old new (taken_note note) view-in notes i index now bytes-in common;
           moves = moves-noted was old new (taken_note note) view-in notes i index now;

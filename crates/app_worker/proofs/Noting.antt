@@ -26,7 +26,7 @@ use Rattle.app_worker.proofs.Placing.{own-notes-other, own-notes-here, next_note
 use Rattle.app_worker.proofs.Standing.{At, split-at, each-map, each-join, each-left, each-right, is_number, number-is, total-changed, many-same}
 use Rattle.app_worker.proofs.Took.{get-last, set-last}
 use Rattle.app_worker.proofs.EachBoth.{each-both}
-use Rattle.app_worker.proofs.Moving.{looks-same, leaked-aside, same-leaked}
+use Rattle.app_worker.proofs.Moving.{looks-same, leaked-aside, same-leaked, strays-same, entries-same, names-same, most-same}
 
 -- ---- one flow
 
@@ -236,6 +236,9 @@ module _ (was : State) (old new : AppView) (t : TakenNote) (took : TookView old 
         leaks = common.leaks;
         leak_room = common.leak_room;
         leak_aside = leaked-aside was.leaked.items old new (ap (λ (v : AppView). v.setting) took.view) (ap (λ (v : AppView). v.app) took.view) common.leak_aside;
+        strays = strays-same was.how.stray was.stray.left old new (ap (λ (v : AppView). v.written) took.view) common.strays;
+        entries = entries-same old new (ap (λ (v : AppView). v.written) took.view) (ap (λ (v : AppView). v.returned) took.view) common.entries;
+        names = names-same was.stray old new (ap (λ (v : AppView). v.setting) took.view) common.names;
         bound = omega (
           arith,
           ap length (ap (λ (v : AppView). v.loans) took.view),
@@ -254,6 +257,7 @@ module _ (was : State) (old new : AppView) (t : TakenNote) (took : TookView old 
         longer,
         ap length (ap (λ (v : AppView). v.loans) took.view),
         ap length (ap (λ (v : AppView). v.returned) took.view),
+        most-same was.how.stray old new (ap (λ (v : AppView). v.returned) took.view),
         ap one_if (ap (λ (v : AppView). v.ended) took.view),
         ap one_if (ap (λ (v : AppView). v.left) took.view),
       )

@@ -29,7 +29,7 @@ use Rattle.app_worker.proofs.Entering.{marks-length}
 use Rattle.app_worker.proofs.ReadLemmas.{all-grow, read-append, marks-split}
 use Rattle.app_worker.proofs.Placing.{values-split, values-length}
 use Rattle.app_worker.proofs.EachBoth.{each-both}
-use Rattle.app_worker.proofs.Moving.{looks-same, no-write, aside-same, leaked-aside, same-leaked}
+use Rattle.app_worker.proofs.Moving.{looks-same, no-write, aside-same, leaked-aside, same-leaked, strays-same, entries-same, names-same, most-same}
 use Rattle.app_worker.proofs.Indexing.{index-set}
 use Rattle.app_worker.proofs.Resting.{rest-same, each-same}
 
@@ -116,7 +116,7 @@ with_read was i own bytes unread l written = record was {
 }
 
 module _ (was : State) (i : ℕ) (own : FlowQueue) (p : Completion × Lending) (ps : List (Completion × Lending)) (old new : AppView)
-    (unread : was.unread ≡ p ∷ ps) (due : was.due ≡ None) (within : i < length was.flows) (value : own ≡ get_or was.flows i own)
+    (unread : was.unread ≡ p ∷ ps) (due : was.due ≡ None) (pushed : was.stray.left ≡ 0) (within : i < length was.flows) (value : own ≡ get_or was.flows i own)
     (number : p.0.user_data ≡ own.number) (only : OnlyReads old new) (works : Working was old) (common : Common was old) where
   at : At was.flows i own
   at = split-at was.flows i own within value
@@ -171,6 +171,9 @@ module _ (was : State) (i : ℕ) (own : FlowQueue) (p : Completion × Lending) (
         leaks = common.leaks;
         leak_room = common.leak_room;
         leak_aside = leaked-aside was.leaked.items old new same_setting (ap (λ (v : AppView). v.app) only.view) common.leak_aside;
+        strays = strays-same was.how.stray was.stray.left old new (ap (λ (v : AppView). v.written) only.view) common.strays;
+        entries = entries-same old new (ap (λ (v : AppView). v.written) only.view) same_returned common.entries;
+        names = names-same was.stray old new same_setting common.names;
         bound = omega (
           arith,
           ap length (ap (λ (v : AppView). v.loans) only.view),
@@ -188,6 +191,7 @@ module _ (was : State) (i : ℕ) (own : FlowQueue) (p : Completion × Lending) (
     ap length (ap (λ (v : AppView). v.loans) only.view),
     ap length (ap (λ (v : AppView). v.returned) only.view),
     ap (over_due (λ _. 1)) due,
+    most-same was.how.stray old new same_returned,
     ap one_if (ap (λ (v : AppView). v.ended) only.view),
     ap one_if (ap (λ (v : AppView). v.left) only.view),
   )
@@ -227,6 +231,7 @@ module _ (was : State) (i : ℕ) (own : FlowQueue) (p : Completion × Lending) (
           split = works.split;
           live = works.live;
           keeps_first = λ some. works.keeps_first (omega (arith, some, aside-same old new same_returned same_setting (ap (λ (v : AppView). v.app) only.view)));
+          waits = λ some. absurd (omega (arith, some, pushed));
         };
         common = common-read (own.bytes + p.1.loan.len) written was.stopped (omega arith) (omega (arith, count)) quits;
         goes = record {

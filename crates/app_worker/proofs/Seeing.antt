@@ -21,6 +21,7 @@ working-saw st v look works = record {
   split = works.split;
   live = works.live;
   keeps_first = works.keeps_first;
+  waits = works.waits;
 }
 
 pub common-saw : (st : State) (v : AppView) (look : AppLook) → Common st v → Common st (app_saw v look)
@@ -39,6 +40,9 @@ common-saw st v look common = record {
   leaks = common.leaks;
   leak_room = common.leak_room;
   leak_aside = common.leak_aside;
+  strays = common.strays;
+  entries = common.entries;
+  names = common.names;
   bound = common.bound;
 }
 

@@ -17,6 +17,7 @@ use Rattle.board_face.specs.declared.views.app.AppView.{AppView}
 use Rattle.app_worker.specs.declared.stack.Piece.{Piece}
 use Rattle.app_worker.specs.declared.stack.Lending.{Lending}
 use Rattle.app_worker.specs.declared.stack.FlowQueue.{FlowQueue}
+use Rattle.app_worker.specs.declared.stack.Stray.{Stray}
 use Rattle.app_worker.specs.Marks.{Mark, marks_from, Numbered}
 use Rattle.app_worker.specs.Core.{total, IsIn, lent_piece, over_kept, marks_of_piece, marks_of_loan, received_note, received_notes, own_notes, BeginAt}
 use Rattle.app_worker.specs.Core.{lent_marks, placed_of, FlowStands, Each, many, over_read, read_out, HasTokens, Stands, OnlyReads, AreReadAt, IsReadOf}
@@ -199,11 +200,12 @@ stands-gave count flows posted l leaked old new stands step =
     }
 
 pub given-stands : (count : ℕ) (flows : List FlowQueue) (posted : List (Completion × Lending)) (due now : Option Lending)
-    (leaked : List Lending) (old new : AppView) (given : Bool) → Stands count flows posted (read_out due leaked) old → Given old new due now given
-    → Stands count flows posted (read_out now leaked) new
-given-stands count flows posted None now leaked old new given stands step = rw (step.0, step.1) stands
-given-stands count flows posted (Some l) now leaked old new true stands step = rw step.1 (stands-gave count flows posted l leaked old new stands step.0)
-given-stands count flows posted (Some l) now leaked old new false stands step = rw (step.0.event, step.1)
+    (leaked : List Lending) (most : ℕ) (stray stray_now : Stray) (old new : AppView) (given : Bool) → Stands count flows posted (read_out due leaked) old
+    → Given most old new due now stray stray_now given → Stands count flows posted (read_out now leaked) new
+given-stands count flows posted None now leaked most stray stray_now old new given stands step = rw (step.0, step.1) stands
+given-stands count flows posted (Some l) now leaked most stray stray_now old new true stands step = rw step.1
+    (stands-gave count flows posted l leaked old new stands step.0)
+given-stands count flows posted (Some l) now leaked most stray stray_now old new false stands step = rw (step.0.event, step.1)
     (stands-saw count flows posted (l ∷ leaked) old RefillInUse stands)
 
 -- ---- what is kept is out

@@ -178,8 +178,8 @@ by-mode : (b : Bool) (P Q R : Type 0) → MatchBool b P Q → (b ≡ true → P 
 by-mode true P Q R is first second = first refl is
 by-mode false P Q R is first second = second refl is
 
-pub stands-within : (st : State) (v : AppView) → AppStands st v → app_steps st v ≤ furthest v
-stands-within st v stands = by-mode st.bare (Bare st v) (Working st v) (app_steps st v ≤ furthest v) stands.mode
+pub stands-within : (st : State) (v : AppView) → AppStands st v → app_steps st v ≤ furthest st.how.stray v
+stands-within st v stands = by-mode st.bare (Bare st v) (Working st v) (app_steps st v ≤ furthest st.how.stray v) stands.mode
     (λ _ bare. bare-within st v bare stands.common)
     (λ _ works. working-within st v works stands.common)
 

@@ -9,7 +9,7 @@ use Rattle.app_worker.specs.declared.turning.Read.{Read}
 use Rattle.app_worker.specs.declared.turning.Read.TheVariants.{Did, NoneUnread, Quit, Failed}
 use Rattle.app_worker.specs.State.{State, Working, Common, Quits, Bare}
 use Rattle.app_worker.specs.Moves.{Moves, Goes}
-use Rattle.app_worker.specs.Whole.{GaveOne, ReadOne, ReadFailed, Reads}
+use Rattle.app_worker.specs.Whole.{GaveBack, ReadOne, ReadFailed, Reads}
 use Rattle.app_worker.specs.Letting.{LetGo}
 use Rattle.app_worker.specs.Stages.{Through, WriteStopped}
 use Rattle.app_worker.proofs.Moving.{moves-then, no-write as no-writes}
@@ -76,7 +76,7 @@ through-read was now old new kept kept_now reaped read = record {
 }
 
 pub through-gave : (was now : State) (old new : AppView) (kept : ℕ → Option (List ℕ)) → was.posted.entries ≡ [] → Working now new → Common now new
-    → Goes was now old new kept kept → GaveOne was now old new → Through was now old new kept kept
+    → Goes was now old new kept kept → GaveBack was now old new → Through was now old new kept kept
 through-gave was now old new kept reaped working common goes gave = record {
   working = working;
   common = common;
@@ -94,6 +94,7 @@ bare-of-gone was st old v other gone = record {
   loans = gone.loans;
   due = ap (λ (s : State). s.due) gone.same;
   leaked = ap (λ (s : State). s.leaked.items) gone.same;
+  none_left = gone.none_left;
   unread = ap (λ (s : State). s.unread) gone.same;
   flows = gone.ends;
   distinct = gone.distinct;
@@ -114,6 +115,7 @@ bare-stopped st v cause other was old gone = record {
   loans = gone.loans;
   due = ap (λ (s : State). s.due) gone.same;
   leaked = ap (λ (s : State). s.leaked.items) gone.same;
+  none_left = gone.none_left;
   unread = ap (λ (s : State). s.unread) gone.same;
   flows = gone.ends;
   distinct = gone.distinct;
@@ -143,6 +145,9 @@ common-stopped st v cause none other common = record {
   leaks = common.leaks;
   leak_room = common.leak_room;
   leak_aside = common.leak_aside;
+  strays = common.strays;
+  entries = common.entries;
+  names = common.names;
   bound = common.bound;
 }
 

@@ -1,8 +1,8 @@
 -- Tokens that are out, under the events of the face.
 use Rattle.std.proofs.Common.{◌≡◌, ℕ, suc, ◌+◌, ◌<◌, ◌≤◌, Bool, true, false, List, [], ◌∷◌, ◌++◌, map, refl, sym, ap, subst}
 use Rattle.std.proofs.Common.{◌∙◌, arith, ⊎_elim, inl, inr}
-use Rattle.std.specs.Prelude.{if◌then◌else◌, Contains, ◌==◌, ◌&&◌, ◌||◌, nat_le, nat_lt, ◌≢◌}
-use Rattle.std.proofs.lemmas.Bool.{cases_Bool, cases_lt, cases_eq, le-leb, lt-ltb, eq-eqb}
+use Rattle.std.specs.Prelude.{if◌then◌else◌, Contains, ◌==◌, ◌&&◌, nat_le, nat_lt}
+use Rattle.std.proofs.lemmas.Bool.{cases_Bool, le-leb, lt-ltb, eq-eqb}
 use Rattle.std.proofs.lemmas.Bool.Decides.{nat_tests}
 use Rattle.zr_kinds.specs.declared.place.Place.{Place}
 use Rattle.board_face.specs.Lists.{without, at_first, same_place}
@@ -14,6 +14,7 @@ use Rattle.board_face.specs.declared.views.app.HeldPiece.{HeldPiece}
 use Rattle.board_face.specs.declared.views.app.LentPiece.{LentPiece}
 use Rattle.board_face.specs.declared.views.app.AppView.{AppView}
 use Rattle.board_face.proofs.ListLemmas.{same_place-refl, same_place-is}
+use Rattle.area_layout.specs.Layout.{Shape, LiesIn, size_of, total as buffers_of}
 use Rattle.app_worker.specs.Core.{total, IsIn, has_at, is_odd, LieApart}
 
 -- ---- lists
@@ -59,29 +60,20 @@ has-first p some =
     let until : nat_lt p.offset (p.offset + p.len) ≡ true = lt-ltb p.offset (p.offset + p.len) (omega arith) in
     rw (b, from, until) refl
 
-pub even-bytes : (p : Place) → is_odd p ≡ 0 → (0 < p.len) × (p.len ≤ 65515)
-even-bytes p is = ⊎_elim
-    (λ (none : p.len ≡ 0). absurd (let test : (p.len == 0) ≡ true = eq-eqb p.len 0 none in let one : is_odd p
-    ≡ 1 = rw test refl in omega (arith, one, is)))
-    (λ (some : p.len ≢ 0). (
-      omega arith,
-      ⊎_elim
-          (λ (large : 65515 < p.len). absurd (let test : nat_lt 65515 p.len ≡ true = lt-ltb 65515 p.len large in let one : is_odd p
-          ≡ 1 = rw (test, or-true (p.len == 0)) refl in omega (arith, one, is)))
-          (λ (small : p.len ≤ 65515). small)
-          (cases_lt 65515 p.len),
-    ))
-    (cases_eq p.len 0)
-  where
-    or-true : (b : Bool) → b || true ≡ true
-    or-true true = refl
-    or-true false = refl
+pub even-bytes : (layout : Shape) (p : Place) → is_odd layout p ≡ 0 → (0 < p.len) × (p.len ≤ 65515)
+even-bytes layout p is = (grind (arith, nat_tests), grind (arith, nat_tests))
 
-pub some-bytes : (p : Place) → is_odd p ≡ 0 → 0 < p.len
-some-bytes p is = (even-bytes p is).0
+pub even-lies : (layout : Shape) (p : Place) → is_odd layout p ≡ 0 → LiesIn layout p
+even-lies layout p is = record { buffer = grind (arith, nat_tests); bytes = grind (arith, nat_tests) }
 
-pub not-odd : (p : Place) → 0 < p.len → p.len ≤ 65515 → is_odd p ≡ 0
-not-odd p some few = grind (arith, nat_tests)
+pub some-bytes : (layout : Shape) (p : Place) → is_odd layout p ≡ 0 → 0 < p.len
+some-bytes layout p is = (even-bytes layout p is).0
+
+pub not-odd : (layout : Shape) (p : Place) → 0 < p.len → p.len ≤ 65515 → LiesIn layout p → is_odd layout p ≡ 0
+not-odd layout p some few lies =
+    let buffer : p.buffer < buffers_of layout = lies.buffer in
+    let bytes : p.offset + p.len ≤ size_of layout p.buffer = lies.bytes in
+    grind (arith, nat_tests)
 
 pub has-cut : (b x : ℕ) (p : Place) (at : ℕ) → at ≤ p.len → has_at b x (front_place p at) + has_at b x (rest_place p at) ≡ has_at b x p
 has-cut b x p at within = grind (arith, nat_tests)
@@ -137,13 +129,19 @@ module _ (v : AppView) (lie : LieApart v) where
   loans-once b x = omega (arith, lie.once b x)
 
   pub held-some : (h : HeldPiece) → IsIn h v.helds → 0 < h.place.len
-  held-some h is = some-bytes h.place (omega (arith, in-total (λ h. is_odd h.place) h v.helds is, lie.some))
+  held-some h is = some-bytes v.setting.layout h.place (omega (arith, in-total (λ h. is_odd v.setting.layout h.place) h v.helds is, lie.some))
 
   pub held-few : (h : HeldPiece) → IsIn h v.helds → h.place.len ≤ 65515
-  held-few h is = (even-bytes h.place (omega (arith, in-total (λ h. is_odd h.place) h v.helds is, lie.some))).1
+  held-few h is = (even-bytes v.setting.layout h.place (omega (arith, in-total (λ h. is_odd v.setting.layout h.place) h v.helds is, lie.some))).1
+
+  pub held-lies : (h : HeldPiece) → IsIn h v.helds → LiesIn v.setting.layout h.place
+  held-lies h is = even-lies v.setting.layout h.place (omega (arith, in-total (λ h. is_odd v.setting.layout h.place) h v.helds is, lie.some))
+
+  pub loan-lies : (l : LentPiece) → IsIn l v.loans → LiesIn v.setting.layout l.place
+  loan-lies l is = even-lies v.setting.layout l.place (omega (arith, in-total (λ l. is_odd v.setting.layout l.place) l v.loans is, lie.some))
 
   pub loan-some : (l : LentPiece) → IsIn l v.loans → 0 < l.place.len
-  loan-some l is = some-bytes l.place (omega (arith, in-total (λ l. is_odd l.place) l v.loans is, lie.some))
+  loan-some l is = some-bytes v.setting.layout l.place (omega (arith, in-total (λ l. is_odd v.setting.layout l.place) l v.loans is, lie.some))
 
   -- a piece was given up
   pub record Released (h : HeldPiece) : Type 0 where
@@ -159,7 +157,7 @@ module _ (v : AppView) (lie : LieApart v) where
       record {
         apart = record {
           once = λ b x. omega (arith, lie.once b x, moved (λ h. has_at b x h.place));
-          some = omega (arith, lie.some, moved (λ h. is_odd h.place));
+          some = omega (arith, lie.some, moved (λ h. is_odd v.setting.layout h.place));
         };
         moved = moved;
         others = λ other there away. in-without (λ z. same_place h.place z.place) other v.helds there away;
@@ -193,10 +191,12 @@ module _ (v : AppView) (lie : LieApart v) where
           some = omega (
             arith,
             lie.some,
-            moved (λ h. is_odd h.place),
-            not-odd h.place some few,
-            not-odd (front_place h.place at) above (omega (arith, few)),
-            not-odd (rest_place h.place at) (omega arith) (omega (arith, few)),
+            moved (λ h. is_odd v.setting.layout h.place),
+            not-odd v.setting.layout h.place some few (held-lies h is),
+            not-odd v.setting.layout (front_place h.place at) above (omega (arith, few))
+                (let lies = held-lies h is in record { buffer = lies.buffer; bytes = omega (arith, lies.bytes, below) }),
+            not-odd v.setting.layout (rest_place h.place at) (omega arith) (omega (arith, few))
+                (let lies = held-lies h is in record { buffer = lies.buffer; bytes = omega (arith, lies.bytes, below) }),
           );
         };
         moved = moved;
@@ -228,7 +228,7 @@ module _ (v : AppView) (lie : LieApart v) where
         view = rw origin refl;
         apart = record {
           once = λ b x. omega (arith, lie.once b x, helds (λ h. has_at b x h.place), loans (λ l. has_at b x l.place));
-          some = omega (arith, lie.some, helds (λ h. is_odd h.place), loans (λ l. is_odd l.place), not-odd h.place some few);
+          some = omega (arith, lie.some, helds (λ h. is_odd v.setting.layout h.place), loans (λ l. is_odd v.setting.layout l.place), not-odd v.setting.layout h.place some few (held-lies h is));
         };
         helds = helds;
         loans = loans;
@@ -249,7 +249,7 @@ module _ (v : AppView) (lie : LieApart v) where
       record {
         apart = record {
           once = λ b x. omega (arith, lie.once b x, loans (λ l. has_at b x l.place));
-          some = omega (arith, lie.some, loans (λ l. is_odd l.place));
+          some = omega (arith, lie.some, loans (λ l. is_odd v.setting.layout l.place));
         };
         loans = loans;
         returned = rw origin refl;

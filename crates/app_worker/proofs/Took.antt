@@ -23,6 +23,7 @@ use Rattle.app_worker.specs.declared.stack.Piece.{Piece}
 use Rattle.app_worker.specs.declared.stack.Lending.{Lending}
 use Rattle.app_worker.specs.declared.stack.FlowQueue.{FlowQueue}
 use Rattle.app_worker.specs.Marks.{Mark}
+use Rattle.board_face.specs.declared.views.parts.Setting.{Setting}
 use Rattle.app_worker.specs.Core.{total, IsIn, LieApart, has_at, is_odd, held_piece, over_kept, marks_of_piece, received_note, own_notes, FlowStands, Each}
 use Rattle.app_worker.specs.Core.{many, HasTokens, Stands}
 use Rattle.app_worker.specs.Steps.{OnlyHelds, whole_piece}
@@ -76,12 +77,20 @@ is-took old mid note number held lie count took =
     ∙ ap (λ (p : Place). the_held p number) (sym took.place) in
     let helds : mid.helds ≡ old.helds ++ h ∷ [] = ap (λ (v : AppView). v.helds) took.event in
     let loans : mid.loans ≡ old.loans = ap (λ (v : AppView). v.loans) took.event in
+    let setting : mid.setting ≡ old.setting = ap (λ (v : AppView). v.setting) took.event in
     let moved : (f : HeldPiece → ℕ) → total f mid.helds
     ≡ total f old.helds + f h = λ f. omega (arith, ap (total f) helds, total-append f old.helds (h ∷ [])) in
     record {
       apart = record {
         once = λ b x. once b x (omega (arith, moved (λ h. has_at b x h.place))) (ap (total (λ l. has_at b x l.place)) loans);
-        some = omega (arith, moved (λ h. is_odd h.place), ap (total (λ l. is_odd l.place)) loans, lie.some, not-odd note.place took.some_bytes few);
+        some = subst (λ (s : Setting). total (λ h. is_odd s.layout h.place) mid.helds + total (λ l. is_odd s.layout l.place) mid.loans ≡ 0) (sym setting)
+            (omega (
+              arith,
+              moved (λ h. is_odd old.setting.layout h.place),
+              ap (total (λ l. is_odd old.setting.layout l.place)) loans,
+              lie.some,
+              not-odd old.setting.layout note.place took.some_bytes few took.lies,
+            ));
       };
       moved = λ f. omega (arith, moved f, ap f same);
       out = subst (λ k. IsIn k mid.helds) same (subst (IsIn h) (sym helds) (in-right h old.helds (h ∷ []) (inl refl)));

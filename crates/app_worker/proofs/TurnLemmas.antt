@@ -1,7 +1,7 @@
 -- A turn is made of its stages.
-use Rattle.std.proofs.Common.{◌≡◌, ◌≢◌, ℕ, ◌<◌, ◌≤◌, Bool, true, false, List, [], ◌∷◌, ◌++◌, Option, None, refl, sym, ap}
+use Rattle.std.proofs.Common.{◌≡◌, ◌≢◌, ℕ, ◌<◌, ◌≤◌, Bool, true, false, List, [], ◌∷◌, ◌++◌, Option, refl, sym, ap}
 use Rattle.std.proofs.Common.{subst, ◌∙◌, arith, inl, inr}
-use Rattle.std.specs.Prelude.{MatchBool, IsTrue}
+use Rattle.std.specs.Prelude.{MatchBool}
 use Rattle.zr_kinds.specs.declared.fault.Fault.TheVariants as fault
 use Rattle.zr_kinds.specs.declared.behaviour.Stopped.TheVariants as stop
 use Rattle.board_face.specs.AppCalls.{AppOnlySaw}
@@ -15,7 +15,7 @@ use Rattle.app_worker.specs.State.{State, Working, Common, Bare, AppStands, app_
 use Rattle.app_worker.specs.Moves.{Goes}
 use Rattle.zr_io.specs.Moved.{Rose}
 use Rattle.app_worker.specs.Turns.{Answers, IsAsBefore, MayPoll, look_of, Polled, Rests, Turns, TakesFew, turn_after}
-use Rattle.app_worker.specs.Whole.{GaveOne}
+use Rattle.app_worker.specs.Whole.{GaveBack}
 use Rattle.app_worker.specs.Stages.{Through, HasQuit, WriteStopped, Untouched}
 use Rattle.app_worker.proofs.Moving.{moves-then, no-write, quit-no-write}
 use Rattle.app_worker.proofs.Through.{goes-then}
@@ -260,26 +260,34 @@ begins-through was mid old midv k l f f1 works here through steps later = record
   later = later;
 }
 
--- a loan that was due was given back, or none was due
-pub turns-given : (was mid now : State) (old midv new : AppView) (k m : ℕ → Option (List ℕ)) (f f2 : ℕ) (turn : Turn) (due : Bool)
-    → (IsTrue due → was.due ≢ None) → (¬ IsTrue due → was.due ≡ None) → Working was old → old.left ≡ false → Working mid midv
-    → Goes was mid old midv k k → GaveOne was mid old midv
-    → Turns mid now midv new k m f f2 turn → Turns was now old new k m f f2 (turn_after due turn)
-turns-given was mid now old midv new k m f f2 turn true some none works here then goes gave turns =
-    turns-later was mid now old midv new k k m f f f2 turn (record {
-      live = works.live;
-      going = works.going;
-      split = works.split;
-      here = here;
-      still = then.live;
-      still_going = then.going;
-      goes = goes;
-      steps = gave.steps (some refl);
-      taken = gave.taken;
-      left = gave.left;
-      later = omega arith;
-    }) turns
-turns-given was mid now old midv new k m f f2 turn false some none works here then goes gave turns =
-    let nothing : was.due ≡ None = none (λ is. absurd (cc)) in
-    let none = gave.nothing nothing in
-    turns-at-once was mid now old midv new k k m f f f2 turn (record { state = none.0; view = none.1; kept_is = refl }) (omega arith) turns
+-- what was due was given back
+pub begins-gave : (was mid : State) (old midv : AppView) (k : ℕ → Option (List ℕ)) (f : ℕ) → Working was old → old.left ≡ false → Working mid midv
+    → Goes was mid old midv k k → GaveBack was mid old midv → Begins was mid old midv k k f f
+begins-gave was mid old midv k f works here then goes gave = record {
+  live = works.live;
+  going = works.going;
+  split = works.split;
+  here = here;
+  still = then.live;
+  still_going = then.going;
+  goes = goes;
+  steps = gave.steps;
+  taken = gave.taken;
+  left = gave.left;
+  later = omega arith;
+}
+
+-- and a refill slot is in use before the end of it
+pub turns-gave : (was mid : State) (old midv : AppView) (k : ℕ → Option (List ℕ)) (f : ℕ) → Working was old → was.posted.entries ≡ [] → Working mid midv
+    → Common mid midv → Goes was mid old midv k k → GaveBack was mid old midv → Turns was mid old midv k k f f Did
+turns-gave was mid old midv k f works reaped then common goes gave = record {
+  stands = stands-working mid midv then common (ap (λ (s : State). s.posted.entries) gave.same ∙ reaped);
+  goes = goes;
+  answer = gave.steps;
+  few = inl gave.taken;
+  here = λ _. gave.left;
+  polled = no-poll was mid old midv gave.taken;
+  none = λ _ e. absurd (cc);
+  cause = λ _ is. absurd (no-write mid.stopped then.going is);
+  rests = no-rest was mid old midv k k works.live;
+}

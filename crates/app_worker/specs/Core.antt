@@ -1,7 +1,8 @@
 -- What an application keeps between its turns, and how that stands to what its face has seen: for split pieces.
-use Rattle.std.specs.Prelude.{◌≡◌, ℕ, ◌+◌, ◌-◌, ◌≤◌, nat_lt, nat_le, ◌==◌, ◌&&◌, ◌||◌, ◌⊎◌, false, if◌then◌else◌}
+use Rattle.std.specs.Prelude.{◌≡◌, ℕ, ◌+◌, ◌-◌, ◌≤◌, nat_lt, nat_le, ◌==◌, ◌&&◌, ◌||◌, ◌⊎◌, Bool, false, if◌then◌else◌}
 use Rattle.std.specs.Prelude.{List, [], ◌∷◌, ◌++◌, length, Option, Some, None}
 use Rattle.zr_kinds.specs.declared.place.Place.{Place}
+use Rattle.area_layout.specs.Layout.{Shape, size_of, total as buffers_of}
 use Rattle.zr_kinds.specs.declared.ring.Completion.{Completion}
 use Rattle.zr_kinds.specs.CopyingReceiver.{Placed, nothing_placed, next_missing, lead, accepts, filled, value_at, values_from}
 use Rattle.tcp_reorder.specs.Queue.{Queue}
@@ -34,14 +35,18 @@ IsIn x (y ∷ ys) = (y ≡ x) ⊎ IsIn x ys
 abbrev pub has_at : ℕ → ℕ → Place → ℕ
 has_at b x p = if (p.buffer == b) && (nat_le p.offset x && nat_lt x (p.offset + p.len)) then 1 else 0
 
--- 1 where the place has no byte, or more than a frame
-abbrev pub is_odd : Place → ℕ
-is_odd p = if (p.len == 0) || nat_lt 65515 p.len then 1 else 0
+-- the place doesn't lie in one buffer of the area
+abbrev pub lies_out : Shape → Place → Bool
+lies_out layout p = nat_le (buffers_of layout) p.buffer || nat_lt (size_of layout p.buffer) (p.offset + p.len)
 
--- Each byte of a buffer lies in one piece or loan at most, and each of these has 1 to 65,515 bytes.
+-- 1 where the place has no byte, or more than a frame, or doesn't lie in one buffer
+abbrev pub is_odd : Shape → Place → ℕ
+is_odd layout p = if (p.len == 0) || (nat_lt 65515 p.len || lies_out layout p) then 1 else 0
+
+-- Each byte of a buffer lies in one piece or loan at most, and each of these has 1 to 65,515 bytes in one buffer.
 pub record LieApart (v : AppView) : Type 0 where
   pub once : (b x : ℕ) → total (λ h. has_at b x h.place) v.helds + total (λ l. has_at b x l.place) v.loans ≤ 1
-  pub some : total (λ h. is_odd h.place) v.helds + total (λ l. is_odd l.place) v.loans ≡ 0
+  pub some : total (λ h. is_odd v.setting.layout h.place) v.helds + total (λ l. is_odd v.setting.layout l.place) v.loans ≡ 0
 
 -- ---- tokens
 

@@ -27,6 +27,7 @@ new_state app places how = record {
   posted = ring [] places;
   due = None;
   leaked = buffer [] how.leak;
+  stray = record { entry = record { off = 0; len = 0; pad = 0 }; buffer = 0; left = 0 };
   written = 0;
   loans = 0;
   stopped = if is_nothing how.quit then Quit else No;
@@ -42,6 +43,7 @@ pub record IsFresh (app : ℕ) (v : AppView) : Type 0 where
   pub owns : v.owns ≡ []
   pub loans : v.loans ≡ []
   pub returned : v.returned ≡ []
+  pub written : v.written ≡ []
   pub taken : v.taken ≡ []
   pub spares : v.spares ≡ 0
   pub ended : v.ended ≡ false

@@ -44,5 +44,6 @@ pub record LetGo (was now : State) (old new : AppView) : Type 0 where
   pub steps : app_steps was old < app_steps now new
   pub shelved : KeepsShelves was now old new
   pub fronts : (first kept : ℕ → Option (List ℕ)) → AreFronts first kept was.flows old → AreFronts first kept now.flows new
+  pub none_left : now.stray.left ≡ 0
   pub taken : new.taken ≡ old.taken
   pub left : new.left ≡ old.left

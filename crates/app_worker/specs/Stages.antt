@@ -64,7 +64,7 @@ abbrev pub ReadsTo : ℕ → State → State → AppView → AppView → (ℕ �
     → Type 0
 ReadsTo keep was now old new kept kept_now faults faults_now read_nothing = Untouched was now old new kept kept_now × (length was.unread ≤ keep)
 ReadsTo keep was now old new kept kept_now faults faults_now read_some = Through was now old new kept kept_now × (app_steps was old < app_steps now new)
-    × (now.due ≡ None) × (length now.unread ≤ keep)
+    × (now.due ≡ None) × (length now.unread ≤ keep) × (now.stray.left ≡ 0)
 ReadsTo keep was now old new kept kept_now faults faults_now InUse = Through was now old new kept kept_now × (app_steps was old < app_steps now new)
 ReadsTo keep was now old new kept kept_now faults faults_now read_quit = HasQuit was now old new kept kept_now
 ReadsTo keep was now old new kept kept_now faults faults_now read_failed = WriteStopped was now old new kept kept_now faults faults_now

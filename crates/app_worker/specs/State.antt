@@ -10,7 +10,7 @@ use Rattle.zr_kinds.specs.declared.behaviour.Stopped.{Stopped}
 use Rattle.zr_kinds.specs.declared.behaviour.Stopped.TheVariants.{No, Quit}
 use Rattle.zr_kinds.specs.declared.ring.Completion.{Completion}
 use Rattle.zr_kinds.specs.CopyingReceiver.{next_missing}
-use Rattle.area_layout.specs.Layout.{Shape, off_of}
+use Rattle.area_layout.specs.Layout.{Shape, off_of, judged}
 use Rattle.circular_buffer.specs.Buffer.{Buffer}
 use Rattle.completion_ring.specs.Ring.{Ring}
 use Rattle.tcp_reorder.specs.Queue.{next_of}
@@ -19,6 +19,7 @@ use Rattle.board_face.specs.declared.views.app.HeldPiece.{HeldPiece}
 use Rattle.board_face.specs.declared.views.app.TakenNote.{TakenNote}
 use Rattle.board_face.specs.declared.views.app.AppView.{AppView}
 use Rattle.app_worker.specs.declared.stack.Lending.{Lending}
+use Rattle.app_worker.specs.declared.stack.Stray.{Stray}
 use Rattle.app_worker.specs.declared.stack.FlowQueue.{FlowQueue}
 use Rattle.app_worker.specs.Core.{total, Each, many, over_due, read_out, own_notes, BeginAt, placed_of, Stands}
 
@@ -40,6 +41,8 @@ pub record State : Type 0 where
   pub due : Option Lending
   -- those that are kept to the end
   pub leaked : Buffer Lending
+  -- the entries that still follow the loan that was given back last
+  pub stray : Stray
   pub written : ℕ
   pub loans : ℕ
   pub stopped : Stopped
@@ -98,6 +101,8 @@ pub record Working (st : State) (v : AppView) : Type 0 where
   pub live : st.bare ≡ false
   -- a loan is given back only once as many are kept as are to be, those in the reserve aside
   pub keeps_first : 0 < returned_aside v → length st.leaked.items ≡ st.how.leak
+  -- no other loan is due before the entries that follow one are written
+  pub waits : 0 < st.stray.left → st.due ≡ None
 
 -- ---- once it has stopped, or has read all
 
@@ -112,6 +117,7 @@ pub record Bare (st : State) (v : AppView) : Type 0 where
   pub loans : v.loans ≡ []
   pub due : st.due ≡ None
   pub leaked : st.leaked.items ≡ []
+  pub none_left : st.stray.left ≡ 0
   pub unread : st.unread ≡ []
   pub flows : Each (FlowEnds v.taken) st.flows
   pub distinct : (number : ℕ) → many number st.flows ≤ 1
@@ -141,6 +147,13 @@ abbrev pub wanted_of : Option ℕ → ℕ → ℕ → ℕ
 wanted_of None written len = len
 wanted_of (Some bytes) written len = min len (bytes - written)
 
+-- the refill entries that were written: raw, and of loans
+abbrev pub raw_entries : AppView → ℕ
+raw_entries v = total (λ w. if w.of_loan then 0 else 1) v.written
+
+abbrev pub loan_entries : AppView → ℕ
+loan_entries v = total (λ w. if w.of_loan then 1 else 0) v.written
+
 pub record Common (st : State) (v : AppView) : Type 0 where
   pub app : v.app ≡ st.app
   pub ended : v.ended ≡ st.ended
@@ -157,6 +170,10 @@ pub record Common (st : State) (v : AppView) : Type 0 where
   pub leaks : length st.leaked.items ≤ st.how.leak
   pub leak_room : st.leaked.capacity ≡ st.how.leak
   pub leak_aside : Each (λ l. l.loan.buffer ≢ reserve_of v) st.leaked.items
+  -- at most so many raw entries are written as may follow the loans that were given back
+  pub strays : raw_entries v + st.stray.left ≤ st.how.stray * loan_entries v
+  pub entries : loan_entries v ≤ length v.returned
+  pub names : 0 < st.stray.left → judged v.setting.layout st.stray.entry ≡ Some st.stray.buffer
   -- each loan was of a byte that was taken, and is of one that it doesn't hold any more
   pub bound : length v.loans + length v.returned + total held_len v.helds ≤ total taken_len v.taken
 
@@ -175,8 +192,8 @@ one_if b = if b then 1 else 0
 -- raises it, and none lowers it.
 abbrev pub app_steps : State → AppView → ℕ
 app_steps st v = length v.taken + length v.loans + 4 * length v.returned + over_due (λ _. 1) st.due + 2 * length st.leaked.items + one_if v.ended
-    + one_if st.bare + one_if v.left
+    + one_if st.bare + one_if v.left + (st.how.stray * length v.returned - st.stray.left)
 
--- it goes no further than the notes that were taken, and their bytes, let it
-abbrev pub furthest : AppView → ℕ
-furthest v = length v.taken + 4 * total taken_len v.taken + 4
+-- it goes no further than the notes that were taken, their bytes, and the entries that may follow each, let it
+abbrev pub furthest : ℕ → AppView → ℕ
+furthest stray v = length v.taken + 4 * total taken_len v.taken + stray * total taken_len v.taken + 4

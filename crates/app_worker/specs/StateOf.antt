@@ -15,6 +15,7 @@ state_of st = record {
   posted = st.posted;
   due = st.due;
   leaked = st.leaked;
+  stray = st.stray;
   written = st.written;
   loans = st.loans;
   stopped = st.stopped;

@@ -1,5 +1,5 @@
 -- What each step of the core does.
-use Rattle.std.specs.Prelude.{◌≡◌, ◌≢◌, ℕ, ◌+◌, ◌<◌, ◌≤◌, Bool, true, false, [], ◌∷◌, ◌++◌, Option, Some, None, length}
+use Rattle.std.specs.Prelude.{List, zero, suc, ◌≡◌, ◌≢◌, ℕ, ◌+◌, ◌<◌, ◌≤◌, Bool, true, false, [], ◌∷◌, ◌++◌, Option, Some, None, length}
 use Rattle.zr_kinds.specs.declared.place.Place.{Place}
 use Rattle.board_face.specs.Texts.{front_place, rest_place}
 use Rattle.board_face.specs.declared.views.app.HeldPiece.{HeldPiece}
@@ -14,9 +14,16 @@ use Rattle.tcp_reorder.specs.Gaps.{LosesFirst}
 use Rattle.circular_buffer.specs.Buffer.{Buffer, buffer}
 use Rattle.completion_ring.specs.Ring.{Ring, ring, IsFull}
 use Rattle.board_face.specs.AppCalls.{AppOnlySaw}
-use Rattle.board_face.specs.AppEvents.{gave}
+use Rattle.area_layout.specs.Layout.{Shape, judged}
+use Rattle.zr_kinds.specs.declared.ring.Rqe.{Rqe}
+use Rattle.board_face.specs.Looks.{AppLooksStay}
+use Rattle.board_face.specs.declared.views.app.WrittenEntry.{WrittenEntry}
+use Rattle.board_face.specs.AppEvents.{gave, entry_of}
 use Rattle.board_face.specs.declared.views.app.AppLook.TheVariants.{RawOnItsWay, RefillInUse}
 use Rattle.app_worker.specs.declared.stack.FlowQueue.{FlowQueue}
+use Rattle.app_worker.specs.declared.stack.Stray.{Stray}
+use Rattle.app_worker.specs.declared.reading.Pushed.{Pushed}
+use Rattle.app_worker.specs.declared.reading.Pushed.TheVariants.{Nothing, All, Part, InUse}
 use Rattle.app_worker.specs.declared.stack.Delivery.{Delivery}
 use Rattle.app_worker.specs.declared.stack.Delivery.TheVariants.{Did, NoneInOrder, Full, Unsettled}
 use Rattle.app_worker.specs.Core.{total, IsIn, LieApart, held_piece, lent_piece}
@@ -99,11 +106,38 @@ pub record Gave (old new : AppView) (lending : Lending) : Type 0 where
   pub loans : (f : LentPiece → ℕ) → total f new.loans + f (lent_piece lending) ≡ total f old.loans
   pub returned : new.returned ≡ old.returned ++ lent_piece lending ∷ []
 
+-- the entries that are to follow a loan: so many times its own
+pub record IsToFollow (layout : Shape) (lending : Lending) (most : ℕ) (stray : Stray) : Type 0 where
+  pub is : stray ≡ record { entry = entry_of layout lending.loan; buffer = lending.loan.buffer; left = most }
+  pub names : judged layout stray.entry ≡ Some stray.buffer
+
 -- what was due is given back, or the next refill slot was seen in use
-abbrev pub Given : AppView → AppView → Option Lending → Option Lending → Bool → Type 0
-Given old new None due given = (new ≡ old) × (due ≡ None) × (given ≡ true)
-Given old new (Some lending) due true = Gave old new lending × (due ≡ None)
-Given old new (Some lending) due false = AppOnlySaw RefillInUse old new × (due ≡ Some lending)
+abbrev pub Given : ℕ → AppView → AppView → Option Lending → Option Lending → Stray → Stray → Bool → Type 0
+Given most old new None due was now given = (new ≡ old) × (due ≡ None) × (now ≡ was) × (given ≡ true)
+Given most old new (Some lending) due was now true = Gave old new lending × (due ≡ None) × IsToFollow old.setting.layout lending most now
+Given most old new (Some lending) due was now false = AppOnlySaw RefillInUse old new × (due ≡ Some lending) × (now ≡ was)
+
+-- ---- what follows a loan that was given back
+
+-- so many raw entries
+abbrev pub raw_copies : ℕ → Rqe → List WrittenEntry
+raw_copies zero entry = []
+raw_copies (suc n) entry = record { entry = entry; of_loan = false } ∷ raw_copies n entry
+
+-- Some of the entries that were left were written, and others dropped.
+pub record PushedSome (old new : AppView) (was now : Stray) : Type 0 where
+  pub view : new ≡ record old { settled = new.settled; quiet = new.quiet; written = new.written; looks = new.looks }
+  pub count : ℕ
+  pub written : new.written ≡ old.written ++ raw_copies count was.entry
+  pub same : now ≡ record was { left = now.left }
+  pub fits : count + now.left ≤ was.left
+  pub looks : AppLooksStay old new
+
+abbrev pub Pushes : AppView → AppView → Stray → Stray → Pushed → Type 0
+Pushes old new was now Nothing = (new ≡ old) × (now ≡ was) × (was.left ≡ 0)
+Pushes old new was now All = PushedSome old new was now × (now.left ≡ 0) × (0 < was.left)
+Pushes old new was now Part = PushedSome old new was now × (now.left < was.left)
+Pushes old new was now InUse = AppOnlySaw RefillInUse old new × (now ≡ was)
 
 -- ---- keeping to the end
 

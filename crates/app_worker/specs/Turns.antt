@@ -33,10 +33,12 @@ look_of NotQuiet = not_quiet
 
 -- ---- when a note may be taken
 
--- No piece of any flow is in order, each loan that was read was given back, and few enough completions are unread.
+-- No piece of any flow is in order, each loan that was read was given back or is kept, each entry that
+-- follows one was written, and few enough completions are unread.
 pub record MayPoll (st : State) : Type 0 where
   pub in_order : Each IsAtRest st.flows
   pub given : st.due ≡ None
+  pub none_left : st.stray.left ≡ 0
   pub posted : st.posted.entries ≡ []
   pub unread : length st.unread ≤ st.how.hold
 

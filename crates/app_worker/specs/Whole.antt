@@ -16,6 +16,10 @@ use Rattle.app_worker.specs.declared.stack.Delivery.{Delivery}
 use Rattle.app_worker.specs.declared.stack.Delivery.TheVariants.{Did as lent_it, NoneInOrder, Full, Unsettled}
 use Rattle.app_worker.specs.declared.turning.Read.{Read}
 use Rattle.app_worker.specs.declared.turning.Read.TheVariants.{Did as read_it, NoneUnread, Quit, Failed}
+use Rattle.app_worker.specs.declared.reading.Pushed.{Pushed}
+use Rattle.app_worker.specs.declared.reading.Pushed.TheVariants.{Nothing as pushed_nothing, All as pushed_all, Part as pushed_part, InUse as pushed_none}
+use Rattle.app_worker.specs.declared.straying.Gave.{Gave}
+use Rattle.app_worker.specs.declared.straying.Gave.TheVariants.{Nothing as nothing_given, Did as given, Part as given_in_part, InUse as given_none}
 use Rattle.app_worker.specs.declared.turning.Taken.{Taken}
 use Rattle.app_worker.specs.declared.turning.Taken.TheVariants.{Did as took, Short, NoNote, Ended, Memory}
 use Rattle.app_worker.specs.Core.{total, HasTokens, Each, many, AreReadAt, placed_of}
@@ -59,10 +63,9 @@ Lends was now old new Unsettled = (now ≡ was) × AppOnlySaw RawOnItsWay old ne
 
 -- ---- giving back
 
--- nothing is due any more: what was is given back, or kept to the end
+-- nothing is due any more: what was is given back, and entries are to follow it, or it is kept to the end
 pub record GaveOne (was now : State) (old new : AppView) : Type 0 where
-  pub same : now ≡ record was { due = None; leaked = now.leaked }
-  pub nothing : was.due ≡ None → (now ≡ was) × (new ≡ old)
+  pub same : now ≡ record was { due = None; leaked = now.leaked; stray = now.stray }
   pub steps : was.due ≢ None → app_steps was old < app_steps now new
   pub taken : new.taken ≡ old.taken
   pub left : new.left ≡ old.left
@@ -70,6 +73,25 @@ pub record GaveOne (was now : State) (old new : AppView) : Type 0 where
 abbrev pub Gives : State → State → AppView → AppView → Bool → Type 0
 Gives was now old new true = GaveOne was now old new
 Gives was now old new false = (now ≡ was) × (was.due ≢ None) × AppOnlySaw RefillInUse old new
+
+-- loans were given back or kept, and entries written
+pub record GaveBack (was now : State) (old new : AppView) : Type 0 where
+  pub same : now ≡ record was { due = now.due; leaked = now.leaked; stray = now.stray }
+  pub steps : app_steps was old < app_steps now new
+  pub taken : new.taken ≡ old.taken
+  pub left : new.left ≡ old.left
+
+abbrev pub PushesLeft : State → State → AppView → AppView → Pushed → Type 0
+PushesLeft was now old new pushed_nothing = (now ≡ was) × (new ≡ old) × (was.stray.left ≡ 0)
+PushesLeft was now old new pushed_all = GaveBack was now old new × (now ≡ record was { stray = now.stray }) × (0 < was.stray.left) × (now.stray.left ≡ 0)
+PushesLeft was now old new pushed_part = GaveBack was now old new × (now ≡ record was { stray = now.stray })
+PushesLeft was now old new pushed_none = (now ≡ was) × AppOnlySaw RefillInUse old new
+
+abbrev pub GivesBack : State → State → AppView → AppView → Gave → Type 0
+GivesBack was now old new nothing_given = (now ≡ was) × (new ≡ old) × (was.due ≡ None) × (was.stray.left ≡ 0)
+GivesBack was now old new given = GaveBack was now old new × (now.due ≡ None) × (now.stray.left ≡ 0)
+GivesBack was now old new given_in_part = GaveBack was now old new
+GivesBack was now old new given_none = (now ≡ was) × AppOnlySaw RefillInUse old new
 
 -- ---- reading
 

@@ -97,6 +97,7 @@ pub fn let_go<F: AppFace>(face: &mut F, st: &mut Stack)
     requires common { Common (state_of st.old) (F.seen face.old) }
     requires reaped { st.old.posted.entries ≡ [] }
     requires not_yet { st.old.bare ≡ false }
+    requires pushed { st.old.stray.left ≡ 0 }
     ensures done { LetGo (state_of st.old) (state_of st.new) (F.seen face.old) (F.seen face.new) }
     ensures beside { F.beside face.new ≡ F.beside face.old }
 {

@@ -6,6 +6,7 @@ mod reading;
 mod stack;
 mod stages;
 mod state;
+mod straying;
 mod turn;
 mod turning;
 mod working;

@@ -1,17 +1,19 @@
 //! A loan is read, and what was read is appended; and a loan is given back.
-ghost use Rattle.std.specs.Prelude.{◌≡◌, false, ◌≢◌, ℕ, ◌+◌, ◌-◌, ◌^◌, ◌<◌, ◌≤◌, List, length, IfSome, OnOk, OnErr, MatchBool};
+ghost use Rattle.std.specs.Prelude.{◌≡◌, false, ◌≢◌, ℕ, ◌+◌, ◌-◌, ◌^◌, ◌<◌, ◌≤◌, List, length, IfSome, OnOk, OnErr, MatchBool, Some, ◌⊎◌};
+ghost use Rattle.area_layout.specs.Layout.{judged};
 ghost use Rattle.std.specs.Io.KnownBytes.{Keeps};
 ghost use Rattle.zr_io.specs.Moved.{Gained, Rose};
-ghost use Rattle.board_face.specs.AppCalls.{IsHere};
+ghost use Rattle.board_face.specs.AppCalls.{IsHere, AppOnlySaw};
 ghost use Rattle.app_worker.specs.Core.{LieApart, IsIn, lent_piece, OnlyReads, IsReadOf};
-ghost use Rattle.board_face.specs.AppEvents.{app_gist};
+ghost use Rattle.board_face.specs.AppEvents.{app_gist, pushed_raw};
 ghost use Rattle.board_face.specs.declared.views.app.AppLook.TheVariants.{RefillInUse};
-ghost use Rattle.app_worker.specs.Steps.{Given, KeptDue, NotKept};
+ghost use Rattle.app_worker.specs.Steps.{Given, KeptDue, NotKept, Pushes};
 
-use crate::stack::Lending;
+use crate::stack::{Lending, Stray};
 use board_face::AppFace;
 use circular_buffer::HeapCircularBuffer;
 use zr_io::{Failed, Shelf};
+use zr_kinds::Rqe;
 
 /// How many bytes are read at once.
 const CHUNK: u32 = 4096;
@@ -85,24 +87,94 @@ pub fn keep_due(
 }
 
 /// Gives a loan back that is due, if there is one: whether there is none any more. `false` says that the next refill
-/// slot was seen in use.
-pub fn give_due<F: AppFace>(face: &mut F, due: &mut Option<Lending>) -> bool
+/// slot was seen in use. `most` further entries are to follow it.
+pub fn give_due<F: AppFace>(
+    face: &mut F,
+    due: &mut Option<Lending>,
+    most: u32,
+    stray: &mut Stray,
+) -> bool
     requires here { IsHere (F.seen face.old) }
     requires apart { LieApart (F.seen face.old) }
     requires out { IfSome due.old (λ l. IsIn (lent_piece l) (F.seen face.old).loans) }
-    ensures given { Given (F.seen face.old) (F.seen face.new) due.old due.new result }
+    ensures given { Given most (F.seen face.old) (F.seen face.new) due.old due.new stray.old stray.new result }
     ensures told { result ≡ false → F.tells RefillInUse (app_gist (F.seen face.new)) (F.beside face.new) }
     ensures beside { F.beside face.new ≡ F.beside face.old }
 {
     let Some(lending) = due.take() else {
         return true;
     };
+    let place = lending.loan.place();
+    let entry = Rqe {
+        off: face.off(&place),
+        len: place.len,
+        pad: 0,
+    };
+    let _size = face.size();
     let Lending { note, at, loan } = lending;
     match face.give(loan) {
-        Ok(()) => true,
+        Ok(()) => {
+            *stray = Stray {
+                entry,
+                buffer: place.buffer,
+                left: most,
+            };
+            true
+        }
         Err(loan) => {
             *due = Some(Lending { note, at, loan });
             false
         }
     }
+}
+
+/// What writing the entries that follow a loan did.
+#[derive(Clone, Copy, Debug, PartialEq, Eq)]
+pub enum Pushed {
+    /// None was left.
+    Nothing,
+    /// All that were left were written, or dropped.
+    All,
+    /// Some were, and then the next refill slot was seen in use.
+    Part,
+    /// The next refill slot was seen in use at once.
+    InUse,
+}
+
+/// Writes an entry once more, or drops it where a loan in its buffer is out. `false` says that the next refill slot was
+/// seen in use.
+fn push_stray<F: AppFace>(face: &mut F, stray: &Stray) -> bool
+    requires here { IsHere (F.seen face.old) }
+    requires counted { (F.seen face.old).scrubbed ≡ false }
+    requires names { judged (F.seen face.old).setting.layout stray.now.entry ≡ Some stray.now.buffer }
+    ensures view { MatchBool result
+        ((F.seen face.new ≡ F.seen face.old) ⊎ (F.seen face.new ≡ pushed_raw (F.seen face.old) stray.now.entry))
+        (AppOnlySaw RefillInUse (F.seen face.old) (F.seen face.new)) }
+    ensures told { result ≡ false → F.tells RefillInUse (app_gist (F.seen face.new)) (F.beside face.new) }
+    ensures beside { F.beside face.new ≡ F.beside face.old }
+{
+    if face.live(stray.buffer) {
+        return true;
+    }
+    face.push_raw(stray.entry).is_ok()
+}
+
+/// Writes the entries that are left. One is dropped where a loan in its buffer is out.
+pub fn push_strays<F: AppFace>(face: &mut F, stray: &mut Stray) -> Pushed
+    requires here { IsHere (F.seen face.old) }
+    requires counted { (F.seen face.old).scrubbed ≡ false }
+    requires names { 0 < stray.old.left → judged (F.seen face.old).setting.layout stray.old.entry ≡ Some stray.old.buffer }
+    ensures pushes { Pushes (F.seen face.old) (F.seen face.new) stray.old stray.new result }
+    ensures told { result ≡ Pushed.InUse → F.tells RefillInUse (app_gist (F.seen face.new)) (F.beside face.new) }
+    ensures beside { F.beside face.new ≡ F.beside face.old }
+{
+    let mut did = false;
+    while stray.left > 0 {
+        if !push_stray(face, stray) {
+            return if did { Pushed::Part } else { Pushed::InUse };
+        }
+        stray.left -= 1;
+        did = true;
+    }
+    if did { Pushed::All } else { Pushed::Nothing }
 }

@@ -17,7 +17,7 @@ use circular_buffer::HeapCircularBuffer;
 use completion_ring::CqRing;
 use std::collections::BTreeMap;
 use tcp_reorder::RecvQueue;
-use zr_kinds::{Behaviour, Completion, Note, Stopped};
+use zr_kinds::{Behaviour, Completion, Note, Rqe, Stopped};
 
 /// A piece of a note that waits in a flow's queue: bytes of the note that was taken as this one, from one of its bytes on.
 #[derive(Drop)]
@@ -33,6 +33,16 @@ pub struct Lending {
     pub note: u64,
     pub at: u32,
     pub loan: Loan,
+}
+
+/// The entries that still follow a loan which was given back: as many times its own.
+#[derive(Clone, Copy, Drop)]
+pub struct Stray {
+    pub entry: Rqe,
+    /// The buffer that it names.
+    pub buffer: u32,
+    /// How many are left.
+    pub left: u32,
 }
 
 /// Gives the first bytes of a piece up.
@@ -248,6 +258,8 @@ pub struct Stack {
     pub due: Option<Lending>,
     /// Those that are kept to the end, as many as `how` says.
     pub leaked: HeapCircularBuffer<Lending>,
+    /// What still follows the loan that was given back last.
+    pub stray: Stray,
     /// How many bytes the appends that went well took.
     pub written: u64,
     /// How many loans were posted.

@@ -10,7 +10,8 @@ ghost use Rattle.app_worker.specs.Stages.{ReadsTo, LentSome, LendsAll, Leaves};
 
 use crate::letting::let_go;
 use crate::stack::{Delivery, Stack};
-use crate::turning::{Read, deliver_one, give_one, read_one};
+use crate::straying::{Gave, give_back};
+use crate::turning::{Read, deliver_one, read_one};
 use board_face::AppFace;
 use zr_io::Shelf;
 use zr_kinds::Stopped;
@@ -66,6 +67,7 @@ pub fn drain<F: AppFace, T: Shelf>(
     requires working { Working (state_of st.old) (F.seen face.old) }
     requires common { Common (state_of st.old) (F.seen face.old) }
     requires due { st.old.due ≡ None }
+    requires pushed { st.old.stray.left ≡ 0 }
     requires reaped { st.old.posted.entries ≡ [] }
     ensures reads { ReadsTo keep (state_of st.old) (state_of st.new) (F.seen face.old) (F.seen face.new) (T.kept shelf.old) (T.kept shelf.new)
         (T.faults shelf.old) (T.faults shelf.new) result }
@@ -87,8 +89,10 @@ pub fn drain<F: AppFace, T: Shelf>(
             _ => {}
         }
         did = true;
-        if !give_one(face, st) {
-            return Drained::InUse;
+        match give_back(face, st) {
+            Gave::Part => return Drained::InUse,
+            Gave::InUse => return Drained::InUse,
+            _ => {}
         }
     }
     if did { Drained::Did } else { Drained::Nothing }
@@ -120,6 +124,7 @@ pub fn lend_all<F: AppFace, T: Shelf>(face: &mut F, st: &mut Stack, shelf: &mut 
     requires common { Common (state_of st.old) (F.seen face.old) }
     requires more { st.old.ended ≡ false }
     requires due { st.old.due ≡ None }
+    requires pushed { st.old.stray.left ≡ 0 }
     requires reaped { st.old.posted.entries ≡ [] }
     requires few { length st.old.unread.items ≤ st.old.how.hold }
     ensures lends { LendsAll (state_of st.old) (state_of st.new) (F.seen face.old) (F.seen face.new) (T.kept shelf.old) (T.kept shelf.new) (T.faults shelf.old)

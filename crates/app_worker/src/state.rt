@@ -13,7 +13,7 @@ ghost use Rattle.app_worker.specs.State.{AppStands, app_steps, furthest};
 ghost use Rattle.app_worker.specs.Kept.{new_state, IsFresh, flow_bytes};
 ghost use Rattle.app_worker.specs.Turns.{Turns, look_of};
 
-use crate::stack::Stack;
+use crate::stack::{Stack, Stray};
 use crate::turn::Turn;
 use crate::working::turn;
 use board_face::AppFace;
@@ -23,7 +23,7 @@ use std::alloc::{AllocError, Global};
 use std::collections::BTreeMap;
 use std::marker::Model;
 use zr_io::Shelf;
-use zr_kinds::{Behaviour, Stopped};
+use zr_kinds::{Behaviour, Rqe, Stopped};
 
 /// What an application keeps between its turns.
 #[derive(Drop)]
@@ -65,6 +65,15 @@ impl AppState {
             posted,
             due: None,
             leaked,
+            stray: Stray {
+                entry: Rqe {
+                    off: 0,
+                    len: 0,
+                    pad: 0,
+                },
+                buffer: 0,
+                left: 0,
+            },
             written: 0,
             loans: 0,
             stopped: if at_once { Stopped::Quit } else { Stopped::No },
@@ -148,8 +157,8 @@ pub fn app_turn<F: AppFace, T: Shelf>(
         → AreWholeFrames (F.seen face.new).taken
         → AreShelved first (T.kept shelf.new) st.new.flows (F.seen face.new)
         → HasAll first (T.kept shelf.new) (F.seen face.new) }
-    // It goes no further than the notes that were taken, and their bytes, let it.
-    ensures within { app_steps st.new (F.seen face.new) ≤ furthest (F.seen face.new) }
+    // It goes no further than the notes that were taken, their bytes, and the entries that may follow each, let it.
+    ensures within { app_steps st.new (F.seen face.new) ≤ furthest st.new.how.stray (F.seen face.new) }
     // What it saw is so, on a board for one thread.
     ensures told { (why : Why) → result ≡ Idle why → F.tells (look_of why) (app_gist (F.seen face.new)) (F.beside face.new) }
     ensures later { T.faults shelf.old ≤ T.faults shelf.new }

@@ -84,7 +84,7 @@ pub fn give_one<F: AppFace>(face: &mut F, st: &mut Stack) -> bool
     if keep_due(reserve, st.how.leak, &mut st.due, &mut st.leaked) {
         return true;
     }
-    give_due(face, &mut st.due)
+    give_due(face, &mut st.due, st.how.stray, &mut st.stray)
 }
 
 /// The place of the flow with this number.
@@ -112,6 +112,7 @@ pub fn read_one<F: AppFace, T: Shelf>(face: &mut F, st: &mut Stack, shelf: &mut 
     requires working { Working (state_of st.old) (F.seen face.old) }
     requires common { Common (state_of st.old) (F.seen face.old) }
     requires due { st.old.due ≡ None }
+    requires pushed { st.old.stray.left ≡ 0 }
     requires reaped { st.old.posted.entries ≡ [] }
     ensures reads { Reads (state_of st.old) (state_of st.new) (F.seen face.old) (F.seen face.new) (T.kept shelf.old) (T.kept shelf.new) (T.faults shelf.old)
         (T.faults shelf.new) result }

@@ -12,8 +12,9 @@ ghost use Rattle.app_worker.specs.Turns.{Turns, look_of, turn_after};
 use crate::letting::let_go;
 use crate::stack::Stack;
 use crate::stages::{Drained, Lent, drain, leave, lend_all};
+use crate::straying::{Gave, give_back};
 use crate::turn::{Turn, Why};
-use crate::turning::{Taken, give_one, take_note};
+use crate::turning::{Taken, take_note};
 use board_face::{AppFace, Polled};
 use std::alloc::Global;
 use zr_io::Shelf;
@@ -74,6 +75,7 @@ fn close<F: AppFace, T: Shelf>(face: &mut F, st: &mut Stack, shelf: &mut T) -> T
     requires common { Common (state_of st.old) (F.seen face.old) }
     requires ended { st.old.ended ≡ true }
     requires due { st.old.due ≡ None }
+    requires pushed { st.old.stray.left ≡ 0 }
     requires reaped { st.old.posted.entries ≡ [] }
     ensures turns { Turns (state_of st.old) (state_of st.new) (F.seen face.old) (F.seen face.new) (T.kept shelf.old) (T.kept shelf.new) (T.faults shelf.old)
         (T.faults shelf.new) result }
@@ -104,6 +106,7 @@ fn look<F: AppFace, T: Shelf>(alloc: Global, face: &mut F, st: &mut Stack, shelf
     requires more { st.old.ended ≡ false }
     requires rest { Each IsAtRest st.old.flows.items }
     requires due { st.old.due ≡ None }
+    requires pushed { st.old.stray.left ≡ 0 }
     requires reaped { st.old.posted.entries ≡ [] }
     requires few { length st.old.unread.items ≤ st.old.how.hold }
     ensures turns { Turns (state_of st.old) (state_of st.new) (F.seen face.old) (F.seen face.new) (T.kept shelf.old) (T.kept shelf.new) (T.faults shelf.old)
@@ -142,6 +145,7 @@ fn go_on<F: AppFace, T: Shelf>(alloc: Global, face: &mut F, st: &mut Stack, shel
     requires common { Common (state_of st.old) (F.seen face.old) }
     requires more { st.old.ended ≡ false }
     requires due { st.old.due ≡ None }
+    requires pushed { st.old.stray.left ≡ 0 }
     requires reaped { st.old.posted.entries ≡ [] }
     requires few { length st.old.unread.items ≤ st.old.how.hold }
     ensures turns { Turns (state_of st.old) (state_of st.new) (F.seen face.old) (F.seen face.new) (T.kept shelf.old) (T.kept shelf.new) (T.faults shelf.old)
@@ -165,6 +169,7 @@ fn work<F: AppFace, T: Shelf>(alloc: Global, face: &mut F, st: &mut Stack, shelf
     requires working { Working (state_of st.old) (F.seen face.old) }
     requires common { Common (state_of st.old) (F.seen face.old) }
     requires due { st.old.due ≡ None }
+    requires pushed { st.old.stray.left ≡ 0 }
     requires reaped { st.old.posted.entries ≡ [] }
     ensures turns { Turns (state_of st.old) (state_of st.new) (F.seen face.old) (F.seen face.new) (T.kept shelf.old) (T.kept shelf.new) (T.faults shelf.old)
         (T.faults shelf.new) result }
@@ -205,10 +210,13 @@ pub fn turn<F: AppFace, T: Shelf>(
     if st.bare {
         return bare_turn(face, st);
     }
-    let was_due = st.due.is_some();
-    if !give_one(face, st) {
-        return Turn::Idle(Why::RefillFull);
+    match give_back(face, st) {
+        Gave::InUse => Turn::Idle(Why::RefillFull),
+        Gave::Part => Turn::Did,
+        Gave::Nothing => work(alloc, face, st, shelf),
+        Gave::Did => {
+            let turn = work(alloc, face, st, shelf);
+            after(true, turn)
+        }
     }
-    let turn = work(alloc, face, st, shelf);
-    after(was_due, turn)
 }

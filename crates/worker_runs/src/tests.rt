@@ -450,11 +450,11 @@ fn leaks_the_first(rt: HostRuntime) -> Result<(), Fail> {
     let steps = [
         Step::Send(0, 1000, b"ab"),
         DID,
-        Step::Dealt(Entry::Empty),
+        EMPTY,
         Step::Send(0, 1002, b"cd"),
         DID,
         HONOURED,
-        Step::Dealt(Entry::Empty),
+        EMPTY,
         NO_NOTE,
         Step::End,
         FINISHED,
@@ -498,7 +498,7 @@ fn leaks_and_quits(rt: HostRuntime) -> Result<(), Fail> {
         DID,
         Step::Send(0, 108, b"ijklmnop"),
         DID,
-        Step::Dealt(Entry::Empty),
+        EMPTY,
         Step::End,
         FINISHED,
     ];
@@ -507,6 +507,108 @@ fn leaks_and_quits(rt: HostRuntime) -> Result<(), Fail> {
     assert_eq!(rt; st.written(), 10);
     assert_eq!(rt; st.loans(), 2);
     assert_eq!(rt; st.stopped(), Stopped::Quit);
+    Ok(())
+}
+
+/// An application whose returns are each followed by so many further entries.
+const fn straying(stray: u32, hold: u32) -> Behaviour {
+    Behaviour {
+        hold,
+        leak: 0,
+        stray,
+        quit: None,
+    }
+}
+
+const STRAY: Step = Step::Dealt(Entry::Stray);
+
+const EMPTY: Step = Step::Dealt(Entry::Empty);
+
+/// Each return is followed by further entries, which the card finds to be strays.
+#[test]
+fn strays_follow(rt: HostRuntime) -> Result<(), Fail> {
+    let steps = [
+        Step::Send(0, 1000, b"ab"),
+        DID,
+        HONOURED,
+        STRAY,
+        STRAY,
+        EMPTY,
+        Step::Send(0, 1002, b"cd"),
+        DID,
+        HONOURED,
+        STRAY,
+        STRAY,
+        EMPTY,
+        Step::End,
+        FINISHED,
+    ];
+    let (st, shelf) = run(&rt, rt.alloc(), straying(2, 0), 4, 1000, &[], &steps)?;
+    assert_eq!(rt; shelf.flow(0), b"abcd".as_slice());
+    assert_eq!(rt; st.loans(), 2);
+    Ok(())
+}
+
+/// Where the ring is full, the entries that are left come first in the next turn.
+#[test]
+fn strays_wait_for_slots(rt: HostRuntime) -> Result<(), Fail> {
+    let steps = [
+        Step::Send(0, 1000, b"ab"),
+        DID,
+        Step::Takes(Turn::Idle(Why::RefillFull)),
+        HONOURED,
+        DID,
+        Step::Takes(Turn::Idle(Why::RefillFull)),
+        STRAY,
+        DID,
+        STRAY,
+        EMPTY,
+        NO_NOTE,
+    ];
+    let (_, shelf) = run(&rt, rt.alloc(), straying(2, 0), 1, 1000, &[], &steps)?;
+    assert_eq!(rt; shelf.flow(0), b"ab".as_slice());
+    Ok(())
+}
+
+/// Nothing is lent while a raw entry is on its way.
+#[test]
+fn strays_unsettle(rt: HostRuntime) -> Result<(), Fail> {
+    let steps = [
+        Step::Send(0, 1000, b"ab"),
+        DID,
+        Step::Send(0, 1002, b"cd"),
+        DID,
+        Step::Takes(Turn::Idle(Why::Unsettled)),
+        HONOURED,
+        STRAY,
+        DID,
+    ];
+    let (st, shelf) = run(&rt, rt.alloc(), straying(1, 0), 4, 1000, &[], &steps)?;
+    assert_eq!(rt; shelf.flow(0), b"abcd".as_slice());
+    assert_eq!(rt; st.loans(), 2);
+    Ok(())
+}
+
+/// An entry is dropped where a loan in its buffer is out.
+#[test]
+fn strays_spare_live_buffers(rt: HostRuntime) -> Result<(), Fail> {
+    let steps = [
+        Step::Send(0, 1000, b"ab"),
+        DID,
+        Step::Send(0, 1002, b"cd"),
+        DID,
+        HONOURED,
+        EMPTY,
+        NO_NOTE,
+        Step::End,
+        DID,
+        FREED,
+        STRAY,
+        EMPTY,
+        FINISHED,
+    ];
+    let (_, shelf) = run(&rt, rt.alloc(), straying(1, 1), 4, 1000, &[], &steps)?;
+    assert_eq!(rt; shelf.flow(0), b"abcd".as_slice());
     Ok(())
 }
 

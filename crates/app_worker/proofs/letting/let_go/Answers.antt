@@ -14,6 +14,6 @@ returns-clause-done g c =
     rw (items, capacity, c.abandon_due.ensures.none, c.abandon_leaked.ensures.empty) (gone-all (state_of c.args.st.now) c.release_all.new.flows.items (g.F.AppFace.seen c.args.face.now)
     (g.F.AppFace.seen c.abandon_all.new.face) (g.F.AppFace.seen c.abandon_due.new.face)
     (g.F.AppFace.seen c.abandon_leaked.new.face) (g.F.AppFace.seen c.release_all.new.face)
-    c.requires.reaped c.requires.not_yet c.requires.torn c.requires.common c.abandon_all.ensures.abandons c.abandon_due.ensures.abandons
+    c.requires.reaped c.requires.not_yet c.requires.pushed c.requires.torn c.requires.common c.abandon_all.ensures.abandons c.abandon_due.ensures.abandons
     c.abandon_leaked.ensures.abandons
     c.release_all.ensures.view c.release_all.ensures.facts)

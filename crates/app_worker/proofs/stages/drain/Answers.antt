@@ -1,10 +1,11 @@
-use Rattle.std.proofs.Common.{◌≢◌, ℕ, ◌<◌, List, Option, length, ap, ◌∙◌, arith}
+use Rattle.std.proofs.Common.{◌≢◌, rules, ◌≤◌, ℕ, ◌<◌, List, Option, length, ap, ◌∙◌, arith}
 use Rattle.board_face.specs.declared.views.app.AppView.{AppView}
 use Rattle.app_worker.specs.declared.turning.Read.TheVariants.{Quit, Failed}
 use Rattle.zr_kinds.specs.declared.behaviour.Stopped.TheVariants.{Write}
-use Rattle.app_worker.specs.State.{State}
+use Rattle.app_worker.specs.State.{State, app_steps}
 use Rattle.app_worker.specs.StateOf.{state_of}
-use Rattle.app_worker.specs.Whole.{ReadOne, GaveOne}
+use Rattle.app_worker.specs.Whole.{ReadOne, GaveBack}
+use Rattle.app_worker.proofs.Pushing.{back-did}
 use Rattle.app_worker.specs.Stages.{Through}
 use Rattle.app_worker.proofs.Through.{write-stopped, write-later, read-did, through-then, through-read, through-gave, through-in-use}
 use Rattle.app_worker.proofs.Quitting.{has-quit, quit-later}
@@ -46,16 +47,25 @@ returns-in-Quit-clause-reads g c =
     let inv = c.loop-face.invariant in
     quit-later a b e u v x k l m inv.0 (has-quit b d e v w x l m inv.0.reaped c.in-Quit.ensures.reads c.let_go-in-Quit.ensures.done)
 
-pub returns-then-not-give_one : goal.returns-then-not-give_one
-returns-then-not-give_one g c =
+pub read_one-requires-clause-pushed : goal.read_one-requires-clause-pushed
+read_one-requires-clause-pushed g c = c.loop-face.invariant.6
+
+pub let_go-requires-clause-pushed : goal.let_go-requires-clause-pushed
+let_go-requires-clause-pushed g c = ap (λ (s : State). s.stray.left) c.in-Failed.ensures.reads.same ∙ c.loop-face.invariant.6
+
+pub let_go-requires-in-Quit-clause-pushed : goal.let_go-requires-in-Quit-clause-pushed
+let_go-requires-in-Quit-clause-pushed g c = ap (λ (s : State). s.stray.left) c.in-Quit.ensures.reads.same ∙ c.loop-face.invariant.6
+
+pub returns-in-Part-clause-reads : goal.returns-in-Part-clause-reads
+returns-in-Part-clause-reads g c =
     let a : State = state_of c.args.st.now in
     let b : State = state_of c.loop-face.st in
     let d : State = state_of c.read_one.new.st in
-    let e : State = state_of c.give_one.new.st in
+    let e : State = state_of c.give_back.new.st in
     let u : AppView = g.F.AppFace.seen c.args.face.now in
     let v : AppView = g.F.AppFace.seen c.loop-face.face in
     let w : AppView = g.F.AppFace.seen c.read_one.new.face in
-    let x : AppView = g.F.AppFace.seen c.give_one.new.face in
+    let x : AppView = g.F.AppFace.seen c.give_back.new.face in
     let k : ℕ → Option (List ℕ) = g.T.Shelf.kept c.args.shelf.now in
     let l : ℕ → Option (List ℕ) = g.T.Shelf.kept c.loop-face.shelf in
     let m : ℕ → Option (List ℕ) = g.T.Shelf.kept c.read_one.new.shelf in
@@ -66,29 +76,60 @@ returns-then-not-give_one g c =
     let other : c.read_one.result ≢ Failed = c.in_default.not-Failed in
     let going : c.read_one.result ≢ Quit = c.in_default.not-Quit in
     let read : ReadOne b d v w l m = read-did b d v w l m f1 f2 c.read_one.result other going some c.read_one.ensures.reads in
-    let gives = c.if-not-give_one.ensures.gives in
     let first : Through b d v w l m = through-read b d v w l m inv.0.reaped read in
-    let second : Through d e w x m m = through-in-use d e w x m first.reaped c.give_one.ensures.working c.give_one.ensures.common
-    (c.give_one.ensures.goes m) gives.0 gives.2 in
-    record {
-      reads = (
-        through-then a b e u v x k l m inv.0 (through-then b d e v w x l m m first second),
-        omega (arith, inv.0.goes.moves.steps, read.steps, (c.give_one.ensures.goes m).moves.steps),
-      );
-      later = omega (arith, inv.4, c.read_one.ensures.later);
-      beside = c.give_one.ensures.beside ∙ c.read_one.ensures.beside ∙ inv.5;
-    }
+    let gave : GaveBack d e w x = c.in-Part.ensures.gives in
+    let second : Through d e w x m m = through-gave d e w x m first.reaped c.give_back.ensures.working c.give_back.ensures.common
+    (c.give_back.ensures.goes m) gave in (
+      through-then a b e u v x k l m inv.0 (through-then b d e v w x l m m first second),
+      omega (arith, inv.0.goes.moves.steps, read.steps, (c.give_back.ensures.goes m).moves.steps),
+    )
+
+pub returns-in-InUse-clause-reads : goal.returns-in-InUse-clause-reads
+returns-in-InUse-clause-reads g c =
+    let a : State = state_of c.args.st.now in
+    let b : State = state_of c.loop-face.st in
+    let d : State = state_of c.read_one.new.st in
+    let e : State = state_of c.give_back.new.st in
+    let u : AppView = g.F.AppFace.seen c.args.face.now in
+    let v : AppView = g.F.AppFace.seen c.loop-face.face in
+    let w : AppView = g.F.AppFace.seen c.read_one.new.face in
+    let x : AppView = g.F.AppFace.seen c.give_back.new.face in
+    let k : ℕ → Option (List ℕ) = g.T.Shelf.kept c.args.shelf.now in
+    let l : ℕ → Option (List ℕ) = g.T.Shelf.kept c.loop-face.shelf in
+    let m : ℕ → Option (List ℕ) = g.T.Shelf.kept c.read_one.new.shelf in
+    let f1 : ℕ = g.T.Shelf.faults c.loop-face.shelf in
+    let f2 : ℕ = g.T.Shelf.faults c.read_one.new.shelf in
+    let inv = c.loop-face.invariant in
+    let some : 0 < length b.unread = omega (arith, c.loop-face-test.true, c.len.ensures.len) in
+    let other : c.read_one.result ≢ Failed = c.in_default.not-Failed in
+    let going : c.read_one.result ≢ Quit = c.in_default.not-Quit in
+    let read : ReadOne b d v w l m = read-did b d v w l m f1 f2 c.read_one.result other going some c.read_one.ensures.reads in
+    let first : Through b d v w l m = through-read b d v w l m inv.0.reaped read in
+    let gives = c.in-InUse.ensures.gives in
+    let second : Through d e w x m m = through-in-use d e w x m first.reaped c.give_back.ensures.working c.give_back.ensures.common
+    (c.give_back.ensures.goes m) gives.0 gives.1 in (
+      through-then a b e u v x k l m inv.0 (through-then b d e v w x l m m first second),
+      omega (arith, inv.0.goes.moves.steps, read.steps, (c.give_back.ensures.goes m).moves.steps),
+    )
+
+pub returns-then-did-clause-reads : goal.returns-then-did-clause-reads
+returns-then-did-clause-reads g c =
+    let inv = c.loop-face.invariant in
+    let did : app_steps (state_of c.args.st.now) (g.F.AppFace.seen c.args.face.now)
+    < app_steps (state_of c.loop-face.st) (g.F.AppFace.seen c.loop-face.face) = search rules in
+    let few : length c.loop-face.st.unread.items ≤ c.args.keep = search rules in
+    (inv.0, did, inv.1, few, inv.6)
 
 pub loop-face-preserved : goal.loop-face-preserved
 loop-face-preserved g c =
     let a : State = state_of c.args.st.now in
     let b : State = state_of c.loop-face.st in
     let d : State = state_of c.read_one.new.st in
-    let e : State = state_of c.give_one.new.st in
+    let e : State = state_of c.give_back.new.st in
     let u : AppView = g.F.AppFace.seen c.args.face.now in
     let v : AppView = g.F.AppFace.seen c.loop-face.face in
     let w : AppView = g.F.AppFace.seen c.read_one.new.face in
-    let x : AppView = g.F.AppFace.seen c.give_one.new.face in
+    let x : AppView = g.F.AppFace.seen c.give_back.new.face in
     let k : ℕ → Option (List ℕ) = g.T.Shelf.kept c.args.shelf.now in
     let l : ℕ → Option (List ℕ) = g.T.Shelf.kept c.loop-face.shelf in
     let m : ℕ → Option (List ℕ) = g.T.Shelf.kept c.read_one.new.shelf in
@@ -99,29 +140,39 @@ loop-face-preserved g c =
     let other : c.read_one.result ≢ Failed = c.in_default.not-Failed in
     let going : c.read_one.result ≢ Quit = c.in_default.not-Quit in
     let read : ReadOne b d v w l m = read-did b d v w l m f1 f2 c.read_one.result other going some c.read_one.ensures.reads in
-    let gave : GaveOne d e w x = c.if-not-give_one.ensures.gives in
     let first : Through b d v w l m = through-read b d v w l m inv.0.reaped read in
-    let second : Through d e w x m m = through-gave d e w x m first.reaped c.give_one.ensures.working c.give_one.ensures.common
-    (c.give_one.ensures.goes m) gave in (
+    let gave = back-did d e w x c.give_back.result c.in_default-give_back.not-Part c.in_default-give_back.not-InUse read.due c.give_back.ensures.gives in
+    let second : Through d e w x m m = through-gave d e w x m first.reaped c.give_back.ensures.working c.give_back.ensures.common
+    (c.give_back.ensures.goes m) gave.0 in (
       through-then a b e u v x k l m inv.0 (through-then b d e v w x l m m first second),
-      ap (λ (s : State). s.due) gave.same,
-      λ _. omega (arith, inv.0.goes.moves.steps, read.steps, (c.give_one.ensures.goes m).moves.steps),
+      gave.1,
+      λ _. omega (arith, inv.0.goes.moves.steps, read.steps, (c.give_back.ensures.goes m).moves.steps),
       λ no. absurd (cc),
       omega (arith, inv.4, c.read_one.ensures.later),
-      c.give_one.ensures.beside ∙ c.read_one.ensures.beside ∙ inv.5,
+      c.give_back.ensures.beside ∙ c.read_one.ensures.beside ∙ inv.5,
+      gave.2,
     )
 
 pub loop-face-smaller : goal.loop-face-smaller
 loop-face-smaller g c =
+    let a : State = state_of c.args.st.now in
     let b : State = state_of c.loop-face.st in
     let d : State = state_of c.read_one.new.st in
+    let e : State = state_of c.give_back.new.st in
+    let u : AppView = g.F.AppFace.seen c.args.face.now in
     let v : AppView = g.F.AppFace.seen c.loop-face.face in
     let w : AppView = g.F.AppFace.seen c.read_one.new.face in
+    let x : AppView = g.F.AppFace.seen c.give_back.new.face in
+    let k : ℕ → Option (List ℕ) = g.T.Shelf.kept c.args.shelf.now in
     let l : ℕ → Option (List ℕ) = g.T.Shelf.kept c.loop-face.shelf in
     let m : ℕ → Option (List ℕ) = g.T.Shelf.kept c.read_one.new.shelf in
+    let f1 : ℕ = g.T.Shelf.faults c.loop-face.shelf in
+    let f2 : ℕ = g.T.Shelf.faults c.read_one.new.shelf in
+    let inv = c.loop-face.invariant in
     let some : 0 < length b.unread = omega (arith, c.loop-face-test.true, c.len.ensures.len) in
-    let read : ReadOne b d v w l m = read-did b d v w l m (g.T.Shelf.faults c.loop-face.shelf)
-    (g.T.Shelf.faults c.read_one.new.shelf) c.read_one.result c.in_default.not-Failed c.in_default.not-Quit some
-    c.read_one.ensures.reads in
-    let gave : GaveOne d (state_of c.give_one.new.st) w (g.F.AppFace.seen c.give_one.new.face) = c.if-not-give_one.ensures.gives in
-    omega (arith, read.unread, ap (λ (s : State). length s.unread) gave.same)
+    let other : c.read_one.result ≢ Failed = c.in_default.not-Failed in
+    let going : c.read_one.result ≢ Quit = c.in_default.not-Quit in
+    let read : ReadOne b d v w l m = read-did b d v w l m f1 f2 c.read_one.result other going some c.read_one.ensures.reads in
+    let first : Through b d v w l m = through-read b d v w l m inv.0.reaped read in
+    let gave = back-did d e w x c.give_back.result c.in_default-give_back.not-Part c.in_default-give_back.not-InUse read.due c.give_back.ensures.gives in
+    omega (arith, read.unread, ap (λ (s : State). length s.unread) gave.0.same)

@@ -14,6 +14,7 @@ invariant-loop-face g l =
     (g.T.Shelf.kept l.shelf))
     × (g.T.Shelf.faults l.fn.shelf ≤ g.T.Shelf.faults l.shelf)
     × (g.F.AppFace.beside l.face ≡ g.F.AppFace.beside l.fn.face)
+    × (l.st.stray.left ≡ 0)
 
 abbrev pub decreases-loop-face : goal.decreases-loop-face
 decreases-loop-face g l = length l.st.unread.items

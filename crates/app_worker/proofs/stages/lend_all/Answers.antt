@@ -137,8 +137,9 @@ loop-end-preserved g c =
     let to_d : Through a d u w k l = through-then a b d u v w k l l inv.0 first in
     let steps_d : app_steps d w ≡ app_steps cs w = ap (λ (s : State). app_steps s w) reaped in
     let due : d.due ≡ None = ap (λ (s : State). s.due) reaped ∙ ap (λ (s : State). s.due) lent.same ∙ inv.1 in
+    let pushed : d.stray.left ≡ 0 = ap (λ (s : State). s.stray.left) reaped ∙ ap (λ (s : State). s.stray.left) lent.same ∙ inv.7 in
     let then = drained d.how.hold d e w x l m f1 f2 c.drain.result c.in_default-drain.not-InUse c.in_default-drain.not-Quit
-    c.in_default-drain.not-Failed due first.working first.common
+    c.in_default-drain.not-Failed due pushed first.working first.common
     first.reaped c.drain.ensures.reads in (
       through-then a d e u w x k l m to_d then.0,
       then.1,
@@ -147,6 +148,7 @@ loop-end-preserved g c =
       omega (arith, inv.4, c.drain.ensures.later),
       c.drain.ensures.beside ∙ c.lend_some-lent.ensures.beside ∙ inv.5,
       omega (arith, then.2, ap (λ h. h.hold) then.0.goes.moves.how.1),
+      then.3,
     )
 
 pub loop-end-smaller : goal.loop-end-smaller
@@ -175,10 +177,13 @@ loop-end-smaller g c =
     let to_d : Through a d u w k l = through-then a b d u v w k l l inv.0 first in
     let steps_d : app_steps d w ≡ app_steps cs w = ap (λ (s : State). app_steps s w) reaped in
     let due : d.due ≡ None = ap (λ (s : State). s.due) reaped ∙ ap (λ (s : State). s.due) lent.same ∙ inv.1 in
+    let pushed : d.stray.left ≡ 0 = ap (λ (s : State). s.stray.left) reaped ∙ ap (λ (s : State). s.stray.left) lent.same ∙ inv.7 in
     let then = drained d.how.hold d e w x l m f1 f2 c.drain.result c.in_default-drain.not-InUse c.in_default-drain.not-Quit
-    c.in_default-drain.not-Failed due first.working first.common
+    c.in_default-drain.not-Failed due pushed first.working first.common
     first.reaped c.drain.ensures.reads in
     let further : app_steps b v < app_steps e x = omega (arith, lent.steps refl, steps_d, then.0.goes.moves.steps) in
-    let within : app_steps e x ≤ furthest x = working-within e x then.0.working then.0.common in
-    let same : furthest x ≡ furthest v = ap (λ ts. length ts + 4 * total taken_len ts + 4) (then.0.taken ∙ lent.taken) in
+    let within : app_steps e x ≤ furthest e.how.stray x = working-within e x then.0.working then.0.common in
+    let how : e.how.stray ≡ b.how.stray = ap (λ h. h.stray) (then.0.goes.moves.how.1 ∙ first.goes.moves.how.1) in
+    let same : furthest e.how.stray x ≡ furthest b.how.stray v = ap (λ k. furthest k x) how
+    ∙ ap (λ ts. length ts + 4 * total taken_len ts + b.how.stray * total taken_len ts + 4) (then.0.taken ∙ lent.taken) in
     omega (arith, further, within, same)

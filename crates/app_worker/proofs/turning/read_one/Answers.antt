@@ -49,7 +49,7 @@ returns-in-Err-clause-reads g c =
     let quits : Quits st.how.quit c.saturating_add-st.result stop.No = quits-short st.how.quit st.written (c.read_loan-result.new.bytes - own.bytes)
     most c.saturating_add-st.result c.in-Some.lending.loan.len is (omega (arith, short, counted.0)) count going in
     rw (items, capacity) (oldest-failed st i own p (drop 1 st.unread) (g.F.AppFace.seen c.args.face.now)
-    (g.F.AppFace.seen c.read_loan-result.new.face) unread c.requires.due within value
+    (g.F.AppFace.seen c.read_loan-result.new.face) unread c.requires.due c.requires.pushed within value
     (sym number) c.read_loan-result.ensures.only c.requires.working c.requires.common
     c.read_loan-result.new.bytes c.saturating_add-st.result most (g.T.Shelf.faults c.args.shelf.now) (g.T.Shelf.faults c.read_loan-result.new.shelf)
     (g.T.Shelf.kept c.args.shelf.now) (g.T.Shelf.kept c.read_loan-result.new.shelf) counted.0 part counted.1 count
@@ -82,7 +82,7 @@ returns-then-eq-clause-reads g c =
     let exact : Gained (g.T.Shelf.kept c.args.shelf.now own.number) (g.T.Shelf.kept c.read_loan-result.new.shelf own.number)
     (λ (read : List ℕ). IsReadOf (g.F.AppFace.seen c.read_loan-result.new.face).reads c.in-Some.lending most most read) = search rules in
     rw (items, capacity) (oldest-quit st i own p (drop 1 st.unread) (g.F.AppFace.seen c.args.face.now)
-    (g.F.AppFace.seen c.read_loan-result.new.face) unread c.requires.due within value
+    (g.F.AppFace.seen c.read_loan-result.new.face) unread c.requires.due c.requires.pushed within value
     (sym number) c.read_loan-result.ensures.only c.requires.working c.requires.common
     c.read_loan-result.new.bytes c.saturating_add-st.result most (g.T.Shelf.kept c.args.shelf.now)
     (g.T.Shelf.kept c.read_loan-result.new.shelf) part bytes count (quits-now st.how.quit st.written c.saturating_add-st.result all) exact
@@ -116,7 +116,7 @@ returns-clause-reads g c =
     let exact : Gained (g.T.Shelf.kept c.args.shelf.now own.number) (g.T.Shelf.kept c.read_loan-result.new.shelf own.number)
     (λ (read : List ℕ). IsReadOf (g.F.AppFace.seen c.read_loan-result.new.face).reads c.in-Some.lending most most read) = search rules in
     rw (items, capacity) (oldest-read st i own p (drop 1 st.unread) (g.F.AppFace.seen c.args.face.now)
-    (g.F.AppFace.seen c.read_loan-result.new.face) unread c.requires.due within value
+    (g.F.AppFace.seen c.read_loan-result.new.face) unread c.requires.due c.requires.pushed within value
     (sym number) c.read_loan-result.ensures.only c.requires.working c.requires.common
     c.read_loan-result.new.bytes c.saturating_add-st.result (g.T.Shelf.kept c.args.shelf.now)
     (g.T.Shelf.kept c.read_loan-result.new.shelf) (bytes ∙ ap (λ n. own.bytes + n) whole)

@@ -33,7 +33,7 @@ returns-in-NoNote-clause-turns g c =
     let v : AppView = g.F.AppFace.seen c.take_note.new.face in
     let k : ℕ → Option (List ℕ) = g.T.Shelf.kept c.args.shelf.now in
     let f : ℕ = g.T.Shelf.faults c.args.shelf.now in
-    let may : MayPoll a = record { in_order = c.requires.rest; given = c.requires.due; posted = c.requires.reaped; unread = c.requires.few } in
+    let may : MayPoll a = record { in_order = c.requires.rest; given = c.requires.due; none_left = c.requires.pushed; posted = c.requires.reaped; unread = c.requires.few } in
     let takes = c.in-NoNote.ensures.takes in
     subst (λ (s : State). Turns a s u v k k f f (Idle NoNote)) (sym takes.0)
     (turns-saw a u v NoNote k f c.requires.working c.requires.common c.requires.reaped (λ _. may) takes.1)
@@ -46,7 +46,7 @@ returns-in-Failed-clause-turns g c =
     let v : AppView = g.F.AppFace.seen c.take_note.new.face in
     let k : ℕ → Option (List ℕ) = g.T.Shelf.kept c.args.shelf.now in
     let f : ℕ = g.T.Shelf.faults c.args.shelf.now in
-    let may : MayPoll a = record { in_order = c.requires.rest; given = c.requires.due; posted = c.requires.reaped; unread = c.requires.few } in
+    let may : MayPoll a = record { in_order = c.requires.rest; given = c.requires.due; none_left = c.requires.pushed; posted = c.requires.reaped; unread = c.requires.few } in
     let e : State = state_of c.lend_all.new.st in
     let w : AppView = g.F.AppFace.seen c.lend_all.new.face in
     let m : ℕ → Option (List ℕ) = g.T.Shelf.kept c.lend_all.new.shelf in
@@ -62,7 +62,7 @@ returns-in_default g c =
     let v : AppView = g.F.AppFace.seen c.take_note.new.face in
     let k : ℕ → Option (List ℕ) = g.T.Shelf.kept c.args.shelf.now in
     let f : ℕ = g.T.Shelf.faults c.args.shelf.now in
-    let may : MayPoll a = record { in_order = c.requires.rest; given = c.requires.due; posted = c.requires.reaped; unread = c.requires.few } in
+    let may : MayPoll a = record { in_order = c.requires.rest; given = c.requires.due; none_left = c.requires.pushed; posted = c.requires.reaped; unread = c.requires.few } in
     let e : State = state_of c.lend_all.new.st in
     let w : AppView = g.F.AppFace.seen c.lend_all.new.face in
     let m : ℕ → Option (List ℕ) = g.T.Shelf.kept c.lend_all.new.shelf in
@@ -84,7 +84,7 @@ returns-in-Ended-clause-turns g c =
     let v : AppView = g.F.AppFace.seen c.take_note.new.face in
     let k : ℕ → Option (List ℕ) = g.T.Shelf.kept c.args.shelf.now in
     let f : ℕ = g.T.Shelf.faults c.args.shelf.now in
-    let may : MayPoll a = record { in_order = c.requires.rest; given = c.requires.due; posted = c.requires.reaped; unread = c.requires.few } in
+    let may : MayPoll a = record { in_order = c.requires.rest; given = c.requires.due; none_left = c.requires.pushed; posted = c.requires.reaped; unread = c.requires.few } in
     let e : State = state_of c.close.new.st in
     let w : AppView = g.F.AppFace.seen c.close.new.face in
     let m : ℕ → Option (List ℕ) = g.T.Shelf.kept c.close.new.shelf in
@@ -101,7 +101,7 @@ returns-in-Memory-clause-turns g c =
     let v : AppView = g.F.AppFace.seen c.take_note.new.face in
     let k : ℕ → Option (List ℕ) = g.T.Shelf.kept c.args.shelf.now in
     let f : ℕ = g.T.Shelf.faults c.args.shelf.now in
-    let may : MayPoll a = record { in_order = c.requires.rest; given = c.requires.due; posted = c.requires.reaped; unread = c.requires.few } in
+    let may : MayPoll a = record { in_order = c.requires.rest; given = c.requires.due; none_left = c.requires.pushed; posted = c.requires.reaped; unread = c.requires.few } in
     let took : TookNone a b u v = c.in-Memory.ensures.takes in
     turns-memory a b (state_of c.let_go.new.st) u v (g.F.AppFace.seen c.let_go.new.face) k f c.requires.working may took c.let_go.ensures.done
 
@@ -113,7 +113,7 @@ returns-in-Short-clause-turns g c =
     let v : AppView = g.F.AppFace.seen c.take_note.new.face in
     let k : ℕ → Option (List ℕ) = g.T.Shelf.kept c.args.shelf.now in
     let f : ℕ = g.T.Shelf.faults c.args.shelf.now in
-    let may : MayPoll a = record { in_order = c.requires.rest; given = c.requires.due; posted = c.requires.reaped; unread = c.requires.few } in
+    let may : MayPoll a = record { in_order = c.requires.rest; given = c.requires.due; none_left = c.requires.pushed; posted = c.requires.reaped; unread = c.requires.few } in
     let took : TookNone a b u v = c.in-Short.ensures.takes in
     turns-short a b (state_of c.let_go-in-Short.new.st) u v (g.F.AppFace.seen c.let_go-in-Short.new.face) k f c.requires.working may took
     c.let_go-in-Short.ensures.done

@@ -1,0 +1,249 @@
+-- The entries that follow a loan are written.
+use Rattle.std.proofs.Common.{◌≡◌, ◌≢◌, ℕ, zero, suc, ◌+◌, ◌-◌, ◌*◌, ◌<◌, ◌≤◌, Bool, false, List, [], ◌∷◌, ◌++◌, Option, Some, None}
+use Rattle.std.proofs.Common.{length, refl, sym, ap, subst, ◌∙◌, arith, ◌⊎◌, inl, inr, append-nil, append_assoc}
+use Rattle.std.specs.Prelude.{if◌then◌else◌}
+use Rattle.std.proofs.Math.Nat.{mul-le-mul_left}
+use Rattle.zr_kinds.specs.declared.ring.Rqe.{Rqe}
+use Rattle.zr_kinds.specs.declared.ring.Completion.{Completion}
+use Rattle.area_layout.specs.Layout.{judged}
+use Rattle.board_face.specs.AppCalls.{AppOnlySaw}
+use Rattle.board_face.specs.AppEvents.{app_saw, pushed_raw}
+use Rattle.board_face.specs.declared.views.app.AppLook.{AppLook}
+use Rattle.board_face.specs.declared.views.app.AppLook.TheVariants.{RefillInUse}
+use Rattle.board_face.specs.declared.views.app.WrittenEntry.{WrittenEntry}
+use Rattle.board_face.specs.declared.views.app.AppView.{AppView}
+use Rattle.app_worker.specs.declared.stack.Lending.{Lending}
+use Rattle.app_worker.specs.declared.stack.Stray.{Stray}
+use Rattle.app_worker.specs.declared.stack.FlowQueue.{FlowQueue}
+use Rattle.app_worker.specs.declared.reading.Pushed.{Pushed}
+use Rattle.app_worker.specs.declared.reading.Pushed.TheVariants.{Nothing, All, Part, InUse}
+use Rattle.app_worker.specs.Core.{total, Stands}
+use Rattle.app_worker.specs.State.{State, read_of, Working, Common, raw_entries, loan_entries, app_steps, one_if}
+use Rattle.app_worker.specs.Shelves.{AreShelved}
+use Rattle.app_worker.specs.Moves.{Moves}
+use Rattle.app_worker.specs.Steps.{PushedSome, Pushes, raw_copies}
+use Rattle.app_worker.specs.declared.straying.Gave.{Gave}
+use Rattle.app_worker.specs.declared.straying.Gave.TheVariants as gave
+use Rattle.app_worker.specs.Whole.{GaveOne, GaveBack, GivesBack, PushesLeft}
+use Rattle.app_worker.proofs.Tokens.{total-append}
+use Rattle.app_worker.proofs.Moving.{looks-same, looks-more, looks-trans, same-leaked, no-write}
+use Rattle.app_worker.proofs.Seeing.{Left, left-none, left-saw}
+
+-- ---- one by one
+
+pub pushed-none : (v : AppView) (s : Stray) → PushedSome v v s s
+pushed-none v s = record { view = refl; count = 0; written = sym (append-nil v.written); same = refl; fits = omega arith; looks = looks-same v v refl }
+
+copies-push : (n : ℕ) (e : Rqe) → raw_copies n e ++ record { entry = e; of_loan = false } ∷ [] ≡ raw_copies (suc n) e
+copies-push zero e = refl
+copies-push (suc n) e = ap (λ ws. record { entry = e; of_loan = false } ∷ ws) (copies-push n e)
+
+pub pushed-one : (u v : AppView) (was now : Stray) → PushedSome u v was now → 0 < now.left
+    → PushedSome u (pushed_raw v now.entry) was (record now { left = now.left - 1 })
+pushed-one u v was now some left =
+    let entry : now.entry ≡ was.entry = ap (λ (s : Stray). s.entry) some.same in
+    let one : Rqe → WrittenEntry = λ e. record { entry = e; of_loan = false } in
+    record {
+      view = ap (λ (x : AppView). pushed_raw x now.entry) some.view;
+      count = suc some.count;
+      written = ap (λ ws. ws ++ one now.entry ∷ []) some.written
+          ∙ append_assoc u.written (raw_copies some.count was.entry) (one now.entry ∷ [])
+          ∙ ap (λ e. u.written ++ (raw_copies some.count was.entry ++ one e ∷ [])) entry ∙ ap (λ ws. u.written ++ ws) (copies-push some.count was.entry);
+      same = ap (λ (s : Stray). record s { left = now.left - 1 }) some.same;
+      fits = omega (arith, some.fits, left);
+      looks = looks-trans u v (pushed_raw v now.entry) some.looks (looks-same v (pushed_raw v now.entry) refl);
+    }
+
+pub pushed-dropped : (u v : AppView) (was now : Stray) → PushedSome u v was now → PushedSome u v was (record now { left = now.left - 1 })
+pushed-dropped u v was now some = record {
+  view = some.view;
+  count = some.count;
+  written = some.written;
+  same = ap (λ (s : Stray). record s { left = now.left - 1 }) some.same;
+  fits = omega (arith, some.fits);
+  looks = some.looks;
+}
+
+pub pushed-saw : (u v w : AppView) (was now : Stray) → PushedSome u v was now → AppOnlySaw RefillInUse v w → PushedSome u w was now
+pushed-saw u v w was now some saw = rw saw.event (record {
+  view = ap (λ (x : AppView). app_saw x RefillInUse) some.view;
+  count = some.count;
+  written = some.written;
+  same = some.same;
+  fits = some.fits;
+  looks = looks-trans u v (app_saw v RefillInUse) some.looks (looks-more v (app_saw v RefillInUse) RefillInUse refl);
+})
+
+pub pushed-either : (u v w : AppView) (was now : Stray) → PushedSome u v was now → 0 < now.left → ((w ≡ v) ⊎ (w ≡ pushed_raw v now.entry))
+    → PushedSome u w was (record now { left = now.left - 1 })
+pushed-either u v w was now some left (inl same) = rw same (pushed-dropped u v was now some)
+pushed-either u v w was now some left (inr pushed) = rw pushed (pushed-one u v was now some left)
+
+-- ---- all that is kept then
+
+abbrev raw_one : WrittenEntry → ℕ
+raw_one w = if w.of_loan then 0 else 1
+
+abbrev loan_one : WrittenEntry → ℕ
+loan_one w = if w.of_loan then 1 else 0
+
+raws-copies : (n : ℕ) (e : Rqe) → total (λ (w : WrittenEntry). if w.of_loan then 0 else 1) (raw_copies n e) ≡ n
+raws-copies zero e = refl
+raws-copies (suc n) e = omega (arith, raws-copies n e)
+
+loans-copies : (n : ℕ) (e : Rqe) → total (λ (w : WrittenEntry). if w.of_loan then 1 else 0) (raw_copies n e) ≡ 0
+loans-copies zero e = refl
+loans-copies (suc n) e = omega (arith, loans-copies n e)
+
+abbrev pub with_stray : State → Stray → State
+with_stray was stray = record was { stray = stray }
+
+module _ (old : AppView) (settled quiet : Bool) (written : List WrittenEntry) (looks : List AppLook) where
+  abbrev seen : AppView
+  seen = record old { settled = settled; quiet = quiet; written = written; looks = looks }
+
+  stands-view : (count : ℕ) (flows : List FlowQueue) (posted : List (Completion × Lending)) (read : List Lending) → Stands count flows posted read old
+      → Stands count flows posted read seen
+  stands-view count flows posted read stands = record {
+    tokens = record {
+      apart = record { once = stands.tokens.apart.once; some = stands.tokens.apart.some };
+      helds = stands.tokens.helds;
+      loans = stands.tokens.loans;
+    };
+    notes = stands.notes;
+    distinct = stands.distinct;
+    flows = stands.flows;
+    known = stands.known;
+    posted = stands.posted;
+    counted = stands.counted;
+  }
+
+  working-view : (was : State) (now : Stray) → (0 < now.left → was.due ≡ None) → Working was old → Working (with_stray was now) seen
+  working-view was now waits works = record {
+    stands = stands-view was.notes was.flows (was.unread ++ was.posted.entries) (read_of was) works.stands;
+    completions = works.completions;
+    rest = works.rest;
+    index = works.index;
+    over = works.over;
+    going = works.going;
+    split = works.split;
+    live = works.live;
+    keeps_first = works.keeps_first;
+    waits = waits;
+  }
+
+  common-view : (was : State) (now : Stray) → raw_entries seen + now.left ≤ was.how.stray * loan_entries seen → loan_entries seen ≤ length old.returned
+      → (0 < now.left → judged old.setting.layout now.entry ≡ Some now.buffer) → Common was old → Common (with_stray was now) seen
+  common-view was now strays entries names common = record {
+    app = common.app;
+    ended = common.ended;
+    counted = common.counted;
+    owns = common.owns;
+    spares = common.spares;
+    some_places = common.some_places;
+    within = common.within;
+    room = common.room;
+    loans = common.loans;
+    written = common.written;
+    quits = common.quits;
+    leaks = common.leaks;
+    leak_room = common.leak_room;
+    leak_aside = common.leak_aside;
+    strays = strays;
+    entries = entries;
+    names = names;
+    bound = common.bound;
+  }
+
+  shelves-view : (flows : List FlowQueue) (first kept : ℕ → Option (List ℕ)) → AreShelved first kept flows old → AreShelved first kept flows seen
+  shelves-view flows first kept shelved = record { flows = shelved.flows; others = shelved.others }
+
+pub pushed-left : (was : State) (now : Stray) (old new : AppView) → PushedSome old new was.stray now → now.left < was.stray.left → Working was old
+    → Common was old → Left was (with_stray was now) old new × GaveBack was (with_stray was now) old new
+pushed-left was now old new some fewer works common =
+    let raws : raw_entries new ≡ raw_entries old + some.count = ap (total raw_one) some.written
+    ∙ omega (arith, total-append raw_one old.written (raw_copies some.count was.stray.entry), raws-copies some.count was.stray.entry) in
+    let loans : loan_entries new ≡ loan_entries old = ap (total loan_one) some.written
+    ∙ omega (arith, total-append loan_one old.written (raw_copies some.count was.stray.entry), loans-copies some.count was.stray.entry) in
+    let returned : new.returned ≡ old.returned = ap (λ (v : AppView). v.returned) some.view in
+    let may : was.how.stray * loan_entries new ≡ was.how.stray * loan_entries old = ap (λ n. was.how.stray * n) loans in
+    let more : was.how.stray * loan_entries old ≤ was.how.stray * length old.returned = mul-le-mul_left was.how.stray common.entries in
+    let product : was.how.stray * length new.returned ≡ was.how.stray * length old.returned = ap (λ ls. was.how.stray * length ls) returned in
+    let steps : app_steps was old < app_steps (with_stray was now) new = omega (
+      arith,
+      ap (λ (v : AppView). length v.taken) some.view,
+      ap (λ (v : AppView). length v.loans) some.view,
+      ap length returned,
+      product,
+      more,
+      common.strays,
+      fewer,
+      ap (λ (v : AppView). one_if v.ended) some.view,
+      ap (λ (v : AppView). one_if v.left) some.view,
+    ) in
+    let entry : now.entry ≡ was.stray.entry = ap (λ (s : Stray). s.entry) some.same in
+    let buffer : now.buffer ≡ was.stray.buffer = ap (λ (s : Stray). s.buffer) some.same in
+    let before : 0 < now.left → 0 < was.stray.left = λ left. omega (arith, left, fewer) in
+    let names : 0 < now.left → judged old.setting.layout now.entry ≡ Some now.buffer = λ left. ap (judged old.setting.layout) entry
+    ∙ common.names (before left) ∙ ap Some (sym buffer) in (
+      record {
+        working = subst (Working (with_stray was now)) (sym some.view)
+            (working-view old new.settled new.quiet new.written new.looks was now (λ left. works.waits (before left)) works);
+        common = subst (Common (with_stray was now)) (sym some.view)
+            (common-view old new.settled new.quiet new.written new.looks was now (omega (arith, raws, may, some.fits, common.strays))
+            (omega (arith, loans, common.entries)) names common);
+        goes = λ kept. record {
+          moves = record {
+            same = (
+              ap (λ (v : AppView). v.setting) some.view,
+              ap (λ (v : AppView). v.app) some.view,
+              ap (λ (v : AppView). v.owns) some.view,
+              ap (λ (v : AppView). v.spares) some.view,
+            );
+            how = (refl, refl);
+            places = refl;
+            steps = omega (arith, steps);
+            looks = some.looks;
+            stays = λ _. refl;
+            leaked = same-leaked was (with_stray was now) refl refl;
+          };
+          shelved = λ _ first shelved. subst (λ v. AreShelved first kept was.flows v) (sym some.view)
+              (shelves-view old new.settled new.quiet new.written new.looks was.flows first kept shelved);
+          failed = λ is. absurd (no-write was.stopped works.going is);
+        };
+      },
+      record { same = refl; steps = steps; taken = ap (λ (v : AppView). v.taken) some.view; left = ap (λ (v : AppView). v.left) some.view },
+    )
+
+pub push-left : (was : State) (now : Stray) (old new : AppView) (result : Pushed) → Pushes old new was.stray now result → Working was old → Common was old
+    → Left was (with_stray was now) old new × PushesLeft was (with_stray was now) old new result
+push-left was now old new Nothing step works common = rw (step.0, step.1) (left-none was old works common, (refl, refl, step.2))
+push-left was now old new All step works common =
+    let pushed = pushed-left was now old new step.0 (omega (arith, step.1, step.2)) works common in
+    (pushed.0, (pushed.1, refl, step.2, step.1))
+push-left was now old new Part step works common =
+    let pushed = pushed-left was now old new step.0 step.1 works common in (pushed.0, (pushed.1, refl))
+push-left was now old new InUse step works common = rw step.1 (left-saw was old new RefillInUse step.0 works common, (refl, step.0))
+
+-- ---- a loan, and then the entries that follow it
+
+-- what was due is given back whole, where no refill slot was in use
+pub back-did : (was now : State) (old new : AppView) (result : Gave) → result ≢ gave.Part → result ≢ gave.InUse → was.due ≢ None
+    → GivesBack was now old new result → GaveBack was now old new × (now.due ≡ None) × (now.stray.left ≡ 0)
+back-did was now old new gave.Nothing part in_use some gives = absurd (some gives.2)
+back-did was now old new gave.Did part in_use some gives = gives
+back-did was now old new gave.Part part in_use some gives = absurd (part refl)
+back-did was now old new gave.InUse part in_use some gives = absurd (in_use refl)
+
+pub gave-then : (a b c : State) (u v w : AppView) → GaveOne a b u v → a.due ≢ None → Moves b c v w → c ≡ with_stray b c.stray → w.taken ≡ v.taken
+    → w.left ≡ v.left → GaveBack a c u w × (c.due ≡ None)
+gave-then a b c u v w one some moves same taken left =
+    let chain : c ≡ record a { due = None; leaked = b.leaked; stray = c.stray } = same ∙ ap (λ (s : State). record s { stray = c.stray }) one.same in (
+      record {
+        same = chain ∙ ap (λ (s : State). record a { due = s.due; leaked = s.leaked; stray = c.stray }) (sym chain);
+        steps = omega (arith, one.steps some, moves.steps);
+        taken = taken ∙ one.taken;
+        left = left ∙ one.left;
+      },
+      ap (λ (s : State). s.due) chain,
+    )

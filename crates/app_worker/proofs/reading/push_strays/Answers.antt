@@ -1,0 +1,30 @@
+use Rattle.std.proofs.Common.{rules, ◌≡◌, ◌<◌, ◌⊎◌, ◌∙◌, arith}
+use Rattle.board_face.specs.AppCalls.{AppOnlySaw}
+use Rattle.board_face.specs.AppEvents.{pushed_raw}
+use Rattle.board_face.specs.declared.views.app.AppLook.TheVariants.{RefillInUse}
+use Rattle.board_face.specs.declared.views.app.AppView.{AppView}
+use Rattle.app_worker.proofs.Pushing.{pushed-either, pushed-saw}
+use Rattle.app_worker.proofs.reading.push_strays.Goals as goal
+
+pub returns-then-did-clause-pushes : goal.returns-then-did-clause-pushes
+returns-then-did-clause-pushes g c =
+    let u : AppView = g.F.AppFace.seen c.args.face.now in
+    let v : AppView = g.F.AppFace.seen c.loop-stray.face in
+    let w : AppView = g.F.AppFace.seen c.push_stray.new.face in
+    let saw : AppOnlySaw RefillInUse v w = search rules in
+    let fewer : c.loop-stray.stray.left < c.args.stray.now.left = search rules in
+    (pushed-saw u v w c.args.stray.now c.loop-stray.stray c.loop-stray.invariant.0 saw, fewer)
+
+pub loop-stray-preserved : goal.loop-stray-preserved
+loop-stray-preserved g c =
+    let u : AppView = g.F.AppFace.seen c.args.face.now in
+    let v : AppView = g.F.AppFace.seen c.loop-stray.face in
+    let w : AppView = g.F.AppFace.seen c.push_stray.new.face in
+    let inv = c.loop-stray.invariant in
+    let some : 0 < c.loop-stray.stray.left = search rules in
+    let step : (w ≡ v) ⊎ (w ≡ pushed_raw v c.loop-stray.stray.entry) = search rules in (
+      pushed-either u v w c.args.stray.now c.loop-stray.stray inv.0 some step,
+      λ _. omega (arith, some, inv.0.fits),
+      λ no. absurd (cc),
+      c.push_stray.ensures.beside ∙ inv.3,
+    )

@@ -1,0 +1,44 @@
+use Rattle.board_face.specs.declared.views.app.AppView.{AppView}
+use Rattle.app_worker.specs.State.{State}
+use Rattle.app_worker.specs.StateOf.{state_of}
+use Rattle.app_worker.proofs.Through.{goes-then}
+use Rattle.app_worker.proofs.straying.give_back.Goals as goal
+
+pub returns-in-Part-push_left-clause-goes : goal.returns-in-Part-push_left-clause-goes
+returns-in-Part-push_left-clause-goes g c = λ kept.
+    let a : State = state_of c.args.st.now in
+    let b : State = state_of c.push_left.new.st in
+    let d : State = state_of c.give_one.new.st in
+    let e : State = state_of c.push_left-2.new.st in
+    let u : AppView = g.F.AppFace.seen c.args.face.now in
+    let v : AppView = g.F.AppFace.seen c.push_left.new.face in
+    let w : AppView = g.F.AppFace.seen c.give_one.new.face in
+    let x : AppView = g.F.AppFace.seen c.push_left-2.new.face in
+    goes-then a b e u v x kept kept kept (c.push_left.ensures.goes kept)
+    (goes-then b d e v w x kept kept kept (c.give_one.ensures.goes kept) (c.push_left-2.ensures.goes kept))
+
+pub returns-in-InUse-push_left-clause-goes : goal.returns-in-InUse-push_left-clause-goes
+returns-in-InUse-push_left-clause-goes g c = λ kept.
+    let a : State = state_of c.args.st.now in
+    let b : State = state_of c.push_left.new.st in
+    let d : State = state_of c.give_one.new.st in
+    let e : State = state_of c.push_left-2.new.st in
+    let u : AppView = g.F.AppFace.seen c.args.face.now in
+    let v : AppView = g.F.AppFace.seen c.push_left.new.face in
+    let w : AppView = g.F.AppFace.seen c.give_one.new.face in
+    let x : AppView = g.F.AppFace.seen c.push_left-2.new.face in
+    goes-then a b e u v x kept kept kept (c.push_left.ensures.goes kept)
+    (goes-then b d e v w x kept kept kept (c.give_one.ensures.goes kept) (c.push_left-2.ensures.goes kept))
+
+pub returns-in_default-clause-goes : goal.returns-in_default-clause-goes
+returns-in_default-clause-goes g c = λ kept.
+    let a : State = state_of c.args.st.now in
+    let b : State = state_of c.push_left.new.st in
+    let d : State = state_of c.give_one.new.st in
+    let e : State = state_of c.push_left-2.new.st in
+    let u : AppView = g.F.AppFace.seen c.args.face.now in
+    let v : AppView = g.F.AppFace.seen c.push_left.new.face in
+    let w : AppView = g.F.AppFace.seen c.give_one.new.face in
+    let x : AppView = g.F.AppFace.seen c.push_left-2.new.face in
+    goes-then a b e u v x kept kept kept (c.push_left.ensures.goes kept)
+    (goes-then b d e v w x kept kept kept (c.give_one.ensures.goes kept) (c.push_left-2.ensures.goes kept))

@@ -1,0 +1,73 @@
+//! Loans that are due are given back, each followed by its stray entries.
+ghost use Rattle.std.specs.Prelude.{◌≡◌, ℕ, List, Option};
+ghost use Rattle.board_face.specs.AppCalls.{IsHere};
+ghost use Rattle.board_face.specs.AppEvents.{app_gist};
+ghost use Rattle.board_face.specs.declared.views.app.AppLook.TheVariants.{RefillInUse};
+ghost use Rattle.app_worker.specs.State.{Working, Common};
+ghost use Rattle.app_worker.specs.StateOf.{state_of};
+ghost use Rattle.app_worker.specs.Moves.{Goes};
+ghost use Rattle.app_worker.specs.Whole.{GivesBack, PushesLeft};
+
+use crate::reading::{Pushed, push_strays};
+use crate::stack::Stack;
+use crate::turning::give_one;
+use board_face::AppFace;
+
+/// What giving back did.
+#[derive(Clone, Copy, Debug, PartialEq, Eq)]
+pub enum Gave {
+    /// Nothing was to be given back.
+    Nothing,
+    /// All was given back and followed by its stray entries, or kept to the end.
+    Did,
+    /// Something was, and then the next refill slot was seen in use.
+    Part,
+    /// The next refill slot was seen in use at once.
+    InUse,
+}
+
+/// Writes the stray entries that are left.
+fn push_left<F: AppFace>(face: &mut F, st: &mut Stack) -> Pushed
+    requires here { IsHere (F.seen face.old) }
+    requires working { Working (state_of st.old) (F.seen face.old) }
+    requires common { Common (state_of st.old) (F.seen face.old) }
+    ensures working { Working (state_of st.new) (F.seen face.new) }
+    ensures common { Common (state_of st.new) (F.seen face.new) }
+    ensures goes { (kept : ℕ → Option (List ℕ)) → Goes (state_of st.old) (state_of st.new) (F.seen face.old) (F.seen face.new) kept kept }
+    ensures pushes { PushesLeft (state_of st.old) (state_of st.new) (F.seen face.old) (F.seen face.new) result }
+    ensures told { result ≡ Pushed.InUse → F.tells RefillInUse (app_gist (F.seen face.new)) (F.beside face.new) }
+    ensures beside { F.beside face.new ≡ F.beside face.old }
+{
+    push_strays(face, &mut st.stray)
+}
+
+/// Gives all back that is due, with the entries that follow it. What was left of these comes first.
+pub fn give_back<F: AppFace>(face: &mut F, st: &mut Stack) -> Gave
+    requires here { IsHere (F.seen face.old) }
+    requires working { Working (state_of st.old) (F.seen face.old) }
+    requires common { Common (state_of st.old) (F.seen face.old) }
+    ensures working { Working (state_of st.new) (F.seen face.new) }
+    ensures common { Common (state_of st.new) (F.seen face.new) }
+    ensures goes { (kept : ℕ → Option (List ℕ)) → Goes (state_of st.old) (state_of st.new) (F.seen face.old) (F.seen face.new) kept kept }
+    ensures gives { GivesBack (state_of st.old) (state_of st.new) (F.seen face.old) (F.seen face.new) result }
+    ensures told { result ≡ Gave.InUse → F.tells RefillInUse (app_gist (F.seen face.new)) (F.beside face.new) }
+    ensures beside { F.beside face.new ≡ F.beside face.old }
+{
+    match push_left(face, st) {
+        Pushed::Nothing => {}
+        Pushed::All => return Gave::Did,
+        Pushed::Part => return Gave::Part,
+        Pushed::InUse => return Gave::InUse,
+    }
+    if st.due.is_none() {
+        return Gave::Nothing;
+    }
+    if !give_one(face, st) {
+        return Gave::InUse;
+    }
+    match push_left(face, st) {
+        Pushed::Part => Gave::Part,
+        Pushed::InUse => Gave::Part,
+        _ => Gave::Did,
+    }
+}
