@@ -1,5 +1,5 @@
 ghost use Rattle.std.specs.Prelude.{◌≡◌, ◌<◌, ◌↔◌, [], true, IsNone, IfSome, IfNone, OnOk, IfErr, OnErr};
-ghost use Rattle.std.specs.Option.{option_map};
+ghost use Rattle.std.specs.Option.{option_map, option_copied};
 ghost use Rattle.zr_kinds.specs.CopyingReceiver.{accepts};
 ghost use Rattle.tcp_reorder.specs.Queue.{next_of, IsSound, front_of};
 ghost use Rattle.tcp_reorder.specs.Gaps.{IsFirstGap, AreWanted, AreUnwanted, with_taken, span_of, LosesFirst};
@@ -142,6 +142,20 @@ impl<H> RecvQueue<H> {
                 len: piece.len,
             }),
             _ => None,
+        }
+    }
+
+    /// The piece that `pop_front` would hand over.
+    pub fn front_piece(&self) -> Option<&H>
+        ensures front { option_copied result ≡ option_map (λ one. one.piece) (front_of self.now) }
+        ensures none { IsNone result ↔ (self.now.popped ≡ next_of self.now) }
+        ensures sound { IsSound self.now }
+    {
+        let (position, piece) = self.pieces.first_key_value()?;
+        if *position == self.popped {
+            Some(&piece.held)
+        } else {
+            None
         }
     }
 
