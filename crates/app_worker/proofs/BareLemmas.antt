@@ -40,10 +40,11 @@ module _ (st : State) (old : AppView) (bare : Bare st old) (is_bare : st.bare �
           unread = bare.unread;
           flows = ends-kept st.flows old new t took bare.flows;
           distinct = bare.distinct;
-          whole = λ going split. absurd (over going split);
-          known = λ going split. absurd (over going split);
+          whole = λ going. absurd (over going);
+          known = λ going. absurd (over going);
         })
-        (common-noted st old new t took st.notes st.active st.index st.flows refl common) reaped is_bare;
+        (common-noted st old new t took st.notes st.active st.index st.flows refl
+        (record { kept = omega (arith, ap (total held_len) none); short = omega arith }) common) reaped is_bare;
     goes = record {
       moves = moves-noted st old new t took st.notes st.active st.index st.flows;
       shelved = λ _ begin. shelves-kept st.flows old new t took bare.flows begin kept;
@@ -71,8 +72,8 @@ module _ (st : State) (old : AppView) (bare : Bare st old) (is_bare : st.bare �
           rw (helds, took.view) refl
 
       -- one that wasn't stopped has nothing out only once it ended
-      over : st.stopped ≡ stop.No → st.short ≡ false → ⊥
-      over going split = let ended : st.ended ≡ true = (bare.whole going split).0 in absurd (cc)
+      over : st.stopped ≡ stop.No → ⊥
+      over going = let ended : st.ended ≡ true = (bare.whole going).0 in absurd (cc)
 
       bare-live : st.bare ≡ false → ⊥
       bare-live live = absurd (cc)
@@ -86,14 +87,14 @@ module _ (st : State) (old : AppView) (bare : Bare st old) (is_bare : st.bare �
       let gone : (released mid held).helds ≡ [] = rw (helds, yes) refl in
       let none : new.helds ≡ [] = ap (λ (v : AppView). v.helds) is ∙ gone in
       let view : new ≡ record old { taken = old.taken ++ record { note = note; bytes = [] } ∷ []; helds = new.helds } = rw (is, took.event) refl in
-      turns-noted new (record { note = note; bytes = [] }) kept f more (record { view = view; held = omega (arith, ap (total held_len) none) }) none
+      turns-noted new (record { note = note; bytes = [] }) kept f more (record { view = view }) none
 
   pub bare-linear : (new : AppView) (linear : List ℕ) (note : Note) (kept : ℕ → Option (List ℕ)) (f : ℕ) → st.ended ≡ false
       → TookLinear old new linear note → Turns st st old new kept kept f f Did
   bare-linear new linear note kept f more took =
       let helds : new.helds ≡ old.helds = ap (λ (v : AppView). v.helds) took.event in
       turns-noted new (record { note = note; bytes = take note.total linear }) kept f more
-      (record { view = rw took.event refl; held = omega (arith, ap (total held_len) helds) }) (helds ∙ bare.helds)
+      (record { view = rw took.event refl }) (helds ∙ bare.helds)
 
   pub bare-empty : (new : AppView) (kept : ℕ → Option (List ℕ)) (f : ℕ) → AppOnlySaw no_note old new
       → Turns st st old new kept kept f f (Idle NoNote)
@@ -164,7 +165,7 @@ module _ (st : State) (old : AppView) (bare : Bare st old) (is_bare : st.bare �
         unread = bare.unread;
         flows = bare.flows;
         distinct = bare.distinct;
-        whole = λ going split. (refl, (bare.whole going split).1);
+        whole = λ going. (refl, (bare.whole going).1);
         known = bare.known;
       };
       is_bare = is_bare;
@@ -173,6 +174,7 @@ module _ (st : State) (old : AppView) (bare : Bare st old) (is_bare : st.bare �
         ended = refl;
         counted = common.counted;
         owns = common.owns;
+        copied = common.copied;
         spares = common.spares;
         some_places = common.some_places;
         within = common.within;
@@ -191,11 +193,12 @@ module _ (st : State) (old : AppView) (bare : Bare st old) (is_bare : st.bare �
       reaped = reaped;
       goes = record {
         moves = record {
-          same = (refl, refl, refl, refl);
+          same = (refl, refl, refl, omega arith);
           how = (refl, refl);
           places = refl;
           steps = omega (arith, not_yet);
           looks = looks-more old (told_end old) CardEnded refl;
+          keeps = λ n r before live. record { lent = (before live).lent; kept = λ notes. absurd (cc) };
           stays = λ _. refl;
           leaked = same-leaked st (record st { ended = true }) refl refl;
         };

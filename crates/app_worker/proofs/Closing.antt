@@ -12,7 +12,7 @@ use Rattle.board_face.specs.declared.views.app.TakenNote.{TakenNote}
 use Rattle.board_face.specs.declared.views.app.AppView.{AppView}
 use Rattle.app_worker.specs.declared.stack.FlowQueue.{FlowQueue}
 use Rattle.app_worker.specs.declared.turn.Turn.TheVariants.{Did, Finished}
-use Rattle.app_worker.specs.Core.{Each, own_notes, received_notes, placed_of, marks_of_piece, FlowStands}
+use Rattle.app_worker.specs.Core.{Each, own_notes, received_notes, placed_of, marks_of_waiting, FlowStands}
 use Rattle.app_worker.specs.State.{State, IsAtRest, Working, Common, Bare, app_steps}
 use Rattle.app_worker.specs.Moves.{Goes}
 use Rattle.app_worker.specs.Letting.{FlowFacts, facts_of, LetGo}
@@ -45,7 +45,7 @@ whole-flow taken f stands rest =
     values-length (placed_of f taken).at (f.queue.popped - f.bytes) f.bytes (λ q from until. stands.holds.popped q (omega (arith, stands.counted))) in
     let none : 0 ≡ length (values_from (placed_of f taken).at (f.queue.popped - f.bytes) f.bytes) = ap length stands.lent in
     let all : f.bytes ≡ f.queue.popped = omega (arith, size, none, stands.counted) in
-    all ∙ rest ∙ sym (next_missing-held marks_of_piece f.queue (placed_of f taken) stands.holds)
+    all ∙ rest ∙ sym (next_missing-held marks_of_waiting f.queue (placed_of f taken) stands.holds)
 
 empty-list : {A : Type 0} (xs : List A) → length xs ≤ 0 → xs ≡ []
 empty-list [] few = refl
@@ -69,12 +69,12 @@ closed-bare b c v w works ended few reaped gone =
       unread = ap (λ (s : State). s.unread) gone.same;
       flows = gone.ends;
       distinct = gone.distinct;
-      whole = λ going split. (
+      whole = λ going. (
         ap (λ (s : State). s.ended) gone.same ∙ ended,
         subst (λ ts. Each (IsWhole ts) c.flows) (sym gone.taken)
             (each-facts (IsWhole v.taken) (IsWhole v.taken) (whole-facts v.taken) b.flows c.flows gone.facts whole),
       );
-      known = λ going split n nothing. ap (own_notes n) gone.taken
+      known = λ going n nothing. ap (own_notes n) gone.taken
           ∙ works.stands.known n (sym (total-facts (λ x. if x.number == n then 1 else 0) b.flows c.flows gone.facts) ∙ nothing);
     }
 
@@ -114,6 +114,7 @@ common-gone st v common = record {
   ended = common.ended;
   counted = λ here. absurd (cc);
   owns = common.owns;
+  copied = common.copied;
   spares = common.spares;
   some_places = common.some_places;
   within = common.within;
@@ -133,11 +134,12 @@ common-gone st v common = record {
 goes-gone : (st : State) (v : AppView) (kept : ℕ → Option (List ℕ)) → Goes st st v (left_board (scrubbed (fell_quiet v))) kept kept
 goes-gone st v kept = record {
   moves = record {
-    same = (refl, refl, refl, refl);
+    same = (refl, refl, refl, omega arith);
     how = (refl, refl);
     places = refl;
     steps = omega (arith, one-most v.left);
     looks = looks-same v (left_board (scrubbed (fell_quiet v))) refl;
+    keeps = λ n r before live. (let k = before live in record { lent = k.lent; kept = k.kept });
     stays = λ _. refl;
     leaked = same-leaked st st refl refl;
   };

@@ -1,5 +1,5 @@
 -- A piece is lent: all that is kept then.
-use Rattle.std.proofs.Common.{◌≡◌, ◌≢◌, ℕ, suc, ◌+◌, ◌-◌, ◌^◌, ◌<◌, min, false, List, [], ◌∷◌, ◌++◌, Option, length}
+use Rattle.std.proofs.Common.{◌≡◌, ◌≢◌, ℕ, suc, ◌+◌, ◌-◌, ◌^◌, ◌<◌, ◌≤◌, min, Bool, true, false, List, [], ◌∷◌, ◌++◌, Option, length}
 use Rattle.std.proofs.Common.{set, get_or, refl, sym, ap, subst, ◌∙◌, arith, append_assoc, length-append}
 use Rattle.zr_kinds.specs.declared.ring.Completion.{Completion}
 use Rattle.completion_ring.specs.Ring.{Ring, ring}
@@ -7,24 +7,30 @@ use Rattle.tcp_reorder.specs.Queue.{Queue}
 use Rattle.board_face.specs.declared.views.parts.Setting.{Setting}
 use Rattle.board_face.specs.declared.views.app.TakenNote.{TakenNote}
 use Rattle.board_face.specs.declared.views.app.AppView.{AppView}
-use Rattle.app_worker.specs.declared.stack.Piece.{Piece}
+use Rattle.app_worker.specs.declared.stack.Waiting.{Waiting}
+use Rattle.app_worker.specs.declared.stack.Waiting.TheVariants.{InArea, Copied}
 use Rattle.app_worker.specs.declared.stack.Lending.{Lending}
 use Rattle.app_worker.specs.declared.stack.FlowQueue.{FlowQueue}
-use Rattle.app_worker.specs.Core.{total, is_odd, Each, Stands, many}
-use Rattle.app_worker.specs.State.{State, read_of, TellsOf, Working, Common, capped, held_len, taken_len, app_steps, one_if}
+use Rattle.board_face.specs.AppEvents.{reserve_of}
+use Rattle.app_worker.specs.Core.{total, is_odd, Each, Stands, many, lent_piece, over_waiting, short_len, short_bytes}
+use Rattle.app_worker.specs.State.{State, read_of, TellsOf, LiesOutside, Working, Common, capped, held_len, taken_len, unsplit_len, app_steps, one_if}
 use Rattle.app_worker.specs.Shelves.{IsShelved}
-use Rattle.app_worker.specs.Moves.{Moves}
+use Rattle.app_worker.specs.Moves.{Moves, KeptSince, reserve_loans, lies_in}
+use Rattle.board_face.specs.declared.views.app.LentPiece.{LentPiece}
 use Rattle.board_face.specs.declared.views.app.AppLook.TheVariants.{RawOnItsWay}
 use Rattle.app_worker.specs.declared.stack.Delivery.{Delivery}
-use Rattle.app_worker.specs.declared.stack.Delivery.TheVariants.{Did, NoneInOrder, Full, Unsettled}
-use Rattle.app_worker.specs.Steps.{Delivers, Delivered, lending_of}
+use Rattle.app_worker.specs.declared.stack.Delivery.TheVariants.{Did, NoneInOrder, Full, Unsettled, ReserveHeld}
+use Rattle.app_worker.specs.Steps.{Delivers, Delivered, with_copy, spares_of}
+use Rattle.app_worker.proofs.Lends.{short-first}
+use Rattle.std.proofs.lemmas.Bool.{eq-eqb}
+use Rattle.std.specs.Prelude.{◌==◌, ◌||◌}
 use Rattle.app_worker.specs.Whole.{LentOne, KeepsShelves, Lends}
 use Rattle.app_worker.proofs.Tokens.{some-bytes}
 use Rattle.app_worker.proofs.Standing.{At, split-at, each-join, each-right, each-left, stands-lent, total-changed, many-same}
-use Rattle.app_worker.proofs.Moving.{total-one, looks-same, aside-same, leaked-aside, same-leaked, strays-same, entries-same, names-same, most-same}
+use Rattle.app_worker.proofs.Moving.{total-one, lies-not, aside-same, leaked-aside, same-leaked, strays-same, entries-same, names-same, most-same}
 use Rattle.app_worker.proofs.Resting.{rest-set, rest-too}
 use Rattle.app_worker.proofs.Indexing.{index-set}
-use Rattle.app_worker.proofs.Seeing.{Left, left-none, left-saw}
+use Rattle.app_worker.proofs.Seeing.{Left, left-none, left-saw, left-no-spare}
 
 -- what the shelf has of a flow doesn't look at what its queue keeps
 pub shelved-flow : (first kept : ℕ → Option (List ℕ)) (taken : List TakenNote) (reads : List _) (own now : FlowQueue)
@@ -32,7 +38,7 @@ pub shelved-flow : (first kept : ℕ → Option (List ℕ)) (taken : List TakenN
     → IsShelved first kept taken reads own → IsShelved first kept taken reads now
 shelved-flow first kept taken reads own now same base shelved = subst (IsShelved first kept taken reads) (sym same) (with_base now.queue base)
   where
-    with_base : (q : Queue Piece) → q.base ≡ own.queue.base → IsShelved first kept taken reads (record own { queue = q })
+    with_base : (q : Queue Waiting) → q.base ≡ own.queue.base → IsShelved first kept taken reads (record own { queue = q })
     with_base q base = rw base (record { gained = shelved.gained })
 
 pub record Bundle (was now : State) (old new : AppView) : Type 0 where
@@ -42,24 +48,53 @@ pub record Bundle (was now : State) (old new : AppView) : Type 0 where
   pub shelved : KeepsShelves was now old new
   pub one : LentOne was now old new
 
-abbrev pub with_lent : State → FlowQueue → Ring (Completion × Lending) → ℕ → State
-with_lent was now then loans = record was { flows = set was.flows was.active now; posted = then; loans = loans }
+-- the loan lies elsewhere where nothing is to be read for it
+no-flush : (flush : Bool) (b c : ℕ) → (flush || (b == c)) ≡ false → (flush ≡ false) × (b ≢ c)
+no-flush true b c off = cc
+no-flush false b c off = (refl, λ is. (let yes : (b == c) ≡ true = eq-eqb b c is in cc))
 
-pub lent-bundle : (was : State) (own now : FlowQueue) (then : Ring (Completion × Lending)) (old new : AppView) (loans : ℕ) → was.ended ≡ false
+not-nil : {A : Type 0} (xs : List A) (x : A) → xs ++ x ∷ [] ≡ [] → ⊥
+not-nil [] x e = cc
+not-nil (y ∷ ys) x e = cc
+
+copied-too : (piece : Waiting) (copied spares : ℕ) → copied ≡ capped spares → with_copy piece copied ≡ capped (spares + spares_of piece)
+copied-too (InArea p) copied spares is = is ∙ ap capped (same spares)
+  where
+    same : (n : ℕ) → n ≡ n + 0
+    same n = omega arith
+copied-too (Copied s) copied spares is = omega (arith, is)
+
+-- one that takes a spare has a byte
+some-spare : (piece : Waiting) (len : ℕ) → len ≡ over_waiting held_len piece + short_len piece → 0 < len → spares_of piece ≤ short_len piece
+some-spare (InArea p) len is some = omega arith
+some-spare (Copied s) len is some = omega (arith, is)
+
+abbrev pub with_lent : State → FlowQueue → Ring (Completion × Lending) → ℕ → ℕ → Bool → State
+with_lent was now then loans copied flush = record was {
+  flows = set was.flows was.active now;
+  posted = then;
+  loans = loans;
+  copied = copied;
+  flush = flush;
+}
+
+pub lent-bundle : (was : State) (own now : FlowQueue) (then : Ring (Completion × Lending)) (old new : AppView) (loans copied : ℕ) (flush : Bool) → was.ended ≡ false
     → loans ≡ min (was.loans + 1) (2 ^ 64 - 1) → was.active < length was.flows
-    → own ≡ get_or was.flows was.active own → Delivers old new own now was.posted then → Working was old → Common was old
-    → Bundle was (with_lent was now then loans) old new
-lent-bundle was own now then old new loans more count within value step works common =
+    → own ≡ get_or was.flows was.active own → Delivers old new own now was.posted then was.copied copied was.flush flush
+    → Working was old → Common was old → Bundle was (with_lent was now then loans copied flush) old new
+lent-bundle was own now then old new loans copied flush more count within value step works common =
     let at : At was.flows was.active own = split-at was.flows was.active own within value in
-    let p : Completion × Lending = (step.completion, lending_of step.piece) in
+    let p : Completion × Lending = (step.completion, step.lending) in
     let entries : then.entries ≡ was.posted.entries ++ p ∷ [] = ap (λ (r : Ring (Completion × Lending)). r.entries) step.post in
     let places : then.places ≡ was.posted.places = ap (λ (r : Ring (Completion × Lending)). r.places) step.post in
     let all : was.unread ++ then.entries ≡ (was.unread ++ was.posted.entries) ++ p ∷ [] = ap (λ es. was.unread ++ es) entries
     ∙ sym (append_assoc was.unread was.posted.entries (p ∷ [])) in
     let size : ℕ = suc (length (was.unread ++ was.posted.entries)) in
-    let step2 : Delivers old new own now (ring (was.unread ++ was.posted.entries) size) (ring (was.unread ++ then.entries) size) = record {
+    let step2 : Delivers old new own now (ring (was.unread ++ was.posted.entries) size) (ring (was.unread ++ then.entries) size) was.copied copied
+    was.flush flush = record {
       piece = step.piece;
       span = step.span;
+      lending = step.lending;
       completion = step.completion;
       loses = step.loses;
       begins = step.begins;
@@ -68,16 +103,23 @@ lent-bundle was own now then old new loans more count within value step works co
       post = ap (λ es. ring es size) all;
       number = step.number;
       tells = step.tells;
+      marks = step.marks;
+      len = step.len;
+      of_note = step.of_note;
       view = step.view;
+      looks = step.looks;
       apart = step.apart;
       helds = step.helds;
       loans = step.loans;
+      spares = step.spares;
+      copies = step.copies;
+      flushes = step.flushes;
     } in
     let stood : Stands was.notes (at.before ++ own ∷ at.after) (was.unread ++ was.posted.entries) (read_of was) old = subst
     (λ (fs : List FlowQueue). Stands was.notes fs (was.unread ++ was.posted.entries) (read_of was) old) at.is works.stands in
     let stands : Stands was.notes (at.before ++ now ∷ at.after) (was.unread ++ then.entries) (read_of was) new =
     stands-lent was.notes at.before at.after own now (ring (was.unread ++ was.posted.entries) size)
-    (ring (was.unread ++ then.entries) size) (read_of was) old new stood step2 in
+    (ring (was.unread ++ then.entries) size) was.copied copied was.flush flush (read_of was) old new stood step2 in
     let setting : new.setting ≡ old.setting = ap (λ (v : AppView). v.setting) step.view in
     let taken : new.taken ≡ old.taken = ap (λ (v : AppView). v.taken) step.view in
     let returned : new.returned ≡ old.returned = ap (λ (v : AppView). v.returned) step.view in
@@ -87,19 +129,36 @@ lent-bundle was own now then old new loans more count within value step works co
     let scrubbed : new.scrubbed ≡ old.scrubbed = ap (λ (v : AppView). v.scrubbed) step.view in
     let own_app : new.app ≡ old.app = ap (λ (v : AppView). v.app) step.view in
     let owns : new.owns ≡ old.owns = ap (λ (v : AppView). v.owns) step.view in
-    let spares : new.spares ≡ old.spares = ap (λ (v : AppView). v.spares) step.view in
     let one_more : length new.loans ≡ length old.loans + 1 = omega (arith, step.loans (λ _. 1), total-one new.loans, total-one old.loans) in
-    let one_less : total (λ _. 1) new.helds + 1 ≡ total (λ _. 1) old.helds = step.helds (λ _. 1) in
-    let even : is_odd new.setting.layout step.piece.held ≡ 0 = omega
+    let even : is_odd new.setting.layout step.lending.loan ≡ 0 = omega
     (arith, step.loans (λ l. is_odd new.setting.layout l.place), step.apart.some) in
-    let some : 0 < step.piece.held.len = some-bytes new.setting.layout step.piece.held even in
+    let some : 0 < step.lending.loan.len = some-bytes new.setting.layout step.lending.loan even in
     let bytes : FlowQueue → ℕ = λ f. f.bytes in
     let same_bytes : bytes now ≡ bytes own = ap bytes step.flow in
     let written : total bytes (set was.flows was.active now) ≡ total bytes was.flows =
     ap (total bytes) (at.set_is now) ∙ omega (arith, total-changed at.before at.after own now bytes, same_bytes) ∙ sym (ap (total bytes) at.is) in
+    let short : FlowQueue → ℕ = λ f. short_bytes f.queue in
+    let shorts : total short (set was.flows was.active now) + short_len step.piece ≡ total short was.flows =
+    omega (
+      arith,
+      ap (total short) (at.set_is now),
+      total-changed at.before at.after own now short,
+      ap (total short) at.is,
+      short-first own.queue now.queue step.piece step.span step.loses,
+    ) in
+    let size_all : length (was.unread ++ then.entries) ≡ length (was.unread ++ was.posted.entries) + 1 = ap length all
+    ∙ length-append (was.unread ++ was.posted.entries) (p ∷ []) in
+    let reserve : reserve_of new ≡ reserve_of old = ap reserve_of step.view in
+    let lies : LentPiece → ℕ = lies_in (reserve_of old) in
+    let sums : total lies new.loans + total lies new.returned
+    ≡ total lies old.loans + total lies old.returned + lies (lent_piece old.taken step.lending) =
+    omega (arith, step.loans lies, ap (total lies) returned) in
+    let lent : reserve_loans new ≡ reserve_loans old + lies (lent_piece old.taken step.lending) =
+    ap (λ b. total (lies_in b) new.loans + total (lies_in b) new.returned) reserve ∙ sums in
     let longer : length then.entries ≡ length was.posted.entries + 1 = ap length entries ∙ length-append was.posted.entries (p ∷ []) in
-    let steps : app_steps (with_lent was now then loans) new
-    ≡ app_steps was old + 1 = omega (arith, ap length taken, ap length returned, most-same was.how.stray old new returned, one_more, ap (λ b. one_if b) ended, ap (λ b. one_if b) left) in
+    let steps : app_steps (with_lent was now then loans copied flush) new
+    ≡ app_steps was old + 1 = omega
+    (arith, ap length taken, ap length returned, most-same was.how.stray old new returned, one_more, ap (λ b. one_if b) ended, ap (λ b. one_if b) left) in
     record {
       working = record {
         stands = subst (λ (fs : List FlowQueue). Stands was.notes fs (was.unread ++ then.entries) (read_of was) new) (sym (at.set_is now)) stands;
@@ -110,7 +169,11 @@ lent-bundle was own now then old new loans more count within value step works co
         index = index-set was.index was.flows was.active own now within value (ap (λ (f : FlowQueue). f.number) step.flow) works.index;
         over = λ over. absurd (cc);
         going = works.going;
-        split = works.split;
+        outside = λ off. subst (λ b. Each (LiesOutside b) (was.unread ++ then.entries)) (sym (ap reserve_of step.view))
+            (subst (Each (LiesOutside (reserve_of old))) (sym all)
+            (let (was_off, away) = no-flush was.flush step.lending.loan.buffer (reserve_of old) (sym step.flushes ∙ off) in
+            each-join (LiesOutside (reserve_of old)) (was.unread ++ was.posted.entries) (p ∷ []) (works.outside was_off) (away, tt)));
+        flush = λ on none. not-nil (was.unread ++ was.posted.entries) p (sym all ∙ none);
         live = works.live;
         keeps_first = λ some. works.keeps_first (omega (arith, some, aside-same old new returned setting own_app));
         waits = works.waits;
@@ -120,7 +183,15 @@ lent-bundle was own now then old new loans more count within value step works co
         ended = ended ∙ common.ended;
         counted = λ here. scrubbed ∙ common.counted (sym left ∙ here);
         owns = owns ∙ common.owns;
-        spares = spares ∙ common.spares;
+        copied = step.copies ∙ copied-too step.piece was.copied old.spares common.copied ∙ ap capped (sym step.spares);
+        spares = omega (
+          arith,
+          step.spares,
+          shorts,
+          some-spare step.piece step.lending.loan.len step.len some,
+          ap (total unsplit_len) taken,
+          common.spares,
+        );
         some_places = omega (arith, places, common.some_places);
         within = omega (arith, longer, places, step.room);
         room = omega (arith, places, common.room);
@@ -133,16 +204,28 @@ lent-bundle was own now then old new loans more count within value step works co
         strays = strays-same was.how.stray was.stray.left old new (ap (λ (v : AppView). v.written) step.view) common.strays;
         entries = entries-same old new (ap (λ (v : AppView). v.written) step.view) returned common.entries;
         names = names-same was.stray old new setting common.names;
-        bound = omega (arith, one_more, ap length returned, step.helds held_len, some, common.bound, ap (total taken_len) taken);
+        bound = omega (arith, one_more, ap length returned, step.helds held_len, shorts, step.len, some, common.bound, ap (total taken_len) taken);
       };
       moves = record {
-        same = (setting, own_app, owns, spares);
+        same = (setting, own_app, owns, omega (arith, step.spares));
         how = (refl, refl);
         places = places;
         steps = omega (arith, steps);
-        looks = looks-same old new (ap (λ (v : AppView). v.looks) step.view);
+        looks = step.looks;
+        keeps = λ n r before live.
+            let k : KeptSince n r was old = before live in
+            record {
+              lent = omega (arith, k.lent, lent);
+              kept = λ notes same.
+                  let as_before : reserve_loans old ≡ r = omega (arith, k.lent, lent, same) in
+                  let elsewhere : lies (lent_piece old.taken step.lending) ≡ 0 = omega (arith, lent, same, as_before) in
+                  let kept = k.kept notes as_before in (
+                    step.flushes ∙ rw (kept.0, lies-not (reserve_of old) (lent_piece old.taken step.lending) elsewhere) refl,
+                    λ read. omega (arith, kept.1 (omega (arith, read, ap length returned)), size_all),
+                  );
+            };
         stays = λ _. refl;
-        leaked = same-leaked was (with_lent was now then loans) refl refl;
+        leaked = same-leaked was (with_lent was now then loans copied flush) refl refl;
       };
       shelved = λ first kept was_shelved. record {
         flows = subst (Each (IsShelved first kept new.taken new.reads)) (sym (at.set_is now))
@@ -157,24 +240,29 @@ lent-bundle was own now then old new loans more count within value step works co
         others = λ n none. was_shelved.others n (ap (many n) at.is
             ∙ sym (many-same at.before at.after own now (ap (λ (f : FlowQueue). f.number) step.flow) n) ∙ sym (ap (many n) (at.set_is now)) ∙ none);
       };
-      one = record { steps = omega (arith, steps); helds = one_less; posted = longer; same = refl; taken = taken; left = left };
+      one = record { steps = omega (arith, steps); posted = longer; same = refl; taken = taken; left = left };
     }
 
 -- nothing was lent
-pub none-lent : (was : State) (own now : FlowQueue) (then : Ring (Completion × Lending)) (old new : AppView) (result : Delivery) → result ≢ Did
-    → was.active < length was.flows → own ≡ get_or was.flows was.active own
-    → Delivered old new own now was.posted then result → Working was old → Common was old
-    → Left was (with_lent was now then was.loans) old new × Lends was (with_lent was now then was.loans) old new result
-none-lent was own now then old new Did other within value step works common = absurd (other refl)
-none-lent was own now then old new NoneInOrder other within value step works common =
+pub none-lent : (was : State) (own now : FlowQueue) (then : Ring (Completion × Lending)) (copied : ℕ) (flush : Bool) (old new : AppView)
+    (result : Delivery) → result ≢ Did → was.active < length was.flows → own ≡ get_or was.flows was.active own
+    → Delivered old new own now was.posted then was.copied copied was.flush flush result → Working was old → Common was old
+    → Left was (with_lent was now then was.loans copied flush) old new × Lends was (with_lent was now then was.loans copied flush) old new result
+none-lent was own now then copied flush old new Did other within value step works common = absurd (other refl)
+none-lent was own now then copied flush old new NoneInOrder other within value step works common =
     let at : At was.flows was.active own = split-at was.flows was.active own within value in
     let same : set was.flows was.active own ≡ was.flows = at.set_is own ∙ sym at.is in
-    rw (step.1, step.2, same, step.0) (left-none was old works common, (refl, refl, rest-too was.active was.flows own within works.rest (sym value) step.3))
-none-lent was own now then old new Full other within value step works common =
+    rw (step.1, step.2, same, step.4, step.5, step.0)
+    (left-none was old works common, (refl, refl, rest-too was.active was.flows own within works.rest (sym value) step.3))
+none-lent was own now then copied flush old new Full other within value step works common =
     let at : At was.flows was.active own = split-at was.flows was.active own within value in
     let same : set was.flows was.active own ≡ was.flows = at.set_is own ∙ sym at.is in
-    rw (step.1, step.2, same, step.0) (left-none was old works common, (refl, refl, step.3))
-none-lent was own now then old new Unsettled other within value step works common =
+    rw (step.1, step.2, same, step.4, step.5, step.0) (left-none was old works common, (refl, refl, step.3))
+none-lent was own now then copied flush old new Unsettled other within value step works common =
     let at : At was.flows was.active own = split-at was.flows was.active own within value in
     let same : set was.flows was.active own ≡ was.flows = at.set_is own ∙ sym at.is in
-    rw (step.1, step.2, same) (left-saw was old new RawOnItsWay step.0 works common, (refl, step.0))
+    rw (step.1, step.2, same, step.3, step.4) (left-saw was old new RawOnItsWay step.0 works common, (refl, step.0))
+none-lent was own now then copied flush old new ReserveHeld other within value step works common =
+    let at : At was.flows was.active own = split-at was.flows was.active own within value in
+    let same : set was.flows was.active own ≡ was.flows = at.set_is own ∙ sym at.is in
+    rw (step.1, step.2, same, step.3, step.4) (left-no-spare was old new step.0 works common, (refl, step.0))

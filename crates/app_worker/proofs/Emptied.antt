@@ -12,8 +12,8 @@ use Rattle.board_face.specs.declared.views.app.LentPiece.{LentPiece}
 use Rattle.board_face.specs.declared.views.app.AppView.{AppView}
 use Rattle.app_worker.specs.declared.stack.Lending.{Lending}
 use Rattle.app_worker.specs.declared.stack.FlowQueue.{FlowQueue}
-use Rattle.app_worker.specs.Core.{total, Each, over_due, over_read, lent_piece, own_notes, BeginAt, received_notes, AreReadAt}
-use Rattle.app_worker.specs.State.{State, Common, FlowEnds, capped, held_len, taken_len, app_steps, one_if}
+use Rattle.app_worker.specs.Core.{total, Each, over_due, over_read, read_out, short_bytes, lent_piece, own_notes, BeginAt, received_notes, AreReadAt}
+use Rattle.app_worker.specs.State.{State, Common, FlowEnds, capped, held_len, taken_len, unsplit_len, due_one, app_steps, one_if}
 use Rattle.app_worker.specs.Shelves.{IsShelved, AreShelved, ReadsFront, IsFrontShelved, AreFronts}
 use Rattle.std.proofs.Math.Nat.{mul-le-mul_left}
 use Rattle.std.proofs.Common.{◌*◌}
@@ -22,9 +22,9 @@ use Rattle.app_worker.proofs.Moving.{strays-same, names-same}
 use Rattle.app_worker.specs.Whole.{Torn}
 use Rattle.app_worker.specs.Letting.{FlowFacts, facts_of, Abandons, LetGo}
 use Rattle.circular_buffer.specs.Buffer.{buffer}
-use Rattle.app_worker.proofs.Measure.{read-one, due-most}
+use Rattle.app_worker.proofs.Measure.{read-one, read-parts, due-most}
 use Rattle.app_worker.proofs.Tokens.{total-append}
-use Rattle.app_worker.proofs.Moving.{total-one, looks-same}
+use Rattle.app_worker.proofs.Moving.{total-one, looks-same, due-is}
 use Rattle.app_worker.proofs.LetGone.{total-none, each-facts, total-facts}
 
 -- what is said of a flow is said by its facts
@@ -44,7 +44,7 @@ pub shelved-facts : (first kept : ℕ → Option (List ℕ)) (taken : List Taken
     → IsShelved first kept taken reads f → IsShelved first kept taken reads g
 shelved-facts first kept taken reads f g same shelved =
     let P : FlowFacts → Type 0 = λ x. Gained (first x.number) (kept x.number)
-    (λ bytes. AreReadAt reads (values_from (received_notes x.base nothing_placed (own_notes x.number taken)).at x.bytes 0) bytes) in
+    (λ bytes. AreReadAt taken reads (values_from (received_notes x.base nothing_placed (own_notes x.number taken)).at x.bytes 0) bytes) in
     record { gained = subst P (sym same) shelved.gained }
 
 pub shelves-facts : (first kept : ℕ → Option (List ℕ)) (flows now : List FlowQueue) (old new : AppView) → map facts_of now ≡ map facts_of flows
@@ -62,7 +62,7 @@ front-facts : (taken : List TakenNote) (reads : List Reading) (f g : FlowQueue) 
 front-facts taken reads f g same bytes front =
     let P : FlowFacts → Type 0 = λ x. (x.bytes ≤ front.count)
     × ((p : ℕ) → p < front.count → IsSome ((received_notes x.base nothing_placed (own_notes x.number taken)).at p))
-    × AreReadAt reads (values_from (received_notes x.base nothing_placed (own_notes x.number taken)).at front.count 0) bytes in
+    × AreReadAt taken reads (values_from (received_notes x.base nothing_placed (own_notes x.number taken)).at front.count 0) bytes in
     let moved : P (facts_of g) = subst P (sym same) (front.at_least, front.below, front.are) in
     record { count = front.count; at_least = moved.0; below = moved.1; are = moved.2 }
 
@@ -86,14 +86,49 @@ all-fronts-facts first kept flows now old new facts taken reads shelved = record
   others = λ n none. shelved.others n (sym (total-facts (λ x. if x.number == n then 1 else 0) flows now facts) ∙ none);
 }
 
+-- what is unread is out
+pub unread-out : (was : State) (old : AppView) → Torn was old → (f : LentPiece → ℕ)
+    → total (λ (p : Completion × Lending). f (lent_piece old.taken p.1)) was.unread ≤ total f old.loans
+unread-out was old torn f =
+    omega (arith, torn.tokens.loans f, total-append (λ (p : Completion × Lending). f (lent_piece old.taken p.1)) was.unread was.posted.entries)
+
+-- and what was read still is, once what is unread was abandoned
+read-still-out : (was : State) (old v1 : AppView) → Torn was old
+    → Abandons old v1 (λ f. total (λ p. f (lent_piece old.taken p.1)) was.unread) → (f : LentPiece → ℕ)
+    → over_due v1.taken f was.due + over_read v1.taken f was.leaked.items ≤ total f v1.loans
+read-still-out was old v1 torn first f =
+    let taken : v1.taken ≡ old.taken = ap (λ (v : AppView). v.taken) first.only.view in
+    subst (λ ts. over_due ts f was.due + over_read ts f was.leaked.items ≤ total f v1.loans) (sym taken)
+    (omega (
+      arith,
+      torn.tokens.loans f,
+      first.loans f,
+      read-parts old.taken f was.due was.leaked.items,
+      total-append (λ (p : Completion × Lending). f (lent_piece old.taken p.1)) was.unread was.posted.entries,
+    ))
+
+pub due-still-out : (was : State) (old v1 : AppView) → Torn was old
+    → Abandons old v1 (λ f. total (λ p. f (lent_piece old.taken p.1)) was.unread) → (f : LentPiece → ℕ)
+    → over_due v1.taken f was.due ≤ total f v1.loans
+due-still-out was old v1 torn first f = omega (arith, read-still-out was old v1 torn first f)
+
+-- and what is kept to the end, once that was abandoned too
+pub leaked-still-out : (was : State) (old v1 v2 : AppView) → Torn was old
+    → Abandons old v1 (λ f. total (λ p. f (lent_piece old.taken p.1)) was.unread) → Abandons v1 v2 (λ f. over_due v1.taken f was.due)
+    → (f : LentPiece → ℕ) → over_read v2.taken f was.leaked.items ≤ total f v2.loans
+leaked-still-out was old v1 v2 torn first second f =
+    let taken : v2.taken ≡ v1.taken = ap (λ (v : AppView). v.taken) second.only.view in
+    subst (λ ts. over_read ts f was.leaked.items ≤ total f v2.loans) (sym taken)
+    (omega (arith, read-still-out was old v1 torn first f, second.loans f))
+
 pub gone-all : (was : State) (now : List FlowQueue) (old v1 v2 v3 new : AppView) → was.posted.entries ≡ [] → was.bare ≡ false → was.stray.left ≡ 0
     → Torn was old
     → Common was old
-    → Abandons old v1 (λ f. total (λ p. f (lent_piece p.1)) was.unread) → Abandons v1 v2 (λ f. over_due f was.due)
-    → Abandons v2 v3 (λ f. over_read f was.leaked.items) → new ≡ record v3 { helds = [] }
-    → map facts_of now ≡ map facts_of was.flows
+    → Abandons old v1 (λ f. total (λ p. f (lent_piece old.taken p.1)) was.unread) → Abandons v1 v2 (λ f. over_due v1.taken f was.due)
+    → Abandons v2 v3 (λ f. over_read v2.taken f was.leaked.items)
+    → new ≡ record v3 { helds = [] } → map facts_of now ≡ map facts_of was.flows → total (λ f. short_bytes f.queue) now ≡ 0
     → LetGo was (record was { flows = now; unread = []; due = None; leaked = buffer [] was.leaked.capacity; bare = true }) old new
-gone-all was now old v1 v2 v3 new reaped not_yet pushed torn common first second third released facts =
+gone-all was now old v1 v2 v3 new reaped not_yet pushed torn common first second third released facts no_bytes =
     let tokens : v3 ≡ record old { helds = v3.helds; loans = v3.loans; returned = v3.returned } = third.only.view
     ∙ ap (λ (x : AppView). record x { helds = v3.helds; loans = v3.loans; returned = v3.returned }) second.only.view
     ∙ ap (λ (x : AppView). record x { helds = v3.helds; loans = v3.loans; returned = v3.returned }) first.only.view in
@@ -108,17 +143,26 @@ gone-all was now old v1 v2 v3 new reaped not_yet pushed torn common first second
     let lent : new.loans ≡ v3.loans = ap (λ (v : AppView). v.loans) view in
     let returned : new.returned ≡ v3.returned = ap (λ (v : AppView). v.returned) view in
     let one : LentPiece → ℕ = λ _. 1 in
-    let due : ℕ = over_due one was.due in
+    let due : ℕ = due_one was.due in
     let kept : ℕ = length was.leaked.items in
-    let unread : ℕ = total (λ (p : Completion × Lending). one (lent_piece p.1)) was.unread in
-    let posted : total (λ (p : Completion × Lending). one (lent_piece p.1)) was.posted.entries
-    ≡ 0 = ap (total (λ (p : Completion × Lending). one (lent_piece p.1))) reaped in
+    let due_old : over_read old.taken one (read_out was.due was.leaked.items) ≡ due + kept = read-one old.taken was.due was.leaked.items in
+    let due_then : over_due v1.taken one was.due ≡ due = due-is v1.taken was.due in
+    let kept_then : over_read v2.taken one was.leaked.items ≡ kept = total-one was.leaked.items in
+    let unread : ℕ = total (λ (p : Completion × Lending). one (lent_piece old.taken p.1)) was.unread in
+    let posted : total (λ (p : Completion × Lending). one (lent_piece old.taken p.1)) was.posted.entries
+    ≡ 0 = ap (total (λ (p : Completion × Lending). one (lent_piece old.taken p.1))) reaped in
     let all : total one old.loans ≡ unread + (due + kept) =
-    omega (arith, torn.tokens.loans one, read-one was.due was.leaked.items, total-append (λ (p : Completion × Lending). one (lent_piece p.1)) was.unread was.posted.entries, posted) in
-    let none : total one v3.loans ≡ 0 = omega (arith, first.loans one, second.loans one, third.loans one, all, total-one was.leaked.items) in
+    omega (
+      arith,
+      torn.tokens.loans one,
+      total-append (λ (p : Completion × Lending). one (lent_piece old.taken p.1)) was.unread was.posted.entries,
+      posted,
+      due_old,
+    ) in
+    let none : total one v3.loans ≡ 0 = omega (arith, first.loans one, second.loans one, third.loans one, all, due_then, kept_then) in
     let no_loan : new.loans ≡ [] = lent ∙ total-none v3.loans none in
     let count : length new.returned ≡ length old.returned + length old.loans =
-    omega (arith, ap length returned, first.returned, second.returned, third.returned, all, total-one old.loans, total-one was.leaked.items) in
+    omega (arith, ap length returned, first.returned, second.returned, third.returned, all, due_then, kept_then, total-one old.loans) in
     let no_more : length new.loans ≡ 0 = ap length no_loan in
     let bare : one_if was.bare ≡ 0 = ap one_if not_yet in
     let few : due + kept ≤ length old.loans = omega (arith, all, total-one old.loans) in
@@ -140,7 +184,8 @@ gone-all was now old v1 v2 v3 new reaped not_yet pushed torn common first second
         ended = ended ∙ common.ended;
         counted = λ here. scrubbed ∙ common.counted (sym left ∙ here);
         owns = ap (λ (v : AppView). v.owns) view ∙ common.owns;
-        spares = ap (λ (v : AppView). v.spares) view ∙ common.spares;
+        copied = common.copied ∙ ap capped (sym (ap (λ (v : AppView). v.spares) view));
+        spares = omega (arith, ap (λ (v : AppView). v.spares) view, no_bytes, common.spares, ap (total unsplit_len) taken);
         some_places = common.some_places;
         within = common.within;
         room = common.room;
@@ -154,19 +199,20 @@ gone-all was now old v1 v2 v3 new reaped not_yet pushed torn common first second
         entries = subst (λ ws. total (λ (w : WrittenEntry). if w.of_loan then 1 else 0) ws ≤ length new.returned)
             (sym (ap (λ (v : AppView). v.written) view)) (omega (arith, common.entries, count));
         names = names-same was.stray old new (ap (λ (v : AppView). v.setting) view) common.names;
-        bound = omega (arith, count, no_more, ap (total held_len) helds, common.bound, ap (total taken_len) taken);
+        bound = omega (arith, count, no_more, ap (total held_len) helds, no_bytes, common.bound, ap (total taken_len) taken);
       };
       moves = record {
         same = (
           ap (λ (v : AppView). v.setting) view,
           ap (λ (v : AppView). v.app) view,
           ap (λ (v : AppView). v.owns) view,
-          ap (λ (v : AppView). v.spares) view,
+          omega (arith, ap (λ (v : AppView). v.spares) view),
         );
         how = (refl, refl);
         places = refl;
         steps = omega (arith, steps);
         looks = looks-same old new (ap (λ (v : AppView). v.looks) view);
+        keeps = λ n r before live. absurd (cc);
         stays = λ _. refl;
         leaked = λ live. absurd (cc);
       };

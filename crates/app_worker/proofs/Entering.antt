@@ -17,8 +17,10 @@ use Rattle.board_face.specs.AppEvents.{released}
 use Rattle.board_face.specs.declared.views.app.HeldPiece.{HeldPiece}
 use Rattle.board_face.specs.declared.views.app.AppView.{AppView}
 use Rattle.app_worker.specs.declared.stack.Piece.{Piece}
+use Rattle.app_worker.specs.declared.stack.Waiting.{Waiting}
+use Rattle.app_worker.specs.declared.stack.Waiting.TheVariants.{InArea}
 use Rattle.app_worker.specs.Marks.{Mark, marks_from}
-use Rattle.app_worker.specs.Core.{total, IsIn, LieApart, held_piece, over_kept, marks_of_piece, received_note}
+use Rattle.app_worker.specs.Core.{total, IsIn, LieApart, Each, held_piece, over_waiting, over_kept, marks_of_piece, marks_of_waiting, received_note}
 use Rattle.app_worker.specs.Steps.{OnlyHelds, GaveFront, CutFirst, Others, over_others, front_of_piece, rest_of_piece, whole_piece}
 use Rattle.app_worker.proofs.Tokens.{is-released}
 use Rattle.app_worker.proofs.Pieces.{other-place}
@@ -50,30 +52,39 @@ marks-part note n k len within =
 
 -- ---- what a queue keeps, summed
 
-pub over-with_kept : (f : HeldPiece → ℕ) (kept : List (Kept Piece)) (one : Kept Piece)
-    → total (λ k. f (held_piece k.piece)) (with_kept kept one) ≡ f (held_piece one.piece) + total (λ k. f (held_piece k.piece)) kept
+pub over-with_kept : (f : Waiting → ℕ) (kept : List (Kept Waiting)) (one : Kept Waiting)
+    → total (λ k. f k.piece) (with_kept kept one) ≡ f one.piece + total (λ k. f k.piece) kept
 over-with_kept f [] one = refl
 over-with_kept f (first ∷ others) one = ⊎_elim
     (λ (before : nat_lt one.position first.position ≡ true). rw before refl)
     (λ (behind : nat_lt one.position first.position ≡ false). rw behind (omega (arith, over-with_kept f others one)))
     (cases_Bool (nat_lt one.position first.position))
 
+-- what is said of each that is kept
+pub each-with_kept : (P : Waiting → Type 0) (kept : List (Kept Waiting)) (one : Kept Waiting) → P one.piece → Each (λ k. P k.piece) kept
+    → Each (λ k. P k.piece) (with_kept kept one)
+each-with_kept P [] one here each = (here, tt)
+each-with_kept P (first ∷ others) one here each = ⊎_elim
+    (λ (before : nat_lt one.position first.position ≡ true). rw before (here, each))
+    (λ (behind : nat_lt one.position first.position ≡ false). rw behind (each.0, each-with_kept P others one here each.1))
+    (cases_Bool (nat_lt one.position first.position))
+
 -- ---- the loop
 
 -- So much of the piece is there; the rest, if there is any, is out and goes on so.
-abbrev pub IsLeft : AppView → Queue Piece → Queue Piece → ℕ → ℕ → ℕ → ℕ → Option Piece → Type 0
+abbrev pub IsLeft : AppView → Queue Waiting → Queue Waiting → ℕ → ℕ → ℕ → ℕ → Option Piece → Type 0
 IsLeft v was now number seq len from None =
-    (placed : Placed Mark) → Holds marks_of_piece was placed → Holds marks_of_piece now (filled placed from (marks_from number 0 len))
+    (placed : Placed Mark) → Holds marks_of_waiting was placed → Holds marks_of_waiting now (filled placed from (marks_from number 0 len))
 IsLeft v was now number seq len from (Some piece) =
     IsIn (held_piece piece) v.helds × (piece.note ≡ number) × (piece.at + piece.held.len ≡ len)
-    × GoesOnFrom {A = Mark} {H = Piece} marks_of_piece now seq len piece.at from
-    × ((placed : Placed Mark) → Holds marks_of_piece was placed → Holds marks_of_piece now (filled placed from (take piece.at (marks_from number 0 len))))
+    × GoesOnFrom {A = Mark} {H = Waiting} marks_of_waiting now seq len piece.at from
+    × ((placed : Placed Mark) → Holds marks_of_waiting was placed → Holds marks_of_waiting now (filled placed from (take piece.at (marks_from number 0 len))))
 
 abbrev pub left_len : Option Piece → ℕ
 left_len None = 0
 left_len (Some piece) = suc piece.held.len
 
-module _ (queue : Queue Piece) (note : Note) (accepted : accepts queue.base (next_of queue) note.seq note.total ≡ true)
+module _ (queue : Queue Waiting) (note : Note) (accepted : accepts queue.base (next_of queue) note.seq note.total ≡ true)
     (within : note.at + note.place.len ≤ note.total) where
   abbrev pub from : ℕ
   from = origin queue note.seq + note.at
@@ -82,7 +93,7 @@ module _ (queue : Queue Piece) (note : Note) (accepted : accepts queue.base (nex
   part = (note.seq + note.at) % 2 ^ 32
 
   -- nothing of it is there yet
-  pub goes-on-first : GoesOnFrom {A = Mark} {H = Piece} marks_of_piece queue part note.place.len 0 from
+  pub goes-on-first : GoesOnFrom {A = Mark} {H = Waiting} marks_of_waiting queue part note.place.len 0 from
   goes-on-first =
       let parts = parts_accepted queue.base (next_of queue) note.seq note.total note.at note.place.len accepted within in
       let same : (note.seq + note.at) % 2 ^ 32 ≡ (part + 0) % 2 ^ 32 = omega arith in
@@ -94,35 +105,35 @@ module _ (queue : Queue Piece) (note : Note) (accepted : accepts queue.base (nex
       }
 
   -- all of it is there
-  pub all-there : (later : Queue Piece) (number : ℕ) (placed : Placed Mark) → Holds marks_of_piece queue placed
-      → Holds marks_of_piece later (filled placed from (marks_from number 0 note.place.len))
-      → Holds marks_of_piece later (received_note queue.base placed (record { number = number; note = note }))
+  pub all-there : (later : Queue Waiting) (number : ℕ) (placed : Placed Mark) → Holds marks_of_waiting queue placed
+      → Holds marks_of_waiting later (filled placed from (marks_from number 0 note.place.len))
+      → Holds marks_of_waiting later (received_note queue.base placed (record { number = number; note = note }))
   all-there later number placed holds then =
-      let next : next_missing placed ≡ next_of queue = next_missing-held marks_of_piece queue placed holds in
+      let next : next_missing placed ≡ next_of queue = next_missing-held marks_of_waiting queue placed holds in
       rw (next, accepted) then
 
-pub ignored : (queue : Queue Piece) (note : Note) (number : ℕ) (placed : Placed Mark) → accepts queue.base (next_of queue) note.seq note.total ≡ false
-    → Holds marks_of_piece queue placed → Holds marks_of_piece queue (received_note queue.base placed (record { number = number; note = note }))
+pub ignored : (queue : Queue Waiting) (note : Note) (number : ℕ) (placed : Placed Mark) → accepts queue.base (next_of queue) note.seq note.total ≡ false
+    → Holds marks_of_waiting queue placed → Holds marks_of_waiting queue (received_note queue.base placed (record { number = number; note = note }))
 ignored queue note number placed refused holds =
-    let next : next_missing placed ≡ next_of queue = next_missing-held marks_of_piece queue placed holds in
+    let next : next_missing placed ≡ next_of queue = next_missing-held marks_of_waiting queue placed holds in
     rw (next, refused) holds
 
 -- no byte of the rest is wanted
-pub none-wanted : (v : AppView) (was now : Queue Piece) (number seq len from : ℕ) (piece : Piece) → IsLeft v was now number seq len from (Some piece)
+pub none-wanted : (v : AppView) (was now : Queue Waiting) (number seq len from : ℕ) (piece : Piece) → IsLeft v was now number seq len from (Some piece)
     → ((place : ℕ) → place < piece.held.len → wants now ((seq + piece.at) % 2 ^ 32) place ≡ false)
-    → (placed : Placed Mark) → Holds marks_of_piece was placed → Holds marks_of_piece now (filled placed from (marks_from number 0 len))
+    → (placed : Placed Mark) → Holds marks_of_waiting was placed → Holds marks_of_waiting now (filled placed from (marks_from number 0 len))
 none-wanted v was now number seq len from piece (out, note, all, goes, so_far) unwanted placed holds =
     let marks : List Mark = marks_from number 0 len in
     let size : length marks ≡ len = marks-length number 0 len in
-    holds-all marks_of_piece now placed marks from piece.at holds.past (so_far placed holds) (omega (arith, size))
-    (λ k above until. subst (λ (place : ℕ). IsPast {A = Mark} {H = Piece} marks_of_piece (filled placed from (take piece.at marks)) place)
+    holds-all marks_of_waiting now placed marks from piece.at holds.past (so_far placed holds) (omega (arith, size))
+    (λ k above until. subst (λ (place : ℕ). IsPast {A = Mark} {H = Waiting} marks_of_waiting (filled placed from (take piece.at marks)) place)
     (omega (arith, goes.place))
-    (past-unwanted marks_of_piece now (filled placed from (take piece.at marks)) ((seq + piece.at) % 2 ^ 32) (k - piece.at) (so_far placed holds)
+    (past-unwanted marks_of_waiting now (filled placed from (take piece.at marks)) ((seq + piece.at) % 2 ^ 32) (k - piece.at) (so_far placed holds)
     (unwanted (k - piece.at) (omega (arith, size)))))
 
 -- ---- a gap is taken
 
-module _ (v v1 v2 : AppView) (was now : Queue Piece) (number seq len from : ℕ) (piece wanted first : Piece) (others : Option Piece) (gap : Gap)
+module _ (v v1 v2 : AppView) (was now : Queue Waiting) (number seq len from : ℕ) (piece wanted first : Piece) (others : Option Piece) (gap : Gap)
     (sound : IsSound now) (fits : len ≤ 2 ^ 30)
     (left : IsLeft v was now number seq len from (Some piece)) (is_gap : IsFirstGap now ((seq + piece.at) % 2 ^ 32) piece.held.len gap)
     (gave : GaveFront v v1 piece gap.skip wanted) (cut : CutFirst v1 v2 wanted gap.len first others) where
@@ -136,13 +147,13 @@ module _ (v v1 v2 : AppView) (was now : Queue Piece) (number seq len from : ℕ)
   first_is : first ≡ front_of_piece (rest_of_piece piece gap.skip) gap.len
   first_is = cut.front ∙ ap (λ p. front_of_piece p gap.len) gave.rest
 
-  abbrev pub one : Kept Piece
-  one = record { position = origin now (((seq + piece.at) % 2 ^ 32 + gap.skip) % 2 ^ 32) - 2 ^ 31; len = gap.len; piece = first }
+  abbrev pub one : Kept Waiting
+  one = record { position = origin now (((seq + piece.at) % 2 ^ 32 + gap.skip) % 2 ^ 32) - 2 ^ 31; len = gap.len; piece = InArea first }
 
-  abbrev pub later : Queue Piece
+  abbrev pub later : Queue Waiting
   later = record now { kept = with_kept now.kept one }
 
-  items : marks_of_piece first ≡ take gap.len (drop (piece.at + gap.skip) marks)
+  items : marks_of_waiting (InArea first) ≡ take gap.len (drop (piece.at + gap.skip) marks)
   unfolding marks
   items =
       let here : marks_of_piece first ≡ marks_from piece.note (piece.at + gap.skip) gap.len = ap marks_of_piece first_is in
@@ -155,21 +166,21 @@ module _ (v v1 v2 : AppView) (was now : Queue Piece) (number seq len from : ℕ)
   before' : piece.at < length marks
   before' = omega (arith, size, left.2, is_gap.within, is_gap.some)
 
-  goes' : GoesOnFrom {A = Mark} {H = Piece} marks_of_piece now seq (length marks) piece.at from
-  goes' = subst (λ n. GoesOnFrom {A = Mark} {H = Piece} marks_of_piece now seq n piece.at from) (sym size) left.3
+  goes' : GoesOnFrom {A = Mark} {H = Waiting} marks_of_waiting now seq (length marks) piece.at from
+  goes' = subst (λ n. GoesOnFrom {A = Mark} {H = Waiting} marks_of_waiting now seq n piece.at from) (sym size) left.3
 
   gap' : IsFirstGap now ((seq + piece.at) % 2 ^ 32) (length marks - piece.at) gap
   gap' = subst (λ n. IsFirstGap now ((seq + piece.at) % 2 ^ 32) n gap)
       (let e : piece.held.len ≡ length marks - piece.at = omega (arith, size, left.2) in e) is_gap
 
-  then-goes : GoesOnFrom {A = Mark} {H = Piece} marks_of_piece later seq len (piece.at + gap.skip + gap.len) from
-  then-goes = subst (λ n. GoesOnFrom {A = Mark} {H = Piece} marks_of_piece later seq n (piece.at + gap.skip + gap.len) from) size
-      (copy-goes-on marks_of_piece now sound seq marks piece.at from fits' before' goes' gap gap' first items)
+  then-goes : GoesOnFrom {A = Mark} {H = Waiting} marks_of_waiting later seq len (piece.at + gap.skip + gap.len) from
+  then-goes = subst (λ n. GoesOnFrom {A = Mark} {H = Waiting} marks_of_waiting later seq n (piece.at + gap.skip + gap.len) from) size
+      (copy-goes-on marks_of_waiting now sound seq marks piece.at from fits' before' goes' gap gap' (InArea first) items)
 
-  then-holds : (placed : Placed Mark) → Holds marks_of_piece was placed
-      → Holds marks_of_piece later (filled placed from (take (piece.at + gap.skip + gap.len) (marks_from number 0 len)))
+  then-holds : (placed : Placed Mark) → Holds marks_of_waiting was placed
+      → Holds marks_of_waiting later (filled placed from (take (piece.at + gap.skip + gap.len) (marks_from number 0 len)))
   unfolding marks
-  then-holds placed holds = copy-held marks_of_piece now sound seq marks piece.at from fits' before' goes' gap gap' first items placed holds.past
+  then-holds placed holds = copy-held marks_of_waiting now sound seq marks piece.at from fits' before' goes' gap gap' (InArea first) items placed holds.past
       (left.4 placed holds)
 
   left-with : (more : Option Piece) → Others v2 wanted gap.len more → IsLeft v2 was later number seq len from more
@@ -177,7 +188,7 @@ module _ (v v1 v2 : AppView) (was now : Queue Piece) (number seq len from : ℕ)
       let wanted_len : wanted.held.len ≡ piece.held.len - gap.skip = ap (λ p. p.held.len) gave.rest in
       let all : piece.at + gap.skip + gap.len ≡ len = omega (arith, whole, wanted_len, left.2, is_gap.within) in
       let full : take len (marks_from number 0 len) ≡ marks_from number 0 len = marks-take number 0 len len (omega arith) in
-      subst (λ ms. Holds marks_of_piece later (filled placed from ms)) (ap (λ n. take n (marks_from number 0 len)) all ∙ full) (then-holds placed holds)
+      subst (λ ms. Holds marks_of_waiting later (filled placed from ms)) (ap (λ n. take n (marks_from number 0 len)) all ∙ full) (then-holds placed holds)
   left-with (Some rest) (below, is, out) =
       let wanted_len : wanted.held.len ≡ piece.held.len - gap.skip = ap (λ p. p.held.len) gave.rest in
       let wanted_at : wanted.at ≡ piece.at + gap.skip = ap (λ p. p.at) gave.rest in
@@ -187,8 +198,8 @@ module _ (v v1 v2 : AppView) (was now : Queue Piece) (number seq len from : ℕ)
         out,
         ap (λ p. p.note) is ∙ wanted_note ∙ left.1,
         omega (arith, at, rest_len, wanted_len, left.2, is_gap.within, below),
-        subst (λ n. GoesOnFrom {A = Mark} {H = Piece} marks_of_piece later seq len n from) (sym at) then-goes,
-        λ placed holds. subst (λ n. Holds marks_of_piece later (filled placed from (take n (marks_from number 0 len)))) (sym at) (then-holds placed holds),
+        subst (λ n. GoesOnFrom {A = Mark} {H = Waiting} marks_of_waiting later seq len n from) (sym at) then-goes,
+        λ placed holds. subst (λ n. Holds marks_of_waiting later (filled placed from (take n (marks_from number 0 len)))) (sym at) (then-holds placed holds),
       )
 
   pub still-left : IsLeft v2 was later number seq len from others
@@ -213,7 +224,7 @@ module _ (v v1 v2 : AppView) (was now : Queue Piece) (number seq len from : ℕ)
     taken-only = record {
       view = view2;
       apart = cut.only.apart;
-      moved = λ f. omega (arith, only.moved f, gave.only.moved f, cut.only.moved f, over-with_kept f now.kept one);
+      moved = λ f. omega (arith, only.moved f, gave.only.moved f, cut.only.moved f, over-with_kept (over_waiting f) now.kept one);
     }
 
 -- ---- there was no memory, and all of it is given up
@@ -228,7 +239,7 @@ others-still v1 v2 wanted first others n some cut = by others cut.rest
         let away : same_place first.held rest.held ≡ false = rw (cut.front, is) (other-place wanted.held n some) in
         (is-released v2 cut.only.apart (held_piece first) cut.out).others (held_piece rest) out away
 
-pub all-given : (v0 v v1 v2 v4 : AppView) (now : Queue Piece) (piece wanted first : Piece) (others : Option Piece) (gap : Gap)
+pub all-given : (v0 v v1 v2 v4 : AppView) (now : Queue Waiting) (piece wanted first : Piece) (others : Option Piece) (gap : Gap)
     (gone : (HeldPiece → ℕ) → ℕ) → OnlyHelds v0 v gone (λ f. over_others f (Some piece) + over_kept f now)
     → GaveFront v v1 piece gap.skip wanted → CutFirst v1 v2 wanted gap.len first others
     → OnlyHelds (released v2 first.held) v4 (λ f. over_others f others) (λ f. 0) → OnlyHelds v0 v4 gone (λ f. over_kept f now)
@@ -243,7 +254,7 @@ all-given v0 v v1 v2 v4 now piece wanted first others gap gone only gave cut las
     }
 
 -- the last piece is given up
-pub rest-given : (v0 v : AppView) (gone : (HeldPiece → ℕ) → ℕ) (now : Queue Piece) (piece : Piece)
+pub rest-given : (v0 v : AppView) (gone : (HeldPiece → ℕ) → ℕ) (now : Queue Waiting) (piece : Piece)
     → OnlyHelds v0 v gone (λ f. over_others f (Some piece) + over_kept f now) → IsIn (held_piece piece) v.helds
     → OnlyHelds v0 (released v piece.held) gone (λ f. over_kept f now)
 rest-given v0 v gone now piece only out =
@@ -254,13 +265,13 @@ rest-given v0 v gone now piece only out =
       moved = λ f. omega (arith, only.moved f, then.moved f);
     }
 
-pub entered-nothing : (v : AppView) → LieApart v → (piece : Piece) (queue : Queue Piece) → IsIn (held_piece piece) v.helds
+pub entered-nothing : (v : AppView) → LieApart v → (piece : Piece) (queue : Queue Waiting) → IsIn (held_piece piece) v.helds
     → OnlyHelds v (released v piece.held) (λ f. f (held_piece piece) + over_kept f queue) (λ f. over_kept f queue)
 entered-nothing v lie piece queue out =
     let then = is-released v lie (held_piece piece) out in
     record { view = refl; apart = then.apart; moved = λ f. omega (arith, then.moved f) }
 
-pub begun-left : (v : AppView) (queue : Queue Piece) (note : Note) (number : ℕ) (held : Place)
+pub begun-left : (v : AppView) (queue : Queue Waiting) (note : Note) (number : ℕ) (held : Place)
     (accepted : accepts queue.base (next_of queue) note.seq note.total ≡ true) (within : note.at + note.place.len ≤ note.total) → held ≡ note.place
     → IsIn (held_piece (whole_piece number held)) v.helds → IsLeft v queue queue number ((note.seq + note.at) % 2 ^ 32) note.place.len
     (origin queue note.seq + note.at) (Some (whole_piece number held))
@@ -269,7 +280,7 @@ begun-left v queue note number held accepted within place out = (
   refl,
   ap (λ p. 0 + p.len) place ∙ zero-plus note.place.len,
   goes-on-first queue note accepted within,
-  λ placed holds. holds-none marks_of_piece queue placed (marks_from number 0 note.place.len) (origin queue note.seq + note.at) holds,
+  λ placed holds. holds-none marks_of_waiting queue placed (marks_from number 0 note.place.len) (origin queue note.seq + note.at) holds,
 )
   where
     zero-plus : (n : ℕ) → 0 + n ≡ n

@@ -9,9 +9,9 @@ use Rattle.board_face.specs.declared.views.app.AppLook.TheVariants.{RefillInUse}
 use Rattle.app_worker.specs.declared.stack.Lending.{Lending}
 use Rattle.circular_buffer.specs.Buffer.{Buffer}
 use Rattle.board_face.specs.AppEvents.{reserve_of}
-use Rattle.board_face.specs.declared.views.app.LentPiece.{LentPiece}
-use Rattle.app_worker.specs.Core.{total, Each, Stands, over_due, over_read, read_out, lent_piece}
-use Rattle.app_worker.specs.State.{State, returned_aside, raw_entries, loan_entries, TellsOf, Working, Common, capped, held_len, taken_len, app_steps, one_if}
+use Rattle.app_worker.specs.Core.{total, Each, Stands, over_read, read_out, lent_piece}
+use Rattle.app_worker.specs.State.{State, returned_aside, raw_entries, loan_entries, TellsOf, LiesOutside, Working, Common, capped, held_len, taken_len}
+use Rattle.app_worker.specs.State.{unsplit_len, due_one, app_steps, one_if}
 use Rattle.app_worker.specs.Shelves.{IsShelved}
 use Rattle.app_worker.specs.Steps.{Gave, Given, IsToFollow, KeptDue}
 use Rattle.std.proofs.Common.{◌*◌}
@@ -23,9 +23,11 @@ use Rattle.app_worker.specs.declared.stack.Stray.{Stray}
 use Rattle.app_worker.specs.Moves.{Moves}
 use Rattle.app_worker.specs.Whole.{Gives}
 use Rattle.app_worker.proofs.Standing2.{given-stands}
-use Rattle.app_worker.proofs.Moving.{total-one, looks-same, no-write, reserve-same, leaked-aside, same-leaked}
+use Rattle.app_worker.proofs.Moving.{total-one, looks-same, kept-same, no-write, reserve-same, leaked-aside, same-leaked}
 use Rattle.app_worker.proofs.Tokens.{total-append}
 use Rattle.app_worker.proofs.Standing.{each-join}
+use Rattle.app_worker.specs.Moves.{reads_of, reserve_loans, lies_in}
+use Rattle.board_face.specs.declared.views.app.LentPiece.{LentPiece}
 use Rattle.app_worker.proofs.Seeing.{Left, left-none, left-saw}
 
 abbrev pub with_due : State → Option Lending → Stray → State
@@ -41,17 +43,17 @@ mul-one : (k n : ℕ) → k * (n + 1) ≡ k * n + k
 mul-one k n = omega arith
 
 -- one that is given back lies in the reserve, or enough are kept
-aside-gave : (was : State) (l : Lending) (old new : AppView) → new.returned ≡ old.returned ++ lent_piece l ∷ [] → new.setting ≡ old.setting
+aside-gave : (was : State) (l : Lending) (old new : AppView) → new.returned ≡ old.returned ++ lent_piece old.taken l ∷ [] → new.setting ≡ old.setting
     → new.app ≡ old.app → (l.loan.buffer ≢ reserve_of old → was.how.leak ≤ length was.leaked.items) → length was.leaked.items ≤ was.how.leak
     → (0 < returned_aside old → length was.leaked.items ≡ was.how.leak) → 0 < returned_aside new → length was.leaked.items ≡ was.how.leak
 aside-gave was l old new returned setting app enough few first some =
     let one : LentPiece → ℕ = λ (x : LentPiece). if x.place.buffer == reserve_of old then 0 else 1 in
-    let sum : returned_aside new ≡ total one old.returned + one (lent_piece l) =
+    let sum : returned_aside new ≡ total one old.returned + one (lent_piece old.taken l) =
     ap (λ xs. total (λ (x : LentPiece). if x.place.buffer == reserve_of new then 0 else 1) xs) returned
-    ∙ ap (λ n. total (λ (x : LentPiece). if x.place.buffer == n then 0 else 1) (old.returned ++ lent_piece l ∷ [])) (reserve-same old new setting app)
-    ∙ omega (arith, total-append one old.returned (lent_piece l ∷ [])) in
+    ∙ ap (λ n. total (λ (x : LentPiece). if x.place.buffer == n then 0 else 1) (old.returned ++ lent_piece old.taken l ∷ [])) (reserve-same old new setting app)
+    ∙ omega (arith, total-append one old.returned (lent_piece old.taken l ∷ [])) in
     ⊎_elim
-    (λ (same : l.loan.buffer ≡ reserve_of old). let none : one (lent_piece l)
+    (λ (same : l.loan.buffer ≡ reserve_of old). let none : one (lent_piece old.taken l)
     ≡ 0 = (let yes : (l.loan.buffer == reserve_of old) ≡ true = eq-eqb l.loan.buffer (reserve_of old) same in rw yes refl) in
     first (omega (arith, sum, none, some)))
     (λ (other : l.loan.buffer ≢ reserve_of old). omega (arith, enough other, few))
@@ -84,12 +86,23 @@ gave-left was l stray old new due step follow enough works common =
     let owns : new.owns ≡ old.owns = ap (λ (v : AppView). v.owns) step.view in
     let spares : new.spares ≡ old.spares = ap (λ (v : AppView). v.spares) step.view in
     let one_less : length new.loans + 1 ≡ length old.loans = omega (arith, step.loans (λ _. 1), total-one new.loans, total-one old.loans) in
-    let one_more : length new.returned ≡ length old.returned + 1 = ap length step.returned ∙ length-append old.returned (lent_piece l ∷ []) in
-    let due_one : over_due (λ _. 1) was.due ≡ 1 = ap (over_due (λ _. 1)) due in
+    let one_more : length new.returned ≡ length old.returned + 1 = ap length step.returned ∙ length-append old.returned (lent_piece old.taken l ∷ []) in
+    let one_due : due_one was.due ≡ 1 = ap due_one due in
+    let read_count : reads_of (with_due was None stray) new ≡ reads_of was old = omega (arith, one_more, one_due) in
+    let reserve : reserve_of new ≡ reserve_of old = ap reserve_of step.view in
+    let lies : LentPiece → ℕ = lies_in (reserve_of old) in
+    let sums : total lies new.loans + total lies new.returned ≡ total lies old.loans + total lies old.returned =
+    omega (
+      arith,
+      step.loans lies,
+      ap (total lies) step.returned,
+      total-append lies old.returned (lent_piece old.taken l ∷ []),
+    ) in
+    let lent : reserve_loans new ≡ reserve_loans old = ap (λ b. total (lies_in b) new.loans + total (lies_in b) new.returned) reserve ∙ sums in
     let more : was.how.stray * length new.returned ≡ was.how.stray * length old.returned + was.how.stray = ap (λ n. was.how.stray * n) one_more
     ∙ mul-one was.how.stray (length old.returned) in
     let steps : app_steps (with_due was None stray) new ≡ app_steps was old + 2 = omega
-    (arith, ap length taken, one_less, one_more, due_one, more, left_is, no_left, ap one_if ended, ap one_if left) in
+    (arith, ap length taken, one_less, one_more, one_due, more, left_is, no_left, ap one_if ended, ap one_if left) in
     let stood : Stands was.notes was.flows (was.unread ++ was.posted.entries) (l ∷ was.leaked.items) old = subst
     (λ d. Stands was.notes was.flows (was.unread ++ was.posted.entries) (read_out d was.leaked.items) old) due works.stands in (
       record {
@@ -101,7 +114,8 @@ gave-left was l stray old new due step follow enough works common =
           index = works.index;
           over = works.over;
           going = works.going;
-          split = works.split;
+          outside = λ off. subst (λ b. Each (LiesOutside b) (was.unread ++ was.posted.entries)) (sym (ap reserve_of step.view)) (works.outside off);
+          flush = works.flush;
           live = works.live;
           keeps_first = aside-gave was l old new step.returned setting own_app enough common.leaks works.keeps_first;
           waits = λ _. refl;
@@ -111,7 +125,8 @@ gave-left was l stray old new due step follow enough works common =
           ended = ended ∙ common.ended;
           counted = λ here. scrubbed ∙ common.counted (sym left ∙ here);
           owns = owns ∙ common.owns;
-          spares = spares ∙ common.spares;
+          copied = common.copied ∙ ap capped (sym spares);
+          spares = omega (arith, spares, ap (total unsplit_len) taken, common.spares);
           some_places = common.some_places;
           within = common.within;
           room = common.room;
@@ -128,11 +143,12 @@ gave-left was l stray old new due step follow enough works common =
         };
         goes = λ kept. record {
           moves = record {
-            same = (setting, own_app, owns, spares);
+            same = (setting, own_app, owns, omega (arith, spares));
             how = (refl, refl);
             places = refl;
             steps = omega (arith, steps);
             looks = looks-same old new (ap (λ (v : AppView). v.looks) step.view);
+            keeps = kept-same was (with_due was None stray) old new refl refl refl refl read_count lent (omega arith);
             stays = λ _. refl;
             leaked = same-leaked was (with_due was None stray) refl refl;
           };
@@ -182,16 +198,17 @@ kept-left was rest leaked v step works common =
     let now : State = with_leaked was leaked in
     let stood : Stands was.notes was.flows (was.unread ++ was.posted.entries) (l ∷ was.leaked.items) v = subst
     (λ d. Stands was.notes was.flows (was.unread ++ was.posted.entries) (read_out d was.leaked.items) v) step.due works.stands in
-    let same : (f : LentPiece → ℕ) → over_read f leaked.items ≡ over_read f (l ∷ was.leaked.items) = λ f.
-    ap (over_read f) items ∙ omega (arith, total-append (λ x. f (lent_piece x)) was.leaked.items (l ∷ [])) in
-    let due_one : over_due (λ _. 1) was.due ≡ 1 = ap (over_due (λ _. 1)) step.due in
-    let steps : app_steps now v ≡ app_steps was v + 1 = omega (arith, due_one, longer) in
+    let same : (f : LentPiece → ℕ) → over_read v.taken f leaked.items ≡ over_read v.taken f (l ∷ was.leaked.items) = λ f.
+    ap (over_read v.taken f) items ∙ omega (arith, total-append (λ x. f (lent_piece v.taken x)) was.leaked.items (l ∷ [])) in
+    let one_due : due_one was.due ≡ 1 = ap due_one step.due in
+    let steps : app_steps now v ≡ app_steps was v + 1 = omega (arith, one_due, longer) in
     let moves : Moves was now v v = record {
-      same = (refl, refl, refl, refl);
+      same = (refl, refl, refl, omega arith);
       how = (refl, refl);
       places = refl;
       steps = omega (arith, steps);
       looks = looks-same v v refl;
+      keeps = kept-same was now v v refl refl refl refl (omega (arith, one_due, longer)) refl (omega arith);
       stays = λ _. refl;
       leaked = λ live. (live, (l ∷ [], items));
     } in
@@ -209,6 +226,9 @@ kept-left was rest leaked v step works common =
             flows = stood.flows;
             known = stood.known;
             posted = stood.posted;
+            lent = stood.lent;
+            due_lent = subst (Each (λ x. x.note < length v.taken)) (sym items)
+                (each-join (λ x. x.note < length v.taken) was.leaked.items (l ∷ []) stood.due_lent.1 (stood.due_lent.0, tt));
             counted = stood.counted;
           };
           completions = works.completions;
@@ -216,7 +236,8 @@ kept-left was rest leaked v step works common =
           index = works.index;
           over = works.over;
           going = works.going;
-          split = works.split;
+          outside = works.outside;
+          flush = works.flush;
           live = works.live;
           keeps_first = λ some. absurd (omega (arith, works.keeps_first some, step.few));
           waits = λ _. refl;
@@ -226,6 +247,7 @@ kept-left was rest leaked v step works common =
           ended = common.ended;
           counted = common.counted;
           owns = common.owns;
+          copied = common.copied;
           spares = common.spares;
           some_places = common.some_places;
           within = common.within;

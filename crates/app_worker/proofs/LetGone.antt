@@ -7,12 +7,14 @@ use Rattle.tcp_reorder.specs.Gaps.{LosesFirst}
 use Rattle.board_face.specs.AppEvents.{abandoned, released}
 use Rattle.board_face.specs.declared.views.app.HeldPiece.{HeldPiece}
 use Rattle.board_face.specs.declared.views.app.LentPiece.{LentPiece}
+use Rattle.board_face.specs.declared.views.app.TakenNote.{TakenNote}
 use Rattle.board_face.specs.declared.views.app.AppView.{AppView}
-use Rattle.app_worker.specs.declared.stack.Piece.{Piece}
+use Rattle.app_worker.specs.declared.stack.Waiting.{Waiting}
+use Rattle.app_worker.specs.declared.stack.Waiting.TheVariants.{InArea, Copied}
 use Rattle.app_worker.specs.declared.stack.Lending.{Lending}
 use Rattle.app_worker.specs.declared.stack.FlowQueue.{FlowQueue}
 use Rattle.app_worker.specs.Core.{total, IsIn, LieApart, Each, lent_piece, held_piece, over_kept}
-use Rattle.app_worker.specs.Steps.{OnlyHelds}
+use Rattle.app_worker.specs.Steps.{OnlyHelds, IsOut, given_back}
 use Rattle.app_worker.specs.Letting.{FlowFacts, facts_of, OnlyTokens, Abandons}
 use Rattle.app_worker.proofs.Tokens.{is-given, is-released, is_that_loan, that-loan, is-lent-there}
 use Rattle.app_worker.proofs.Lends.{over-first}
@@ -93,13 +95,13 @@ pub record AbandonsSome (old new : AppView) (all left : (LentPiece → ℕ) → 
 pub abandons-none : (v : AppView) → LieApart v → (all : (LentPiece → ℕ) → ℕ) → AbandonsSome v v all all
 abandons-none v lie all = record { only = tokens-none v lie; helds = refl; loans = λ f. refl; returned = refl }
 
-pub abandons-one : (u v : AppView) (all left : (LentPiece → ℕ) → ℕ) (l : Lending) → IsIn (lent_piece l) v.loans
-    → AbandonsSome u v all (λ f. f (lent_piece l) + left f) → AbandonsSome u (abandoned v l.loan) all left
-abandons-one u v all left l out some =
-    let step = is-given v some.only.apart (lent_piece l) out in
+pub abandons-one : (u v : AppView) (all left : (LentPiece → ℕ) → ℕ) (taken : List TakenNote) (l : Lending) → IsIn (lent_piece taken l) v.loans
+    → AbandonsSome u v all (λ f. f (lent_piece taken l) + left f) → AbandonsSome u (abandoned v l.loan) all left
+abandons-one u v all left taken l out some =
+    let step = is-given v some.only.apart (lent_piece taken l) out in
     let lie : LieApart (abandoned v l.loan) = record { once = step.apart.once; some = step.apart.some } in
     let one_more : length (abandoned v l.loan).returned ≡ length v.returned + 1 = ap length step.returned
-    ∙ length-append v.returned (lent_piece l ∷ []) in
+    ∙ length-append v.returned (lent_piece taken l ∷ []) in
     record {
       only = tokens-then u v (abandoned v l.loan) some.only (record { view = refl; apart = lie });
       helds = some.helds;
@@ -108,24 +110,27 @@ abandons-one u v all left l out some =
     }
 
 -- the first of them is out
-pub first-lent : (u v : AppView) (all left : (LentPiece → ℕ) → ℕ) (l : Lending) → ((f : LentPiece → ℕ) → all f ≤ total f u.loans)
-    → AbandonsSome u v all (λ f. f (lent_piece l) + left f) → IsIn (lent_piece l) v.loans
-first-lent u v all left l out some =
-    let test : LentPiece → ℕ = is_that_loan l.loan l.note l.at in
-    is-lent-there l.loan l.note l.at v.loans (omega (arith, that-loan l.loan l.note l.at, some.loans test, out test))
+pub first-lent : (u v : AppView) (all left : (LentPiece → ℕ) → ℕ) (taken : List TakenNote) (l : Lending)
+    → ((f : LentPiece → ℕ) → all f ≤ total f u.loans)
+    → AbandonsSome u v all (λ f. f (lent_piece taken l) + left f) → IsIn (lent_piece taken l) v.loans
+first-lent u v all left taken l out some =
+    let test : LentPiece → ℕ = is_that_loan (lent_piece taken l) in
+    is-lent-there (lent_piece taken l) v.loans (omega (arith, that-loan (lent_piece taken l), some.loans test, out test))
 
 pub abandons-all : (u v : AppView) (all : (LentPiece → ℕ) → ℕ) → AbandonsSome u v all (λ f. 0) → Abandons u v all
 abandons-all u v all some = record { only = some.only; helds = some.helds; loans = λ f. omega (arith, some.loans f); returned = omega (arith, some.returned) }
 
 -- ---- pieces
 
-pub released-one : (u v : AppView) (gone : (HeldPiece → ℕ) → ℕ) (now then : Queue Piece) (piece : Piece) (span : Span)
-    → LosesFirst now then piece span → IsIn (held_piece piece) v.helds
-    → OnlyHelds u v gone (λ f. over_kept f now) → OnlyHelds u (released v piece.held) gone (λ f. over_kept f then)
-released-one u v gone now then piece span loses out only =
+pub released-one : (u v : AppView) (gone : (HeldPiece → ℕ) → ℕ) (now then : Queue Waiting) (piece : Waiting) (span : Span)
+    → LosesFirst now then piece span → IsOut v piece
+    → OnlyHelds u v gone (λ f. over_kept f now) → OnlyHelds u (given_back v piece) gone (λ f. over_kept f then)
+released-one u v gone now then (Copied s) span loses out only =
+    record { view = only.view; apart = only.apart; moved = λ f. omega (arith, only.moved f, over-first f now then (Copied s) span loses) }
+released-one u v gone now then (InArea piece) span loses out only =
     let step = is-released v only.apart (held_piece piece) out in
     record {
       view = ap (λ (x : AppView). released x piece.held) refl ∙ (rw only.view refl);
       apart = step.apart;
-      moved = λ f. omega (arith, only.moved f, step.moved f, over-first f now then piece span loses);
+      moved = λ f. omega (arith, only.moved f, step.moved f, over-first f now then (InArea piece) span loses);
     }

@@ -4,6 +4,7 @@ pub mod Tokens
 pub mod Pieces
 pub mod Entering
 pub mod Lends
+pub mod Copying
 pub mod ReadLemmas
 pub mod Placing
 pub mod Standing
@@ -27,9 +28,9 @@ pub mod LetGone
 pub mod Emptied
 pub mod Through
 pub mod Quitting
+pub mod Measure
 pub mod LentSoFar
 pub mod LentAll
-pub mod Measure
 pub mod TurnLemmas
 pub mod Closing
 pub mod BareLemmas

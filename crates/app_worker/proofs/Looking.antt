@@ -3,13 +3,14 @@ use Rattle.std.proofs.Common.{◌≡◌, ◌≢◌, ℕ, true, false, List, [], 
 use Rattle.zr_kinds.specs.declared.fault.Fault.TheVariants as fault
 use Rattle.zr_kinds.specs.declared.behaviour.Stopped.TheVariants as stop
 use Rattle.board_face.specs.AppCalls.{AppOnlySaw, ToldEnd}
-use Rattle.board_face.specs.AppEvents.{told_end}
-use Rattle.board_face.specs.declared.views.app.AppLook.TheVariants.{CardEnded, RawOnItsWay}
+use Rattle.board_face.specs.AppEvents.{told_end, came_to_rest}
+use Rattle.app_worker.specs.Steps.{SawNoSpare}
+use Rattle.board_face.specs.declared.views.app.AppLook.TheVariants.{CardEnded, RawOnItsWay, NoSpare}
 use Rattle.board_face.specs.declared.views.app.AppView.{AppView}
 use Rattle.app_worker.specs.declared.stages.Lent.{Lent}
-use Rattle.app_worker.specs.declared.stages.Lent.TheVariants.{Nothing, Did as lent_some, Stuck, Quit as lent_quit, Failed as lent_failed}
+use Rattle.app_worker.specs.declared.stages.Lent.TheVariants.{Nothing, Did as lent_some, Stuck, NoSpare as NoSpareHad, Quit as lent_quit, Failed as lent_failed}
 use Rattle.app_worker.specs.declared.turn.Turn.{Turn}
-use Rattle.app_worker.specs.declared.turn.Turn.TheVariants.{Did, Idle, Finished, Failed, NotYet}
+use Rattle.app_worker.specs.declared.turn.Turn.TheVariants.{Did, Idle, Finished, Failed}
 use Rattle.app_worker.specs.declared.turn.Why.{Why}
 use Rattle.app_worker.specs.Core.{Each}
 use Rattle.app_worker.specs.State.{State, IsAtRest, Working, Common, one_if}
@@ -19,12 +20,12 @@ use Rattle.app_worker.specs.Letting.{LetGo}
 use Rattle.app_worker.specs.Stages.{Through, HasQuit, WriteStopped, LendsAll}
 use Rattle.app_worker.specs.Turns.{Turns, MayPoll, Polled, turn_after}
 use Rattle.app_worker.proofs.Moving.{looks-more, same-leaked, moves-none, moves-then, no-write, quit-no-write}
-use Rattle.app_worker.proofs.Seeing.{working-saw, common-saw, goes-saw}
+use Rattle.app_worker.proofs.Seeing.{working-saw, common-saw, goes-saw, working-rested, common-rested, goes-rested}
 use Rattle.app_worker.proofs.Through.{goes-then, through-none, bare-stopped, common-stopped}
 use Rattle.app_worker.proofs.TurnLemmas.{stands-working, stands-bare, no-rest, Begins, turns-later}
 
 -- a note may be taken at once
-pub polled-now : (was now : State) (old new : AppView) → Working was old → MayPoll was → Moves was now old new → Polled was now old new
+pub polled-now : (was now : State) (old new : AppView) → Working was old → MayPoll was old → Moves was now old new → Polled was now old new
 polled-now was now old new works may moves = record {
   then_state = was;
   then_view = old;
@@ -37,7 +38,7 @@ polled-now was now old new works may moves = record {
 
 -- ---- a note was taken
 
-module _ (a b : State) (u v : AppView) (k m : ℕ → Option (List ℕ)) (f f2 : ℕ) (works : Working a u) (may : MayPoll a) (took : TookOne a b u v) where
+module _ (a b : State) (u v : AppView) (k m : ℕ → Option (List ℕ)) (f f2 : ℕ) (works : Working a u) (may : MayPoll a u) (took : TookOne a b u v) where
   goes-took : Goes a b u v k k
   goes-took = record {
     moves = took.moves;
@@ -104,6 +105,17 @@ module _ (a b : State) (u v : AppView) (k m : ℕ → Option (List ℕ)) (f f2 :
     left = refl;
   })
 
+  no-spare-through : (c : State) (w : AppView) → b.posted.entries ≡ [] → c ≡ b → m ≡ k → SawNoSpare v w → Through b c v w k m
+  no-spare-through c w reaped same kept saw = rw (same, kept, saw.event) (record {
+    working = working-saw b (came_to_rest v) NoSpare (working-rested b v took.working);
+    common = common-saw b (came_to_rest v) NoSpare (common-rested b v took.common);
+    goes = goes-rested b v NoSpare k;
+    reaped = reaped;
+    ended = refl;
+    taken = refl;
+    left = refl;
+  })
+
   pub took-did : (c : State) (w : AppView) (lent : Lent) → lent ≢ lent_failed → b.posted.entries ≡ [] → LendsAll b c v w k m f f2 lent
       → Turns a c u w k m f f2 Did
   took-did c w Nothing other reaped lends =
@@ -112,6 +124,7 @@ module _ (a b : State) (u v : AppView) (k m : ℕ → Option (List ℕ)) (f f2 :
   took-did c w lent_some other reaped lends = took-through c w lends.0
   took-did c w Stuck other reaped lends = took-through c w (stuck-through c w reaped lends.0 lends.1 lends.2)
   took-did c w lent_quit other reaped lends = took-quit c w lends
+  took-did c w NoSpareHad other reaped lends = took-through c w (no-spare-through c w reaped lends.0 lends.1 lends.2)
   took-did c w lent_failed other reaped lends = absurd (other refl)
 
 -- ---- no note comes any more
@@ -129,6 +142,8 @@ ended-working st v mid works rest told = rw told.event (record {
     flows = works.stands.flows;
     known = works.stands.known;
     posted = works.stands.posted;
+    lent = works.stands.lent;
+    due_lent = works.stands.due_lent;
     counted = works.stands.counted;
   };
   completions = works.completions;
@@ -136,7 +151,8 @@ ended-working st v mid works rest told = rw told.event (record {
   index = works.index;
   over = λ _. rest;
   going = works.going;
-  split = works.split;
+  outside = works.outside;
+  flush = works.flush;
   live = works.live;
   keeps_first = works.keeps_first;
   waits = works.waits;
@@ -148,6 +164,7 @@ ended-common st v mid common told = rw told.event (record {
   ended = refl;
   counted = common.counted;
   owns = common.owns;
+  copied = common.copied;
   spares = common.spares;
   some_places = common.some_places;
   within = common.within;
@@ -171,17 +188,17 @@ ended-begins st v mid kept f works common here more told =
     rw told.event (record {
       live = works.live;
       going = works.going;
-      split = works.split;
       here = here;
       still = works.live;
       still_going = works.going;
       goes = record {
         moves = record {
-          same = (refl, refl, refl, refl);
+          same = (refl, refl, refl, omega arith);
           how = (refl, refl);
           places = refl;
           steps = omega (arith, not_yet);
           looks = looks-more v (told_end v) CardEnded refl;
+          keeps = λ n r before live. record { lent = (before live).lent; kept = λ notes. absurd (cc) };
           stays = λ _. refl;
           leaked = same-leaked st (record st { ended = true }) refl refl;
         };
@@ -199,7 +216,6 @@ after-same Did busy = refl
 after-same (Idle why) busy = absurd (busy why refl)
 after-same Finished busy = refl
 after-same (Failed fault) busy = refl
-after-same NotYet busy = refl
 
 pub turns-ended : (st c : State) (v mid w : AppView) (k m : ℕ → Option (List ℕ)) (f f2 : ℕ) (turn : Turn) → Working st v → Common st v
     → v.left ≡ false → st.ended ≡ false → ToldEnd v mid → ((why : Why) → turn ≢ Idle why)
@@ -210,7 +226,7 @@ turns-ended st c v mid w k m f f2 turn works common here more told busy turns =
 
 -- ---- it can't be kept
 
-module _ (a b c : State) (u v w : AppView) (k : ℕ → Option (List ℕ)) (f : ℕ) (works : Working a u) (may : MayPoll a) (took : TookNone a b u v)
+module _ (a b c : State) (u v w : AppView) (k : ℕ → Option (List ℕ)) (f : ℕ) (works : Working a u) (may : MayPoll a u) (took : TookNone a b u v)
     (gone : LetGo b c v w) where
   moves-both : Moves a c u w
   moves-both = moves-then a b c u v w took.moves gone.moves
@@ -235,6 +251,7 @@ module _ (a b c : State) (u v w : AppView) (k : ℕ → Option (List ℕ)) (f : 
         places = moves-both.places;
         steps = moves-both.steps;
         looks = moves-both.looks;
+        keeps = λ n r before live. (let k = moves-both.keeps n r before live in record { lent = k.lent; kept = k.kept });
         stays = λ other. absurd (other works.going);
         leaked = moves-both.leaked;
       };
@@ -251,78 +268,11 @@ module _ (a b c : State) (u v w : AppView) (k : ℕ → Option (List ℕ)) (f : 
           places = moves-both.places;
           steps = moves-both.steps;
           looks = moves-both.looks;
+          keeps = λ n r before live. (let k = moves-both.keeps n r before live in record { lent = k.lent; kept = k.kept });
           stays = λ other. absurd (other works.going);
           leaked = moves-both.leaked;
         });
     none = λ _ e. absurd (cc);
     cause = λ _ is. absurd (cc);
     rests = no-rest a (record c { stopped = stop.Memory }) u w k k works.live;
-  }
-
-  -- it was a short payload
-  pub turns-short : Turns a (record c { short = true }) u w k k f f NotYet
-  turns-short = record {
-    stands = stands-bare (record c { short = true }) w
-        (record {
-          helds = gone.helds;
-          loans = gone.loans;
-          due = ap (λ (s : State). s.due) gone.same;
-          leaked = ap (λ (s : State). s.leaked.items) gone.same;
-          none_left = gone.none_left;
-          unread = ap (λ (s : State). s.unread) gone.same;
-          flows = gone.ends;
-          distinct = gone.distinct;
-          whole = λ going split. absurd (cc);
-          known = λ going split. absurd (cc);
-        })
-        (record {
-          app = gone.common.app;
-          ended = gone.common.ended;
-          counted = gone.common.counted;
-          owns = gone.common.owns;
-          spares = gone.common.spares;
-          some_places = gone.common.some_places;
-          within = gone.common.within;
-          room = gone.common.room;
-          loans = gone.common.loans;
-          written = gone.common.written;
-          quits = gone.common.quits;
-          leaks = gone.common.leaks;
-          leak_room = gone.common.leak_room;
-          leak_aside = gone.common.leak_aside;
-          strays = gone.common.strays;
-          entries = gone.common.entries;
-          names = gone.common.names;
-          bound = gone.common.bound;
-        })
-        reaped-both (ap (λ (s : State). s.bare) gone.same);
-    goes = record {
-      moves = record {
-        same = moves-both.same;
-        how = moves-both.how;
-        places = moves-both.places;
-        steps = moves-both.steps;
-        looks = moves-both.looks;
-        stays = moves-both.stays;
-        leaked = moves-both.leaked;
-      };
-      shelved = λ _ begin shelved. gone.shelved begin k (took.shelved begin k shelved);
-      failed = λ is. absurd (no-write c.stopped (ap (λ (s : State). s.stopped) gone.same ∙ ap (λ (s : State). s.stopped) took.same ∙ works.going) is);
-    };
-    answer = (works.split, refl);
-    few = inr (took.note, few-one);
-    here = λ _. gone.left ∙ took.left;
-    polled = λ _ _. polled-now a (record c { short = true }) u w works may
-        (record {
-          same = moves-both.same;
-          how = moves-both.how;
-          places = moves-both.places;
-          steps = moves-both.steps;
-          looks = moves-both.looks;
-          stays = moves-both.stays;
-          leaked = moves-both.leaked;
-        });
-    none = λ _ e. absurd (cc);
-    cause = λ _ is. absurd (no-write c.stopped (ap (λ (s : State). s.stopped) gone.same ∙ ap (λ (s : State). s.stopped) took.same ∙ works.going) is);
-    rests = no-rest a (record c { short = true }) u w k k works.live;
   }

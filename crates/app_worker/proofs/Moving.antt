@@ -1,7 +1,7 @@
 -- From one moment to a later one.
-use Rattle.std.proofs.Common.{◌≡◌, ◌≢◌, ◌+◌, false, List, [], ◌∷◌, ◌++◌, length, refl, sym, ap, subst, ◌∙◌, arith, append-nil, append_assoc}
+use Rattle.std.proofs.Common.{◌≡◌, ◌≢◌, ℕ, ◌*◌, ◌<◌, ◌≤◌, ◌+◌, true, false, ⊎_elim, Option, Some, None, List, [], ◌∷◌, ◌++◌, length, refl, sym, ap, subst}
+use Rattle.std.proofs.Common.{◌∙◌, arith, append-nil, append_assoc}
 use Rattle.std.specs.Prelude.{◌==◌, if◌then◌else◌}
-use Rattle.std.proofs.Common.{ℕ, ◌*◌, ◌<◌, ◌≤◌, ◌+◌, Some}
 use Rattle.area_layout.specs.Layout.{pool_buffers, judged}
 use Rattle.board_face.specs.declared.views.app.WrittenEntry.{WrittenEntry}
 use Rattle.app_worker.specs.declared.stack.Stray.{Stray}
@@ -14,13 +14,20 @@ use Rattle.zr_kinds.specs.declared.behaviour.Stopped.{Stopped}
 use Rattle.board_face.specs.Looks.{AppLooksStay, app_looks, times, same_app_look}
 use Rattle.board_face.specs.declared.views.app.AppLook.{AppLook}
 use Rattle.board_face.specs.declared.views.app.AppView.{AppView}
-use Rattle.app_worker.specs.Core.{total, Each}
-use Rattle.app_worker.specs.State.{State, returned_aside, raw_entries, loan_entries}
-use Rattle.app_worker.specs.Moves.{Moves, KeepsLeaked}
+use Rattle.board_face.specs.declared.views.app.TakenNote.{TakenNote}
+use Rattle.app_worker.specs.Core.{total, Each, over_due}
+use Rattle.app_worker.specs.State.{State, due_one, returned_aside, raw_entries, loan_entries}
+use Rattle.app_worker.specs.Moves.{Moves, KeepsLeaked, KeptSince, reads_of, reserve_loans, lies_in}
+use Rattle.std.proofs.lemmas.Bool.{cases_Bool}
 
 pub total-one : {A : Type 0} (xs : List A) → total (λ _. 1) xs ≡ length xs
 total-one [] = refl
 total-one (x ∷ xs) = omega (arith, total-one xs)
+
+-- how many are due
+pub due-is : (taken : List TakenNote) (due : Option Lending) → over_due taken (λ _. 1) due ≡ due_one due
+due-is taken None = refl
+due-is taken (Some l) = refl
 
 -- ---- looks
 
@@ -83,26 +90,50 @@ names-same stray old new setting names some = subst (λ (s : Setting). judged s.
 pub most-same : (most : ℕ) (old new : AppView) → new.returned ≡ old.returned → most * length new.returned ≡ most * length old.returned
 most-same most old new returned = ap (λ (ls : List LentPiece). most * length ls) returned
 
+-- ---- what is kept unread
+
+pub lies-not : (buffer : ℕ) (l : LentPiece) → lies_in buffer l ≡ 0 → (l.place.buffer == buffer) ≡ false
+lies-not buffer l none = ⊎_elim
+    (λ (yes : (l.place.buffer == buffer) ≡ true). absurd (let one : lies_in buffer l ≡ 1 = rw yes refl in omega (arith, one, none)))
+    (λ (no : (l.place.buffer == buffer) ≡ false). no)
+    (cases_Bool (l.place.buffer == buffer))
+
+-- steps of an application that has something out, which read nothing and lend nothing
+pub kept-same : (was now : State) (old new : AppView) → now.bare ≡ was.bare → now.ended ≡ was.ended → now.flush ≡ was.flush → now.how ≡ was.how
+    → reads_of now new ≡ reads_of was old → reserve_loans new ≡ reserve_loans old
+    → length (was.unread ++ was.posted.entries) ≤ length (now.unread ++ now.posted.entries)
+    → (n r : ℕ) → (was.bare ≡ false → KeptSince n r was old) → now.bare ≡ false → KeptSince n r now new
+kept-same was now old new bare ended flush how reads lent unread n r before live =
+    let k : KeptSince n r was old = before (sym bare ∙ live) in
+    record {
+      lent = omega (arith, k.lent, lent);
+      kept = λ more same.
+          let kept = k.kept (sym ended ∙ more) (sym lent ∙ same) in
+          (flush ∙ kept.0, λ read. omega (arith, kept.1 (omega (arith, read, reads)), ap (λ h. h.hold) how, unread));
+    }
+
 -- ---- steps one after another
 
 pub moves-none : (st : State) (v : AppView) → Moves st st v v
 moves-none st v = record {
-  same = (refl, refl, refl, refl);
+  same = (refl, refl, refl, omega arith);
   how = (refl, refl);
   places = refl;
   steps = omega arith;
   looks = looks-same v v refl;
+  keeps = λ n r before. before;
   stays = λ _. refl;
   leaked = same-leaked st st refl refl;
 }
 
 pub moves-then : (a b c : State) (u v w : AppView) → Moves a b u v → Moves b c v w → Moves a c u w
 moves-then a b c u v w first second = record {
-  same = (second.same.0 ∙ first.same.0, second.same.1 ∙ first.same.1, second.same.2 ∙ first.same.2, second.same.3 ∙ first.same.3);
+  same = (second.same.0 ∙ first.same.0, second.same.1 ∙ first.same.1, second.same.2 ∙ first.same.2, omega (arith, first.same.3, second.same.3));
   how = (second.how.0 ∙ first.how.0, second.how.1 ∙ first.how.1);
   places = second.places ∙ first.places;
   steps = omega (arith, first.steps, second.steps);
   looks = looks-trans u v w first.looks second.looks;
+  keeps = λ n r before. second.keeps n r (first.keeps n r before);
   stays = λ other. (let e : b.stopped ≡ a.stopped = first.stays other in second.stays (λ is. other (sym e ∙ is)) ∙ e);
   leaked = λ live. (let later = second.leaked live in leaked-then a b c (first.leaked later.0) later);
 }

@@ -1,5 +1,5 @@
 -- A note is taken: by each way that it goes.
-use Rattle.std.proofs.Common.{◌≡◌, ℕ, ◌+◌, ◌<◌, ◌≤◌, false, List, [], ◌∷◌, ◌++◌, length, set, get_or, refl, sym, ap, subst}
+use Rattle.std.proofs.Common.{◌≡◌, ℕ, ◌+◌, ◌<◌, ◌≤◌, true, false, List, [], ◌∷◌, ◌++◌, Some, length, set, get_or, refl, sym, ap, subst}
 use Rattle.std.proofs.Common.{◌∙◌, arith, inl, inr, take}
 use Rattle.zr_kinds.specs.declared.place.Place.{Place}
 use Rattle.zr_kinds.specs.declared.place.Note.{Note}
@@ -7,25 +7,28 @@ use Rattle.zr_kinds.specs.CopyingReceiver.{Placed}
 use Rattle.tcp_reorder.specs.Queue.{Queue}
 use Rattle.tcp_reorder.specs.Values.{Holds}
 use Rattle.board_face.specs.AppCalls.{TookNote, TookLinear}
-use Rattle.board_face.specs.AppEvents.{released}
+use Rattle.board_face.specs.AppEvents.{released, reserve_of}
 use Rattle.board_face.specs.declared.views.parts.Setting.{Setting}
 use Rattle.board_face.specs.declared.views.app.TakenNote.{TakenNote}
 use Rattle.board_face.specs.declared.views.app.AppView.{AppView}
-use Rattle.app_worker.specs.declared.stack.Piece.{Piece}
+use Rattle.app_worker.specs.declared.stack.Waiting.{Waiting}
 use Rattle.app_worker.specs.declared.stack.FlowQueue.{FlowQueue}
 use Rattle.app_worker.specs.Marks.{Mark}
-use Rattle.app_worker.specs.Core.{total, Each, HasTokens, Stands, FlowStands, many, over_kept, held_piece, marks_of_piece, received_note, own_notes}
+use Rattle.app_worker.specs.Core.{total, Each, LieApart, Stands, FlowStands, many, over_kept, short_bytes, held_piece, IsOfNote, marks_of_waiting, received_note, own_notes}
 use Rattle.app_worker.proofs.Moving.{aside-same}
-use Rattle.app_worker.specs.State.{State, read_of, TellsOf, IsAtRest, RestBut, IsIndex, Working, Common, FlowEnds, held_len}
+use Rattle.app_worker.specs.State.{State, read_of, TellsOf, LiesOutside, IsAtRest, RestBut, IsIndex, Working, Common, FlowEnds, held_len, unsplit_len}
+use Rattle.board_face.specs.declared.views.app.HeldPiece.{HeldPiece}
+use Rattle.std.specs.Prelude.{slice_get}
 use Rattle.app_worker.specs.Steps.{OnlyHelds, whole_piece}
-use Rattle.app_worker.specs.Whole.{fresh_flow, IsChosen, TookOne, TookNone}
+use Rattle.app_worker.specs.Whole.{fresh_flow, IsChosen, TookOne, TookNone, Torn}
 use Rattle.app_worker.proofs.Tokens.{is-released}
 use Rattle.app_worker.proofs.Standing.{each-map}
-use Rattle.app_worker.proofs.Took.{is-took, taken_note, entered-tokens, entered-stands, released-tokens, set-last}
+use Rattle.app_worker.proofs.Took.{Took, is-took, taken_note, entered-tokens, entered-stands, kept-tokens, set-last}
+use Rattle.app_worker.proofs.Standing2.{taken-last}
 use Rattle.app_worker.proofs.Oldest.{ends-of}
 use Rattle.app_worker.proofs.Indexing.{index-set}
 use Rattle.app_worker.proofs.Resting.{rest-all, rest-set, rest-push}
-use Rattle.app_worker.proofs.Noting.{Chosen, is-chosen, TookView, with_note, bytes-noted, many-noted, common-noted, steps-noted, moves-noted, ends-kept}
+use Rattle.app_worker.proofs.Noting.{Chosen, is-chosen, TookView, TookBytes, with_note, bytes-noted, total-noted, many-noted, common-noted, steps-noted, moves-noted, ends-kept}
 use Rattle.app_worker.proofs.Noting.{shelves-kept, ends-noted, shelves-noted}
 
 -- what was appended of each flow has its place
@@ -33,80 +36,54 @@ pub all-end : (st : State) (v : AppView) → Working st v → Each (FlowEnds v.t
 all-end st v works = each-map (FlowStands v.taken (st.unread ++ st.posted.entries)) (FlowEnds v.taken) st.flows
     (λ f _ stands. ends-of v.taken (st.unread ++ st.posted.entries) f f.bytes stands.counted stands) works.stands.flows
 
--- ---- a short payload
+-- it can be given up as it is
+pub torn-of : (st : State) (v : AppView) → Working st v → Torn st v
+torn-of st v works = record { tokens = works.stands.tokens; flows = all-end st v works; distinct = works.stands.distinct }
 
-pub short-taken : (was : State) (old new : AppView) (linear : List ℕ) (note : Note) → TookLinear old new linear note → Working was old → Common was old
-    → TookNone was was old new
-short-taken was old new linear note took works common =
-    let t : TakenNote = record { note = note; bytes = take note.total linear } in
-    let helds : new.helds ≡ old.helds = ap (λ (v : AppView). v.helds) took.event in
-    let view : TookView old new t = record { view = rw took.event refl; held = omega (arith, ap (total held_len) helds) } in
-    let tokens : HasTokens was.flows (was.unread ++ was.posted.entries) (read_of was) new = rw took.event
-    (record {
-      apart = record { once = works.stands.tokens.apart.once; some = works.stands.tokens.apart.some };
-      helds = works.stands.tokens.helds;
-      loans = works.stands.tokens.loans;
-    }) in
-    record {
-      torn = record { tokens = tokens; flows = ends-kept was.flows old new t view (all-end was old works); distinct = works.stands.distinct };
-      common = common-noted was old new t view was.notes was.active was.index was.flows refl common;
-      moves = moves-noted was old new t view was.notes was.active was.index was.flows;
-      shelved = shelves-kept was.flows old new t view (all-end was old works);
-      note = t;
-      taken = ap (λ (v : AppView). v.taken) took.event;
-      left = ap (λ (v : AppView). v.left) took.event;
-      same = refl;
-    }
+-- ---- a note
 
--- ---- a piece
+module _ (was : State) (old new : AppView) (t : TakenNote) (works : Working was old) (common : Common was old)
+    (view : new ≡ record old { taken = old.taken ++ t ∷ []; helds = new.helds }) (lie : LieApart new) where
+  view-in : TookView old new t
+  view-in = record { view = view }
 
-module _ (was : State) (old mid : AppView) (note : Note) (held : Place) (took : TookNote old mid note held) (works : Working was old)
-    (common : Common was old) where
-  -- it is given up at once
-  pub released-taken : (new : AppView) → new ≡ released mid held → TookNone was was old new
-  released-taken new is =
-      let t : TakenNote = taken_note note in
-      let step = is-took old mid note was.notes held works.stands.tokens.apart works.stands.notes took in
-      let gone = is-released mid step.apart (held_piece (whole_piece was.notes held)) step.out in
-      let view : TookView old (released mid held) t = record { view = rw took.event refl; held = omega (arith, gone.moved held_len, step.moved held_len) } in
-      rw is (record {
-        torn = record {
-          tokens = released-tokens was.notes was.flows (was.unread ++ was.posted.entries) (read_of was) old mid note held was.notes refl took works.stands;
-          flows = ends-kept was.flows old (released mid held) t view (all-end was old works);
-          distinct = works.stands.distinct;
-        };
-        common = common-noted was old (released mid held) t view was.notes was.active was.index was.flows refl common;
-        moves = moves-noted was old (released mid held) t view was.notes was.active was.index was.flows;
-        shelved = shelves-kept was.flows old (released mid held) t view (all-end was old works);
-        note = t;
-        taken = ap (λ (v : AppView). v.taken) took.event;
-        left = ap (λ (v : AppView). v.left) took.event;
-        same = refl;
-      })
+  -- nothing of it is kept
+  pub none-taken : ((f : HeldPiece → ℕ) → total f new.helds ≡ total f old.helds) → TookNone was was old new
+  none-taken helds = record {
+    torn = record {
+      tokens = kept-tokens was.notes was.flows (was.unread ++ was.posted.entries) (read_of was) old new t (ap (λ (v : AppView). v.taken) view)
+          (ap (λ (v : AppView). v.loans) view) lie helds works.stands;
+      flows = ends-kept was.flows old new t view-in (all-end was old works);
+      distinct = works.stands.distinct;
+    };
+    common = common-noted was old new t view-in was.notes was.active was.index was.flows refl
+        (record { kept = omega (arith, helds held_len); short = omega arith }) common;
+    moves = moves-noted was old new t view-in was.notes was.active was.index was.flows;
+    shelved = shelves-kept was.flows old new t view-in (all-end was old works);
+    note = t;
+    taken = ap (λ (v : AppView). v.taken) view;
+    left = ap (λ (v : AppView). v.left) view;
+    same = refl;
+  }
 
-  module _ (new : AppView) (flows : List FlowQueue) (i : ℕ) (own : FlowQueue) (q : Queue Piece) (chosen : IsChosen was.flows flows note i)
-      (within : i < length flows) (value : own ≡ get_or flows i own)
-      (only : OnlyHelds mid new (λ f. f (held_piece (whole_piece was.notes held)) + over_kept f own.queue) (λ f. over_kept f q))
-      (fewer : total held_len new.helds ≤ total held_len mid.helds) (base : q.base ≡ own.queue.base) (index : List (ℕ × ℕ)) where
-    view-in : TookView old new (taken_note note)
-    view-in = record {
-      view = only.view ∙ ap (λ (v : AppView). record v { helds = new.helds }) took.event;
-      held = omega (
-        arith,
-        fewer,
-        (is-took old mid note was.notes held works.stands.tokens.apart works.stands.notes took).moved held_len,
-        ap (λ (p : Place). p.len) took.place,
-      );
-    }
+  module _ (flows : List FlowQueue) (i : ℕ) (own : FlowQueue) (q : Queue Waiting) (chosen : IsChosen was.flows flows t.note i)
+      (within : i < length flows) (value : own ≡ get_or flows i own) (base : q.base ≡ own.queue.base)
+      (moved : (f : HeldPiece → ℕ) → total f new.helds + over_kept f own.queue ≡ total f old.helds + over_kept f q)
+      (few : total held_len new.helds + short_bytes q ≤ total held_len old.helds + short_bytes own.queue + t.note.place.len)
+      (short : short_bytes q ≤ short_bytes own.queue + unsplit_len t) (index : List (ℕ × ℕ)) where
+    put-in : Chosen was.flows t.note own (λ x. set flows i x)
+    put-in = is-chosen was.flows flows t.note i own chosen within value
 
-    put-in : Chosen was.flows note own (λ x. set flows i x)
-    put-in = is-chosen was.flows flows note i own chosen within value
-
-    known-in : many note.flow was.flows ≡ 0 → own_notes note.flow old.taken ≡ []
-    known-in none = works.stands.known note.flow none
+    known-in : many t.note.flow was.flows ≡ 0 → own_notes t.note.flow old.taken ≡ []
+    known-in none = works.stands.known t.note.flow none
 
     bytes-in : total (λ f. f.bytes) (set flows i (record own { queue = q })) ≡ total (λ f. f.bytes) was.flows
-    bytes-in = bytes-noted was.flows note own (λ x. set flows i x) q base put-in
+    bytes-in = bytes-noted was.flows t.note own (λ x. set flows i x) q base put-in
+
+    few-in : TookBytes was.flows (set flows i (record own { queue = q })) old new t
+    few-in =
+        let sum = total-noted was.flows t.note own (λ x. set flows i x) q base (λ f. short_bytes f.queue) put-in refl in
+        record { kept = omega (arith, sum, few); short = omega (arith, sum, short) }
 
     -- there was no memory for a part of it
     pub torn-taken : (notes : ℕ) → TookNone was (with_note was notes (set flows i (record own { queue = q })) index i) old new
@@ -114,33 +91,37 @@ module _ (was : State) (old mid : AppView) (note : Note) (held : Place) (took : 
         let now : List FlowQueue = set flows i (record own { queue = q }) in
         record {
           torn = record {
-            tokens = entered-tokens was.notes (was.unread ++ was.posted.entries) (read_of was) old mid new note held took was.notes refl was.flows flows i own q
-                chosen within value works.stands only;
-            flows = ends-noted was.flows old new (taken_note note) view-in (all-end was old works) known-in own (λ x. set flows i x) put-in q base;
-            distinct = λ n. (many-noted was.flows note own (λ x. set flows i x) q base put-in n).1 (works.stands.distinct n);
+            tokens = entered-tokens was.notes (was.unread ++ was.posted.entries) (read_of was) old new t view lie was.notes refl was.flows flows i own q
+                chosen within value works.stands moved;
+            flows = ends-noted was.flows old new t view-in (all-end was old works) known-in own (λ x. set flows i x) put-in q base;
+            distinct = λ n. (many-noted was.flows t.note own (λ x. set flows i x) q base put-in n).1 (works.stands.distinct n);
           };
-          common = common-noted was old new (taken_note note) view-in notes i index now bytes-in common;
-          moves = moves-noted was old new (taken_note note) view-in notes i index now;
-          shelved = shelves-noted was.flows old new (taken_note note) view-in (all-end was old works) known-in own (λ x. set flows i x) put-in q base;
-          note = taken_note note;
-          taken = ap (λ (v : AppView). v.taken) view-in.view;
-          left = ap (λ (v : AppView). v.left) view-in.view;
+          common = common-noted was old new t view-in notes i index now bytes-in few-in common;
+          moves = moves-noted was old new t view-in notes i index now;
+          shelved = shelves-noted was.flows old new t view-in (all-end was old works) known-in own (λ x. set flows i x) put-in q base;
+          note = t;
+          taken = ap (λ (v : AppView). v.taken) view;
+          left = ap (λ (v : AppView). v.left) view;
           same = refl;
         }
 
     -- what the flow wants of it entered
     pub entered-taken : (notes : ℕ) → IsIndex index flows → notes ≡ was.notes + 1 → Each IsAtRest was.flows → was.ended ≡ false
         → q.popped ≡ own.queue.popped
-        → ((placed : Placed Mark) → Holds marks_of_piece own.queue placed
-        → Holds marks_of_piece q (received_note own.queue.base placed (record { number = was.notes; note = note })))
+        → ((placed : Placed Mark) → Holds marks_of_waiting own.queue placed
+        → Holds marks_of_waiting q (received_note own.queue.base placed (record { number = was.notes; note = t.note })))
+        → (slice_get (old.taken ++ t ∷ []) was.notes ≡ Some t → Each (λ k. IsOfNote (old.taken ++ t ∷ []) k.piece) own.queue.kept
+        → Each (λ k. IsOfNote (old.taken ++ t ∷ []) k.piece) q.kept)
         → TookOne was (with_note was notes (set flows i (record own { queue = q })) index i) old new
-    entered-taken notes is_index count rest more popped enters =
+    entered-taken notes is_index count rest more popped enters keeps =
         let x : FlowQueue = record own { queue = q } in
         let now : List FlowQueue = set flows i x in
+        let there : slice_get (old.taken ++ t ∷ []) was.notes ≡ Some t = ap (slice_get (old.taken ++ t ∷ [])) works.stands.notes
+        ∙ taken-last old.taken t in
         let stands : Stands (was.notes + 1) now (was.unread ++ was.posted.entries) (read_of was) new =
-        entered-stands was.notes (was.unread ++ was.posted.entries) (read_of was) old mid new note held took was.notes refl was.flows flows i own q chosen within
-        value works.stands only base popped enters in
-        let setting : new.setting ≡ old.setting = ap (λ (v : AppView). v.setting) view-in.view in
+        entered-stands was.notes (was.unread ++ was.posted.entries) (read_of was) old new t view lie was.notes refl was.flows flows i own q chosen within
+        value works.stands moved base popped enters (keeps there) in
+        let setting : new.setting ≡ old.setting = ap (λ (v : AppView). v.setting) view in
         record {
           working = record {
             stands = subst (λ n. Stands n now (was.unread ++ was.posted.entries) (read_of was) new) (sym count) stands;
@@ -149,29 +130,125 @@ module _ (was : State) (old mid : AppView) (note : Note) (held : Place) (took : 
             index = index-set index flows i own x within value refl is_index;
             over = λ over. absurd (cc);
             going = works.going;
-            split = works.split;
+            outside = λ off. subst (λ b. Each (LiesOutside b) (was.unread ++ was.posted.entries)) (sym (ap reserve_of view)) (works.outside off);
+            flush = works.flush;
             live = works.live;
             keeps_first = λ some. works.keeps_first (omega (
               arith,
               some,
-              aside-same old new (ap (λ (v : AppView). v.returned) view-in.view) setting
-                  (ap (λ (v : AppView). v.app) view-in.view),
+              aside-same old new (ap (λ (v : AppView). v.returned) view) setting
+                  (ap (λ (v : AppView). v.app) view),
             ));
             waits = works.waits;
           };
-          common = common-noted was old new (taken_note note) view-in notes i index now bytes-in common;
-          moves = moves-noted was old new (taken_note note) view-in notes i index now;
-          shelved = shelves-noted was.flows old new (taken_note note) view-in (all-end was old works) known-in own (λ x. set flows i x) put-in q base;
-          steps = omega (arith, steps-noted was old new (taken_note note) view-in notes i index now);
-          note = taken_note note;
-          taken = ap (λ (v : AppView). v.taken) view-in.view;
-          left = ap (λ (v : AppView). v.left) view-in.view;
+          common = common-noted was old new t view-in notes i index now bytes-in few-in common;
+          moves = moves-noted was old new t view-in notes i index now;
+          shelved = shelves-noted was.flows old new t view-in (all-end was old works) known-in own (λ x. set flows i x) put-in q base;
+          steps = omega (arith, steps-noted was old new t view-in notes i index now);
+          note = t;
+          taken = ap (λ (v : AppView). v.taken) view;
+          left = ap (λ (v : AppView). v.left) view;
           same = refl;
         }
       where
-        resting : IsChosen was.flows flows note i → (x : FlowQueue) → RestBut i (set flows i x)
+        resting : IsChosen was.flows flows t.note i → (x : FlowQueue) → RestBut i (set flows i x)
         resting (inl there) x = rest-set i flows x (rest-all i flows (subst (Each IsAtRest) (sym there.0) rest))
         resting (inr begun) x =
             let put : set flows i x ≡ was.flows ++ x ∷ [] = ap (λ (fs : List FlowQueue). set fs i x) begun.1
-            ∙ ap (λ k. set (was.flows ++ fresh_flow note ∷ []) k x) begun.2 ∙ set-last was.flows (fresh_flow note) x in
+            ∙ ap (λ k. set (was.flows ++ fresh_flow t.note ∷ []) k x) begun.2 ∙ set-last was.flows (fresh_flow t.note) x in
             subst (λ k. RestBut k (set flows i x)) (sym begun.2) (subst (RestBut (length was.flows)) (sym put) (rest-push was.flows x rest))
+
+-- ---- a short payload
+
+module _ (was : State) (old new : AppView) (linear : List ℕ) (note : Note) (took : TookLinear old new linear note) (works : Working was old)
+    (common : Common was old) where
+  abbrev short_note : TakenNote
+  short_note = record { note = note; bytes = take note.total linear }
+
+  short-view : new ≡ record old { taken = old.taken ++ short_note ∷ []; helds = new.helds }
+  short-view = rw took.event refl
+
+  short-helds : new.helds ≡ old.helds
+  short-helds = ap (λ (v : AppView). v.helds) took.event
+
+  short-apart : LieApart new
+  short-apart = rw took.event (record { once = works.stands.tokens.apart.once; some = works.stands.tokens.apart.some })
+
+  pub short-none : TookNone was was old new
+  short-none = none-taken was old new short_note works common short-view short-apart (λ f. ap (total f) short-helds)
+
+  module _ (flows : List FlowQueue) (i : ℕ) (own : FlowQueue) (q : Queue Waiting) (chosen : IsChosen was.flows flows note i)
+      (within : i < length flows) (value : own ≡ get_or flows i own) (base : q.base ≡ own.queue.base)
+      (over : (f : HeldPiece → ℕ) → over_kept f q ≡ over_kept f own.queue) (short : short_bytes q ≤ short_bytes own.queue + note.total)
+      (index : List (ℕ × ℕ)) where
+    short-moved : (f : HeldPiece → ℕ) → total f new.helds + over_kept f own.queue ≡ total f old.helds + over_kept f q
+    short-moved f = omega (arith, ap (total f) short-helds, over f)
+
+    short-few : total held_len new.helds + short_bytes q ≤ total held_len old.helds + short_bytes own.queue + note.place.len
+    short-few = omega (arith, ap (total held_len) short-helds, short, ap (λ (p : Place). p.len) took.fields.place)
+
+    short-short : short_bytes q ≤ short_bytes own.queue + unsplit_len short_note
+    short-short = rw took.fields.split short
+
+    pub short-torn : (notes : ℕ) → TookNone was (with_note was notes (set flows i (record own { queue = q })) index i) old new
+    short-torn notes = torn-taken was old new short_note works common short-view short-apart flows i own q chosen within value base short-moved short-few
+        short-short index notes
+
+    pub short-entered : (notes : ℕ) → IsIndex index flows → notes ≡ was.notes + 1 → Each IsAtRest was.flows → was.ended ≡ false
+        → q.popped ≡ own.queue.popped
+        → ((placed : Placed Mark) → Holds marks_of_waiting own.queue placed
+        → Holds marks_of_waiting q (received_note own.queue.base placed (record { number = was.notes; note = note })))
+        → ((taken : List TakenNote) (t : TakenNote) → slice_get taken was.notes ≡ Some t → t.note.split ≡ false → t.bytes ≡ take note.total linear
+        → Each (λ k. IsOfNote taken k.piece) own.queue.kept → Each (λ k. IsOfNote taken k.piece) q.kept)
+        → TookOne was (with_note was notes (set flows i (record own { queue = q })) index i) old new
+    short-entered notes is_index count rest more popped enters keeps =
+        entered-taken was old new short_note works common short-view short-apart flows i own q chosen within value base short-moved short-few
+        short-short index notes is_index count rest more popped enters
+        (λ there each. keeps (old.taken ++ short_note ∷ []) short_note there took.fields.split refl each)
+
+-- ---- a piece
+
+module _ (was : State) (old mid : AppView) (note : Note) (held : Place) (took : TookNote old mid note held) (works : Working was old)
+    (common : Common was old) where
+  took-piece : Took old mid note was.notes held
+  took-piece = is-took old mid note was.notes held works.stands.tokens.apart works.stands.notes took
+
+  -- it is given up at once
+  pub released-taken : (new : AppView) → new ≡ released mid held → TookNone was was old new
+  released-taken new is =
+      let gone = is-released mid took-piece.apart (held_piece (whole_piece was.notes held)) took-piece.out in
+      rw is (none-taken was old (released mid held) (taken_note note) works common (rw took.event refl) gone.apart
+      (λ f. omega (arith, gone.moved f, took-piece.moved f)))
+
+  module _ (new : AppView) (flows : List FlowQueue) (i : ℕ) (own : FlowQueue) (q : Queue Waiting) (chosen : IsChosen was.flows flows note i)
+      (within : i < length flows) (value : own ≡ get_or flows i own)
+      (only : OnlyHelds mid new (λ f. f (held_piece (whole_piece was.notes held)) + over_kept f own.queue) (λ f. over_kept f q))
+      (fewer : total held_len new.helds ≤ total held_len mid.helds) (base : q.base ≡ own.queue.base)
+      (short : short_bytes q ≡ short_bytes own.queue) (index : List (ℕ × ℕ)) where
+    piece-view : new ≡ record old { taken = old.taken ++ taken_note note ∷ []; helds = new.helds }
+    piece-view = only.view ∙ ap (λ (v : AppView). record v { helds = new.helds }) took.event
+
+    piece-moved : (f : HeldPiece → ℕ) → total f new.helds + over_kept f own.queue ≡ total f old.helds + over_kept f q
+    piece-moved f = omega (arith, only.moved f, took-piece.moved f)
+
+    piece-few : total held_len new.helds + short_bytes q ≤ total held_len old.helds + short_bytes own.queue + note.place.len
+    piece-few = omega (arith, fewer, took-piece.moved held_len, short, ap (λ (p : Place). p.len) took.place)
+
+    piece-short : short_bytes q ≤ short_bytes own.queue + unsplit_len (taken_note note)
+    piece-short = omega (arith, short)
+
+    pub piece-torn : (notes : ℕ) → TookNone was (with_note was notes (set flows i (record own { queue = q })) index i) old new
+    piece-torn notes = torn-taken was old new (taken_note note) works common piece-view only.apart flows i own q chosen within value base piece-moved
+        piece-few piece-short index notes
+
+    pub piece-entered : (notes : ℕ) → IsIndex index flows → notes ≡ was.notes + 1 → Each IsAtRest was.flows → was.ended ≡ false
+        → q.popped ≡ own.queue.popped
+        → ((placed : Placed Mark) → Holds marks_of_waiting own.queue placed
+        → Holds marks_of_waiting q (received_note own.queue.base placed (record { number = was.notes; note = note })))
+        → ((taken : List TakenNote) (t : TakenNote) → slice_get taken was.notes ≡ Some t → t.note.split ≡ true
+        → Each (λ k. IsOfNote taken k.piece) own.queue.kept → Each (λ k. IsOfNote taken k.piece) q.kept)
+        → TookOne was (with_note was notes (set flows i (record own { queue = q })) index i) old new
+    piece-entered notes is_index count rest more popped enters keeps =
+        entered-taken was old new (taken_note note) works common piece-view only.apart flows i own q chosen within value base piece-moved
+        piece-few piece-short index notes is_index count rest more popped enters
+        (λ there each. keeps (old.taken ++ taken_note note ∷ []) (taken_note note) there took.fields.split each)

@@ -13,11 +13,11 @@ use Rattle.tcp_reorder.specs.Queue.{Queue}
 use Rattle.board_face.specs.declared.views.app.Reading.{Reading}
 use Rattle.board_face.specs.declared.views.app.TakenNote.{TakenNote}
 use Rattle.board_face.specs.declared.views.app.AppView.{AppView}
-use Rattle.app_worker.specs.declared.stack.Piece.{Piece}
+use Rattle.app_worker.specs.declared.stack.Waiting.{Waiting}
 use Rattle.app_worker.specs.declared.stack.FlowQueue.{FlowQueue}
 use Rattle.app_worker.specs.Marks.{Mark, Numbered}
-use Rattle.app_worker.specs.Core.{total, Each, many, own_notes, BeginAt, placed_of, received_note, received_notes, AreReadAt}
-use Rattle.app_worker.specs.State.{State, Common, FlowEnds, capped, held_len, taken_len, app_steps, one_if}
+use Rattle.app_worker.specs.Core.{total, Each, many, short_bytes, own_notes, BeginAt, placed_of, received_note, received_notes, AreReadAt}
+use Rattle.app_worker.specs.State.{State, Common, FlowEnds, capped, held_len, taken_len, unsplit_len, due_one, app_steps, one_if}
 use Rattle.app_worker.specs.Shelves.{IsShelved, AreShelved, ReadsFront, IsFrontShelved, AreFronts}
 use Rattle.app_worker.specs.Moves.{Moves}
 use Rattle.app_worker.specs.Whole.{fresh_flow, IsChosen}
@@ -25,15 +25,16 @@ use Rattle.app_worker.proofs.Tokens.{total-append}
 use Rattle.app_worker.proofs.Placing.{own-notes-other, own-notes-here, next_note, received-push, begin-push, values-stay, some_of, still-there}
 use Rattle.app_worker.proofs.Standing.{At, split-at, each-map, each-join, each-left, each-right, is_number, number-is, total-changed, many-same}
 use Rattle.app_worker.proofs.Took.{get-last, set-last}
+use Rattle.app_worker.proofs.ReadLemmas.{all-noted}
 use Rattle.app_worker.proofs.EachBoth.{each-both}
-use Rattle.app_worker.proofs.Moving.{looks-same, leaked-aside, same-leaked, strays-same, entries-same, names-same, most-same}
+use Rattle.app_worker.proofs.Moving.{looks-same, kept-same, leaked-aside, same-leaked, strays-same, entries-same, names-same, most-same}
 
 -- ---- one flow
 
 is-some : (found : Option Mark) (value : Mark) → found ≡ Some value → IsSome found
 is-some found value is = rw is refl
 
-module _ (taken : List TakenNote) (t : TakenNote) (f : FlowQueue) (q : Queue Piece) (base : q.base ≡ f.queue.base) where
+module _ (taken : List TakenNote) (t : TakenNote) (f : FlowQueue) (q : Queue Waiting) (base : q.base ≡ f.queue.base) where
   -- by its own note
   placed-here : t.note.flow ≡ f.number → placed_of (record f { queue = q }) (taken ++ t ∷ [])
       ≡ received_note f.queue.base (placed_of f taken) (next_note taken t)
@@ -74,9 +75,10 @@ module _ (taken : List TakenNote) (t : TakenNote) (f : FlowQueue) (q : Queue Pie
       (λ (other : t.note.flow ≢ f.number). ap (λ (p : Placed Mark). values_from p.at f.bytes 0) (placed-other other))
       (cases_eq t.note.flow f.number) in
       record {
-        gained = Gained-weaker (first f.number) (kept f.number) (λ bytes. AreReadAt reads (values_from (placed_of f taken).at f.bytes 0) bytes)
-            (λ bytes. AreReadAt reads (values_from (placed_of (record f { queue = q }) (taken ++ t ∷ [])).at f.bytes 0) bytes)
-            (λ bytes are. subst (λ ms. AreReadAt reads ms bytes) (sym stay) are) shelved.gained;
+        gained = Gained-weaker (first f.number) (kept f.number) (λ bytes. AreReadAt taken reads (values_from (placed_of f taken).at f.bytes 0) bytes)
+            (λ bytes. AreReadAt (taken ++ t ∷ []) reads (values_from (placed_of (record f { queue = q }) (taken ++ t ∷ [])).at f.bytes 0) bytes)
+            (λ bytes are. subst (λ ms. AreReadAt (taken ++ t ∷ []) reads ms bytes) (sym stay)
+            (all-noted taken t reads (values_from (placed_of f taken).at f.bytes 0) bytes are)) shelved.gained;
       }
 
   -- the same of so many first marks
@@ -98,7 +100,8 @@ module _ (taken : List TakenNote) (t : TakenNote) (f : FlowQueue) (q : Queue Pie
             (is-some _ value (still-there f.queue.base (placed_of f taken) (next_note taken t) p value here)))
             (λ (other : t.note.flow ≢ f.number). subst (λ (pl : Placed Mark). IsSome (pl.at p)) (sym (placed-other other)) (front.below p below))
             (cases_eq t.note.flow f.number);
-        are = subst (λ ms. AreReadAt reads ms bytes) (sym stay) front.are;
+        are = subst (λ ms. AreReadAt (taken ++ t ∷ []) reads ms bytes) (sym stay)
+            (all-noted taken t reads (values_from (placed_of f taken).at front.count 0) bytes front.are);
       }
 
   pub fronts-note : (first kept : ℕ → Option (List ℕ)) (reads : List Reading) → IsFrontShelved first kept taken reads f
@@ -114,7 +117,7 @@ gained-nothing (Some xs) None P none keeps = absurd keeps
 gained-nothing (Some xs) (Some ys) P none keeps = ([], keeps ∙ sym (append-nil xs), none)
 
 -- a flow that begins
-module _ (taken : List TakenNote) (t : TakenNote) (no_notes : own_notes t.note.flow taken ≡ []) (q : Queue Piece) (base : q.base ≡ t.note.base) where
+module _ (taken : List TakenNote) (t : TakenNote) (no_notes : own_notes t.note.flow taken ≡ []) (q : Queue Waiting) (base : q.base ≡ t.note.base) where
   pub ends-begun : FlowEnds (taken ++ t ∷ []) (record (fresh_flow t.note) { queue = q })
   ends-begun =
       let n : Numbered = next_note taken t in
@@ -144,10 +147,10 @@ is-chosen was flows note i own (inr new) within value =
     begun new.0 own_is (λ x. ap (λ (fs : List FlowQueue). set fs i x) new.1 ∙ ap (λ k. set (was ++ fresh_flow note ∷ []) k x) new.2
     ∙ set-last was (fresh_flow note) x)
 
-module _ (was : List FlowQueue) (note : Note) (own : FlowQueue) (put : FlowQueue → List FlowQueue) (q : Queue Piece) (base : q.base ≡ own.queue.base) where
+module _ (was : List FlowQueue) (note : Note) (own : FlowQueue) (put : FlowQueue → List FlowQueue) (q : Queue Waiting) (base : q.base ≡ own.queue.base) where
   pub each-noted : (P Q : FlowQueue → Type 0) → Chosen was note own put → Each P was
-      → ((f : FlowQueue) (r : Queue Piece) → r.base ≡ f.queue.base → P f → Q (record f { queue = r }))
-      → (many note.flow was ≡ 0 → (r : Queue Piece) → r.base ≡ note.base → Q (record (fresh_flow note) { queue = r }))
+      → ((f : FlowQueue) (r : Queue Waiting) → r.base ≡ f.queue.base → P f → Q (record f { queue = r }))
+      → (many note.flow was ≡ 0 → (r : Queue Waiting) → r.base ≡ note.base → Q (record (fresh_flow note) { queue = r }))
       → Each Q (put (record own { queue = q }))
   each-noted P Q (there before after is put_is number) each step fresh =
       let parts : Each P (before ++ own ∷ after) = subst (Each P) is each in
@@ -170,6 +173,25 @@ module _ (was : List FlowQueue) (note : Note) (own : FlowQueue) (put : FlowQueue
       let b : FlowQueue → ℕ = λ f. f.bytes in
       let zero_bytes : own.bytes ≡ 0 = ap b own_is in
       ap (total b) (put_is (record own { queue = q })) ∙ omega (arith, total-append b was (record own { queue = q } ∷ []), zero_bytes)
+
+  -- and what is said of its queue changes with it
+  pub total-noted : (h : FlowQueue → ℕ) → Chosen was note own put → h (fresh_flow note) ≡ 0
+      → total h (put (record own { queue = q })) + h own ≡ total h was + h (record own { queue = q })
+  total-noted h (there before after is put_is number) none =
+      omega (
+        arith,
+        ap (total h) (put_is (record own { queue = q })),
+        total-changed before after own (record own { queue = q }) h,
+        ap (total h) is,
+      )
+  total-noted h (begun new own_is put_is) none =
+      omega (
+        arith,
+        ap (total h) (put_is (record own { queue = q })),
+        total-append h was (record own { queue = q } ∷ []),
+        ap h own_is,
+        none,
+      )
 
   -- its number may be new, and no other's
   pub many-noted : Chosen was note own put → (n : ℕ) → (many n was ≤ many n (put (record own { queue = q })))
@@ -204,15 +226,21 @@ with_note was notes flows index active = record was { notes = notes; flows = flo
 -- what a note that was taken did to the view
 pub record TookView (old new : AppView) (t : TakenNote) : Type 0 where
   pub view : new ≡ record old { taken = old.taken ++ t ∷ []; helds = new.helds }
-  pub held : total held_len new.helds ≤ total held_len old.helds + t.note.place.len
+
+-- and how many bytes are kept, with those flows: of the note's no more than it has
+pub record TookBytes (was flows : List FlowQueue) (old new : AppView) (t : TakenNote) : Type 0 where
+  pub kept : total held_len new.helds + total (λ f. short_bytes f.queue) flows
+      ≤ total held_len old.helds + total (λ f. short_bytes f.queue) was + t.note.place.len
+  pub short : total (λ f. short_bytes f.queue) flows ≤ total (λ f. short_bytes f.queue) was + unsplit_len t
 
 module _ (was : State) (old new : AppView) (t : TakenNote) (took : TookView old new t) (notes active : ℕ) (index : List (ℕ × ℕ))
     (flows : List FlowQueue) where
   taken-is : new.taken ≡ old.taken ++ t ∷ []
   taken-is = ap (λ (v : AppView). v.taken) took.view
 
-  pub common-noted : total (λ f. f.bytes) flows ≡ total (λ f. f.bytes) was.flows → Common was old → Common (with_note was notes flows index active) new
-  common-noted bytes common =
+  pub common-noted : total (λ f. f.bytes) flows ≡ total (λ f. f.bytes) was.flows → TookBytes was.flows flows old new t → Common was old
+      → Common (with_note was notes flows index active) new
+  common-noted bytes few common =
       let left : new.left ≡ old.left = ap (λ (v : AppView). v.left) took.view in
       let scrubbed : new.scrubbed ≡ old.scrubbed = ap (λ (v : AppView). v.scrubbed) took.view in
       let longer : total taken_len new.taken ≡ total taken_len old.taken + t.note.place.len = ap (total taken_len) taken-is
@@ -222,7 +250,15 @@ module _ (was : State) (old new : AppView) (t : TakenNote) (took : TookView old 
         ended = ap (λ (v : AppView). v.ended) took.view ∙ common.ended;
         counted = λ here. scrubbed ∙ common.counted (sym left ∙ here);
         owns = ap (λ (v : AppView). v.owns) took.view ∙ common.owns;
-        spares = ap (λ (v : AppView). v.spares) took.view ∙ common.spares;
+        copied = common.copied ∙ ap capped (sym (ap (λ (v : AppView). v.spares) took.view));
+        spares = omega (
+          arith,
+          ap (λ (v : AppView). v.spares) took.view,
+          few.short,
+          ap (total unsplit_len) taken-is,
+          total-append unsplit_len old.taken (t ∷ []),
+          common.spares,
+        );
         some_places = common.some_places;
         within = common.within;
         room = common.room;
@@ -243,7 +279,7 @@ module _ (was : State) (old new : AppView) (t : TakenNote) (took : TookView old 
           arith,
           ap length (ap (λ (v : AppView). v.loans) took.view),
           ap length (ap (λ (v : AppView). v.returned) took.view),
-          took.held,
+          few.kept,
           longer,
           common.bound,
         );
@@ -268,12 +304,14 @@ module _ (was : State) (old new : AppView) (t : TakenNote) (took : TookView old 
       ap (λ (v : AppView). v.setting) took.view,
       ap (λ (v : AppView). v.app) took.view,
       ap (λ (v : AppView). v.owns) took.view,
-      ap (λ (v : AppView). v.spares) took.view,
+      omega (arith, ap (λ (v : AppView). v.spares) took.view),
     );
     how = (refl, refl);
     places = refl;
     steps = omega (arith, steps-noted);
     looks = looks-same old new (ap (λ (v : AppView). v.looks) took.view);
+    keeps = kept-same was (with_note was notes flows index active) old new refl refl refl refl
+        (ap (λ (v : AppView). length v.returned + due_one was.due + length was.leaked.items) took.view) (rw took.view refl) (omega arith);
     stays = λ _. refl;
     leaked = same-leaked was (with_note was notes flows index active) refl refl;
   }
@@ -303,7 +341,7 @@ module _ (was : List FlowQueue) (old new : AppView) (t : TakenNote) (took : Took
 
   -- where one did
   module _ (known : many t.note.flow was ≡ 0 → own_notes t.note.flow old.taken ≡ []) (own : FlowQueue) (put : FlowQueue → List FlowQueue)
-      (chosen : Chosen was t.note own put) (q : Queue Piece) (base : q.base ≡ own.queue.base) where
+      (chosen : Chosen was t.note own put) (q : Queue Waiting) (base : q.base ≡ own.queue.base) where
     pub ends-noted : Each (FlowEnds new.taken) (put (record own { queue = q }))
     ends-noted = subst (λ ts. Each (FlowEnds ts) (put (record own { queue = q }))) (sym later-is)
         (each-noted was t.note own put q base (FlowEnds old.taken) (FlowEnds (old.taken ++ t ∷ [])) chosen ends

@@ -1,6 +1,6 @@
 -- The oldest loan is read: all that is kept then.
-use Rattle.std.proofs.Common.{◌≡◌, ◌≢◌, ℕ, ◌+◌, ◌-◌, ◌^◌, ◌<◌, ◌≤◌, min, List, [], ◌∷◌, ◌++◌, Option, Some, None}
-use Rattle.std.proofs.Common.{IsSome, length, drop, set, get_or, refl, sym, ap, subst, ◌∙◌, arith}
+use Rattle.std.proofs.Common.{◌≡◌, ◌≢◌, ℕ, ◌+◌, ◌-◌, ◌^◌, ◌<◌, ◌≤◌, min, Bool, true, false, List, [], ◌∷◌, ◌++◌, Option, Some, None}
+use Rattle.std.proofs.Common.{IsSome, length, drop, set, get_or, refl, sym, ap, subst, ◌∙◌, arith, ◌⊎◌, ⊎_elim, append-nil, length-append}
 use Rattle.std.specs.Prelude.{slice_get}
 use Rattle.std.specs.Io.KnownBytes.{Keeps}
 use Rattle.zr_kinds.specs.declared.ring.Completion.{Completion}
@@ -14,12 +14,16 @@ use Rattle.board_face.specs.declared.views.app.TakenNote.{TakenNote}
 use Rattle.board_face.specs.declared.views.app.AppView.{AppView}
 use Rattle.app_worker.specs.declared.stack.Lending.{Lending}
 use Rattle.app_worker.specs.declared.stack.FlowQueue.{FlowQueue}
-use Rattle.app_worker.specs.Core.{total, Each, Stands, FlowStands, HasTokens, OnlyReads, IsReadOf, AreReadAt, placed_of, marks_of_loan, many, over_due, read_out}
+use Rattle.app_worker.specs.Core.{total, Each, Stands, FlowStands, HasTokens, OnlyReads, IsReadOf, AreReadAt, placed_of, marks_of_loan, many, short_bytes}
+use Rattle.app_worker.specs.Core.{read_out}
 use Rattle.zr_kinds.specs.declared.behaviour.Stopped.{Stopped}
 use Rattle.zr_kinds.specs.declared.behaviour.Stopped.TheVariants as stop
-use Rattle.app_worker.specs.State.{State, read_of, TellsOf, Working, Common, Quits, FlowEnds, capped, held_len, taken_len, app_steps, one_if}
+use Rattle.app_worker.specs.State.{State, read_of, TellsOf, LiesOutside, Working, Common, Quits, FlowEnds, capped, held_len, taken_len, unsplit_len, due_one}
+use Rattle.app_worker.specs.State.{app_steps, one_if}
+use Rattle.board_face.specs.AppEvents.{reserve_of}
 use Rattle.app_worker.specs.Shelves.{IsShelved, AreShelved, ReadsFront, IsFrontShelved, AreFronts}
-use Rattle.app_worker.specs.Moves.{Moves}
+use Rattle.app_worker.specs.Moves.{Moves, KeptSince, reserve_loans}
+use Rattle.std.proofs.lemmas.Bool.{cases_Bool}
 use Rattle.app_worker.specs.Whole.{Torn, ReadOne, ReadQuit, ReadFailed, Appended}
 use Rattle.app_worker.proofs.Standing.{At, split-at, each-right, each-changed, many-same, total-changed, parts-alike, is_number, number-is}
 use Rattle.app_worker.proofs.Standing2.{IsNext, is-next, stands-read, tokens-read, appended, own-stands}
@@ -51,7 +55,7 @@ front-other : (first kept now : ℕ → Option (List ℕ)) (taken : List TakenNo
 front-other first kept now taken posted old new f only keeps stands shelved =
     let still : IsShelved first now taken new.reads f = shelved-other first kept now taken old new f only keeps shelved in
     record {
-      gained = Gained-weaker (first f.number) (now f.number) (λ bytes. AreReadAt new.reads (values_from (placed_of f taken).at f.bytes 0) bytes)
+      gained = Gained-weaker (first f.number) (now f.number) (λ bytes. AreReadAt taken new.reads (values_from (placed_of f taken).at f.bytes 0) bytes)
           (ReadsFront taken new.reads f)
           (λ bytes are. record {
             count = f.bytes;
@@ -65,20 +69,20 @@ front-other first kept now taken posted old new f only keeps stands shelved =
 front-own : (first kept now : ℕ → Option (List ℕ)) (taken : List TakenNote) (old new : AppView) (own : FlowQueue) (l : Lending) (bytes most : ℕ)
     (ps : List (Completion × Lending)) → OnlyReads old new → own.bytes ≤ bytes → most ≤ l.loan.len
     → ((q : ℕ) → q < own.queue.popped → IsSome ((placed_of own taken).at q)) → IsNext taken own l ps
-    → IsShelved first kept taken old.reads own → Gained (kept own.number) (now own.number) (IsReadOf new.reads l (bytes - own.bytes) most)
+    → IsShelved first kept taken old.reads own → Gained (kept own.number) (now own.number) (IsReadOf taken new.reads l (bytes - own.bytes) most)
     → IsFrontShelved first now taken new.reads (record own { bytes = bytes })
 front-own first kept now taken old new own l bytes most ps only more part there next shelved gained =
     let at : ℕ → Option Mark = (placed_of own taken).at in
     let start : 0 + own.bytes ≡ own.bytes = omega arith in
     record {
-      gained = Gained-then (first own.number) (kept own.number) (now own.number) (λ xs. AreReadAt old.reads (values_from at own.bytes 0) xs)
-          (IsReadOf new.reads l (bytes - own.bytes) most) (ReadsFront taken new.reads (record own { bytes = bytes }))
+      gained = Gained-then (first own.number) (kept own.number) (now own.number) (λ xs. AreReadAt taken old.reads (values_from at own.bytes 0) xs)
+          (IsReadOf taken new.reads l (bytes - own.bytes) most) (ReadsFront taken new.reads (record own { bytes = bytes }))
           (λ xs ys was is.
           let k : ℕ = length ys in
           let r : ℕ = l.loan.len - k in
           let len : l.loan.len ≡ k + r = omega (arith, is.at_most, part) in
-          let grow : AreReadAt new.reads (values_from at own.bytes 0) xs = subst (λ rs. AreReadAt rs (values_from at own.bytes 0) xs) (sym only.are)
-          (all-grow old.reads only.more (values_from at own.bytes 0) xs was) in
+          let grow : AreReadAt taken new.reads (values_from at own.bytes 0) xs = subst (λ rs. AreReadAt taken rs (values_from at own.bytes 0) xs) (sym only.are)
+          (all-grow taken old.reads only.more (values_from at own.bytes 0) xs was) in
           let split_marks : marks_of_loan l ≡ marks_from l.note l.at k ++ marks_from l.note (l.at + k) r = ap (marks_from l.note l.at) len
           ∙ marks-split l.note l.at k r in
           let split_values : values_from at l.loan.len own.bytes
@@ -96,9 +100,9 @@ front-own first kept now taken old new own l bytes most ps only more part there 
             count = own.bytes + k;
             at_least = omega (arith, is.at_least, more);
             below = λ q below. there q (omega (arith, next.within, is.at_most, part));
-            are = subst (λ ms. AreReadAt new.reads ms (xs ++ ys)) (sym all)
-                (read-append new.reads (values_from at own.bytes 0) (values_from at k own.bytes) xs ys grow
-                (subst (λ ms. AreReadAt new.reads ms ys) same is.are));
+            are = subst (λ ms. AreReadAt taken new.reads ms (xs ++ ys)) (sym all)
+                (read-append taken new.reads (values_from at own.bytes 0) (values_from at k own.bytes) xs ys grow
+                (subst (λ ms. AreReadAt taken new.reads ms ys) same is.are));
           })
           shelved.gained gained;
     }
@@ -107,17 +111,20 @@ own-many : (before after : List FlowQueue) (own : FlowQueue) → many own.number
     → many own.number (before ++ own ∷ after) ≡ 1
 own-many before after own few = omega (arith, few, total-append (is_number own.number) before (own ∷ after), number-is own.number own refl)
 
-abbrev pub with_read : State → ℕ → FlowQueue → ℕ → List (Completion × Lending) → Lending → ℕ → State
-with_read was i own bytes unread l written = record was {
+abbrev pub with_read : State → ℕ → FlowQueue → ℕ → List (Completion × Lending) → Lending → ℕ → Bool → State
+with_read was i own bytes unread l written flush = record was {
   flows = set was.flows i (record own { bytes = bytes });
   unread = unread;
   due = Some l;
   written = written;
+  flush = flush;
 }
 
 module _ (was : State) (i : ℕ) (own : FlowQueue) (p : Completion × Lending) (ps : List (Completion × Lending)) (old new : AppView)
     (unread : was.unread ≡ p ∷ ps) (due : was.due ≡ None) (pushed : was.stray.left ≡ 0) (within : i < length was.flows) (value : own ≡ get_or was.flows i own)
-    (number : p.0.user_data ≡ own.number) (only : OnlyReads old new) (works : Working was old) (common : Common was old) where
+    (number : p.0.user_data ≡ own.number) (only : OnlyReads old new) (works : Working was old) (common : Common was old)
+    (reaped : was.posted.entries ≡ []) (flush : Bool) (flush_on : flush ≡ true → (was.flush ≡ true) × (ps ≢ []))
+    (flush_off : flush ≡ false → (was.flush ≡ false) ⊎ (ps ≡ [])) (more_kept : was.ended ≡ false → was.flush ≡ false → was.how.hold < length was.unread) where
   at : At was.flows i own
   at = split-at was.flows i own within value
 
@@ -143,13 +150,16 @@ module _ (was : State) (i : ℕ) (own : FlowQueue) (p : Completion × Lending) (
   same_taken = ap (λ (v : AppView). v.taken) only.view
 
   common-read : (bytes written : ℕ) (stopped : Stopped) → own.bytes ≤ bytes → written ≡ min (was.written + (bytes - own.bytes)) (2 ^ 64 - 1)
-      → Quits was.how.quit written stopped → Common (record (with_read was i own bytes ps p.1 written) { stopped = stopped }) new
+      → Quits was.how.quit written stopped → Common (record (with_read was i own bytes ps p.1 written flush) { stopped = stopped }) new
   common-read bytes written stopped more count quits =
       let f : FlowQueue → ℕ = λ o. o.bytes in
       let later : FlowQueue = record own { bytes = bytes } in
       let sum : total f (set was.flows i later) + own.bytes ≡ total f was.flows + bytes =
       ap (λ n. n + own.bytes) (ap (total f) (at.set_is later)) ∙ total-changed at.before at.after own later f
       ∙ ap (λ n. n + bytes) (sym (ap (total f) at.is)) in
+      let short : FlowQueue → ℕ = λ o. short_bytes o.queue in
+      let shorts : total short (set was.flows i later) ≡ total short was.flows =
+      ap (total short) (at.set_is later) ∙ omega (arith, total-changed at.before at.after own later short) ∙ sym (ap (total short) at.is) in
       let left : new.left ≡ old.left = ap (λ (v : AppView). v.left) only.view in
       let scrubbed : new.scrubbed ≡ old.scrubbed = ap (λ (v : AppView). v.scrubbed) only.view in
       record {
@@ -157,7 +167,8 @@ module _ (was : State) (i : ℕ) (own : FlowQueue) (p : Completion × Lending) (
         ended = ap (λ (v : AppView). v.ended) only.view ∙ common.ended;
         counted = λ here. scrubbed ∙ common.counted (sym left ∙ here);
         owns = ap (λ (v : AppView). v.owns) only.view ∙ common.owns;
-        spares = ap (λ (v : AppView). v.spares) only.view ∙ common.spares;
+        copied = common.copied ∙ ap capped (sym (ap (λ (v : AppView). v.spares) only.view));
+        spares = omega (arith, ap (λ (v : AppView). v.spares) only.view, shorts, ap (total unsplit_len) same_taken, common.spares);
         some_places = common.some_places;
         within = common.within;
         room = common.room;
@@ -180,39 +191,72 @@ module _ (was : State) (i : ℕ) (own : FlowQueue) (p : Completion × Lending) (
           ap length (ap (λ (v : AppView). v.returned) only.view),
           ap (total held_len) (ap (λ (v : AppView). v.helds) only.view),
           ap (total taken_len) same_taken,
+          shorts,
           common.bound,
         );
       }
 
-  steps-read : (bytes written : ℕ) → app_steps (with_read was i own bytes ps p.1 written) new ≡ app_steps was old + 1
+  steps-read : (bytes written : ℕ) → app_steps (with_read was i own bytes ps p.1 written flush) new ≡ app_steps was old + 1
   steps-read bytes written = omega (
     arith,
     ap length same_taken,
     ap length (ap (λ (v : AppView). v.loans) only.view),
     ap length (ap (λ (v : AppView). v.returned) only.view),
-    ap (over_due (λ _. 1)) due,
+    ap due_one due,
     most-same was.how.stray old new same_returned,
     ap one_if (ap (λ (v : AppView). v.ended) only.view),
     ap one_if (ap (λ (v : AppView). v.left) only.view),
   )
 
-  moves-read : (bytes written : ℕ) → Moves was (with_read was i own bytes ps p.1 written) old new
+  same_lent : reserve_loans new ≡ reserve_loans old
+  same_lent = rw only.view refl
+
+  -- it isn't to be read whole where it wasn't
+  no-flush : was.flush ≡ false → flush ≡ false
+  no-flush off = ⊎_elim (λ (on : flush ≡ true). absurd (let e = (flush_on on).0 in cc)) (λ (not : flush ≡ false). not) (cases_Bool flush)
+
+  moves-read : (bytes written : ℕ) → Moves was (with_read was i own bytes ps p.1 written flush) old new
   moves-read bytes written = record {
-    same = (same_setting, ap (λ (v : AppView). v.app) only.view, ap (λ (v : AppView). v.owns) only.view, ap (λ (v : AppView). v.spares) only.view);
+    same = (
+      same_setting,
+      ap (λ (v : AppView). v.app) only.view,
+      ap (λ (v : AppView). v.owns) only.view,
+      omega (arith, ap (λ (v : AppView). v.spares) only.view),
+    );
     how = (refl, refl);
     places = refl;
     steps = omega (arith, steps-read bytes written);
     looks = looks-same old new (ap (λ (v : AppView). v.looks) only.view);
+    keeps = λ n r before live.
+        let k : KeptSince n r was old = before live in
+        record {
+          lent = omega (arith, k.lent, same_lent);
+          kept = λ notes same.
+              let kept = k.kept notes (sym same_lent ∙ same) in (
+                no-flush kept.0,
+                λ _. omega (arith, more_kept notes kept.0, ap length unread, length-append ps was.posted.entries),
+              );
+        };
     stays = λ _. refl;
-    leaked = same-leaked was (with_read was i own bytes ps p.1 written) refl refl;
+    leaked = same-leaked was (with_read was i own bytes ps p.1 written flush) refl refl;
   }
+
+  -- what lies in the reserve
+  rest_all : (ps ++ was.posted.entries ≡ []) → ps ≡ []
+  rest_all none = sym (append-nil ps) ∙ ap (λ es. ps ++ es) (sym reaped) ∙ none
+
+  still-outside : flush ≡ false → Each (LiesOutside (reserve_of new)) (ps ++ was.posted.entries)
+  still-outside off = subst (λ b. Each (LiesOutside b) (ps ++ was.posted.entries)) (sym (ap reserve_of only.view)) (⊎_elim
+      (λ (before : was.flush ≡ false). (subst (Each (LiesOutside (reserve_of old))) all (works.outside before)).1)
+      (λ (none : ps ≡ []). subst (Each (LiesOutside (reserve_of old))) (sym (ap (λ xs. xs ++ was.posted.entries) none ∙ reaped)) tt)
+      (flush_off off))
 
   -- all of it was appended
   pub oldest-read : (bytes written : ℕ) (kept kept_now : ℕ → Option (List ℕ)) → bytes ≡ own.bytes + p.1.loan.len
       → written ≡ min (was.written + p.1.loan.len) (2 ^ 64 - 1) → Quits was.how.quit written was.stopped
-      → Gained (kept own.number) (kept_now own.number) (λ read. IsReadOf new.reads p.1 p.1.loan.len p.1.loan.len read)
+      → Gained (kept own.number) (kept_now own.number) (λ read. IsReadOf old.taken new.reads p.1 p.1.loan.len p.1.loan.len read)
       → ((other : ℕ) → other ≢ own.number → Keeps (kept other) (kept_now other))
-      → ReadOne was (with_read was i own bytes ps p.1 written) old new kept kept_now
+      → ReadOne was (with_read was i own bytes ps p.1 written flush) old new kept kept_now
   oldest-read bytes written kept kept_now is count quits gained others =
       let later : FlowQueue = record own { bytes = own.bytes + p.1.loan.len } in
       let stands : Stands was.notes (at.before ++ later ∷ at.after) (ps ++ was.posted.entries) (p.1 ∷ was.leaked.items) new = stands-read was.notes at.before at.after own p
@@ -228,7 +272,8 @@ module _ (was : State) (i : ℕ) (own : FlowQueue) (p : Completion × Lending) (
           index = index-set was.index was.flows i own later within value refl works.index;
           over = λ over. each-same i was.flows own later within (sym value) refl (works.over over);
           going = works.going;
-          split = works.split;
+          outside = still-outside;
+          flush = λ on none. (flush_on on).1 (rest_all none);
           live = works.live;
           keeps_first = λ some. works.keeps_first (omega (arith, some, aside-same old new same_returned same_setting (ap (λ (v : AppView). v.app) only.view)));
           waits = λ some. absurd (omega (arith, some, pushed));
@@ -244,6 +289,8 @@ module _ (was : State) (i : ℕ) (own : FlowQueue) (p : Completion × Lending) (
         };
         steps = omega (arith, steps-read (own.bytes + p.1.loan.len) written);
         unread = ap length unread ∙ (omega arith);
+        flush = flush_on;
+        flushed = flush_off;
         due = λ none. absurd (cc);
         same = refl;
         taken = same_taken;
@@ -253,7 +300,7 @@ module _ (was : State) (i : ℕ) (own : FlowQueue) (p : Completion × Lending) (
   -- the shelf failed
   -- what the shelf has then
   fronts-failed : (bytes most : ℕ) (kept kept_now : ℕ → Option (List ℕ)) → own.bytes ≤ bytes → most ≤ p.1.loan.len
-      → Gained (kept own.number) (kept_now own.number) (IsReadOf new.reads p.1 (bytes - own.bytes) most)
+      → Gained (kept own.number) (kept_now own.number) (IsReadOf old.taken new.reads p.1 (bytes - own.bytes) most)
       → ((other : ℕ) → other ≢ own.number → Keeps (kept other) (kept_now other))
       → (first : ℕ → Option (List ℕ)) → AreShelved first kept was.flows old
       → AreFronts first kept_now (set was.flows i (record own { bytes = bytes })) new
@@ -286,7 +333,7 @@ module _ (was : State) (i : ℕ) (own : FlowQueue) (p : Completion × Lending) (
 
   -- what is left of the flows, of which one had a loan read in part
   torn-read : (bytes written : ℕ) (stopped : Stopped) → bytes ≤ own.bytes + p.1.loan.len
-      → Torn (record (with_read was i own bytes ps p.1 written) { stopped = stopped }) new
+      → Torn (record (with_read was i own bytes ps p.1 written flush) { stopped = stopped }) new
   torn-read bytes written stopped most =
       let later : FlowQueue = record own { bytes = bytes } in
       let flows : Each (FlowEnds old.taken) (at.before ++ later ∷ at.after) =
@@ -305,9 +352,9 @@ module _ (was : State) (i : ℕ) (own : FlowQueue) (p : Completion × Lending) (
   pub oldest-failed : (bytes written most faults faults_now : ℕ) (kept kept_now : ℕ → Option (List ℕ)) → own.bytes ≤ bytes
       → most ≤ p.1.loan.len → bytes ≤ own.bytes + most → written ≡ min (was.written + (bytes - own.bytes)) (2 ^ 64 - 1)
       → Quits was.how.quit written was.stopped → Rose faults faults_now
-      → Gained (kept own.number) (kept_now own.number) (IsReadOf new.reads p.1 (bytes - own.bytes) most)
+      → Gained (kept own.number) (kept_now own.number) (IsReadOf old.taken new.reads p.1 (bytes - own.bytes) most)
       → ((other : ℕ) → other ≢ own.number → Keeps (kept other) (kept_now other))
-      → ReadFailed was (with_read was i own bytes ps p.1 written) old new kept kept_now faults faults_now
+      → ReadFailed was (with_read was i own bytes ps p.1 written flush) old new kept kept_now faults faults_now
   oldest-failed bytes written most faults faults_now kept kept_now more part few count quits rose gained others = record {
     torn = torn-read bytes written was.stopped (omega (arith, part, few));
     common = common-read bytes written was.stopped more count quits;
@@ -322,9 +369,9 @@ module _ (was : State) (i : ℕ) (own : FlowQueue) (p : Completion × Lending) (
   -- it was appended up to the byte at which the application quits
   pub oldest-quit : (bytes written most : ℕ) (kept kept_now : ℕ → Option (List ℕ)) → most ≤ p.1.loan.len → bytes ≡ own.bytes + most
       → written ≡ min (was.written + most) (2 ^ 64 - 1) → Quits was.how.quit written stop.Quit
-      → Gained (kept own.number) (kept_now own.number) (λ read. IsReadOf new.reads p.1 most most read)
+      → Gained (kept own.number) (kept_now own.number) (λ read. IsReadOf old.taken new.reads p.1 most most read)
       → ((other : ℕ) → other ≢ own.number → Keeps (kept other) (kept_now other))
-      → ReadQuit was (record (with_read was i own bytes ps p.1 written) { stopped = stop.Quit }) old new kept kept_now
+      → ReadQuit was (record (with_read was i own bytes ps p.1 written flush) { stopped = stop.Quit }) old new kept kept_now
   oldest-quit bytes written most kept kept_now part is count quits gained others =
       let later : FlowQueue = record own { bytes = own.bytes + most } in
       let added : Appended own old.taken new most kept kept_now = appended old.taken p (ps ++ was.posted.entries) own most new kept kept_now number
@@ -338,6 +385,7 @@ module _ (was : State) (i : ℕ) (own : FlowQueue) (p : Completion × Lending) (
           places = refl;
           steps = (moves-read (own.bytes + most) written).steps;
           looks = (moves-read (own.bytes + most) written).looks;
+          keeps = λ n r before live. (let k = (moves-read (own.bytes + most) written).keeps n r before live in record { lent = k.lent; kept = k.kept });
           stays = λ other. absurd (other works.going);
           leaked = (moves-read (own.bytes + most) written).leaked;
         };

@@ -20,13 +20,13 @@ use Rattle.app_worker.specs.declared.reading.Pushed.TheVariants.{Nothing, All, P
 use Rattle.app_worker.specs.Core.{total, Stands}
 use Rattle.app_worker.specs.State.{State, read_of, Working, Common, raw_entries, loan_entries, app_steps, one_if}
 use Rattle.app_worker.specs.Shelves.{AreShelved}
-use Rattle.app_worker.specs.Moves.{Moves}
+use Rattle.app_worker.specs.Moves.{Moves, reads_of, reserve_loans}
 use Rattle.app_worker.specs.Steps.{PushedSome, Pushes, raw_copies}
 use Rattle.app_worker.specs.declared.straying.Gave.{Gave}
 use Rattle.app_worker.specs.declared.straying.Gave.TheVariants as gave
 use Rattle.app_worker.specs.Whole.{GaveOne, GaveBack, GivesBack, PushesLeft}
 use Rattle.app_worker.proofs.Tokens.{total-append}
-use Rattle.app_worker.proofs.Moving.{looks-same, looks-more, looks-trans, same-leaked, no-write}
+use Rattle.app_worker.proofs.Moving.{looks-same, looks-more, looks-trans, kept-same, same-leaked, no-write}
 use Rattle.app_worker.proofs.Seeing.{Left, left-none, left-saw}
 
 -- ---- one by one
@@ -115,6 +115,8 @@ module _ (old : AppView) (settled quiet : Bool) (written : List WrittenEntry) (l
     flows = stands.flows;
     known = stands.known;
     posted = stands.posted;
+    lent = stands.lent;
+    due_lent = stands.due_lent;
     counted = stands.counted;
   }
 
@@ -126,7 +128,8 @@ module _ (old : AppView) (settled quiet : Bool) (written : List WrittenEntry) (l
     index = works.index;
     over = works.over;
     going = works.going;
-    split = works.split;
+    outside = works.outside;
+    flush = works.flush;
     live = works.live;
     keeps_first = works.keeps_first;
     waits = waits;
@@ -139,6 +142,7 @@ module _ (old : AppView) (settled quiet : Bool) (written : List WrittenEntry) (l
     ended = common.ended;
     counted = common.counted;
     owns = common.owns;
+    copied = common.copied;
     spares = common.spares;
     some_places = common.some_places;
     within = common.within;
@@ -198,12 +202,14 @@ pushed-left was now old new some fewer works common =
               ap (λ (v : AppView). v.setting) some.view,
               ap (λ (v : AppView). v.app) some.view,
               ap (λ (v : AppView). v.owns) some.view,
-              ap (λ (v : AppView). v.spares) some.view,
+              omega (arith, ap (λ (v : AppView). v.spares) some.view),
             );
             how = (refl, refl);
             places = refl;
             steps = omega (arith, steps);
             looks = some.looks;
+            keeps = kept-same was (with_stray was now) old new refl refl refl refl
+                (ap (λ (v : AppView). reads_of was v) some.view) (ap reserve_loans some.view) (omega arith);
             stays = λ _. refl;
             leaked = same-leaked was (with_stray was now) refl refl;
           };
@@ -247,3 +253,19 @@ gave-then a b c u v w one some moves same taken left =
       },
       ap (λ (s : State). s.due) chain,
     )
+
+-- all that was left is written then, or nothing was
+pub gave-whole : (a b d e : State) (u v w x : AppView) (result : Pushed) → result ≢ Part → result ≢ InUse → b ≡ a → v ≡ u → b.due ≢ None
+    → GaveOne b d v w → Moves d e w x → PushesLeft d e w x result → GaveBack a e u x × (e.due ≡ None) × (e.stray.left ≡ 0)
+gave-whole a b d e u v w x Nothing part in_use same view some one moves pushes =
+    let gone = gave-then b d e v w x one some moves (pushes.0 ∙ ap (λ (s : State). record d { stray = s.stray }) (sym pushes.0))
+    (ap (λ (y : AppView). y.taken) pushes.1) (ap (λ (y : AppView). y.left) pushes.1) in
+    subst (λ s. GaveBack s e u x × (e.due ≡ None) × (e.stray.left ≡ 0)) same
+    (subst (λ y. GaveBack b e y x × (e.due ≡ None) × (e.stray.left ≡ 0)) view
+    (gone.0, gone.1, ap (λ (s : State). s.stray.left) pushes.0 ∙ pushes.2))
+gave-whole a b d e u v w x All part in_use same view some one moves pushes =
+    let gone = gave-then b d e v w x one some moves pushes.1 pushes.0.taken pushes.0.left in
+    subst (λ s. GaveBack s e u x × (e.due ≡ None) × (e.stray.left ≡ 0)) same
+    (subst (λ y. GaveBack b e y x × (e.due ≡ None) × (e.stray.left ≡ 0)) view (gone.0, gone.1, pushes.3))
+gave-whole a b d e u v w x Part part in_use same view some one moves pushes = absurd (part refl)
+gave-whole a b d e u v w x InUse part in_use same view some one moves pushes = absurd (in_use refl)

@@ -1,7 +1,8 @@
 -- What is read through a loan stands at its marks.
-use Rattle.std.proofs.Common.{◌≡◌, ℕ, zero, suc, ◌+◌, ◌-◌, ◌<◌, ◌≤◌, List, [], ◌∷◌, ◌++◌, Option, Some, length, take, refl}
+use Rattle.std.proofs.Common.{◌≡◌, ℕ, zero, suc, ◌+◌, ◌-◌, ◌<◌, ◌≤◌, Bool, true, false, List, [], ◌∷◌, ◌++◌, Option, Some, length, take, drop, refl}
 use Rattle.std.proofs.Common.{sym, ap, subst, ◌∙◌, arith, ⊎_elim, inl, append_assoc, append-nil, length-append, length-take-le, take_all}
-use Rattle.std.proofs.lemmas.Bool.{cases_lt}
+use Rattle.std.proofs.lemmas.Bool.{cases_lt, cases_Bool}
+use Rattle.std.specs.Prelude.{MatchBool, slice_get}
 use Rattle.std.specs.Io.KnownBytes.{Appends}
 use Rattle.zr_kinds.specs.CopyingReceiver.{value_at}
 use Rattle.zr_io.specs.Moved.{Gained}
@@ -9,13 +10,15 @@ use Rattle.zr_io.proofs.Moved.{Gained-added, Gained-then}
 use Rattle.board_face.specs.Texts.{further}
 use Rattle.board_face.specs.AppEvents.{has_read, loan_origin, reads_with}
 use Rattle.board_face.specs.declared.views.app.Origin.{Origin}
-use Rattle.board_face.specs.declared.views.app.Origin.TheVariants.{Note as of_note}
+use Rattle.board_face.specs.declared.views.app.Origin.TheVariants.{Note as of_note, Copied as of_copy}
+use Rattle.board_face.specs.AppCalls.{ShowsCopy}
+use Rattle.board_face.specs.declared.views.app.TakenNote.{TakenNote}
 use Rattle.board_face.specs.declared.views.app.Reading.{Reading}
 use Rattle.board_face.specs.declared.views.app.LentPiece.{LentPiece}
 use Rattle.board_face.specs.declared.views.app.AppView.{AppView}
 use Rattle.app_worker.specs.declared.stack.Lending.{Lending}
 use Rattle.app_worker.specs.Marks.{Mark, marks_from}
-use Rattle.app_worker.specs.Core.{IsIn, LieApart, lent_piece, IsReadAt, AreReadAt, OnlyReads, IsReadOf}
+use Rattle.app_worker.specs.Core.{IsIn, LieApart, lent_piece, origin_in, IsReadAt, IsByteAt, AreReadAt, OnlyReads, IsReadOf}
 use Rattle.app_worker.proofs.Tokens.{in-left, in-right, loan-origin}
 
 read-grows : (reads more : List Reading) (mark : Mark) (byte : ℕ) → IsReadAt reads mark byte → IsReadAt (reads ++ more) mark byte
@@ -28,18 +31,49 @@ read-grows reads more mark byte at = record {
   is = at.is;
 }
 
-pub all-grow : (reads more : List Reading) (marks : List Mark) (bytes : List ℕ) → AreReadAt reads marks bytes → AreReadAt (reads ++ more) marks bytes
-all-grow reads more [] [] are = tt
-all-grow reads more (m ∷ ms) (b ∷ bs) are = (read-grows reads more m b are.0, all-grow reads more ms bs are.1)
-all-grow reads more [] (b ∷ bs) are = absurd are
-all-grow reads more (m ∷ ms) [] are = absurd are
+by-split : (b : Bool) (P Q R : Type 0) → (P → Q) → MatchBool b P R → MatchBool b Q R
+by-split true P Q R step is = step is
+by-split false P Q R step is = is
 
-pub read-append : (reads : List Reading) (ms ns : List Mark) (bs cs : List ℕ) → AreReadAt reads ms bs → AreReadAt reads ns cs
-    → AreReadAt reads (ms ++ ns) (bs ++ cs)
-read-append reads [] ns [] cs first second = second
-read-append reads (m ∷ ms) ns (b ∷ bs) cs first second = (first.0, read-append reads ms ns bs cs first.1 second)
-read-append reads [] ns (b ∷ bs) cs first second = absurd first
-read-append reads (m ∷ ms) ns [] cs first second = absurd first
+byte-grows : (taken : List TakenNote) (reads more : List Reading) (mark : Mark) (byte : ℕ) → IsByteAt taken reads mark byte
+    → IsByteAt taken (reads ++ more) mark byte
+byte-grows taken reads more mark byte at = record {
+  note = at.note;
+  is = at.is;
+  stands = by-split at.note.note.split (IsReadAt reads mark byte) (IsReadAt (reads ++ more) mark byte) (value_at at.note.bytes mark.place ≡ Some byte)
+      (read-grows reads more mark byte) at.stands;
+}
+
+pub all-grow : (taken : List TakenNote) (reads more : List Reading) (marks : List Mark) (bytes : List ℕ) → AreReadAt taken reads marks bytes
+    → AreReadAt taken (reads ++ more) marks bytes
+all-grow taken reads more [] [] are = tt
+all-grow taken reads more (m ∷ ms) (b ∷ bs) are = (byte-grows taken reads more m b are.0, all-grow taken reads more ms bs are.1)
+all-grow taken reads more [] (b ∷ bs) are = absurd are
+all-grow taken reads more (m ∷ ms) [] are = absurd are
+
+-- a note that was taken is the same among more
+pub taken-still : (taken : List TakenNote) (t x : TakenNote) (k : ℕ) → slice_get taken k ≡ Some x → slice_get (taken ++ t ∷ []) k ≡ Some x
+taken-still [] t x k is = absurd (cc)
+taken-still (u ∷ us) t x zero is = is
+taken-still (u ∷ us) t x (suc k) is = taken-still us t x k is
+
+-- and so is what stands at marks
+pub all-noted : (taken : List TakenNote) (t : TakenNote) (reads : List Reading) (marks : List Mark) (bytes : List ℕ) → AreReadAt taken reads marks bytes
+    → AreReadAt (taken ++ t ∷ []) reads marks bytes
+all-noted taken t reads [] [] are = tt
+all-noted taken t reads (m ∷ ms) (b ∷ bs) are = (
+  record { note = are.0.note; is = taken-still taken t are.0.note m.note are.0.is; stands = are.0.stands },
+  all-noted taken t reads ms bs are.1,
+)
+all-noted taken t reads [] (b ∷ bs) are = absurd are
+all-noted taken t reads (m ∷ ms) [] are = absurd are
+
+pub read-append : (taken : List TakenNote) (reads : List Reading) (ms ns : List Mark) (bs cs : List ℕ) → AreReadAt taken reads ms bs
+    → AreReadAt taken reads ns cs → AreReadAt taken reads (ms ++ ns) (bs ++ cs)
+read-append taken reads [] ns [] cs first second = second
+read-append taken reads (m ∷ ms) ns (b ∷ bs) cs first second = (first.0, read-append taken reads ms ns bs cs first.1 second)
+read-append taken reads [] ns (b ∷ bs) cs first second = absurd first
+read-append taken reads (m ∷ ms) ns [] cs first second = absurd first
 
 pub marks-split : (note at k m : ℕ) → marks_from note at (k + m) ≡ marks_from note at k ++ marks_from note (at + k) m
 marks-split note at zero m = let a : at ≡ at + 0 = omega arith in let b : 0 + m ≡ m = omega arith in ap (marks_from note at) b
@@ -54,36 +88,94 @@ value_at-middle : (xs : List ℕ) (y : ℕ) (ys : List ℕ) → value_at (xs ++ 
 value_at-middle [] y ys = refl
 value_at-middle (x ∷ xs) y ys = value_at-middle xs y ys
 
--- a text that was read from a place of a note on
-text-read : (reads : List Reading) (note at : ℕ) (before text : List ℕ) → IsIn (record { origin = of_note note at; bytes = before ++ text }) reads
-    → AreReadAt reads (marks_from note (at + length before) (length text)) text
-text-read reads note at before [] is = tt
-text-read reads note at before (b ∷ bs) is =
-    let place : at + length before - at ≡ length before = omega arith in
-    let next : before ++ b ∷ bs ≡ (before ++ b ∷ []) ++ bs = sym (append_assoc before (b ∷ []) bs) in
-    let longer : at + length (before ++ b ∷ []) ≡ suc (at + length before) =
-    (let l : length (before ++ b ∷ []) ≡ length before + 1 = length-append before (b ∷ []) in omega arith) in (
-      record {
+-- ---- of a note that tells of a piece in the area
+
+module _ (taken : List TakenNote) (note : ℕ) (t : TakenNote) (is_note : slice_get taken note ≡ Some t) where
+  -- a text that was read from a place of a note on
+  text-read : t.note.split ≡ true → (reads : List Reading) (at : ℕ) (before text : List ℕ)
+      → IsIn (record { origin = of_note note at; bytes = before ++ text }) reads
+      → AreReadAt taken reads (marks_from note (at + length before) (length text)) text
+  text-read split reads at before [] is = tt
+  text-read split reads at before (b ∷ bs) is =
+      let place : at + length before - at ≡ length before = omega arith in
+      let next : before ++ b ∷ bs ≡ (before ++ b ∷ []) ++ bs = sym (append_assoc before (b ∷ []) bs) in
+      let longer : at + length (before ++ b ∷ []) ≡ suc (at + length before) =
+      (let l : length (before ++ b ∷ []) ≡ length before + 1 = length-append before (b ∷ []) in omega arith) in
+      let mark : Mark = record { note = note; place = at + length before } in
+      let read : IsReadAt reads mark b = record {
         reading = record { origin = of_note note at; bytes = before ++ b ∷ bs };
         read = is;
         from = at;
         origin = refl;
         at_or_behind = omega arith;
         is = ap (value_at (before ++ b ∷ bs)) place ∙ value_at-middle before b bs;
-      },
-      subst (λ p. AreReadAt reads (marks_from note p (length bs)) bs) longer
-          (text-read reads note at (before ++ b ∷ []) bs (subst (λ (ys : List ℕ). IsIn (record { origin = of_note note at; bytes = ys }) reads) next is)),
-    )
+      } in (
+        record {
+          note = t;
+          is = is_note;
+          stands = subst (λ b1. MatchBool b1 (IsReadAt reads mark b) (value_at t.bytes mark.place ≡ Some b)) (sym split) read;
+        },
+        subst (λ p. AreReadAt taken reads (marks_from note p (length bs)) bs) longer
+            (text-read split reads at (before ++ b ∷ []) bs (subst (λ (ys : List ℕ). IsIn (record { origin = of_note note at; bytes = ys }) reads) next is)),
+      )
 
-with-reads : (reads : List Reading) (note at : ℕ) (text : List ℕ)
-    → AreReadAt (reads_with reads (of_note note at) text) (marks_from note at (length text)) text
-with-reads reads note at [] = tt
-with-reads reads note at (b ∷ bs) =
-    let place : at + 0 ≡ at = omega arith in
-    let all : List Reading = reads ++ record { origin = of_note note at; bytes = b ∷ bs } ∷ [] in
-    subst (λ p. AreReadAt all (marks_from note p (length (b ∷ bs))) (b ∷ bs)) place
-    (text-read all note at [] (b ∷ bs) (in-right (record { origin = of_note note at; bytes = b ∷ bs }) reads
-    (record { origin = of_note note at; bytes = b ∷ bs } ∷ []) (inl refl)))
+  with-reads : t.note.split ≡ true → (reads : List Reading) (at : ℕ) (text : List ℕ)
+      → AreReadAt taken (reads_with reads (of_note note at) text) (marks_from note at (length text)) text
+  with-reads split reads at [] = tt
+  with-reads split reads at (b ∷ bs) =
+      let place : at + 0 ≡ at = omega arith in
+      let all : List Reading = reads ++ record { origin = of_note note at; bytes = b ∷ bs } ∷ [] in
+      subst (λ p. AreReadAt taken all (marks_from note p (length (b ∷ bs))) (b ∷ bs)) place
+      (text-read split all at [] (b ∷ bs) (in-right (record { origin = of_note note at; bytes = b ∷ bs }) reads
+      (record { origin = of_note note at; bytes = b ∷ bs } ∷ []) (inl refl)))
+
+  -- ---- of one in which its bytes travelled
+
+  -- the first of these bytes, and the others
+  front-value : (bs : List ℕ) (at x : ℕ) (xs : List ℕ) (n : ℕ) → x ∷ xs ≡ take (suc n) (drop at bs)
+      → (value_at bs at ≡ Some x) × (xs ≡ take n (drop (suc at) bs))
+  front-value [] zero x xs n is = absurd (cc)
+  front-value [] (suc at) x xs n is = absurd (cc)
+  front-value (b ∷ bs) zero x xs n is = let head : b ≡ x = cc in let tail : xs ≡ take n bs = cc in (ap (λ y. Some y) head, tail)
+  front-value (b ∷ bs) (suc at) x xs n is = front-value bs at x xs n is
+
+  short-read : t.note.split ≡ false → (reads : List Reading) (at : ℕ) (text : List ℕ) → text ≡ take (length text) (drop at t.bytes)
+      → AreReadAt taken reads (marks_from note at (length text)) text
+  short-read split reads at [] is = tt
+  short-read split reads at (b ∷ bs) is =
+      let mark : Mark = record { note = note; place = at } in
+      let (here, rest) = front-value t.bytes at b bs (length bs) is in (
+        record {
+          note = t;
+          is = is_note;
+          stands = subst (λ b1. MatchBool b1 (IsReadAt reads mark b) (value_at t.bytes at ≡ Some b)) (sym split) here;
+        },
+        short-read split reads (suc at) bs rest,
+      )
+
+take-less : (k len : ℕ) (ys : List ℕ) → k ≤ len → take k (take len ys) ≡ take k ys
+take-less zero len ys within = refl
+take-less (suc k) zero ys within = absurd (omega arith)
+take-less (suc k) (suc len) [] within = refl
+take-less (suc k) (suc len) (y ∷ ys) within = ap (λ zs. y ∷ zs) (take-less k len ys (omega arith))
+
+part-of-part : (from k len : ℕ) (ys : List ℕ) → from + k ≤ len → take k (drop from (take len ys)) ≡ take k (drop from ys)
+part-of-part zero k len ys within = take-less k len ys (omega arith)
+part-of-part (suc from) k zero ys within = absurd (omega arith)
+part-of-part (suc from) k (suc len) [] within = refl
+part-of-part (suc from) k (suc len) (y ∷ ys) within = part-of-part from k len ys (omega arith)
+
+drop-both : (a b : ℕ) (ys : List ℕ) → drop b (drop a ys) ≡ drop (a + b) ys
+drop-both zero b ys = let e : b ≡ 0 + b = omega arith in ap (λ n. drop n ys) e
+drop-both (suc a) zero [] = let e : suc (a + 0) ≡ suc a + 0 = omega arith in ap (λ n. drop n []) e
+drop-both (suc a) (suc b) [] = let e : suc (a + suc b) ≡ suc a + suc b = omega arith in ap (λ n. drop n []) e
+drop-both (suc a) b (y ∷ ys) = let e : suc (a + b) ≡ suc a + b = omega arith in drop-both a b ys ∙ ap (λ n. drop n (y ∷ ys)) e
+
+-- the note of this number
+pub note-there : (taken : List TakenNote) (k : ℕ) → k < length taken → (t : TakenNote) × (slice_get taken k ≡ Some t)
+note-there [] k below = absurd (omega arith)
+note-there (t ∷ ts) zero below = (t, refl)
+note-there (t ∷ ts) (suc k) below = note-there ts k (omega arith)
 
 pub only-none : (v : AppView) → OnlyReads v v
 only-none v = record { view = refl; more = []; are = sym (append-nil v.reads) }
@@ -110,47 +202,61 @@ pub still-out : (v w : AppView) (l : LentPiece) → OnlyReads v w → IsIn l v.l
 still-out v w l only out = rw only.view out
 
 -- what one read gives
-pub read-there : (v : AppView) (lie : LieApart v) (l : Lending) (from : ℕ) (text : List ℕ) → IsIn (lent_piece l) v.loans
-    → AreReadAt (has_read v l.loan from text).reads (marks_from l.note (l.at + from) (length text)) text
-read-there v lie l from text out =
-    let origin : loan_origin v l.loan ≡ of_note l.note l.at = loan-origin v lie (lent_piece l) out in
-    subst (λ (o : Origin). AreReadAt (reads_with v.reads (further o from) text) (marks_from l.note (l.at + from) (length text)) text) (sym origin)
-    (with-reads v.reads l.note (l.at + from) text)
+pub read-there : (taken : List TakenNote) (v : AppView) (lie : LieApart v) (l : Lending) (from : ℕ) (text : List ℕ) → IsIn (lent_piece taken l) v.loans
+    → l.note < length taken → ShowsCopy (loan_origin v l.loan) from text → from + length text ≤ l.loan.len
+    → AreReadAt taken (has_read v l.loan from text).reads (marks_from l.note (l.at + from) (length text)) text
+read-there taken v lie l from text out known shows fits =
+    let (t, is) = note-there taken l.note known in
+    let origin : loan_origin v l.loan ≡ origin_in (slice_get taken l.note) l.note l.at l.loan.len = loan-origin v lie (lent_piece taken l) out in
+    ⊎_elim
+    (λ (yes : t.note.split ≡ true).
+    let split : loan_origin v l.loan ≡ of_note l.note l.at = origin ∙ (rw (is, yes) refl) in
+    subst (λ (o : Origin). AreReadAt taken (reads_with v.reads (further o from) text) (marks_from l.note (l.at + from) (length text)) text) (sym split)
+    (with-reads taken l.note t is yes v.reads (l.at + from) text))
+    (λ (no : t.note.split ≡ false).
+    let copy : loan_origin v l.loan ≡ of_copy (take l.loan.len (drop l.at t.bytes)) = origin ∙ (rw (is, no) refl) in
+    let shown : text ≡ take (length text) (drop from (take l.loan.len (drop l.at t.bytes))) = subst (λ (o : Origin). ShowsCopy o from text) copy shows in
+    let same : text ≡ take (length text) (drop (l.at + from) t.bytes) = shown ∙ part-of-part from (length text) l.loan.len (drop l.at t.bytes) fits
+    ∙ ap (take (length text)) (drop-both l.at from t.bytes) in
+    short-read taken l.note t is no (has_read v l.loan from text).reads (l.at + from) text same)
+    (cases_Bool t.note.split)
 
 -- ---- what was gained
 
 -- exactly so many bytes
-pub record IsReadTo (reads : List Reading) (l : Lending) (done : ℕ) (bytes : List ℕ) : Type 0 where
-  pub are : AreReadAt reads (marks_from l.note l.at done) bytes
+pub record IsReadTo (taken : List TakenNote) (reads : List Reading) (l : Lending) (done : ℕ) (bytes : List ℕ) : Type 0 where
+  pub are : AreReadAt taken reads (marks_from l.note l.at done) bytes
   pub size : length bytes ≡ done
 
-pub one-more : (a b c : Option (List ℕ)) (v : AppView) (lie : LieApart v) (l : Lending) (done : ℕ) (text piece : List ℕ) → IsIn (lent_piece l) v.loans
+pub one-more : (taken : List TakenNote) (a b c : Option (List ℕ)) (v : AppView) (lie : LieApart v) (l : Lending) (done : ℕ) (text piece : List ℕ)
+    → IsIn (lent_piece taken l) v.loans → l.note < length taken → ShowsCopy (loan_origin v l.loan) done text → done + length text ≤ l.loan.len
     → piece ≡ text
-    → Gained a b (IsReadTo v.reads l done) → Appends b c piece → Gained a c (IsReadTo (has_read v l.loan done text).reads l (done + length text))
-one-more a b c v lie l done text piece out same before added =
+    → Gained a b (IsReadTo taken v.reads l done) → Appends b c piece → Gained a c (IsReadTo taken (has_read v l.loan done text).reads l (done + length text))
+one-more taken a b c v lie l done text piece out known shows fits same before added =
     let w : AppView = has_read v l.loan done text in
     let only = only-read v l done text in
-    Gained-then a b c (IsReadTo v.reads l done) (λ bytes. bytes ≡ text) (IsReadTo w.reads l (done + length text))
+    Gained-then a b c (IsReadTo taken v.reads l done) (λ bytes. bytes ≡ text) (IsReadTo taken w.reads l (done + length text))
     (λ xs ys was is.
-    let grow : AreReadAt w.reads (marks_from l.note l.at done) xs = subst (λ rs. AreReadAt rs (marks_from l.note l.at done) xs) (sym only.are)
-    (all-grow v.reads only.more (marks_from l.note l.at done) xs was.are) in
-    let more : AreReadAt w.reads (marks_from l.note (l.at + done) (length text)) ys = subst (AreReadAt w.reads (marks_from l.note (l.at + done) (length text)))
-    (sym is) (read-there v lie l done text out) in
-    let both = read-append w.reads (marks_from l.note l.at done) (marks_from l.note (l.at + done) (length text)) xs ys grow more in
+    let grow : AreReadAt taken w.reads (marks_from l.note l.at done) xs = subst (λ rs. AreReadAt taken rs (marks_from l.note l.at done) xs) (sym only.are)
+    (all-grow taken v.reads only.more (marks_from l.note l.at done) xs was.are) in
+    let more : AreReadAt taken w.reads (marks_from l.note (l.at + done) (length text)) ys = subst (AreReadAt taken w.reads (marks_from l.note (l.at + done) (length text)))
+    (sym is) (read-there taken v lie l done text out known shows fits) in
+    let both = read-append taken w.reads (marks_from l.note l.at done) (marks_from l.note (l.at + done) (length text)) xs ys grow more in
     record {
-      are = subst (λ ms. AreReadAt w.reads ms (xs ++ ys)) (sym (marks-split l.note l.at done (length text))) both;
+      are = subst (λ ms. AreReadAt taken w.reads ms (xs ++ ys)) (sym (marks-split l.note l.at done (length text))) both;
       size = length-append xs ys ∙ ap (λ n. n + length ys) was.size ∙ ap (λ zs. done + length zs) is;
     })
     before (Gained-added b c piece (λ bytes. bytes ≡ text) added same)
 
 -- the shelf failed, and took a front of it
-pub some-more : (a b c : Option (List ℕ)) (v : AppView) (lie : LieApart v) (l : Lending) (done most n : ℕ) (text piece : List ℕ)
-    → IsIn (lent_piece l) v.loans → piece ≡ text → done + length text ≤ most
-    → Gained a b (IsReadTo v.reads l done) → Appends b c (take n piece) → Gained a c (IsReadOf (has_read v l.loan done text).reads l done most)
-some-more a b c v lie l done most n text piece out same fits before added =
+pub some-more : (taken : List TakenNote) (a b c : Option (List ℕ)) (v : AppView) (lie : LieApart v) (l : Lending) (done most n : ℕ)
+    (text piece : List ℕ) → IsIn (lent_piece taken l) v.loans → l.note < length taken → ShowsCopy (loan_origin v l.loan) done text
+    → most ≤ l.loan.len → done + length text ≤ most → piece ≡ text
+    → Gained a b (IsReadTo taken v.reads l done) → Appends b c (take n piece) → Gained a c (IsReadOf taken (has_read v l.loan done text).reads l done most)
+some-more taken a b c v lie l done most n text piece out known shows part fits same before added =
     let w : AppView = has_read v l.loan done text in
     let only = only-read v l done text in
-    Gained-then a b c (IsReadTo v.reads l done) (λ bytes. bytes ≡ take n text) (IsReadOf w.reads l done most)
+    Gained-then a b c (IsReadTo taken v.reads l done) (λ bytes. bytes ≡ take n text) (IsReadOf taken w.reads l done most)
     (λ xs ys was is.
     let few : length ys ≤ length text = ⊎_elim
     (λ (less : n < length text). let e : length (take n text) ≡ n = length-take-le n text (omega arith) in let f : length ys
@@ -158,31 +264,31 @@ some-more a b c v lie l done most n text piece out same fits before added =
     (λ (all : length text ≤ n). let e : take n text ≡ text = take_all n text all in let f : length ys ≡ length text = ap length is
     ∙ ap length e in omega arith)
     (cases_lt n (length text)) in
-    let there : AreReadAt w.reads (marks_from l.note (l.at + done) (length text)) text = read-there v lie l done text out in
-    let front : AreReadAt w.reads (marks_from l.note (l.at + done) (length ys)) ys =
-    subst (λ zs. AreReadAt w.reads (marks_from l.note (l.at + done) (length zs)) zs) (sym is) (front-read w.reads l.note (l.at + done) n text there) in
-    let grow : AreReadAt w.reads (marks_from l.note l.at done) xs = subst (λ rs. AreReadAt rs (marks_from l.note l.at done) xs) (sym only.are)
-    (all-grow v.reads only.more (marks_from l.note l.at done) xs was.are) in
-    let both = read-append w.reads (marks_from l.note l.at done) (marks_from l.note (l.at + done) (length ys)) xs ys grow front in
+    let there : AreReadAt taken w.reads (marks_from l.note (l.at + done) (length text)) text = read-there taken v lie l done text out known shows (omega (arith, fits, part)) in
+    let front : AreReadAt taken w.reads (marks_from l.note (l.at + done) (length ys)) ys =
+    subst (λ zs. AreReadAt taken w.reads (marks_from l.note (l.at + done) (length zs)) zs) (sym is) (front-read w.reads l.note (l.at + done) n text there) in
+    let grow : AreReadAt taken w.reads (marks_from l.note l.at done) xs = subst (λ rs. AreReadAt taken rs (marks_from l.note l.at done) xs) (sym only.are)
+    (all-grow taken v.reads only.more (marks_from l.note l.at done) xs was.are) in
+    let both = read-append taken w.reads (marks_from l.note l.at done) (marks_from l.note (l.at + done) (length ys)) xs ys grow front in
     let size : length (xs ++ ys) ≡ done + length ys = length-append xs ys ∙ ap (λ k. k + length ys) was.size in
     record {
-      are = subst (λ k. AreReadAt w.reads (marks_from l.note l.at k) (xs ++ ys)) (sym size)
-          (subst (λ ms. AreReadAt w.reads ms (xs ++ ys)) (sym (marks-split l.note l.at done (length ys))) both);
+      are = subst (λ k. AreReadAt taken w.reads (marks_from l.note l.at k) (xs ++ ys)) (sym size)
+          (subst (λ ms. AreReadAt taken w.reads ms (xs ++ ys)) (sym (marks-split l.note l.at done (length ys))) both);
       at_least = omega (arith, size);
       at_most = omega (arith, size, few, fits);
     })
     before (Gained-added b c (take n piece) (λ bytes. bytes ≡ take n text) added (ap (take n) same))
   where
-    front-read : (reads : List Reading) (note at n : ℕ) (text : List ℕ) → AreReadAt reads (marks_from note at (length text)) text
-        → AreReadAt reads (marks_from note at (length (take n text))) (take n text)
+    front-read : (reads : List Reading) (note at n : ℕ) (text : List ℕ) → AreReadAt taken reads (marks_from note at (length text)) text
+        → AreReadAt taken reads (marks_from note at (length (take n text))) (take n text)
     front-read reads note at zero text are = tt
     front-read reads note at (suc n) [] are = tt
     front-read reads note at (suc n) (b ∷ bs) are = (are.0, front-read reads note (suc at) n bs are.1)
 
-pub read-of : (reads : List Reading) (l : Lending) (done most : ℕ) (bytes : List ℕ) → done ≤ most → IsReadTo reads l done bytes
-    → IsReadOf reads l done most bytes
-read-of reads l done most bytes within to = record {
-  are = subst (λ k. AreReadAt reads (marks_from l.note l.at k) bytes) (sym to.size) to.are;
+pub read-of : (taken : List TakenNote) (reads : List Reading) (l : Lending) (done most : ℕ) (bytes : List ℕ) → done ≤ most → IsReadTo taken reads l done bytes
+    → IsReadOf taken reads l done most bytes
+read-of taken reads l done most bytes within to = record {
+  are = subst (λ k. AreReadAt taken reads (marks_from l.note l.at k) bytes) (sym to.size) to.are;
   at_least = omega (arith, to.size);
   at_most = omega (arith, to.size, within);
 }

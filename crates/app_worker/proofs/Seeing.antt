@@ -1,6 +1,8 @@
 -- A look changes nothing but the looks.
 use Rattle.std.proofs.Common.{ℕ, List, ◌++◌, Option, refl, arith}
-use Rattle.board_face.specs.AppEvents.{app_saw}
+use Rattle.board_face.specs.AppEvents.{app_saw, came_to_rest}
+use Rattle.board_face.specs.declared.views.app.AppLook.TheVariants.{NoSpare}
+use Rattle.app_worker.specs.Steps.{SawNoSpare}
 use Rattle.board_face.specs.AppCalls.{AppOnlySaw}
 use Rattle.board_face.specs.declared.views.app.AppLook.{AppLook}
 use Rattle.board_face.specs.declared.views.app.AppView.{AppView}
@@ -18,7 +20,8 @@ working-saw st v look works = record {
   index = works.index;
   over = works.over;
   going = works.going;
-  split = works.split;
+  outside = works.outside;
+  flush = works.flush;
   live = works.live;
   keeps_first = works.keeps_first;
   waits = works.waits;
@@ -30,6 +33,7 @@ common-saw st v look common = record {
   ended = common.ended;
   counted = common.counted;
   owns = common.owns;
+  copied = common.copied;
   spares = common.spares;
   some_places = common.some_places;
   within = common.within;
@@ -48,11 +52,12 @@ common-saw st v look common = record {
 
 pub moves-saw : (st : State) (v : AppView) (look : AppLook) → Moves st st v (app_saw v look)
 moves-saw st v look = record {
-  same = (refl, refl, refl, refl);
+  same = (refl, refl, refl, omega arith);
   how = (refl, refl);
   places = refl;
   steps = omega arith;
   looks = looks-more v (app_saw v look) look refl;
+  keeps = λ n r before live. (let k = before live in record { lent = k.lent; kept = k.kept });
   stays = λ _. refl;
   leaked = same-leaked st st refl refl;
 }
@@ -70,6 +75,75 @@ goes-saw st v look kept = record {
 pub goes-none : (st : State) (v : AppView) (kept : ℕ → Option (List ℕ)) → Goes st st v v kept kept
 goes-none st v kept = record { moves = moves-none st v; shelved = λ _ first shelved. shelved; failed = λ is first exact front. front is }
 
+-- the reserve was held
+pub working-rested : (st : State) (v : AppView) → Working st v → Working st (came_to_rest v)
+working-rested st v works = record {
+  stands = record {
+    tokens = record {
+      apart = record { once = works.stands.tokens.apart.once; some = works.stands.tokens.apart.some };
+      helds = works.stands.tokens.helds;
+      loans = works.stands.tokens.loans;
+    };
+    notes = works.stands.notes;
+    distinct = works.stands.distinct;
+    flows = works.stands.flows;
+    known = works.stands.known;
+    posted = works.stands.posted;
+    lent = works.stands.lent;
+    due_lent = works.stands.due_lent;
+    counted = works.stands.counted;
+  };
+  completions = works.completions;
+  rest = works.rest;
+  index = works.index;
+  over = works.over;
+  going = works.going;
+  outside = works.outside;
+  flush = works.flush;
+  live = works.live;
+  keeps_first = works.keeps_first;
+  waits = works.waits;
+}
+
+pub common-rested : (st : State) (v : AppView) → Common st v → Common st (came_to_rest v)
+common-rested st v common = record {
+  app = common.app;
+  ended = common.ended;
+  counted = common.counted;
+  owns = common.owns;
+  copied = common.copied;
+  spares = common.spares;
+  some_places = common.some_places;
+  within = common.within;
+  room = common.room;
+  loans = common.loans;
+  written = common.written;
+  quits = common.quits;
+  leaks = common.leaks;
+  leak_room = common.leak_room;
+  leak_aside = common.leak_aside;
+  strays = common.strays;
+  entries = common.entries;
+  names = common.names;
+  bound = common.bound;
+}
+
+pub goes-rested : (st : State) (v : AppView) (look : AppLook) (kept : ℕ → Option (List ℕ)) → Goes st st v (app_saw (came_to_rest v) look) kept kept
+goes-rested st v look kept = record {
+  moves = record {
+    same = (refl, refl, refl, omega arith);
+    how = (refl, refl);
+    places = refl;
+    steps = omega arith;
+    looks = looks-more v (app_saw (came_to_rest v) look) look refl;
+    keeps = λ n r before live. (let k = before live in record { lent = k.lent; kept = k.kept });
+    stays = λ _. refl;
+    leaked = same-leaked st st refl refl;
+  };
+  shelved = λ _ first shelved. record { flows = shelved.flows; others = shelved.others };
+  failed = λ is first exact front. (let f = front is in record { flows = f.flows; others = f.others });
+}
+
 -- all that a step that changed nothing leaves
 pub record Left (was now : State) (old new : AppView) : Type 0 where
   pub working : Working now new
@@ -84,4 +158,11 @@ left-saw st v new look saw works common = rw saw.event (record {
   working = working-saw st v look works;
   common = common-saw st v look common;
   goes = goes-saw st v look;
+})
+
+pub left-no-spare : (st : State) (v new : AppView) → SawNoSpare v new → Working st v → Common st v → Left st st v new
+left-no-spare st v new saw works common = rw saw.event (record {
+  working = working-saw st (came_to_rest v) NoSpare (working-rested st v works);
+  common = common-saw st (came_to_rest v) NoSpare (common-rested st v common);
+  goes = goes-rested st v NoSpare;
 })

@@ -1,26 +1,23 @@
 -- What the shelf has since the first step.
-use Rattle.std.proofs.Common.{◌≤◌, ◌≡◌, ℕ, ◌+◌, ◌<◌, List, [], ◌∷◌, ◌++◌, Option, Some, None, IsSome, refl, sym, ap, subst, ◌∙◌}
+use Rattle.std.proofs.Common.{◌≤◌, ◌≡◌, ℕ, ◌+◌, ◌<◌, List, ◌∷◌, ◌++◌, Option, Some, None, IsSome, refl, sym, ap, subst, ◌∙◌}
 use Rattle.std.proofs.Common.{arith}
 use Rattle.std.specs.Io.KnownBytes.{Keeps}
 use Rattle.std.proofs.KnownBytes.{Keeps-trans}
 use Rattle.zr_kinds.specs.declared.ring.Completion.{Completion}
-use Rattle.zr_kinds.specs.CopyingReceiver.{Placed, nothing_placed, values_from}
+use Rattle.zr_kinds.specs.CopyingReceiver.{values_from}
 use Rattle.zr_io.specs.Moved.{Gained}
 use Rattle.zr_io.proofs.Moved.{Gained-then, Gained-weaker}
-use Rattle.tcp_reorder.specs.Queue.{Queue}
-use Rattle.board_face.specs.declared.views.app.Reading.{Reading}
 use Rattle.board_face.specs.declared.views.app.TakenNote.{TakenNote}
 use Rattle.board_face.specs.declared.views.app.AppView.{AppView}
-use Rattle.app_worker.specs.declared.stack.Piece.{Piece}
 use Rattle.app_worker.specs.declared.stack.Lending.{Lending}
 use Rattle.app_worker.specs.declared.stack.FlowQueue.{FlowQueue}
-use Rattle.app_worker.specs.Marks.{Mark, Numbered}
-use Rattle.app_worker.specs.Core.{AreReadAt, OnlyReads, FlowStands, Stands, Each, many, placed_of, received_note, received_notes, own_notes}
+use Rattle.app_worker.specs.Marks.{Mark}
+use Rattle.app_worker.specs.Core.{AreReadAt, OnlyReads, FlowStands, Stands, Each, many, placed_of}
 use Rattle.app_worker.specs.Whole.{Appended}
 use Rattle.app_worker.specs.Shelves.{IsShelved, AreShelved}
 use Rattle.app_worker.proofs.Tokens.{total-append}
 use Rattle.app_worker.proofs.ReadLemmas.{all-grow, read-append}
-use Rattle.app_worker.proofs.Placing.{values-split, values-stay, next_note, own-notes-here, received-push}
+use Rattle.app_worker.proofs.Placing.{values-split}
 use Rattle.app_worker.proofs.Standing.{is_number, each-right, each-changed, many-same, number-is}
 use Rattle.app_worker.proofs.Standing2.{IsNext, is-next, own-stands}
 
@@ -34,11 +31,11 @@ gained-kept (Some xs) (Some ys) (Some zs) P (bytes, e, p) kept = (bytes, kept �
 pub shelved-other : (first kept now : ℕ → Option (List ℕ)) (taken : List TakenNote) (old new : AppView) (f : FlowQueue) → OnlyReads old new
     → Keeps (kept f.number) (now f.number) → IsShelved first kept taken old.reads f → IsShelved first now taken new.reads f
 shelved-other first kept now taken old new f only keeps shelved = record {
-  gained = gained-kept (first f.number) (kept f.number) (now f.number) (λ bytes. AreReadAt new.reads (values_from (placed_of f taken).at f.bytes 0) bytes)
-      (Gained-weaker (first f.number) (kept f.number) (λ bytes. AreReadAt old.reads (values_from (placed_of f taken).at f.bytes 0) bytes)
-      (λ bytes. AreReadAt new.reads (values_from (placed_of f taken).at f.bytes 0) bytes)
-      (λ bytes are. subst (λ rs. AreReadAt rs (values_from (placed_of f taken).at f.bytes 0) bytes) (sym only.are)
-      (all-grow old.reads only.more (values_from (placed_of f taken).at f.bytes 0) bytes are)) shelved.gained) keeps;
+  gained = gained-kept (first f.number) (kept f.number) (now f.number) (λ bytes. AreReadAt taken new.reads (values_from (placed_of f taken).at f.bytes 0) bytes)
+      (Gained-weaker (first f.number) (kept f.number) (λ bytes. AreReadAt taken old.reads (values_from (placed_of f taken).at f.bytes 0) bytes)
+      (λ bytes. AreReadAt taken new.reads (values_from (placed_of f taken).at f.bytes 0) bytes)
+      (λ bytes are. subst (λ rs. AreReadAt taken rs (values_from (placed_of f taken).at f.bytes 0) bytes) (sym only.are)
+      (all-grow taken old.reads only.more (values_from (placed_of f taken).at f.bytes 0) bytes are)) shelved.gained) keeps;
 }
 
 -- and of this
@@ -51,13 +48,13 @@ shelved-appended first kept now taken old new own len only there appended shelve
     let all : values_from at (own.bytes + len) 0 ≡ values_from at own.bytes 0 ++ values_from at len own.bytes =
     values-split at own.bytes len 0 (λ q from until. there q (omega arith)) ∙ ap (λ p. values_from at own.bytes 0 ++ values_from at len p) start in
     record {
-      gained = Gained-then (first own.number) (kept own.number) (now own.number) (λ bytes. AreReadAt old.reads (values_from at own.bytes 0) bytes)
-          (λ bytes. AreReadAt new.reads (values_from at len own.bytes) bytes) (λ bytes. AreReadAt new.reads (values_from at (own.bytes + len) 0) bytes)
+      gained = Gained-then (first own.number) (kept own.number) (now own.number) (λ bytes. AreReadAt taken old.reads (values_from at own.bytes 0) bytes)
+          (λ bytes. AreReadAt taken new.reads (values_from at len own.bytes) bytes) (λ bytes. AreReadAt taken new.reads (values_from at (own.bytes + len) 0) bytes)
           (λ xs ys was is.
-          let grow : AreReadAt new.reads (values_from at own.bytes 0) xs = subst (λ rs. AreReadAt rs (values_from at own.bytes 0) xs) (sym only.are)
-          (all-grow old.reads only.more (values_from at own.bytes 0) xs was) in
-          subst (λ ms. AreReadAt new.reads ms (xs ++ ys)) (sym all)
-          (read-append new.reads (values_from at own.bytes 0) (values_from at len own.bytes) xs ys grow is))
+          let grow : AreReadAt taken new.reads (values_from at own.bytes 0) xs = subst (λ rs. AreReadAt taken rs (values_from at own.bytes 0) xs) (sym only.are)
+          (all-grow taken old.reads only.more (values_from at own.bytes 0) xs was) in
+          subst (λ ms. AreReadAt taken new.reads ms (xs ++ ys)) (sym all)
+          (read-append taken new.reads (values_from at own.bytes 0) (values_from at len own.bytes) xs ys grow is))
           shelved.gained appended.gained;
     }
 
@@ -93,23 +90,3 @@ shelved-reaped first kept now count before after own p ps most due old new numbe
       total-append (is_number own.number) before (record own { bytes = own.bytes + most } ∷ after),
       number-is own.number (record own { bytes = own.bytes + most }) refl,
     )
-
--- a note that is taken changes nothing of it
-pub shelved-took : (first kept : ℕ → Option (List ℕ)) (taken : List TakenNote) (t : TakenNote) (posted : List (Completion × Lending))
-    (reads : List Reading) (own : FlowQueue) (q : Queue Piece) → own.number ≡ t.note.flow → q.base ≡ own.queue.base
-    → FlowStands taken posted own → IsShelved first kept taken reads own → IsShelved first kept (taken ++ t ∷ []) reads (record own { queue = q })
-shelved-took first kept taken t posted reads own q number base stands shelved =
-    let n : Numbered = next_note taken t in
-    let placed : Placed Mark = placed_of own taken in
-    let same : placed_of (record own { queue = q }) (taken ++ t ∷ []) ≡ received_note own.queue.base placed n =
-    ap (λ b. received_notes b nothing_placed (own_notes own.number (taken ++ t ∷ []))) base
-    ∙ ap (received_notes own.queue.base nothing_placed) (own-notes-here own.number taken t (sym number))
-    ∙ received-push own.queue.base nothing_placed (own_notes own.number taken) n in
-    let stay : values_from (placed_of (record own { queue = q }) (taken ++ t ∷ [])).at own.bytes 0 ≡ values_from placed.at own.bytes 0 =
-    ap (λ (p : Placed Mark). values_from p.at own.bytes 0) same
-    ∙ values-stay own.queue.base placed n own.bytes 0 (λ p below. stands.holds.popped p (omega (arith, stands.counted, below))) in
-    record {
-      gained = Gained-weaker (first own.number) (kept own.number) (λ bytes. AreReadAt reads (values_from placed.at own.bytes 0) bytes)
-          (λ bytes. AreReadAt reads (values_from (placed_of (record own { queue = q }) (taken ++ t ∷ [])).at own.bytes 0) bytes)
-          (λ bytes are. subst (λ ms. AreReadAt reads ms bytes) (sym stay) are) shelved.gained;
-    }

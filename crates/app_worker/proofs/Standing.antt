@@ -1,7 +1,7 @@
 -- How what is kept stands to what was seen, step by step.
 use Rattle.std.proofs.Common.{◌≡◌, ◌≢◌, ℕ, zero, suc, ◌+◌, ◌-◌, ◌<◌, ◌≤◌, true, false, if◌then◌else◌, List, [], ◌∷◌}
 use Rattle.std.proofs.Common.{◌++◌, length, set, get_or, refl, sym, ap, subst, ◌∙◌, arith, inl, inr, append_assoc, append-nil}
-use Rattle.std.specs.Prelude.{◌==◌}
+use Rattle.std.specs.Prelude.{◌==◌, Bool}
 use Rattle.std.proofs.lemmas.Bool.{eq-eqb}
 use Rattle.std.proofs.lemmas.Bool.Decides.{nat_tests}
 use Rattle.zr_kinds.specs.declared.ring.Completion.{Completion}
@@ -16,20 +16,17 @@ use Rattle.board_face.specs.declared.views.app.TakenNote.{TakenNote}
 use Rattle.board_face.specs.declared.views.app.HeldPiece.{HeldPiece}
 use Rattle.board_face.specs.declared.views.app.LentPiece.{LentPiece}
 use Rattle.board_face.specs.declared.views.app.AppView.{AppView}
-use Rattle.app_worker.specs.declared.stack.Piece.{Piece}
+use Rattle.app_worker.specs.declared.stack.Waiting.{Waiting}
 use Rattle.app_worker.specs.declared.stack.Lending.{Lending}
 use Rattle.app_worker.specs.declared.stack.FlowQueue.{FlowQueue}
 use Rattle.app_worker.specs.Marks.{Mark}
-use Rattle.app_worker.specs.Core.{total, IsIn, lent_piece, over_kept, marks_of_piece, marks_of_loan, received_notes, own_notes, BeginAt, lent_marks, placed_of}
+use Rattle.app_worker.specs.Core.{total, IsIn, lent_piece, over_kept, marks_of_waiting, marks_of_loan, received_notes, own_notes, BeginAt, lent_marks, placed_of, IsOfNote}
 use Rattle.app_worker.specs.Core.{FlowStands, Each, many, over_read, Stands}
 use Rattle.board_face.specs.AppEvents.{app_saw}
 use Rattle.board_face.specs.declared.views.app.AppLook.{AppLook}
-use Rattle.board_face.specs.declared.views.app.AppLook.TheVariants.{RawOnItsWay}
-use Rattle.app_worker.specs.declared.stack.Delivery.{Delivery}
-use Rattle.app_worker.specs.declared.stack.Delivery.TheVariants.{Did, NoneInOrder, Full, Unsettled}
-use Rattle.app_worker.specs.Steps.{Delivers, Delivered, lending_of}
+use Rattle.app_worker.specs.Steps.{Delivers}
 use Rattle.app_worker.proofs.Tokens.{total-append, in-total}
-use Rattle.app_worker.proofs.Lends.{over-first}
+use Rattle.app_worker.proofs.Lends.{over-first, each-first}
 use Rattle.app_worker.proofs.Placing.{values-split}
 
 -- ---- lists
@@ -137,18 +134,19 @@ pub flow-posted-other : (taken : List TakenNote) (posted : List (Completion × L
 flow-posted-other taken posted p f other stands = record {
   begun = stands.begun;
   holds = stands.holds;
+  notes = stands.notes;
   counted = stands.counted;
   lent = lent-other f.number posted p other ∙ stands.lent;
 }
 
 -- of the completion's flow
-pub flow-lent : (taken : List TakenNote) (posted : List (Completion × Lending)) (own : FlowQueue) (q : Queue Piece) (piece : Piece) (span : Span)
-    (completion : Completion) → completion.user_data ≡ own.number
+pub flow-lent : (taken : List TakenNote) (posted : List (Completion × Lending)) (own : FlowQueue) (q : Queue Waiting) (piece : Waiting) (span : Span)
+    (completion : Completion) (l : Lending) → completion.user_data ≡ own.number → marks_of_loan l ≡ marks_of_waiting piece
     → LosesFirst own.queue q piece span → span.position ≡ own.queue.popped → FlowStands taken posted own
-    → FlowStands taken (posted ++ (completion, lending_of piece) ∷ []) (record own { queue = q })
-flow-lent taken posted own q piece span completion number loses begins stands =
+    → FlowStands taken (posted ++ (completion, l) ∷ []) (record own { queue = q })
+flow-lent taken posted own q piece span completion l number marks loses begins stands =
     let placed : Placed Mark = placed_of own taken in
-    let after_it : IsPopped marks_of_piece q placed piece own.queue.popped span.len = Holds-popped marks_of_piece own.queue q placed piece span stands.holds
+    let after_it : IsPopped marks_of_waiting q placed piece own.queue.popped span.len = Holds-popped marks_of_waiting own.queue q placed piece span stands.holds
     loses begins in
     let popped : q.popped ≡ own.queue.popped + span.len = loses.popped ∙ ap (λ n. n + span.len) begins in
     let same : placed_of own taken ≡ placed_of (record own { queue = q }) taken = ap (λ b. received_notes b nothing_placed (own_notes own.number taken))
@@ -162,27 +160,28 @@ flow-lent taken posted own q piece span completion number loses begins stands =
     ∙ ap (λ p. values_from placed.at (own.queue.popped - own.bytes) own.bytes ++ values_from placed.at span.len p) place in
     record {
       begun = subst (λ b. BeginAt b (own_notes own.number taken)) (sym loses.base) stands.begun;
-      holds = subst (Holds marks_of_piece q) same after_it.holds;
+      holds = subst (Holds marks_of_waiting q) same after_it.holds;
+      notes = (each-first (IsOfNote taken) own.queue q piece span loses stands.notes).1;
       counted = omega (arith, popped, stands.counted);
-      lent = lent-here own.number posted (completion, lending_of piece) number ∙ ap (λ ms. ms ++ marks_of_piece piece) stands.lent
-          ∙ ap (λ ms. values_from placed.at (own.queue.popped - own.bytes) own.bytes ++ ms) after_it.values_are ∙ sym all
+      lent = lent-here own.number posted (completion, l) number ∙ ap (λ ms. ms ++ marks_of_loan l) stands.lent
+          ∙ ap (λ ms. values_from placed.at (own.queue.popped - own.bytes) own.bytes ++ ms) (marks ∙ after_it.values_are) ∙ sym all
           ∙ ap (λ (p : Placed Mark). values_from p.at (q.popped - own.bytes) own.bytes) same;
     }
 
 -- all that is kept, once a piece was lent
-pub stands-lent : (count : ℕ) (before after : List FlowQueue) (own now : FlowQueue) (posted after_it : Ring (Completion × Lending)) (due : List Lending)
-    (old new : AppView)
-    → Stands count (before ++ own ∷ after) posted.entries due old → Delivers old new own now posted after_it
+pub stands-lent : (count : ℕ) (before after : List FlowQueue) (own now : FlowQueue) (posted after_it : Ring (Completion × Lending))
+    (copied copied_now : ℕ) (flush flush_now : Bool) (due : List Lending) (old new : AppView)
+    → Stands count (before ++ own ∷ after) posted.entries due old → Delivers old new own now posted after_it copied copied_now flush flush_now
     → Stands count (before ++ now ∷ after) after_it.entries due new
-stands-lent count before after own now posted after_it due old new stands step =
-    let p : Completion × Lending = (step.completion, lending_of step.piece) in
+stands-lent count before after own now posted after_it copied copied_now flush flush_now due old new stands step =
+    let p : Completion × Lending = (step.completion, step.lending) in
     let entries : after_it.entries ≡ posted.entries ++ p ∷ [] = ap (λ (r : Ring (Completion × Lending)). r.entries) step.post in
     let number : now.number ≡ own.number = ap (λ (f : FlowQueue). f.number) step.flow in
     let taken : new.taken ≡ old.taken = ap (λ (v : AppView). v.taken) step.view in
     let same : (n : ℕ) → many n (before ++ now ∷ after) ≡ many n (before ++ own ∷ after) = many-same before after own now number in
     let here : FlowStands old.taken (posted.entries ++ p ∷ []) now =
     subst (FlowStands old.taken (posted.entries ++ p ∷ [])) (sym step.flow)
-    (flow-lent old.taken posted.entries own now.queue step.piece step.span step.completion step.number step.loses step.begins
+    (flow-lent old.taken posted.entries own now.queue step.piece step.span step.completion step.lending step.number step.marks step.loses step.begins
     (each-right (FlowStands old.taken posted.entries) before (own ∷ after) stands.flows).0) in
     let flows : Each (FlowStands old.taken (posted.entries ++ p ∷ [])) (before ++ now ∷ after) =
     each-changed (FlowStands old.taken posted.entries) (FlowStands old.taken (posted.entries ++ p ∷ [])) before after own now
@@ -198,10 +197,16 @@ stands-lent count before after own now posted after_it due old new stands step =
       total-changed before after own now (λ flow. over_kept f flow.queue),
       over-first f own.queue now.queue step.piece step.span step.loses,
     ) in
-    let loans : (f : LentPiece → ℕ) → total f new.loans ≡ total (λ p. f (lent_piece p.1)) (posted.entries ++ p ∷ []) + over_read f due = λ f.
-    omega (arith, step.loans f, stands.tokens.loans f, total-append (λ p. f (lent_piece p.1)) posted.entries (p ∷ [])) in
+    let loans : (f : LentPiece → ℕ) → total f new.loans
+    ≡ total (λ p. f (lent_piece old.taken p.1)) (posted.entries ++ p ∷ []) + over_read old.taken f due = λ f.
+    omega (arith, step.loans f, stands.tokens.loans f, total-append (λ p. f (lent_piece old.taken p.1)) posted.entries (p ∷ [])) in
     rw entries (record {
-      tokens = record { apart = step.apart; helds = helds; loans = loans };
+      tokens = record {
+        apart = step.apart;
+        helds = helds;
+        loans = subst (λ ts. (f : LentPiece → ℕ) → total f new.loans
+            ≡ total (λ p. f (lent_piece ts p.1)) (posted.entries ++ p ∷ []) + over_read ts f due) (sym taken) loans;
+      };
       notes = stands.notes ∙ sym (ap length taken);
       distinct = λ n. omega (arith, same n, stands.distinct n);
       flows = subst (λ (ts : List TakenNote). Each (FlowStands ts (posted.entries ++ p ∷ [])) (before ++ now ∷ after)) (sym taken) flows;
@@ -210,6 +215,9 @@ stands-lent count before after own now posted after_it due old new stands step =
           (each-map (λ p. many p.0.user_data (before ++ own ∷ after) ≡ 1) (λ p. many p.0.user_data (before ++ now ∷ after) ≡ 1) posted.entries
           (λ p there one. same p.0.user_data ∙ one) stands.posted)
           (same step.completion.user_data ∙ ap (λ n. many n (before ++ own ∷ after)) step.number ∙ own_many, tt);
+      lent = subst (λ ts. Each (λ p. p.1.note < length ts) (posted.entries ++ p ∷ [])) (sym taken)
+          (each-join (λ p. p.1.note < length old.taken) posted.entries (p ∷ []) stands.lent (step.of_note, tt));
+      due_lent = subst (λ ts. Each (λ l. l.note < length ts) due) (sym taken) stands.due_lent;
       counted = ap (λ (v : AppView). v.scrubbed) step.view ∙ stands.counted;
     })
 
@@ -232,16 +240,7 @@ stands-saw count flows posted due old look stands = record {
   flows = stands.flows;
   known = stands.known;
   posted = stands.posted;
+  lent = stands.lent;
+  due_lent = stands.due_lent;
   counted = stands.counted;
 }
-
-pub delivered-stands : (count : ℕ) (before after : List FlowQueue) (own now : FlowQueue) (posted after_it : Ring (Completion × Lending))
-    (due : List Lending) (old new : AppView) (result : Delivery)
-    → Stands count (before ++ own ∷ after) posted.entries due old → Delivered old new own now posted after_it result
-    → Stands count (before ++ now ∷ after) after_it.entries due new
-delivered-stands count before after own now posted after_it due old new Did stands step = stands-lent count before after own now posted after_it due old new
-    stands step
-delivered-stands count before after own now posted after_it due old new NoneInOrder stands step = rw (step.0, step.1, step.2) stands
-delivered-stands count before after own now posted after_it due old new Full stands step = rw (step.0, step.1, step.2) stands
-delivered-stands count before after own now posted after_it due old new Unsettled stands step = rw (step.0.event, step.1, step.2)
-    (stands-saw count (before ++ own ∷ after) posted.entries due old RawOnItsWay stands)

@@ -1,7 +1,7 @@
 -- How what is kept stands to what was seen: notes, reads and loans.
 use Rattle.std.proofs.Common.{◌≡◌, ◌≢◌, ℕ, zero, suc, ◌+◌, ◌-◌, ◌<◌, ◌≤◌, Bool, true, false, List, [], ◌∷◌, ◌++◌}
 use Rattle.std.proofs.Common.{Option, Some, None, length, get_or, refl, sym, ap, subst, ◌∙◌, arith, length-append}
-use Rattle.std.specs.Prelude.{◌==◌, IfSome, take}
+use Rattle.std.specs.Prelude.{◌==◌, IfSome, take, slice_get}
 use Rattle.board_face.proofs.ListLemmas.{not-eqb}
 use Rattle.std.proofs.lemmas.Bool.{eq-eqb}
 use Rattle.std.proofs.lemmas.Bool.Decides.{nat_tests}
@@ -14,13 +14,15 @@ use Rattle.board_face.specs.declared.views.app.TakenNote.{TakenNote}
 use Rattle.board_face.specs.declared.views.app.HeldPiece.{HeldPiece}
 use Rattle.board_face.specs.declared.views.app.LentPiece.{LentPiece}
 use Rattle.board_face.specs.declared.views.app.AppView.{AppView}
-use Rattle.app_worker.specs.declared.stack.Piece.{Piece}
+use Rattle.app_worker.specs.declared.stack.Waiting.{Waiting}
+use Rattle.app_worker.specs.declared.stack.Waiting.TheVariants.{InArea, Copied}
 use Rattle.app_worker.specs.declared.stack.Lending.{Lending}
 use Rattle.app_worker.specs.declared.stack.FlowQueue.{FlowQueue}
 use Rattle.app_worker.specs.declared.stack.Stray.{Stray}
 use Rattle.app_worker.specs.Marks.{Mark, marks_from, Numbered}
-use Rattle.app_worker.specs.Core.{total, IsIn, lent_piece, over_kept, marks_of_piece, marks_of_loan, received_note, received_notes, own_notes, BeginAt}
-use Rattle.app_worker.specs.Core.{lent_marks, placed_of, FlowStands, Each, many, over_read, read_out, HasTokens, Stands, OnlyReads, AreReadAt, IsReadOf}
+use Rattle.app_worker.specs.Core.{total, IsIn, lent_piece, origin_in, over_read, read_out, IsOfNote, over_kept, marks_of_waiting, marks_of_loan, received_note}
+use Rattle.app_worker.specs.Core.{received_notes, own_notes, BeginAt}
+use Rattle.app_worker.specs.Core.{lent_marks, placed_of, FlowStands, Each, many, HasTokens, Stands, OnlyReads, AreReadAt, IsReadOf}
 use Rattle.std.specs.Io.KnownBytes.{Keeps}
 use Rattle.zr_io.specs.Moved.{Gained}
 use Rattle.zr_io.proofs.Moved.{Gained-weaker}
@@ -28,9 +30,52 @@ use Rattle.app_worker.specs.Whole.{Appended}
 use Rattle.app_worker.specs.Steps.{Gave, Given}
 use Rattle.app_worker.proofs.Tokens.{is_that_loan, that-loan, is-lent-there}
 use Rattle.app_worker.proofs.Entering.{marks-length}
-use Rattle.app_worker.proofs.ReadLemmas.{marks-split}
+use Rattle.app_worker.proofs.ReadLemmas.{taken-still, note-there, marks-split}
 use Rattle.app_worker.proofs.Placing.{own-notes-other, own-notes-here, next_note, received-push, begin-push, values-stay, values-split, values-length}
 use Rattle.app_worker.proofs.Standing.{each-map, each-right, parts-alike, is_number, total-changed, many-same, each-changed, stands-saw}
+
+-- ---- more notes are taken
+
+-- what is of a note is so among more
+pub of-note-still : (taken : List TakenNote) (t : TakenNote) (w : Waiting) → IsOfNote taken w → IsOfNote (taken ++ t ∷ []) w
+of-note-still taken t (InArea p) of = record { note = of.note; is = taken-still taken t of.note p.note of.is; split = of.split }
+of-note-still taken t (Copied s) of =
+    record { note = of.note; is = taken-still taken t of.note s.note of.is; split = of.split; bytes = of.bytes; few = of.few }
+
+pub notes-still : (taken : List TakenNote) (t : TakenNote) (q : Queue Waiting) → Each (λ k. IsOfNote taken k.piece) q.kept
+    → Each (λ k. IsOfNote (taken ++ t ∷ []) k.piece) q.kept
+notes-still taken t q each = each-map (λ k. IsOfNote taken k.piece) (λ k. IsOfNote (taken ++ t ∷ []) k.piece) q.kept
+    (λ k _ of. of-note-still taken t k.piece of) each
+
+-- the note that comes is there
+pub taken-last : (taken : List TakenNote) (t : TakenNote) → slice_get (taken ++ t ∷ []) (length taken) ≡ Some t
+taken-last [] t = refl
+taken-last (u ∷ us) t = taken-last us t
+
+-- a loan has the origin that it had
+get-still : (taken : List TakenNote) (t : TakenNote) (k : ℕ) → k < length taken → slice_get (taken ++ t ∷ []) k ≡ slice_get taken k
+get-still taken t k below = let (x, is) = note-there taken k below in taken-still taken t x k is ∙ sym is
+
+pub lent-still : (taken : List TakenNote) (t : TakenNote) (l : Lending) → l.note < length taken → lent_piece (taken ++ t ∷ []) l ≡ lent_piece taken l
+lent-still taken t l below = ap (λ found. lent_from found) (get-still taken t l.note below)
+  where
+    lent_from : Option TakenNote → LentPiece
+    lent_from found = record { place = l.loan; origin = origin_in found l.note l.at l.loan.len }
+
+pub loans-still : (taken : List TakenNote) (t : TakenNote) (posted : List (Completion × Lending)) → Each (λ p. p.1.note < length taken) posted
+    → (f : LentPiece → ℕ) → total (λ p. f (lent_piece (taken ++ t ∷ []) p.1)) posted ≡ total (λ p. f (lent_piece taken p.1)) posted
+loans-still taken t [] each f = refl
+loans-still taken t (p ∷ ps) each f = omega (arith, ap f (lent-still taken t p.1 each.0), loans-still taken t ps each.1 f)
+
+pub due-still : (taken : List TakenNote) (t : TakenNote) (read : List Lending) → Each (λ l. l.note < length taken) read → (f : LentPiece → ℕ)
+    → over_read (taken ++ t ∷ []) f read ≡ over_read taken f read
+due-still taken t [] known f = refl
+due-still taken t (l ∷ ls) known f = omega (arith, ap f (lent-still taken t l known.0), due-still taken t ls known.1 f)
+
+pub due-known : (taken : List TakenNote) (t : TakenNote) (read : List Lending) → Each (λ l. l.note < length taken) read
+    → Each (λ l. l.note < length (taken ++ t ∷ [])) read
+due-known taken t [] known = tt
+due-known taken t (l ∷ ls) known = (omega (arith, known.0, length-append taken (t ∷ [])), due-known taken t ls known.1)
 
 -- ---- a note is taken
 
@@ -41,18 +86,20 @@ flow-took-other taken t posted f other stands =
     let e : own_notes f.number (taken ++ t ∷ []) ≡ own_notes f.number taken = own-notes-other f.number taken t (λ is. other (sym is)) in
     record {
       begun = subst (BeginAt f.queue.base) (sym e) stands.begun;
-      holds = subst (λ (ns : List Numbered). Holds marks_of_piece f.queue (received_notes f.queue.base nothing_placed ns)) (sym e) stands.holds;
+      holds = subst (λ (ns : List Numbered). Holds marks_of_waiting f.queue (received_notes f.queue.base nothing_placed ns)) (sym e) stands.holds;
+      notes = notes-still taken t f.queue stands.notes;
       counted = stands.counted;
       lent = stands.lent ∙ ap (λ (ns : List Numbered). values_from (received_notes f.queue.base nothing_placed ns).at (f.queue.popped - f.bytes) f.bytes)
           (sym e);
     }
 
 -- by this one
-pub flow-took : (taken : List TakenNote) (t : TakenNote) (posted : List (Completion × Lending)) (own : FlowQueue) (q : Queue Piece)
+pub flow-took : (taken : List TakenNote) (t : TakenNote) (posted : List (Completion × Lending)) (own : FlowQueue) (q : Queue Waiting)
     → own.number ≡ t.note.flow → q.base ≡ own.queue.base → q.popped ≡ own.queue.popped
-    → ((placed : Placed Mark) → Holds marks_of_piece own.queue placed → Holds marks_of_piece q (received_note own.queue.base placed (next_note taken t)))
+    → ((placed : Placed Mark) → Holds marks_of_waiting own.queue placed → Holds marks_of_waiting q (received_note own.queue.base placed (next_note taken t)))
+    → (Each (λ k. IsOfNote (taken ++ t ∷ []) k.piece) own.queue.kept → Each (λ k. IsOfNote (taken ++ t ∷ []) k.piece) q.kept)
     → FlowStands taken posted own → FlowStands (taken ++ t ∷ []) posted (record own { queue = q })
-flow-took taken t posted own q number base popped enters stands =
+flow-took taken t posted own q number base popped enters keeps stands =
     let n : Numbered = next_note taken t in
     let e : own_notes own.number (taken ++ t ∷ []) ≡ own_notes own.number taken ++ n ∷ [] = own-notes-here own.number taken t (sym number) in
     let placed : Placed Mark = placed_of own taken in
@@ -62,7 +109,8 @@ flow-took taken t posted own q number base popped enters stands =
     record {
       begun = subst (λ b. BeginAt b (own_notes own.number (taken ++ t ∷ []))) (sym base)
           (subst (BeginAt own.queue.base) (sym e) (begin-push own.queue.base (own_notes own.number taken) n stands.begun));
-      holds = subst (Holds marks_of_piece q) (sym same) (enters placed stands.holds);
+      holds = subst (Holds marks_of_waiting q) (sym same) (enters placed stands.holds);
+      notes = keeps (notes-still taken t own.queue stands.notes);
       counted = omega (arith, popped, stands.counted);
       lent = stands.lent ∙ sym (values-stay own.queue.base placed n (own.queue.popped - own.bytes) own.bytes
           (λ p below. stands.holds.popped p (omega (arith, stands.counted))))
@@ -71,19 +119,21 @@ flow-took taken t posted own q number base popped enters stands =
     }
 
 -- by a flow that begins
-pub flow-begun : (taken : List TakenNote) (t : TakenNote) (posted : List (Completion × Lending)) (flows : List FlowQueue) (q : Queue Piece)
+pub flow-begun : (taken : List TakenNote) (t : TakenNote) (posted : List (Completion × Lending)) (flows : List FlowQueue) (q : Queue Waiting)
     → many t.note.flow flows ≡ 0 → own_notes t.note.flow taken ≡ []
     → Each (λ p. many p.0.user_data flows ≡ 1) posted → q.base ≡ t.note.base → q.popped ≡ 0
-    → Holds marks_of_piece q (received_note t.note.base nothing_placed (next_note taken t))
+    → Holds marks_of_waiting q (received_note t.note.base nothing_placed (next_note taken t))
+    → Each (λ k. IsOfNote (taken ++ t ∷ []) k.piece) q.kept
     → FlowStands (taken ++ t ∷ []) posted (record { number = t.note.flow; queue = q; bytes = 0 })
-flow-begun taken t posted flows q none no_notes known base popped holds =
+flow-begun taken t posted flows q none no_notes known base popped holds notes =
     let n : Numbered = next_note taken t in
     let e : own_notes t.note.flow (taken ++ t ∷ []) ≡ n ∷ [] = own-notes-here t.note.flow taken t refl ∙ ap (λ ns. ns ++ n ∷ []) no_notes in
     let same : placed_of (record { number = t.note.flow; queue = q; bytes = 0 }) (taken ++ t ∷ []) ≡ received_note t.note.base nothing_placed n =
     ap (λ b. received_notes b nothing_placed (own_notes t.note.flow (taken ++ t ∷ []))) base ∙ ap (received_notes t.note.base nothing_placed) e in
     record {
       begun = subst (BeginAt q.base) (sym e) (sym base);
-      holds = subst (Holds marks_of_piece q) (sym same) holds;
+      holds = subst (Holds marks_of_waiting q) (sym same) holds;
+      notes = notes;
       counted = omega arith;
       lent = nothing-lent posted known ∙ ap (λ k. values_from (placed_of (record { number = t.note.flow; queue = q; bytes = 0 }) (taken ++ t ∷ [])).at
           (k - 0) 0) (sym popped);
@@ -143,13 +193,14 @@ pub flow-read : (taken : List TakenNote) (p : Completion × Lending) (ps : List 
     → FlowStands taken (p ∷ ps) own → FlowStands taken ps (record own { bytes = own.bytes + p.1.loan.len })
 flow-read taken p ps own number stands =
     let next : IsNext taken own p.1 ps = is-next taken p ps own number stands in
-    record { begun = stands.begun; holds = stands.holds; counted = next.within; lent = next.others }
+    record { begun = stands.begun; holds = stands.holds; notes = stands.notes; counted = next.within; lent = next.others }
 
 pub flow-read-other : (taken : List TakenNote) (p : Completion × Lending) (ps : List (Completion × Lending)) (f : FlowQueue) → f.number ≢ p.0.user_data
     → FlowStands taken (p ∷ ps) f → FlowStands taken ps f
 flow-read-other taken p ps f other stands = record {
   begun = stands.begun;
   holds = stands.holds;
+  notes = stands.notes;
   counted = stands.counted;
   lent = sym (lent-behind f.number p ps (λ e. other (sym e))) ∙ stands.lent;
 }
@@ -176,6 +227,8 @@ stands-read count before after own p ps leaked old new number only stands =
       known = λ n none. stands.known n (sym (same n) ∙ none);
       posted = each-map (λ p. many p.0.user_data (before ++ own ∷ after) ≡ 1) (λ p. many p.0.user_data (before ++ now ∷ after) ≡ 1) ps
           (λ q there one. same q.0.user_data ∙ one) stands.posted.1;
+      lent = stands.lent.1;
+      due_lent = (stands.lent.0, stands.due_lent);
       counted = stands.counted;
     })
 
@@ -186,16 +239,23 @@ pub stands-gave : (count : ℕ) (flows : List FlowQueue) (posted : List (Complet
 stands-gave count flows posted l leaked old new stands step =
     let helds : (f : HeldPiece → ℕ) → total f new.helds
     ≡ total (λ flow. over_kept f flow.queue) flows = λ f. ap (λ (v : AppView). total f v.helds) step.view ∙ stands.tokens.helds f in
-    let loans : (f : LentPiece → ℕ) → total f new.loans
-    ≡ total (λ p. f (lent_piece p.1)) posted + over_read f leaked = λ f. omega (arith, step.loans f, stands.tokens.loans f) in
     let taken : new.taken ≡ old.taken = ap (λ (v : AppView). v.taken) step.view in
+    let loans : (f : LentPiece → ℕ) → total f new.loans
+    ≡ total (λ p. f (lent_piece old.taken p.1)) posted + over_read old.taken f leaked = λ f. omega (arith, step.loans f, stands.tokens.loans f) in
     record {
-      tokens = record { apart = step.apart; helds = helds; loans = loans };
+      tokens = record {
+        apart = step.apart;
+        helds = helds;
+        loans = subst (λ ts. (f : LentPiece → ℕ) → total f new.loans ≡ total (λ p. f (lent_piece ts p.1)) posted + over_read ts f leaked)
+            (sym taken) loans;
+      };
       notes = stands.notes ∙ sym (ap length taken);
       distinct = stands.distinct;
       flows = subst (λ (ts : List TakenNote). Each (FlowStands ts posted) flows) (sym taken) stands.flows;
       known = λ n none. ap (own_notes n) taken ∙ stands.known n none;
       posted = stands.posted;
+      lent = subst (λ ts. Each (λ p. p.1.note < length ts) posted) (sym taken) stands.lent;
+      due_lent = subst (λ ts. Each (λ l. l.note < length ts) leaked) (sym taken) stands.due_lent.1;
       counted = ap (λ (v : AppView). v.scrubbed) step.view ∙ stands.counted;
     }
 
@@ -211,20 +271,17 @@ given-stands count flows posted (Some l) now leaked most stray stray_now old new
 -- ---- what is kept is out
 
 pub due-out : (count : ℕ) (flows : List FlowQueue) (posted : List (Completion × Lending)) (due : Option Lending) (leaked : List Lending)
-    (v : AppView) → Stands count flows posted (read_out due leaked) v → IfSome due (λ l. IsIn (lent_piece l) v.loans)
+    (v : AppView) → Stands count flows posted (read_out due leaked) v → IfSome due (λ l. IsIn (lent_piece v.taken l) v.loans)
 due-out count flows posted None leaked v stands = tt
 due-out count flows posted (Some l) leaked v stands =
-    let test : LentPiece → ℕ = is_that_loan l.loan l.note l.at in
-    let one : test (lent_piece l) ≡ 1 = that-loan l.loan l.note l.at in
-    is-lent-there l.loan l.note l.at v.loans (omega (arith, stands.tokens.loans test, one))
+    let test : LentPiece → ℕ = is_that_loan (lent_piece v.taken l) in
+    is-lent-there (lent_piece v.taken l) v.loans (omega (arith, stands.tokens.loans test, that-loan (lent_piece v.taken l)))
 
 pub oldest-out : (count : ℕ) (flows : List FlowQueue) (p : Completion × Lending) (ps : List (Completion × Lending)) (due : List Lending) (v : AppView)
-    → Stands count flows (p ∷ ps) due v → IsIn (lent_piece p.1) v.loans
+    → Stands count flows (p ∷ ps) due v → IsIn (lent_piece v.taken p.1) v.loans
 oldest-out count flows p ps due v stands =
-    let l : Lending = p.1 in
-    let test : LentPiece → ℕ = is_that_loan l.loan l.note l.at in
-    let one : test (lent_piece l) ≡ 1 = that-loan l.loan l.note l.at in
-    is-lent-there l.loan l.note l.at v.loans (omega (arith, stands.tokens.loans test, one))
+    let test : LentPiece → ℕ = is_that_loan (lent_piece v.taken p.1) in
+    is-lent-there (lent_piece v.taken p.1) v.loans (omega (arith, stands.tokens.loans test, that-loan (lent_piece v.taken p.1)))
 
 -- ---- looking for a flow
 
@@ -279,16 +336,16 @@ next-front taken p ps own most number stands part =
 
 pub appended : (taken : List TakenNote) (p : Completion × Lending) (ps : List (Completion × Lending)) (own : FlowQueue) (most : ℕ) (new : AppView)
     (kept kept_now : ℕ → Option (List ℕ)) → p.0.user_data ≡ own.number → FlowStands taken (p ∷ ps) own → most ≤ p.1.loan.len
-    → Gained (kept own.number) (kept_now own.number) (λ bytes. IsReadOf new.reads p.1 most most bytes)
+    → Gained (kept own.number) (kept_now own.number) (λ bytes. IsReadOf taken new.reads p.1 most most bytes)
     → ((other : ℕ) → other ≢ own.number → Keeps (kept other) (kept_now other)) → Appended own taken new most kept kept_now
 appended taken p ps own most new kept kept_now number stands part gained others =
     let same = next-front taken p ps own most number stands part in
     record {
-      gained = Gained-weaker (kept own.number) (kept_now own.number) (λ bytes. IsReadOf new.reads p.1 most most bytes)
-          (λ bytes. AreReadAt new.reads (values_from (placed_of own taken).at most own.bytes) bytes)
+      gained = Gained-weaker (kept own.number) (kept_now own.number) (λ bytes. IsReadOf taken new.reads p.1 most most bytes)
+          (λ bytes. AreReadAt taken new.reads (values_from (placed_of own taken).at most own.bytes) bytes)
           (λ bytes read.
           let size : length bytes ≡ most = omega (arith, read.at_least, read.at_most) in
-          subst (λ ms. AreReadAt new.reads ms bytes) same (subst (λ n. AreReadAt new.reads (marks_from p.1.note p.1.at n) bytes) size read.are)) gained;
+          subst (λ ms. AreReadAt taken new.reads ms bytes) same (subst (λ n. AreReadAt taken new.reads (marks_from p.1.note p.1.at n) bytes) size read.are)) gained;
       others = others;
     }
 

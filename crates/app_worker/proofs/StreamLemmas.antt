@@ -129,28 +129,28 @@ pub fronts-of : (first kept : ℕ → Option (List ℕ)) (flows : List FlowQueue
     → AreShelved first kept flows v → HasFronts first kept v
 fronts-of first kept flows v ends whole shelved flow =
     pick flow flows (λ f. FlowEnds v.taken f × IsShelved first kept v.taken v.reads f)
-    (Gained (first flow) (kept flow) (IsFront v.reads (marks_of flow v.taken)))
+    (Gained (first flow) (kept flow) (IsFront v.taken v.reads (marks_of flow v.taken)))
     (each-both (FlowEnds v.taken) (IsShelved first kept v.taken v.reads) flows ends shelved.flows)
-    (λ none. gained-nothing (first flow) (kept flow) (IsFront v.reads (marks_of flow v.taken))
+    (λ none. gained-nothing (first flow) (kept flow) (IsFront v.taken v.reads (marks_of flow v.taken))
     (record { read = []; rest = marks_of flow v.taken; parts = refl; are = tt }) (shelved.others flow none))
     (λ f is both.
     let (rest, parts) = front-of-flow f v.taken f.bytes both.0.begun both.0.below whole in
-    subst (λ n. Gained (first n) (kept n) (IsFront v.reads (marks_of n v.taken))) is
-    (Gained-weaker (first f.number) (kept f.number) (λ bytes. AreReadAt v.reads (values_from (placed_of f v.taken).at f.bytes 0) bytes)
-    (IsFront v.reads (marks_of f.number v.taken))
+    subst (λ n. Gained (first n) (kept n) (IsFront v.taken v.reads (marks_of n v.taken))) is
+    (Gained-weaker (first f.number) (kept f.number) (λ bytes. AreReadAt v.taken v.reads (values_from (placed_of f v.taken).at f.bytes 0) bytes)
+    (IsFront v.taken v.reads (marks_of f.number v.taken))
     (λ bytes are. record { read = values_from (placed_of f v.taken).at f.bytes 0; rest = rest; parts = parts; are = are }) both.1.gained))
 
 pub fronts-failed : (first kept : ℕ → Option (List ℕ)) (flows : List FlowQueue) (v : AppView) → Each (FlowEnds v.taken) flows → AreWholeFrames v.taken
     → AreFronts first kept flows v → HasFronts first kept v
 fronts-failed first kept flows v ends whole shelved flow =
     pick flow flows (λ f. FlowEnds v.taken f × IsFrontShelved first kept v.taken v.reads f)
-    (Gained (first flow) (kept flow) (IsFront v.reads (marks_of flow v.taken)))
+    (Gained (first flow) (kept flow) (IsFront v.taken v.reads (marks_of flow v.taken)))
     (each-both (FlowEnds v.taken) (IsFrontShelved first kept v.taken v.reads) flows ends shelved.flows)
-    (λ none. gained-nothing (first flow) (kept flow) (IsFront v.reads (marks_of flow v.taken))
+    (λ none. gained-nothing (first flow) (kept flow) (IsFront v.taken v.reads (marks_of flow v.taken))
     (record { read = []; rest = marks_of flow v.taken; parts = refl; are = tt }) (shelved.others flow none))
     (λ f is both.
-    subst (λ n. Gained (first n) (kept n) (IsFront v.reads (marks_of n v.taken))) is
-    (Gained-weaker (first f.number) (kept f.number) (ReadsFront v.taken v.reads f) (IsFront v.reads (marks_of f.number v.taken))
+    subst (λ n. Gained (first n) (kept n) (IsFront v.taken v.reads (marks_of n v.taken))) is
+    (Gained-weaker (first f.number) (kept f.number) (ReadsFront v.taken v.reads f) (IsFront v.taken v.reads (marks_of f.number v.taken))
     (λ bytes front.
     let (rest, parts) = front-of-flow f v.taken front.count both.0.begun front.below whole in
     record { read = values_from (placed_of f v.taken).at front.count 0; rest = rest; parts = parts; are = front.are }) both.1.gained))
@@ -161,16 +161,16 @@ pub all-of : (first kept : ℕ → Option (List ℕ)) (flows : List FlowQueue) (
     → AreShelved first kept flows v → HasAll first kept v
 all-of first kept flows v ends all known whole shelved flow =
     pick flow flows (λ f. (FlowEnds v.taken f × (f.bytes ≡ next_missing (placed_of f v.taken))) × IsShelved first kept v.taken v.reads f)
-    (Gained (first flow) (kept flow) (AreReadAt v.reads (marks_of flow v.taken)))
+    (Gained (first flow) (kept flow) (AreReadAt v.taken v.reads (marks_of flow v.taken)))
     (each-both (λ f. FlowEnds v.taken f × (f.bytes ≡ next_missing (placed_of f v.taken))) (IsShelved first kept v.taken v.reads) flows
     (each-both (FlowEnds v.taken) (λ f. f.bytes ≡ next_missing (placed_of f v.taken)) flows ends all) shelved.flows)
-    (λ none. gained-nothing (first flow) (kept flow) (AreReadAt v.reads (marks_of flow v.taken)) (rw (no-marks flow v.taken (known flow none)) tt)
+    (λ none. gained-nothing (first flow) (kept flow) (AreReadAt v.taken v.reads (marks_of flow v.taken)) (rw (no-marks flow v.taken (known flow none)) tt)
     (shelved.others flow none))
     (λ f is both.
-    subst (λ n. Gained (first n) (kept n) (AreReadAt v.reads (marks_of n v.taken))) is
-    (Gained-weaker (first f.number) (kept f.number) (λ bytes. AreReadAt v.reads (values_from (placed_of f v.taken).at f.bytes 0) bytes)
-    (AreReadAt v.reads (marks_of f.number v.taken))
-    (λ bytes are. subst (λ ms. AreReadAt v.reads ms bytes) (sym (all-of-flow f v.taken both.0.0 both.0.1 whole)) are) both.1.gained))
+    subst (λ n. Gained (first n) (kept n) (AreReadAt v.taken v.reads (marks_of n v.taken))) is
+    (Gained-weaker (first f.number) (kept f.number) (λ bytes. AreReadAt v.taken v.reads (values_from (placed_of f v.taken).at f.bytes 0) bytes)
+    (AreReadAt v.taken v.reads (marks_of f.number v.taken))
+    (λ bytes are. subst (λ ms. AreReadAt v.taken v.reads ms bytes) (sym (all-of-flow f v.taken both.0.0 both.0.1 whole)) are) both.1.gained))
 
 -- ---- an application that stands
 
@@ -196,7 +196,7 @@ stands-failed first kept st v stands whole shelved = by-mode st.bare (Bare st v)
     (λ _ works. fronts-failed first kept st.flows v (all-end st v works) whole shelved)
 
 pub stands-all : (first kept : ℕ → Option (List ℕ)) (st : State) (v : AppView) → AppStands st v → st.bare ≡ true → st.stopped ≡ stop.No
-    → st.short ≡ false → AreWholeFrames v.taken → AreShelved first kept st.flows v → HasAll first kept v
-stands-all first kept st v stands is going split whole shelved = by-mode st.bare (Bare st v) (Working st v) (HasAll first kept v) stands.mode
-    (λ _ bare. all-of first kept st.flows v bare.flows (bare.whole going split).1 (bare.known going split) whole shelved)
+    → AreWholeFrames v.taken → AreShelved first kept st.flows v → HasAll first kept v
+stands-all first kept st v stands is going whole shelved = by-mode st.bare (Bare st v) (Working st v) (HasAll first kept v) stands.mode
+    (λ _ bare. all-of first kept st.flows v bare.flows (bare.whole going).1 (bare.known going) whole shelved)
     (λ not _. absurd (cc))

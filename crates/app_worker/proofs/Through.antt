@@ -135,6 +135,7 @@ common-stopped st v cause none other common = record {
   ended = common.ended;
   counted = common.counted;
   owns = common.owns;
+  copied = common.copied;
   spares = common.spares;
   some_places = common.some_places;
   within = common.within;
@@ -159,6 +160,7 @@ moves-stopped was st old v cause none moves = record {
   places = moves.places;
   steps = moves.steps;
   looks = moves.looks;
+  keeps = λ n r before live. (let k = moves.keeps n r before live in record { lent = k.lent; kept = k.kept });
   stays = λ other. absurd (other none);
   leaked = moves.leaked;
 }

@@ -268,8 +268,22 @@ from_note note at (of_copy bytes) = false
 abbrev pub is_that : Place → ℕ → ℕ → HeldPiece → ℕ
 is_that p note at h = if same_place p h.place && from_note note at h.origin then 1 else 0
 
-abbrev pub is_that_loan : Place → ℕ → ℕ → LentPiece → ℕ
-is_that_loan p note at h = if same_place p h.place && from_note note at h.origin then 1 else 0
+-- two lists of bytes are one
+abbrev pub same_list : List ℕ → List ℕ → Bool
+same_list [] [] = true
+same_list [] (y ∷ ys) = false
+same_list (x ∷ xs) [] = false
+same_list (x ∷ xs) (y ∷ ys) = (x == y) && same_list xs ys
+
+-- two origins are one
+abbrev pub same_origin : Origin → Origin → Bool
+same_origin (of_note k a) (of_note m b) = (k == m) && (a == b)
+same_origin (of_note k a) (of_copy ys) = false
+same_origin (of_copy xs) (of_note m b) = false
+same_origin (of_copy xs) (of_copy ys) = same_list xs ys
+
+abbrev pub is_that_loan : LentPiece → LentPiece → ℕ
+is_that_loan l h = if same_place l.place h.place && same_origin l.origin h.origin then 1 else 0
 
 from_note-is : (note at : ℕ) (o : Origin) → from_note note at o ≡ true → o ≡ of_note note at
 from_note-is note at (of_note k a) is = (let (k_is, a_is) = both k a is in rw (k_is, a_is) refl)
@@ -290,12 +304,40 @@ that-one p note at =
     let a : (at == at) ≡ true = eq-eqb at at refl in
     rw (place, n, a) refl
 
-pub that-loan : (p : Place) (note at : ℕ) → is_that_loan p note at (record { place = p; origin = of_note note at }) ≡ 1
-that-loan p note at =
-    let place : same_place p p ≡ true = same_place-refl p in
-    let n : (note == note) ≡ true = eq-eqb note note refl in
-    let a : (at == at) ≡ true = eq-eqb at at refl in
-    rw (place, n, a) refl
+same_list-refl : (xs : List ℕ) → same_list xs xs ≡ true
+same_list-refl [] = refl
+same_list-refl (x ∷ xs) = let e : (x == x) ≡ true = eq-eqb x x refl in rw (e, same_list-refl xs) refl
+
+same_list-is : (xs ys : List ℕ) → same_list xs ys ≡ true → ys ≡ xs
+same_list-is [] [] is = refl
+same_list-is [] (y ∷ ys) is = cc
+same_list-is (x ∷ xs) [] is = cc
+same_list-is (x ∷ xs) (y ∷ ys) is =
+    let parts = both-of (x == y) (same_list xs ys) is in
+    let head : y ≡ x = same-number x y parts.0 in
+    ap (λ z. z ∷ ys) head ∙ ap (λ zs. x ∷ zs) (same_list-is xs ys parts.1)
+  where
+    same-number : (a b : ℕ) → (a == b) ≡ true → b ≡ a
+    same-number a b is = grind (arith, nat_tests)
+
+pub same_origin-refl : (o : Origin) → same_origin o o ≡ true
+same_origin-refl (of_note k a) = let n : (k == k) ≡ true = eq-eqb k k refl in let m : (a == a) ≡ true = eq-eqb a a refl in rw (n, m) refl
+same_origin-refl (of_copy xs) = same_list-refl xs
+
+pub same_origin-is : (o q : Origin) → same_origin o q ≡ true → q ≡ o
+same_origin-is (of_note k a) (of_note m b) is = (let (k_is, a_is) = both k a m b is in rw (k_is, a_is) refl)
+  where
+    both : (k a m b : ℕ) → (k == m) && (a == b) ≡ true → (m ≡ k) × (b ≡ a)
+    both k a m b is = grind (arith, nat_tests)
+same_origin-is (of_note k a) (of_copy ys) is = cc
+same_origin-is (of_copy xs) (of_note m b) is = cc
+same_origin-is (of_copy xs) (of_copy ys) is = ap (λ zs. of_copy zs) (same_list-is xs ys is)
+
+pub that-loan : (l : LentPiece) → is_that_loan l l ≡ 1
+that-loan l =
+    let place : same_place l.place l.place ≡ true = same_place-refl l.place in
+    let origin : same_origin l.origin l.origin ≡ true = same_origin-refl l.origin in
+    rw (place, origin) refl
 
 pub is-there : (p : Place) (note at : ℕ) (xs : List HeldPiece) → 0 < total (is_that p note at) xs
     → IsIn (record { place = p; origin = of_note note at }) xs
@@ -313,18 +355,17 @@ is-there p note at (x ∷ xs) some = ⊎_elim
     the_held : Place → Origin → HeldPiece
     the_held place origin = record { place = place; origin = origin }
 
-pub is-lent-there : (p : Place) (note at : ℕ) (xs : List LentPiece) → 0 < total (is_that_loan p note at) xs
-    → IsIn (record { place = p; origin = of_note note at }) xs
-is-lent-there p note at [] some = absurd (omega arith)
-is-lent-there p note at (x ∷ xs) some = ⊎_elim
-    (λ (yes : (same_place p x.place && from_note note at x.origin) ≡ true).
-    let parts = both-of (same_place p x.place) (from_note note at x.origin) yes in
-    let place : x.place ≡ p = same_place-is p x.place parts.0 in
-    let origin : x.origin ≡ of_note note at = from_note-is note at x.origin parts.1 in
-    inl (ap (λ q. the_loan q x.origin) place ∙ ap (the_loan p) origin))
-    (λ (no : (same_place p x.place && from_note note at x.origin) ≡ false). inr
-    (is-lent-there p note at xs (let none : is_that_loan p note at x ≡ 0 = rw no refl in omega (arith, none))))
-    (cases_Bool (same_place p x.place && from_note note at x.origin))
+pub is-lent-there : (l : LentPiece) (xs : List LentPiece) → 0 < total (is_that_loan l) xs → IsIn l xs
+is-lent-there l [] some = absurd (omega arith)
+is-lent-there l (x ∷ xs) some = ⊎_elim
+    (λ (yes : (same_place l.place x.place && same_origin l.origin x.origin) ≡ true).
+    let parts = both-of (same_place l.place x.place) (same_origin l.origin x.origin) yes in
+    let place : x.place ≡ l.place = same_place-is l.place x.place parts.0 in
+    let origin : x.origin ≡ l.origin = same_origin-is l.origin x.origin parts.1 in
+    inl (ap (λ q. the_loan q x.origin) place ∙ ap (the_loan l.place) origin))
+    (λ (no : (same_place l.place x.place && same_origin l.origin x.origin) ≡ false). inr
+    (is-lent-there l xs (let none : is_that_loan l x ≡ 0 = rw no refl in omega (arith, none))))
+    (cases_Bool (same_place l.place x.place && same_origin l.origin x.origin))
   where
     the_loan : Place → Origin → LentPiece
     the_loan place origin = record { place = place; origin = origin }

@@ -13,25 +13,26 @@ use Rattle.tcp_reorder.specs.Queue.{Queue}
 use Rattle.tcp_reorder.specs.Values.{Holds}
 use Rattle.tcp_reorder.proofs.Holding.{Holds-nothing}
 use Rattle.board_face.specs.Tokens.{AreApart}
-use Rattle.board_face.specs.AppEvents.{released}
 use Rattle.board_face.specs.AppCalls.{TookNote}
 use Rattle.board_face.specs.declared.views.app.Origin.TheVariants.{Note as of_note}
 use Rattle.board_face.specs.declared.views.app.TakenNote.{TakenNote}
 use Rattle.board_face.specs.declared.views.app.HeldPiece.{HeldPiece}
+use Rattle.board_face.specs.declared.views.app.LentPiece.{LentPiece}
 use Rattle.board_face.specs.declared.views.app.AppView.{AppView}
-use Rattle.app_worker.specs.declared.stack.Piece.{Piece}
+use Rattle.app_worker.specs.declared.stack.Waiting.{Waiting}
 use Rattle.app_worker.specs.declared.stack.Lending.{Lending}
 use Rattle.app_worker.specs.declared.stack.FlowQueue.{FlowQueue}
 use Rattle.app_worker.specs.Marks.{Mark}
 use Rattle.board_face.specs.declared.views.parts.Setting.{Setting}
-use Rattle.app_worker.specs.Core.{total, IsIn, LieApart, has_at, is_odd, held_piece, over_kept, marks_of_piece, received_note, own_notes, FlowStands, Each}
+use Rattle.app_worker.specs.Core.{total, IsIn, LieApart, has_at, is_odd, held_piece, lent_piece, over_kept, over_read, IsOfNote, marks_of_waiting, received_note}
+use Rattle.app_worker.specs.Core.{own_notes, FlowStands, Each}
 use Rattle.app_worker.specs.Core.{many, HasTokens, Stands}
-use Rattle.app_worker.specs.Steps.{OnlyHelds, whole_piece}
+use Rattle.app_worker.specs.Steps.{whole_piece}
 use Rattle.app_worker.specs.Whole.{fresh_flow, IsChosen}
-use Rattle.app_worker.proofs.Tokens.{total-append, in-right, in-total, not-odd, is-released}
+use Rattle.app_worker.proofs.Tokens.{total-append, in-right, in-total, not-odd}
 use Rattle.app_worker.proofs.Placing.{next_note, own-notes-other}
 use Rattle.app_worker.proofs.Standing.{At, split-at, each-map, each-right, each-join, is_number, number-is, number-not, total-changed, many-same, each-changed}
-use Rattle.app_worker.proofs.Standing2.{flow-took, flow-took-other, flow-begun}
+use Rattle.app_worker.proofs.Standing2.{flow-took, flow-took-other, flow-begun, loans-still, due-still, due-known}
 
 -- ---- a new place
 
@@ -124,96 +125,114 @@ is-took old mid note number held lie count took =
 abbrev pub taken_note : Note → TakenNote
 taken_note note = record { note = note; bytes = [] }
 
-module _ (count : ℕ) (posted : List (Completion × Lending)) (due : List Lending) (old mid new : AppView) (note : Note) (held : Place)
-    (took : TookNote old mid note held) (number : ℕ) (count_is : number ≡ count) where
-  views : (gone come : (HeldPiece → ℕ) → ℕ) → OnlyHelds mid new gone come
-      → new ≡ record old { taken = old.taken ++ taken_note note ∷ []; helds = new.helds }
-  views gone come only = only.view ∙ ap (λ (v : AppView). record v { helds = new.helds }) took.event
+-- the loans are the same, and have the origins that they had
+loans-grown : (count : ℕ) (flows : List FlowQueue) (posted : List (Completion × Lending)) (due : List Lending) (old new : AppView) (t : TakenNote)
+    → Stands count flows posted due old → new.taken ≡ old.taken ++ t ∷ [] → new.loans ≡ old.loans
+    → (f : LentPiece → ℕ) → total f new.loans ≡ total (λ p. f (lent_piece new.taken p.1)) posted + over_read new.taken f due
+loans-grown count flows posted due old new t stands taken loans = subst
+    (λ ts. (f : LentPiece → ℕ) → total f new.loans ≡ total (λ p. f (lent_piece ts p.1)) posted + over_read ts f due) (sym taken)
+    (λ f. omega (
+      arith,
+      ap (total f) loans,
+      stands.tokens.loans f,
+      loans-still old.taken t posted stands.lent f,
+      due-still old.taken t due stands.due_lent f,
+    ))
+
+module _ (count : ℕ) (posted : List (Completion × Lending)) (due : List Lending) (old new : AppView) (t : TakenNote)
+    (view : new ≡ record old { taken = old.taken ++ t ∷ []; helds = new.helds }) (lie : LieApart new) (number : ℕ) (count_is : number ≡ count) where
+  taken_is : new.taken ≡ old.taken ++ t ∷ []
+  taken_is = ap (λ (v : AppView). v.taken) view
+
+  lent-too : Each (λ p. p.1.note < length old.taken) posted → Each (λ p. p.1.note < length new.taken) posted
+  lent-too each = subst (λ ts. Each (λ p. p.1.note < length ts) posted) (sym taken_is)
+      (each-map (λ p. p.1.note < length old.taken) (λ p. p.1.note < length (old.taken ++ t ∷ [])) posted
+      (λ p _ below. omega (arith, below, length-append old.taken (t ∷ []))) each)
+
+  due-too : Each (λ l. l.note < length old.taken) due → Each (λ l. l.note < length new.taken) due
+  due-too known = subst (λ ts. Each (λ l. l.note < length ts) due) (sym taken_is) (due-known old.taken t due known)
 
   -- in the queue of a flow that was there
-  pub took-there : (before after : List FlowQueue) (own : FlowQueue) (q : Queue Piece) → Stands count (before ++ own ∷ after) posted due old
-      → own.number ≡ note.flow → q.base ≡ own.queue.base → q.popped ≡ own.queue.popped
-      → OnlyHelds mid new (λ f. f (held_piece (whole_piece number held)) + over_kept f own.queue) (λ f. over_kept f q)
-      → ((placed : Placed Mark) → Holds marks_of_piece own.queue placed
-      → Holds marks_of_piece q (received_note own.queue.base placed (record { number = number; note = note })))
+  pub took-there : (before after : List FlowQueue) (own : FlowQueue) (q : Queue Waiting) → Stands count (before ++ own ∷ after) posted due old
+      → own.number ≡ t.note.flow → q.base ≡ own.queue.base → q.popped ≡ own.queue.popped
+      → ((f : HeldPiece → ℕ) → total f new.helds + over_kept f own.queue ≡ total f old.helds + over_kept f q)
+      → ((placed : Placed Mark) → Holds marks_of_waiting own.queue placed
+      → Holds marks_of_waiting q (received_note own.queue.base placed (record { number = number; note = t.note })))
+      → (Each (λ k. IsOfNote (old.taken ++ t ∷ []) k.piece) own.queue.kept → Each (λ k. IsOfNote (old.taken ++ t ∷ []) k.piece) q.kept)
       → Stands (count + 1) (before ++ record own { queue = q } ∷ after) posted due new
-  took-there before after own q stands flow base popped only enters =
-      let t : TakenNote = taken_note note in
+  took-there before after own q stands flow base popped moved enters keeps =
       let now : FlowQueue = record own { queue = q } in
-      let view = views (λ f. f (held_piece (whole_piece number held)) + over_kept f own.queue) (λ f. over_kept f q) only in
-      let step : Took old mid note number held = is-took old mid note number held stands.tokens.apart (count_is ∙ stands.notes) took in
       let same : (n : ℕ) → many n (before ++ now ∷ after) ≡ many n (before ++ own ∷ after) = many-same before after own now refl in
-      let taken : new.taken ≡ old.taken ++ t ∷ [] = ap (λ (v : AppView). v.taken) view in
       let loans : new.loans ≡ old.loans = ap (λ (v : AppView). v.loans) view in
-      let enters_next : (placed : Placed Mark) → Holds marks_of_piece own.queue placed
-      → Holds marks_of_piece q (received_note own.queue.base placed (next_note old.taken t)) =
-      subst (λ k. (placed : Placed Mark) → Holds marks_of_piece own.queue placed
-      → Holds marks_of_piece q (received_note own.queue.base placed (record { number = k; note = note }))) (count_is ∙ stands.notes) enters in
+      let enters_next : (placed : Placed Mark) → Holds marks_of_waiting own.queue placed
+      → Holds marks_of_waiting q (received_note own.queue.base placed (next_note old.taken t)) =
+      subst (λ k. (placed : Placed Mark) → Holds marks_of_waiting own.queue placed
+      → Holds marks_of_waiting q (received_note own.queue.base placed (record { number = k; note = t.note }))) (count_is ∙ stands.notes) enters in
       let own_many : many own.number (before ++ own ∷ after)
       ≡ 1 = omega (arith, stands.distinct own.number, total-append (is_number own.number) before (own ∷ after), number-is own.number own refl) in
       record {
         tokens = record {
-          apart = only.apart;
-          helds = λ f. omega (arith, only.moved f, step.moved f, stands.tokens.helds f, total-changed before after own now (λ flow. over_kept f flow.queue));
-          loans = λ f. ap (total f) loans ∙ stands.tokens.loans f;
+          apart = lie;
+          helds = λ f. omega (arith, moved f, stands.tokens.helds f, total-changed before after own now (λ flow. over_kept f flow.queue));
+          loans = loans-grown count (before ++ own ∷ after) posted due old new t stands taken_is loans;
         };
-        notes = omega (arith, stands.notes, ap length taken, length-append old.taken (t ∷ []));
+        notes = omega (arith, stands.notes, ap length taken_is, length-append old.taken (t ∷ []));
         distinct = λ n. omega (arith, same n, stands.distinct n);
-        flows = subst (λ (ts : List TakenNote). Each (FlowStands ts posted) (before ++ now ∷ after)) (sym taken)
+        flows = subst (λ (ts : List TakenNote). Each (FlowStands ts posted) (before ++ now ∷ after)) (sym taken_is)
             (each-changed (FlowStands old.taken posted) (FlowStands (old.taken ++ t ∷ []) posted) before after own now
             (stands.distinct own.number) stands.flows
             (λ f other. flow-took-other old.taken t posted f (λ e. other (e ∙ sym flow)))
-            (flow-took old.taken t posted own q flow base popped enters_next (each-right (FlowStands old.taken posted) before (own ∷ after) stands.flows).0));
-        known = λ n none. ap (own_notes n) taken ∙ own-notes-other n old.taken t
+            (flow-took old.taken t posted own q flow base popped enters_next keeps
+            (each-right (FlowStands old.taken posted) before (own ∷ after) stands.flows).0));
+        known = λ n none. ap (own_notes n) taken_is ∙ own-notes-other n old.taken t
             (λ e. absurd (let one : many n (before ++ own ∷ after)
             ≡ 1 = subst (λ k. many k (before ++ own ∷ after) ≡ 1) (flow ∙ e) own_many in omega (arith, one, same n, none)))
             ∙ stands.known n (sym (same n) ∙ none);
         posted = each-map (λ p. many p.0.user_data (before ++ own ∷ after) ≡ 1) (λ p. many p.0.user_data (before ++ now ∷ after) ≡ 1) posted
             (λ p there one. same p.0.user_data ∙ one) stands.posted;
+        lent = lent-too stands.lent;
+        due_lent = due-too stands.due_lent;
         counted = ap (λ (v : AppView). v.scrubbed) view ∙ stands.counted;
       }
 
   -- in that of a flow that begins
-  pub took-begun : (flows : List FlowQueue) (q : Queue Piece) → Stands count flows posted due old → many note.flow flows ≡ 0 → q.base ≡ note.base
+  pub took-begun : (flows : List FlowQueue) (q : Queue Waiting) → Stands count flows posted due old → many t.note.flow flows ≡ 0 → q.base ≡ t.note.base
       → q.popped ≡ 0
-      → OnlyHelds mid new (λ f. f (held_piece (whole_piece number held)) + 0) (λ f. over_kept f q)
-      → ((placed : Placed Mark) → Holds marks_of_piece (fresh_flow note).queue placed
-      → Holds marks_of_piece q (received_note note.base placed (record { number = number; note = note })))
-      → Stands (count + 1) (flows ++ record (fresh_flow note) { queue = q } ∷ []) posted due new
-  took-begun flows q stands none base popped only enters =
-      let t : TakenNote = taken_note note in
-      let now : FlowQueue = record (fresh_flow note) { queue = q } in
-      let view = views (λ f. f (held_piece (whole_piece number held)) + 0) (λ f. over_kept f q) only in
-      let step : Took old mid note number held = is-took old mid note number held stands.tokens.apart (count_is ∙ stands.notes) took in
+      → ((f : HeldPiece → ℕ) → total f new.helds ≡ total f old.helds + over_kept f q)
+      → ((placed : Placed Mark) → Holds marks_of_waiting (fresh_flow t.note).queue placed
+      → Holds marks_of_waiting q (received_note t.note.base placed (record { number = number; note = t.note })))
+      → Each (λ k. IsOfNote (old.taken ++ t ∷ []) k.piece) q.kept
+      → Stands (count + 1) (flows ++ record (fresh_flow t.note) { queue = q } ∷ []) posted due new
+  took-begun flows q stands none base popped moved enters keeps =
+      let now : FlowQueue = record (fresh_flow t.note) { queue = q } in
       let more : (n : ℕ) → many n (flows ++ now ∷ []) ≡ many n flows + is_number n now = λ n. omega
       (arith, total-append (is_number n) flows (now ∷ [])) in
-      let taken : new.taken ≡ old.taken ++ t ∷ [] = ap (λ (v : AppView). v.taken) view in
       let loans : new.loans ≡ old.loans = ap (λ (v : AppView). v.loans) view in
-      let holds : Holds marks_of_piece q (received_note note.base nothing_placed (next_note old.taken t)) =
-      subst (λ k. Holds marks_of_piece q (received_note note.base nothing_placed (record { number = k; note = note }))) (count_is ∙ stands.notes)
-      (enters nothing_placed (Holds-nothing marks_of_piece note.base)) in
-      let other : (n : ℕ) → n ≢ note.flow → is_number n now
-      ≡ 0 = λ n away. (let no : (note.flow == n) ≡ false = not-same note.flow n (λ e. away (sym e)) in rw no refl) in
+      let holds : Holds marks_of_waiting q (received_note t.note.base nothing_placed (next_note old.taken t)) =
+      subst (λ k. Holds marks_of_waiting q (received_note t.note.base nothing_placed (record { number = k; note = t.note }))) (count_is ∙ stands.notes)
+      (enters nothing_placed (Holds-nothing marks_of_waiting t.note.base)) in
+      let other : (n : ℕ) → n ≢ t.note.flow → is_number n now
+      ≡ 0 = λ n away. (let no : (t.note.flow == n) ≡ false = not-same t.note.flow n (λ e. away (sym e)) in rw no refl) in
       record {
         tokens = record {
-          apart = only.apart;
-          helds = λ f. omega (arith, only.moved f, step.moved f, stands.tokens.helds f, total-append (λ flow. over_kept f flow.queue) flows (now ∷ []));
-          loans = λ f. ap (total f) loans ∙ stands.tokens.loans f;
+          apart = lie;
+          helds = λ f. omega (arith, moved f, stands.tokens.helds f, total-append (λ flow. over_kept f flow.queue) flows (now ∷ []));
+          loans = loans-grown count flows posted due old new t stands taken_is loans;
         };
-        notes = omega (arith, stands.notes, ap length taken, length-append old.taken (t ∷ []));
+        notes = omega (arith, stands.notes, ap length taken_is, length-append old.taken (t ∷ []));
         distinct = λ n. ⊎_elim
-            (λ (is : n ≡ note.flow). let zero_many : many n flows
+            (λ (is : n ≡ t.note.flow). let zero_many : many n flows
             ≡ 0 = subst (λ k. many k flows ≡ 0) (sym is) none in omega (arith, more n, zero_many, number-is n now (sym is)))
             (λ away. omega (arith, more n, other n away, stands.distinct n))
-            (cases_eq n note.flow);
-        flows = subst (λ (ts : List TakenNote). Each (FlowStands ts posted) (flows ++ now ∷ [])) (sym taken)
+            (cases_eq n t.note.flow);
+        flows = subst (λ (ts : List TakenNote). Each (FlowStands ts posted) (flows ++ now ∷ [])) (sym taken_is)
             (each-join (FlowStands (old.taken ++ t ∷ []) posted) flows (now ∷ [])
             (each-map (FlowStands old.taken posted) (FlowStands (old.taken ++ t ∷ []) posted) flows
             (λ f there. flow-took-other old.taken t posted f
-            (number-not note.flow f (omega (arith, in-total (is_number note.flow) f flows there, none)))) stands.flows)
-            (flow-begun old.taken t posted flows q none (stands.known note.flow none) stands.posted base popped holds, tt));
-        known = λ n nothing. ap (own_notes n) taken ∙ own-notes-other n old.taken t
-            (λ (e : note.flow ≡ n). absurd (omega (arith, more n, number-is n now e, nothing))) ∙ stands.known n (omega (arith, more n, nothing));
+            (number-not t.note.flow f (omega (arith, in-total (is_number t.note.flow) f flows there, none)))) stands.flows)
+            (flow-begun old.taken t posted flows q none (stands.known t.note.flow none) stands.posted base popped holds keeps, tt));
+        known = λ n nothing. ap (own_notes n) taken_is ∙ own-notes-other n old.taken t
+            (λ (e : t.note.flow ≡ n). absurd (omega (arith, more n, number-is n now e, nothing))) ∙ stands.known n (omega (arith, more n, nothing));
         posted = each-map (λ p. many p.0.user_data flows ≡ 1) (λ p. many p.0.user_data (flows ++ now ∷ []) ≡ 1) posted
             (λ p there one. omega (
               arith,
@@ -222,6 +241,8 @@ module _ (count : ℕ) (posted : List (Completion × Lending)) (due : List Lendi
               other p.0.user_data (λ e. absurd (let gone : many p.0.user_data flows
                   ≡ 0 = subst (λ k. many k flows ≡ 0) (sym e) none in omega (arith, gone, one))),
             )) stands.posted;
+        lent = lent-too stands.lent;
+        due_lent = due-too stands.due_lent;
         counted = ap (λ (v : AppView). v.scrubbed) view ∙ stands.counted;
       }
     where
@@ -238,25 +259,25 @@ pub set-last : (was : List FlowQueue) (f x : FlowQueue) → set (was ++ f ∷ []
 set-last [] f x = refl
 set-last (w ∷ was) f x = ap (λ fs. w ∷ fs) (set-last was f x)
 
-module _ (count : ℕ) (posted : List (Completion × Lending)) (due : List Lending) (old mid new : AppView) (note : Note) (held : Place)
-    (took : TookNote old mid note held) (number : ℕ) (count_is : number ≡ count)
-    (was flows : List FlowQueue) (i : ℕ) (own : FlowQueue) (q : Queue Piece) (chosen : IsChosen was flows note i) (within : i < length flows)
-    (value : own ≡ get_or flows i own)
-    (stands : Stands count was posted due old) (only : OnlyHelds mid new (λ f. f (held_piece (whole_piece number held)) + over_kept f own.queue)
-    (λ f. over_kept f q)) where
+module _ (count : ℕ) (posted : List (Completion × Lending)) (due : List Lending) (old new : AppView) (t : TakenNote)
+    (view : new ≡ record old { taken = old.taken ++ t ∷ []; helds = new.helds }) (lie : LieApart new) (number : ℕ) (count_is : number ≡ count)
+    (was flows : List FlowQueue) (i : ℕ) (own : FlowQueue) (q : Queue Waiting) (chosen : IsChosen was flows t.note i) (within : i < length flows)
+    (value : own ≡ get_or flows i own) (stands : Stands count was posted due old)
+    (moved : (f : HeldPiece → ℕ) → total f new.helds + over_kept f own.queue ≡ total f old.helds + over_kept f q) where
   loans_same : new.loans ≡ old.loans
-  loans_same = ap (λ (v : AppView). v.loans) (only.view ∙ ap (λ (v : AppView). record v { helds = new.helds }) took.event)
-
-  moved : (f : HeldPiece → ℕ) → total f new.helds + over_kept f own.queue ≡ total f old.helds + over_kept f q
-  moved f = omega (arith, only.moved f, (is-took old mid note number held stands.tokens.apart (count_is ∙ stands.notes) took).moved f)
+  loans_same = ap (λ (v : AppView). v.loans) view
 
   -- the tokens that are out are those that are kept
   pub entered-tokens : HasTokens (set flows i (record own { queue = q })) posted due new
-  entered-tokens = record { apart = only.apart; helds = helds; loans = λ f. ap (total f) loans_same ∙ stands.tokens.loans f }
+  entered-tokens = record {
+    apart = lie;
+    helds = helds;
+    loans = loans-grown count was posted due old new t stands (ap (λ (v : AppView). v.taken) view) loans_same;
+  }
     where
       helds : (f : HeldPiece → ℕ) → total f new.helds ≡ total (λ flow. over_kept f flow.queue) (set flows i (record own { queue = q }))
       helds f = ⊎_elim
-          (λ (there : (flows ≡ was) × ((d : FlowQueue) → (get_or flows i d).number ≡ note.flow)).
+          (λ (there : (flows ≡ was) × ((d : FlowQueue) → (get_or flows i d).number ≡ t.note.flow)).
           let at : At flows i own = split-at flows i own within value in
           let sum : total (λ flow. over_kept f flow.queue) was
           ≡ total (λ flow. over_kept f flow.queue) (at.before ++ own ∷ at.after) = ap (total (λ flow. over_kept f flow.queue))
@@ -272,14 +293,14 @@ module _ (count : ℕ) (posted : List (Completion × Lending)) (due : List Lendi
             changed,
             total-changed at.before at.after own (record own { queue = q }) (λ flow. over_kept f flow.queue),
           ))
-          (λ (begun : (many note.flow was ≡ 0) × (flows ≡ was ++ fresh_flow note ∷ []) × (i ≡ length was)).
-          let own_is : own ≡ fresh_flow note = value ∙ ap (λ (fs : List FlowQueue). get_or fs i own) begun.1
-          ∙ ap (λ k. get_or (was ++ fresh_flow note ∷ []) k own) begun.2 ∙ get-last was (fresh_flow note) own in
+          (λ (begun : (many t.note.flow was ≡ 0) × (flows ≡ was ++ fresh_flow t.note ∷ []) × (i ≡ length was)).
+          let own_is : own ≡ fresh_flow t.note = value ∙ ap (λ (fs : List FlowQueue). get_or fs i own) begun.1
+          ∙ ap (λ k. get_or (was ++ fresh_flow t.note ∷ []) k own) begun.2 ∙ get-last was (fresh_flow t.note) own in
           let none : over_kept f own.queue ≡ 0 = ap (λ (o : FlowQueue). over_kept f o.queue) own_is in
           let set_is : set flows i (record own { queue = q })
           ≡ was ++ record own { queue = q } ∷ [] = ap (λ (fs : List FlowQueue). set fs i (record own { queue = q })) begun.1
-          ∙ ap (λ k. set (was ++ fresh_flow note ∷ []) k (record own { queue = q })) begun.2
-          ∙ set-last was (fresh_flow note) (record own { queue = q }) in
+          ∙ ap (λ k. set (was ++ fresh_flow t.note ∷ []) k (record own { queue = q })) begun.2
+          ∙ set-last was (fresh_flow t.note) (record own { queue = q }) in
           omega (
             arith,
             moved f,
@@ -291,42 +312,41 @@ module _ (count : ℕ) (posted : List (Completion × Lending)) (due : List Lendi
           chosen
 
   pub entered-stands : q.base ≡ own.queue.base → q.popped ≡ own.queue.popped
-      → ((placed : Placed Mark) → Holds marks_of_piece own.queue placed
-      → Holds marks_of_piece q (received_note own.queue.base placed (record { number = number; note = note })))
+      → ((placed : Placed Mark) → Holds marks_of_waiting own.queue placed
+      → Holds marks_of_waiting q (received_note own.queue.base placed (record { number = number; note = t.note })))
+      → (Each (λ k. IsOfNote (old.taken ++ t ∷ []) k.piece) own.queue.kept → Each (λ k. IsOfNote (old.taken ++ t ∷ []) k.piece) q.kept)
       → Stands (count + 1) (set flows i (record own { queue = q })) posted due new
-  entered-stands base popped enters = ⊎_elim
-      (λ (there : (flows ≡ was) × ((d : FlowQueue) → (get_or flows i d).number ≡ note.flow)).
+  entered-stands base popped enters keeps = ⊎_elim
+      (λ (there : (flows ≡ was) × ((d : FlowQueue) → (get_or flows i d).number ≡ t.note.flow)).
       let at : At flows i own = split-at flows i own within value in
-      let flow : own.number ≡ note.flow = ap (λ (o : FlowQueue). o.number) value ∙ there.1 own in
+      let flow : own.number ≡ t.note.flow = ap (λ (o : FlowQueue). o.number) value ∙ there.1 own in
       let before : Stands count (at.before ++ own ∷ at.after) posted due old = subst (λ (fs : List FlowQueue). Stands count fs posted due old)
       (sym there.0 ∙ at.is) stands in
       subst (λ (fs : List FlowQueue). Stands (count + 1) fs posted due new) (sym (at.set_is (record own { queue = q })))
-      (took-there count posted due old mid new note held took number count_is at.before at.after own q before flow base popped only enters))
-      (λ (begun : (many note.flow was ≡ 0) × (flows ≡ was ++ fresh_flow note ∷ []) × (i ≡ length was)).
-      let own_is : own ≡ fresh_flow note = value ∙ ap (λ (fs : List FlowQueue). get_or fs i own) begun.1
-      ∙ ap (λ k. get_or (was ++ fresh_flow note ∷ []) k own) begun.2 ∙ get-last was (fresh_flow note) own in
-      let set_is : set flows i (record own { queue = q }) ≡ was ++ record (fresh_flow note) { queue = q } ∷ [] =
+      (took-there count posted due old new t view lie number count_is at.before at.after own q before flow base popped moved enters keeps))
+      (λ (begun : (many t.note.flow was ≡ 0) × (flows ≡ was ++ fresh_flow t.note ∷ []) × (i ≡ length was)).
+      let own_is : own ≡ fresh_flow t.note = value ∙ ap (λ (fs : List FlowQueue). get_or fs i own) begun.1
+      ∙ ap (λ k. get_or (was ++ fresh_flow t.note ∷ []) k own) begun.2 ∙ get-last was (fresh_flow t.note) own in
+      let none : (f : HeldPiece → ℕ) → over_kept f own.queue ≡ 0 = λ f. ap (λ (o : FlowQueue). over_kept f o.queue) own_is in
+      let set_is : set flows i (record own { queue = q }) ≡ was ++ record (fresh_flow t.note) { queue = q } ∷ [] =
       ap (λ (fs : List FlowQueue). set fs i (record own { queue = q })) begun.1
-      ∙ ap (λ k. set (was ++ fresh_flow note ∷ []) k (record own { queue = q })) begun.2 ∙ set-last was (fresh_flow note) (record own { queue = q })
+      ∙ ap (λ k. set (was ++ fresh_flow t.note ∷ []) k (record own { queue = q })) begun.2 ∙ set-last was (fresh_flow t.note) (record own { queue = q })
       ∙ ap (λ (o : FlowQueue). was ++ record o { queue = q } ∷ []) own_is in
       subst (λ (fs : List FlowQueue). Stands (count + 1) fs posted due new) (sym set_is)
-      (took-begun count posted due old mid new note held took number count_is was q stands begun.0 (base ∙ ap (λ (o : FlowQueue). o.queue.base) own_is)
-      (popped ∙ ap (λ (o : FlowQueue). o.queue.popped) own_is)
-      (subst (λ (o : FlowQueue). OnlyHelds mid new (λ f. f (held_piece (whole_piece number held)) + over_kept f o.queue) (λ f. over_kept f q)) own_is only)
-      (subst (λ (o : FlowQueue). (placed : Placed Mark) → Holds marks_of_piece o.queue placed
-      → Holds marks_of_piece q (received_note o.queue.base placed (record { number = number; note = note }))) own_is enters)))
+      (took-begun count posted due old new t view lie number count_is was q stands begun.0 (base ∙ ap (λ (o : FlowQueue). o.queue.base) own_is)
+      (popped ∙ ap (λ (o : FlowQueue). o.queue.popped) own_is) (λ f. omega (arith, moved f, none f))
+      (subst (λ (o : FlowQueue). (placed : Placed Mark) → Holds marks_of_waiting o.queue placed
+      → Holds marks_of_waiting q (received_note o.queue.base placed (record { number = number; note = t.note }))) own_is enters)
+      (subst (λ (o : FlowQueue). Each (λ k. IsOfNote (old.taken ++ t ∷ []) k.piece) o.queue.kept
+      → Each (λ k. IsOfNote (old.taken ++ t ∷ []) k.piece) q.kept) own_is keeps tt)))
       chosen
 
--- the piece is given up at once
-pub released-tokens : (count : ℕ) (flows : List FlowQueue) (posted : List (Completion × Lending)) (due : List Lending) (old mid : AppView) (note : Note)
-    (held : Place) (number : ℕ) → number ≡ count → TookNote old mid note held
-    → Stands count flows posted due old → HasTokens flows posted due (released mid held)
-released-tokens count flows posted due old mid note held number count_is took stands =
-    let step = is-took old mid note number held stands.tokens.apart (count_is ∙ stands.notes) took in
-    let gone = is-released mid step.apart (held_piece (whole_piece number held)) step.out in
-    let loans : mid.loans ≡ old.loans = ap (λ (v : AppView). v.loans) took.event in
-    record {
-      apart = gone.apart;
-      helds = λ f. omega (arith, gone.moved f, step.moved f, stands.tokens.helds f);
-      loans = λ f. ap (total f) loans ∙ stands.tokens.loans f;
-    }
+-- nothing of it is kept
+pub kept-tokens : (count : ℕ) (flows : List FlowQueue) (posted : List (Completion × Lending)) (due : List Lending) (old new : AppView) (t : TakenNote)
+    → new.taken ≡ old.taken ++ t ∷ [] → new.loans ≡ old.loans → LieApart new → ((f : HeldPiece → ℕ) → total f new.helds ≡ total f old.helds)
+    → Stands count flows posted due old → HasTokens flows posted due new
+kept-tokens count flows posted due old new t taken loans lie helds stands = record {
+  apart = lie;
+  helds = λ f. helds f ∙ stands.tokens.helds f;
+  loans = loans-grown count flows posted due old new t stands taken loans;
+}

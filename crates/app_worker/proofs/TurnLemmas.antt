@@ -1,6 +1,6 @@
 -- A turn is made of its stages.
 use Rattle.std.proofs.Common.{◌≡◌, ◌≢◌, ℕ, ◌<◌, ◌≤◌, Bool, true, false, List, [], ◌∷◌, ◌++◌, Option, refl, sym, ap}
-use Rattle.std.proofs.Common.{subst, ◌∙◌, arith, inl, inr}
+use Rattle.std.proofs.Common.{subst, ◌∙◌, arith, inl, inr, length, length-append}
 use Rattle.std.specs.Prelude.{MatchBool}
 use Rattle.zr_kinds.specs.declared.fault.Fault.TheVariants as fault
 use Rattle.zr_kinds.specs.declared.behaviour.Stopped.TheVariants as stop
@@ -8,20 +8,19 @@ use Rattle.board_face.specs.AppCalls.{AppOnlySaw}
 use Rattle.board_face.specs.declared.views.app.AppLook.{AppLook}
 use Rattle.board_face.specs.declared.views.app.AppView.{AppView}
 use Rattle.app_worker.specs.declared.turn.Turn.{Turn}
-use Rattle.app_worker.specs.declared.turn.Turn.TheVariants.{Did, Idle, Finished, Failed, NotYet}
+use Rattle.app_worker.specs.declared.turn.Turn.TheVariants.{Did, Idle, Finished, Failed}
 use Rattle.app_worker.specs.declared.turn.Why.{Why}
-use Rattle.app_worker.specs.declared.turn.Why.TheVariants.{NoNote}
+use Rattle.app_worker.specs.declared.turn.Why.TheVariants.{NoNote, ReserveHeld}
 use Rattle.app_worker.specs.State.{State, Working, Common, Bare, AppStands, app_steps}
-use Rattle.app_worker.specs.Moves.{Goes}
+use Rattle.app_worker.specs.Steps.{SawNoSpare}
+use Rattle.app_worker.specs.Moves.{Goes, KeptSince, reads_of, reserve_loans}
 use Rattle.zr_io.specs.Moved.{Rose}
 use Rattle.app_worker.specs.Turns.{Answers, IsAsBefore, MayPoll, look_of, Polled, Rests, Turns, TakesFew, turn_after}
 use Rattle.app_worker.specs.Whole.{GaveBack}
 use Rattle.app_worker.specs.Stages.{Through, HasQuit, WriteStopped, Untouched}
 use Rattle.app_worker.proofs.Moving.{moves-then, no-write, quit-no-write}
+use Rattle.app_worker.proofs.Seeing.{Left, left-saw, left-no-spare}
 use Rattle.app_worker.proofs.Through.{goes-then}
-use Rattle.app_worker.proofs.Seeing.{working-saw, common-saw, goes-saw}
-use Rattle.board_face.specs.AppEvents.{app_saw}
-use Rattle.board_face.specs.Looks.{AppRose}
 
 -- ---- between two turns
 
@@ -87,38 +86,47 @@ turns-quit was now old new k m f f2 live quit = record {
   rests = no-rest was now old new k m live;
 }
 
+-- it only saw that no spare was to be had
+pub as-before-rested : (st : State) (v new : AppView) → SawNoSpare v new → IsAsBefore st st v new
+as-before-rested st v new saw = rw saw.event (record { state = refl; view = refl })
+
 -- it only saw something
 pub as-before : (st : State) (v new : AppView) (look : AppLook) → AppOnlySaw look v new → IsAsBefore st st v new
 as-before st v new look saw = rw saw.event (record { state = refl; view = refl })
 
-pub turns-saw : (st : State) (v new : AppView) (why : Why) (kept : ℕ → Option (List ℕ)) (f : ℕ) → Working st v → Common st v
-    → st.posted.entries ≡ [] → (why ≡ NoNote → MayPoll st) → AppOnlySaw (look_of why) v new → Turns st st v new kept kept f f (Idle why)
-turns-saw st v new why kept f works common reaped may saw = rw saw.event (record {
-  stands = stands-working st (app_saw v (look_of why)) (working-saw st v (look_of why) works) (common-saw st v (look_of why) common) reaped;
-  goes = goes-saw st v (look_of why) kept;
-  answer = (record { state = refl; view = refl }, subst (AppRose (look_of why) v) saw.event saw.rose);
-  few = inl refl;
-  here = λ _. refl;
-  polled = no-poll st st v (app_saw v (look_of why)) refl;
-  none = λ _ is. may (let e : why ≡ NoNote = cc in e);
-  cause = λ other is. absurd (other is);
-  rests = no-rest st st v (app_saw v (look_of why)) kept kept works.live;
-})
+-- it did nothing but see this
+pub turns-saw : (st : State) (v new : AppView) (k : ℕ → Option (List ℕ)) (f f2 : ℕ) (why : Why) → AppOnlySaw (look_of why) v new → Working st v
+    → Common st v → st.posted.entries ≡ [] → (why ≡ NoNote → MayPoll st v) → Turns st st v new k k f f2 (Idle why)
+turns-saw st v new k f f2 why saw works common reaped may =
+    let left : Left st st v new = left-saw st v new (look_of why) saw works common in
+    record {
+      stands = stands-working st new left.working left.common reaped;
+      goes = left.goes k;
+      answer = (as-before st v new (look_of why) saw, saw.rose);
+      few = inl (ap (λ (x : AppView). x.taken) saw.event);
+      here = λ _. ap (λ (x : AppView). x.left) saw.event;
+      polled = no-poll st st v new (ap (λ (x : AppView). x.taken) saw.event);
+      none = λ _ is. may (cc);
+      cause = λ other is. absurd (other is);
+      rests = no-rest st st v new k k works.live;
+    }
 
--- of faults it says nothing
-pub turns-idle : (st : State) (v new : AppView) (kept : ℕ → Option (List ℕ)) (f f2 : ℕ) (why : Why) → Turns st st v new kept kept f f (Idle why)
-    → Turns st st v new kept kept f f2 (Idle why)
-turns-idle st v new kept f f2 why turns = record {
-  stands = turns.stands;
-  goes = turns.goes;
-  answer = turns.answer;
-  few = turns.few;
-  here = turns.here;
-  polled = turns.polled;
-  none = turns.none;
-  cause = λ other is. absurd (other is);
-  rests = turns.rests;
-}
+-- or that no spare was to be had
+pub turns-no-spare : (st : State) (v new : AppView) (k : ℕ → Option (List ℕ)) (f f2 : ℕ) → SawNoSpare v new → Working st v → Common st v
+    → st.posted.entries ≡ [] → Turns st st v new k k f f2 (Idle ReserveHeld)
+turns-no-spare st v new k f f2 saw works common reaped =
+    let left : Left st st v new = left-no-spare st v new saw works common in
+    record {
+      stands = stands-working st new left.working left.common reaped;
+      goes = left.goes k;
+      answer = (as-before-rested st v new saw, saw.rose);
+      few = inl (ap (λ (x : AppView). x.taken) saw.event);
+      here = λ _. ap (λ (x : AppView). x.left) saw.event;
+      polled = no-poll st st v new (ap (λ (x : AppView). x.taken) saw.event);
+      none = λ _ is. absurd (cc);
+      cause = λ other is. absurd (other is);
+      rests = no-rest st st v new k k works.live;
+    }
 
 -- ---- one part after another
 
@@ -127,7 +135,6 @@ after-none Did = refl
 after-none (Idle why) = refl
 after-none Finished = refl
 after-none (Failed fault) = refl
-after-none NotYet = refl
 
 -- what is idle in the end was idle, and nothing was done before
 pub after-idle : (did : Bool) (turn : Turn) (why : Why) → turn_after did turn ≡ Idle why → turn ≡ Idle why
@@ -136,20 +143,17 @@ after-idle true (Idle other) why is = absurd (cc)
 after-idle false (Idle other) why is = is
 after-idle did Finished why is = absurd (cc)
 after-idle did (Failed fault) why is = absurd (cc)
-after-idle did NotYet why is = absurd (cc)
 
 pub after-busy : (turn : Turn) → turn_after true turn ≢ Idle NoNote
 after-busy Did = λ e. absurd (cc)
 after-busy (Idle why) = λ e. absurd (cc)
 after-busy Finished = λ e. absurd (cc)
 after-busy (Failed fault) = λ e. absurd (cc)
-after-busy NotYet = λ e. absurd (cc)
 
 -- what is known of the first part
 pub record Begins (was mid : State) (old midv : AppView) (k l : ℕ → Option (List ℕ)) (f f1 : ℕ) : Type 0 where
   pub live : was.bare ≡ false
   pub going : was.stopped ≡ stop.No
-  pub split : was.short ≡ false
   pub here : old.left ≡ false
   pub still : mid.bare ≡ false
   pub still_going : mid.stopped ≡ stop.No
@@ -168,7 +172,6 @@ answer-after was mid now old midv new k l m f f1 f2 Finished begin goes answer =
 answer-after was mid now old midv new k l m f f1 f2 (Failed fault.Memory) begin goes answer = (begin.going, answer.1)
 answer-after was mid now old midv new k l m f f1 f2 (Failed fault.Write) begin goes answer = (begin.going, answer.1, omega (arith, begin.later, answer.2))
 answer-after was mid now old midv new k l m f f1 f2 (Failed other) begin goes answer = absurd answer
-answer-after was mid now old midv new k l m f f1 f2 NotYet begin goes answer = (begin.split, answer.1)
 
 pub turns-later : (was mid now : State) (old midv new : AppView) (k l m : ℕ → Option (List ℕ)) (f f1 f2 : ℕ) (turn : Turn)
     → Begins was mid old midv k l f f1 → Turns mid now midv new l m f1 f2 turn → Turns was now old new k m f f2 (turn_after true turn)
@@ -213,7 +216,6 @@ answer-earlier was now old new f f1 f2 Finished later answer = answer
 answer-earlier was now old new f f1 f2 (Failed fault.Memory) later answer = answer
 answer-earlier was now old new f f1 f2 (Failed fault.Write) later answer = (answer.0, answer.1, omega (arith, later, answer.2))
 answer-earlier was now old new f f1 f2 (Failed other) later answer = absurd answer
-answer-earlier was now old new f f1 f2 NotYet later answer = answer
 
 pub turns-earlier : (was now : State) (old new : AppView) (k m : ℕ → Option (List ℕ)) (f f1 f2 : ℕ) (turn : Turn) → f ≤ f1
     → Turns was now old new k m f1 f2 turn → Turns was now old new k m f f2 turn
@@ -249,7 +251,6 @@ pub begins-through : (was mid : State) (old midv : AppView) (k l : ℕ → Optio
 begins-through was mid old midv k l f f1 works here through steps later = record {
   live = works.live;
   going = works.going;
-  split = works.split;
   here = here;
   still = through.working.live;
   still_going = through.working.going;
@@ -266,7 +267,6 @@ pub begins-gave : (was mid : State) (old midv : AppView) (k : ℕ → Option (Li
 begins-gave was mid old midv k f works here then goes gave = record {
   live = works.live;
   going = works.going;
-  split = works.split;
   here = here;
   still = then.live;
   still_going = then.going;
@@ -291,3 +291,12 @@ turns-gave was mid old midv k f works reaped then common goes gave = record {
   cause = λ _ is. absurd (no-write mid.stopped then.going is);
   rests = no-rest was mid old midv k k works.live;
 }
+
+-- what it may keep unread it keeps
+pub turns-keep : (was now : State) (old new : AppView) (k m : ℕ → Option (List ℕ)) (f f2 : ℕ) (turn : Turn) → Turns was now old new k m f f2 turn
+    → was.flush ≡ false → now.bare ≡ false → now.ended ≡ false → reserve_loans new ≡ reserve_loans old → reads_of was old < reads_of now new
+    → now.how.hold ≤ length now.unread
+turns-keep was now old new k m f f2 turn turns off live notes lent read =
+    let since : KeptSince (reads_of was old) (reserve_loans old) now new = turns.goes.moves.keeps (reads_of was old) (reserve_loans old)
+    (λ _. record { lent = omega arith; kept = λ _ _. (off, λ more. absurd (omega (arith, more))) }) live in
+    omega (arith, (since.kept notes lent).1 read, length-append now.unread now.posted.entries, ap length turns.stands.reaped)

@@ -1,19 +1,23 @@
--- What an application keeps between its turns, and how that stands to what its face has seen: for split pieces.
-use Rattle.std.specs.Prelude.{◌≡◌, ℕ, ◌+◌, ◌-◌, ◌≤◌, nat_lt, nat_le, ◌==◌, ◌&&◌, ◌||◌, ◌⊎◌, Bool, false, if◌then◌else◌}
-use Rattle.std.specs.Prelude.{List, [], ◌∷◌, ◌++◌, length, Option, Some, None}
+-- What an application keeps between its turns, and how that stands to what its face has seen.
+use Rattle.std.specs.Prelude.{◌≡◌, ℕ, ◌+◌, ◌-◌, ◌≤◌, nat_lt, nat_le, ◌==◌, ◌&&◌, ◌||◌, ◌⊎◌, ◌<◌, Bool, false, if◌then◌else◌}
+use Rattle.std.specs.Prelude.{List, [], ◌∷◌, ◌++◌, length, take, drop, slice_get, Option, Some, None, MatchBool, true}
 use Rattle.zr_kinds.specs.declared.place.Place.{Place}
 use Rattle.area_layout.specs.Layout.{Shape, size_of, total as buffers_of}
 use Rattle.zr_kinds.specs.declared.ring.Completion.{Completion}
 use Rattle.zr_kinds.specs.CopyingReceiver.{Placed, nothing_placed, next_missing, lead, accepts, filled, value_at, values_from}
 use Rattle.tcp_reorder.specs.Queue.{Queue}
 use Rattle.tcp_reorder.specs.Values.{Holds}
-use Rattle.board_face.specs.declared.views.app.Origin.TheVariants.{Note as of_note}
+use Rattle.board_face.specs.declared.views.app.Origin.{Origin}
+use Rattle.board_face.specs.declared.views.app.Origin.TheVariants.{Note as of_note, Copied as of_copy}
 use Rattle.board_face.specs.declared.views.app.HeldPiece.{HeldPiece}
 use Rattle.board_face.specs.declared.views.app.LentPiece.{LentPiece}
 use Rattle.board_face.specs.declared.views.app.Reading.{Reading}
 use Rattle.board_face.specs.declared.views.app.TakenNote.{TakenNote}
 use Rattle.board_face.specs.declared.views.app.AppView.{AppView}
 use Rattle.app_worker.specs.declared.stack.Piece.{Piece}
+use Rattle.app_worker.specs.declared.stack.Short.{Short}
+use Rattle.app_worker.specs.declared.stack.Waiting.{Waiting}
+use Rattle.app_worker.specs.declared.stack.Waiting.TheVariants.{InArea, Copied}
 use Rattle.app_worker.specs.declared.stack.Lending.{Lending}
 use Rattle.app_worker.specs.declared.stack.FlowQueue.{FlowQueue}
 use Rattle.app_worker.specs.Marks.{Mark, marks_from, Numbered, numbered, of_flow, marks_of_note}
@@ -23,6 +27,11 @@ use Rattle.app_worker.specs.Marks.{Mark, marks_from, Numbered, numbered, of_flow
 abbrev pub total : {A : Type 0} → (A → ℕ) → List A → ℕ
 total f [] = 0
 total f (x ∷ xs) = f x + total f xs
+
+-- each of these
+abbrev pub Each : {A : Type 0} → (A → Type 0) → List A → Type 0
+Each P [] = Unit {0}
+Each P (x ∷ xs) = P x × Each P xs
 
 -- x is one of these
 abbrev pub IsIn : {A : Type 0} → A → List A → Type 0
@@ -54,19 +63,61 @@ pub record LieApart (v : AppView) : Type 0 where
 abbrev pub held_piece : Piece → HeldPiece
 held_piece p = record { place = p.held; origin = of_note p.note p.at }
 
-abbrev pub lent_piece : Lending → LentPiece
-lent_piece l = record { place = l.loan; origin = of_note l.note l.at }
+-- where the bytes of a loan come from: so many of a note, from one of them on. They are those of the note's piece, or
+-- a copy of those that came with the note
+abbrev pub origin_in : Option TakenNote → ℕ → ℕ → ℕ → Origin
+origin_in None note at len = of_note note at
+origin_in (Some t) note at len = if t.note.split then of_note note at else of_copy (take len (drop at t.bytes))
 
--- over the pieces that a queue keeps
-abbrev pub over_kept : (HeldPiece → ℕ) → Queue Piece → ℕ
-over_kept f queue = total (λ k. f (held_piece k.piece)) queue.kept
+abbrev pub lent_piece : List TakenNote → Lending → LentPiece
+lent_piece taken l = record { place = l.loan; origin = origin_in (slice_get taken l.note) l.note l.at l.loan.len }
 
--- the place of a piece, and that of a loan, by their marks
+-- over the pieces in the area that a queue keeps
+abbrev pub over_waiting : (HeldPiece → ℕ) → Waiting → ℕ
+over_waiting f (InArea p) = f (held_piece p)
+over_waiting f (Copied s) = 0
+
+abbrev pub over_kept : (HeldPiece → ℕ) → Queue Waiting → ℕ
+over_kept f queue = total (λ k. over_waiting f k.piece) queue.kept
+
+-- how many bytes a queue keeps in memory of their own
+abbrev pub short_len : Waiting → ℕ
+short_len (InArea p) = 0
+short_len (Copied s) = length s.bytes.items
+
+abbrev pub short_bytes : Queue Waiting → ℕ
+short_bytes queue = total (λ k. short_len k.piece) queue.kept
+
+-- the place of what waits, and that of a loan, by their marks
 abbrev pub marks_of_piece : Piece → List Mark
 marks_of_piece p = marks_from p.note p.at p.held.len
 
+abbrev pub marks_of_waiting : Waiting → List Mark
+marks_of_waiting (InArea p) = marks_of_piece p
+marks_of_waiting (Copied s) = marks_from s.note s.at (length s.bytes.items)
+
 abbrev pub marks_of_loan : Lending → List Mark
 marks_of_loan l = marks_from l.note l.at l.loan.len
+
+-- ---- the notes of what waits
+
+-- a piece in the area is of a note that tells of one
+pub record IsInArea (taken : List TakenNote) (p : Piece) : Type 0 where
+  pub note : TakenNote
+  pub is : slice_get taken p.note ≡ Some note
+  pub split : note.note.split ≡ true
+
+-- these bytes came with their note, at their place in it
+pub record IsShort (taken : List TakenNote) (s : Short) : Type 0 where
+  pub note : TakenNote
+  pub is : slice_get taken s.note ≡ Some note
+  pub split : note.note.split ≡ false
+  pub bytes : s.bytes.items ≡ take (length s.bytes.items) (drop s.at note.bytes)
+  pub few : length s.bytes.items ≤ 256
+
+abbrev pub IsOfNote : List TakenNote → Waiting → Type 0
+IsOfNote taken (InArea p) = IsInArea taken p
+IsOfNote taken (Copied s) = IsShort taken s
 
 -- ---- what a flow received, each piece judged for itself
 
@@ -103,35 +154,32 @@ placed_of flow taken = received_notes flow.queue.base nothing_placed (own_notes 
 -- The queue has what was received. What was appended, what is lent, and what is kept follow each other.
 pub record FlowStands (taken : List TakenNote) (posted : List (Completion × Lending)) (flow : FlowQueue) : Type 0 where
   pub begun : BeginAt flow.queue.base (own_notes flow.number taken)
-  pub holds : Holds marks_of_piece flow.queue (placed_of flow taken)
+  pub holds : Holds marks_of_waiting flow.queue (placed_of flow taken)
+  pub notes : Each (λ k. IsOfNote taken k.piece) flow.queue.kept
   pub counted : flow.bytes ≤ flow.queue.popped
   pub lent : lent_marks flow.number posted ≡ values_from (placed_of flow taken).at (flow.queue.popped - flow.bytes) flow.bytes
-
-abbrev pub Each : {A : Type 0} → (A → Type 0) → List A → Type 0
-Each P [] = Unit {0}
-Each P (x ∷ xs) = P x × Each P xs
 
 -- how many flows have this number
 abbrev pub many : ℕ → List FlowQueue → ℕ
 many number flows = total (λ f. if f.number == number then 1 else 0) flows
 
-abbrev pub over_due : (LentPiece → ℕ) → Option Lending → ℕ
-over_due f None = 0
-over_due f (Some l) = f (lent_piece l)
+abbrev pub over_due : List TakenNote → (LentPiece → ℕ) → Option Lending → ℕ
+over_due taken f None = 0
+over_due taken f (Some l) = f (lent_piece taken l)
 
 -- the loans that were read and are still out: that which is to be given back, and those that are kept to the end
 abbrev pub read_out : Option Lending → List Lending → List Lending
 read_out None leaked = leaked
 read_out (Some l) leaked = l ∷ leaked
 
-abbrev pub over_read : (LentPiece → ℕ) → List Lending → ℕ
-over_read f read = total (λ l. f (lent_piece l)) read
+abbrev pub over_read : List TakenNote → (LentPiece → ℕ) → List Lending → ℕ
+over_read taken f read = total (λ l. f (lent_piece taken l)) read
 
 -- the tokens that are out are those that are kept
 pub record HasTokens (flows : List FlowQueue) (posted : List (Completion × Lending)) (read : List Lending) (v : AppView) : Type 0 where
   pub apart : LieApart v
   pub helds : (f : HeldPiece → ℕ) → total f v.helds ≡ total (λ flow. over_kept f flow.queue) flows
-  pub loans : (f : LentPiece → ℕ) → total f v.loans ≡ total (λ p. f (lent_piece p.1)) posted + over_read f read
+  pub loans : (f : LentPiece → ℕ) → total f v.loans ≡ total (λ p. f (lent_piece v.taken p.1)) posted + over_read v.taken f read
 
 pub record Stands (count : ℕ) (own : List FlowQueue) (ring : List (Completion × Lending)) (read : List Lending) (v : AppView) : Type 0 where
   pub tokens : HasTokens own ring read v
@@ -142,6 +190,9 @@ pub record Stands (count : ℕ) (own : List FlowQueue) (ring : List (Completion 
   pub known : (number : ℕ) → many number own ≡ 0 → own_notes number v.taken ≡ []
   -- and each completion is of a flow that has one
   pub posted : Each (λ p. many p.0.user_data own ≡ 1) ring
+  -- each loan is of a note that was taken
+  pub lent : Each (λ p. p.1.note < length v.taken) ring
+  pub due_lent : Each (λ l. l.note < length v.taken) read
   pub counted : v.scrubbed ≡ false
 
 -- ---- what was read
@@ -155,12 +206,19 @@ pub record IsReadAt (reads : List Reading) (mark : Mark) (byte : ℕ) : Type 0 w
   pub at_or_behind : from ≤ mark.place
   pub is : value_at reading.bytes (mark.place - from) ≡ Some byte
 
--- these bytes were read at these marks, one at each
-abbrev pub AreReadAt : List Reading → List Mark → List ℕ → Type 0
-AreReadAt reads [] [] = Unit {0}
-AreReadAt reads (m ∷ ms) (b ∷ bs) = IsReadAt reads m b × AreReadAt reads ms bs
-AreReadAt reads [] (b ∷ bs) = ⊥
-AreReadAt reads (m ∷ ms) [] = ⊥
+-- the byte at a mark: of a note that tells of a piece in the area, one that was read through a loan of it, and of another
+-- the one that came with it
+pub record IsByteAt (taken : List TakenNote) (reads : List Reading) (mark : Mark) (byte : ℕ) : Type 0 where
+  pub note : TakenNote
+  pub is : slice_get taken mark.note ≡ Some note
+  pub stands : MatchBool note.note.split (IsReadAt reads mark byte) (value_at note.bytes mark.place ≡ Some byte)
+
+-- these are the bytes at these marks, one at each
+abbrev pub AreReadAt : List TakenNote → List Reading → List Mark → List ℕ → Type 0
+AreReadAt taken reads [] [] = Unit {0}
+AreReadAt taken reads (m ∷ ms) (b ∷ bs) = IsByteAt taken reads m b × AreReadAt taken reads ms bs
+AreReadAt taken reads [] (b ∷ bs) = ⊥
+AreReadAt taken reads (m ∷ ms) [] = ⊥
 
 -- nothing changed but for reads, and none of these is lost
 pub record OnlyReads (old new : AppView) : Type 0 where
@@ -169,7 +227,7 @@ pub record OnlyReads (old new : AppView) : Type 0 where
   pub are : new.reads ≡ old.reads ++ more
 
 -- the first bytes of a loan were read, from so many on and at most so many
-pub record IsReadOf (reads : List Reading) (lending : Lending) (done most : ℕ) (bytes : List ℕ) : Type 0 where
-  pub are : AreReadAt reads (marks_from lending.note lending.at (length bytes)) bytes
+pub record IsReadOf (taken : List TakenNote) (reads : List Reading) (lending : Lending) (done most : ℕ) (bytes : List ℕ) : Type 0 where
+  pub are : AreReadAt taken reads (marks_from lending.note lending.at (length bytes)) bytes
   pub at_least : done ≤ length bytes
   pub at_most : length bytes ≤ most

@@ -33,7 +33,8 @@ new_state app places how = record {
   stopped = if is_nothing how.quit then Quit else No;
   ended = false;
   bare = is_nothing how.quit;
-  short = false;
+  copied = 0;
+  flush = false;
 }
 
 -- this application has done nothing at its board yet

@@ -9,16 +9,16 @@ use Rattle.board_face.specs.declared.views.app.AppView.{AppView}
 use Rattle.app_worker.specs.declared.stack.FlowQueue.{FlowQueue}
 use Rattle.app_worker.specs.Core.{Each, many, AreReadAt, placed_of}
 
--- since `first`, a flow's shelf gained what was read at its first marks, as many as are counted
+-- since `first`, a flow's shelf gained the bytes at its first marks, as many as are counted
 pub record IsShelved (first kept : ℕ → Option (List ℕ)) (taken : List TakenNote) (reads : List Reading) (flow : FlowQueue) : Type 0 where
-  pub gained : Gained (first flow.number) (kept flow.number) (λ bytes. AreReadAt reads (values_from (placed_of flow taken).at flow.bytes 0) bytes)
+  pub gained : Gained (first flow.number) (kept flow.number) (λ bytes. AreReadAt taken reads (values_from (placed_of flow taken).at flow.bytes 0) bytes)
 
--- bytes that were read at a flow's first marks, at least as many as are counted
+-- the bytes at a flow's first marks, at least as many as are counted
 pub record ReadsFront (taken : List TakenNote) (reads : List Reading) (flow : FlowQueue) (bytes : List ℕ) : Type 0 where
   pub count : ℕ
   pub at_least : flow.bytes ≤ count
   pub below : (p : ℕ) → p < count → IsSome ((placed_of flow taken).at p)
-  pub are : AreReadAt reads (values_from (placed_of flow taken).at count 0) bytes
+  pub are : AreReadAt taken reads (values_from (placed_of flow taken).at count 0) bytes
 
 -- once the shelf has failed, it may have some bytes more
 pub record IsFrontShelved (first kept : ℕ → Option (List ℕ)) (taken : List TakenNote) (reads : List Reading) (flow : FlowQueue) : Type 0 where

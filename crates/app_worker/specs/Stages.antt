@@ -1,9 +1,9 @@
 -- What the stages of a turn do.
-use Rattle.std.specs.Prelude.{◌≡◌, ◌≢◌, ℕ, ◌<◌, ◌≤◌, Bool, true, false, List, [], length, Option, None}
+use Rattle.std.specs.Prelude.{◌≡◌, ◌≢◌, ℕ, ◌<◌, ◌≤◌, Bool, true, false, if◌then◌else◌, List, [], length, Option, None}
 use Rattle.zr_kinds.specs.declared.behaviour.Stopped.TheVariants as stop
 use Rattle.zr_io.specs.Moved.{Rose}
 use Rattle.board_face.specs.AppCalls.{AppOnlySaw}
-use Rattle.board_face.specs.AppEvents.{fell_quiet, scrubbed, left_board}
+use Rattle.board_face.specs.AppEvents.{fell_quiet, scrubbed, left_board, reserve_of}
 use Rattle.board_face.specs.declared.views.app.AppLook.TheVariants.{RawOnItsWay, NotQuiet}
 use Rattle.board_face.specs.declared.views.app.AppView.{AppView}
 use Rattle.app_worker.specs.declared.stack.Delivery.{Delivery}
@@ -11,10 +11,11 @@ use Rattle.app_worker.specs.declared.stack.Delivery.TheVariants.{Did as lent_it}
 use Rattle.app_worker.specs.declared.stages.Drained.{Drained}
 use Rattle.app_worker.specs.declared.stages.Drained.TheVariants.{Nothing as read_nothing, Did as read_some, InUse, Quit as read_quit, Failed as read_failed}
 use Rattle.app_worker.specs.declared.stages.Lent.{Lent}
-use Rattle.app_worker.specs.declared.stages.Lent.TheVariants.{Nothing as none_in_order, Did as lent_some, Stuck, Quit as lending_quit}
-use Rattle.app_worker.specs.declared.stages.Lent.TheVariants.{Failed as lending_failed}
-use Rattle.app_worker.specs.Core.{total, Each}
-use Rattle.app_worker.specs.State.{State, IsAtRest, Working, Common, Bare, app_steps}
+use Rattle.app_worker.specs.declared.stages.Lent.TheVariants.{Nothing as none_in_order, Did as lent_some, Stuck, NoSpare as NoSpareHad}
+use Rattle.app_worker.specs.declared.stages.Lent.TheVariants.{Quit as lending_quit, Failed as lending_failed}
+use Rattle.app_worker.specs.Core.{Each}
+use Rattle.app_worker.specs.State.{State, IsAtRest, LiesOutside, Working, Common, Bare, app_steps}
+use Rattle.app_worker.specs.Steps.{SawNoSpare}
 use Rattle.app_worker.specs.Moves.{Goes}
 use Rattle.app_worker.specs.Whole.{Lends}
 
@@ -59,13 +60,22 @@ pub record Untouched (was now : State) (old new : AppView) (kept kept_now : ℕ 
   pub view : new ≡ old
   pub kept_is : kept_now ≡ kept
 
+-- how many may stay unread: none, while all is to be read
+abbrev pub kept_of : ℕ → State → ℕ
+kept_of keep st = if st.flush then 0 else keep
+
+-- nothing unread lies in the reserve
+abbrev pub NoneInReserve : State → AppView → Type 0
+NoneInReserve st v = Each (LiesOutside (reserve_of v)) st.unread
+
 -- what reading did, down to so many that stay unread
 abbrev pub ReadsTo : ℕ → State → State → AppView → AppView → (ℕ → Option (List ℕ)) → (ℕ → Option (List ℕ)) → ℕ → ℕ → Drained
     → Type 0
-ReadsTo keep was now old new kept kept_now faults faults_now read_nothing = Untouched was now old new kept kept_now × (length was.unread ≤ keep)
+ReadsTo keep was now old new kept kept_now faults faults_now read_nothing = Untouched was now old new kept kept_now × (length was.unread ≤ kept_of keep was)
 ReadsTo keep was now old new kept kept_now faults faults_now read_some = Through was now old new kept kept_now × (app_steps was old < app_steps now new)
-    × (now.due ≡ None) × (length now.unread ≤ keep) × (now.stray.left ≡ 0)
+    × (now.due ≡ None) × (length now.unread ≡ kept_of keep was) × (now.flush ≡ false) × (now.stray.left ≡ 0)
 ReadsTo keep was now old new kept kept_now faults faults_now InUse = Through was now old new kept kept_now × (app_steps was old < app_steps now new)
+    × (kept_of keep was ≤ length now.unread)
 ReadsTo keep was now old new kept kept_now faults faults_now read_quit = HasQuit was now old new kept kept_now
 ReadsTo keep was now old new kept kept_now faults faults_now read_failed = WriteStopped was now old new kept kept_now faults faults_now
 
@@ -74,11 +84,10 @@ pub record LentSome (was now : State) (old new : AppView) (did : Bool) (end_by :
   pub working : Working now new
   pub common : Common now new
   pub goes : (kept : ℕ → Option (List ℕ)) → Goes was now old new kept kept
-  pub same : now ≡ record was { flows = now.flows; posted = now.posted; loans = now.loans }
+  pub same : now ≡ record was { flows = now.flows; posted = now.posted; loans = now.loans; copied = now.copied; flush = now.flush }
   pub taken : new.taken ≡ old.taken
   pub left : new.left ≡ old.left
   pub steps : did ≡ true → app_steps was old < app_steps now new
-  pub helds : did ≡ true → total (λ _. 1) new.helds < total (λ _. 1) old.helds
   pub final : end_by ≢ lent_it
   pub nothing : did ≡ false → Lends was now old new end_by
 
@@ -89,6 +98,7 @@ LendsAll was now old new kept kept_now faults faults_now none_in_order = Untouch
 LendsAll was now old new kept kept_now faults faults_now lent_some = Through was now old new kept kept_now × (app_steps was old < app_steps now new)
 LendsAll was now old new kept kept_now faults faults_now Stuck = (now ≡ was) × (kept_now ≡ kept) × AppOnlySaw RawOnItsWay old new
 LendsAll was now old new kept kept_now faults faults_now lending_quit = HasQuit was now old new kept kept_now
+LendsAll was now old new kept kept_now faults faults_now NoSpareHad = (now ≡ was) × (kept_now ≡ kept) × SawNoSpare old new
 LendsAll was now old new kept kept_now faults faults_now lending_failed = WriteStopped was now old new kept kept_now faults faults_now
 
 -- ---- leaving

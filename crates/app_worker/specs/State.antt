@@ -21,7 +21,7 @@ use Rattle.board_face.specs.declared.views.app.AppView.{AppView}
 use Rattle.app_worker.specs.declared.stack.Lending.{Lending}
 use Rattle.app_worker.specs.declared.stack.Stray.{Stray}
 use Rattle.app_worker.specs.declared.stack.FlowQueue.{FlowQueue}
-use Rattle.app_worker.specs.Core.{total, Each, many, over_due, read_out, own_notes, BeginAt, placed_of, Stands}
+use Rattle.app_worker.specs.Core.{total, Each, many, read_out, own_notes, BeginAt, placed_of, short_bytes, Stands}
 
 pub record State : Type 0 where
   pub app : ℕ
@@ -50,8 +50,10 @@ pub record State : Type 0 where
   pub ended : Bool
   -- it has no piece and no loan any more
   pub bare : Bool
-  -- it was sent a short payload while it wasn't stopped
-  pub short : Bool
+  -- how many loans were of bytes that had to be copied
+  pub copied : ℕ
+  -- all that is unread is to be read, since a loan in the reserve was posted
+  pub flush : Bool
 
 -- no piece of the flow is in order
 abbrev pub IsAtRest : FlowQueue → Type 0
@@ -88,6 +90,10 @@ read_of st = read_out st.due st.leaked.items
 abbrev pub returned_aside : AppView → ℕ
 returned_aside v = total (λ l. if l.place.buffer == reserve_of v then 0 else 1) v.returned
 
+-- its loan lies in another buffer
+abbrev pub LiesOutside : ℕ → Completion × Lending → Type 0
+LiesOutside buffer p = p.1.loan.buffer ≢ buffer
+
 -- What it has out, and how far its flows are.
 pub record Working (st : State) (v : AppView) : Type 0 where
   pub stands : Stands st.notes st.flows (st.unread ++ st.posted.entries) (read_of st) v
@@ -97,7 +103,9 @@ pub record Working (st : State) (v : AppView) : Type 0 where
   -- once no note comes any more, nothing is in order
   pub over : st.ended ≡ true → Each IsAtRest st.flows
   pub going : st.stopped ≡ No
-  pub split : st.short ≡ false
+  -- a loan in the reserve is unread only while all is to be read
+  pub outside : st.flush ≡ false → Each (LiesOutside (reserve_of v)) (st.unread ++ st.posted.entries)
+  pub flush : st.flush ≡ true → st.unread ++ st.posted.entries ≢ []
   pub live : st.bare ≡ false
   -- a loan is given back only once as many are kept as are to be, those in the reserve aside
   pub keeps_first : 0 < returned_aside v → length st.leaked.items ≡ st.how.leak
@@ -122,8 +130,8 @@ pub record Bare (st : State) (v : AppView) : Type 0 where
   pub flows : Each (FlowEnds v.taken) st.flows
   pub distinct : (number : ℕ) → many number st.flows ≤ 1
   -- and where nothing stopped it, all of its flows was appended
-  pub whole : st.stopped ≡ No → st.short ≡ false → (st.ended ≡ true) × Each (λ f. f.bytes ≡ next_missing (placed_of f v.taken)) st.flows
-  pub known : st.stopped ≡ No → st.short ≡ false → (number : ℕ) → many number st.flows ≡ 0 → own_notes number v.taken ≡ []
+  pub whole : st.stopped ≡ No → (st.ended ≡ true) × Each (λ f. f.bytes ≡ next_missing (placed_of f v.taken)) st.flows
+  pub known : st.stopped ≡ No → (number : ℕ) → many number st.flows ≡ 0 → own_notes number v.taken ≡ []
 
 -- ---- always
 
@@ -133,6 +141,10 @@ capped n = min n (2 ^ 64 - 1)
 
 abbrev pub taken_len : TakenNote → ℕ
 taken_len t = t.note.place.len
+
+-- how many bytes came with the note
+abbrev pub unsplit_len : TakenNote → ℕ
+unsplit_len t = if t.note.split then 0 else t.note.total
 
 abbrev pub held_len : HeldPiece → ℕ
 held_len h = h.place.len
@@ -159,7 +171,9 @@ pub record Common (st : State) (v : AppView) : Type 0 where
   pub ended : v.ended ≡ st.ended
   pub counted : v.left ≡ false → v.scrubbed ≡ false
   pub owns : v.owns ≡ []
-  pub spares : v.spares ≡ 0
+  pub copied : st.copied ≡ capped v.spares
+  -- each spare was for a byte that came in a note, and is for one that it doesn't keep any more
+  pub spares : v.spares + total (λ f. short_bytes f.queue) st.flows ≤ total unsplit_len v.taken
   pub some_places : 1 ≤ st.posted.places
   pub within : length st.posted.entries ≤ st.posted.places
   pub room : st.how.hold + st.posted.places ≤ st.room
@@ -174,8 +188,8 @@ pub record Common (st : State) (v : AppView) : Type 0 where
   pub strays : raw_entries v + st.stray.left ≤ st.how.stray * loan_entries v
   pub entries : loan_entries v ≤ length v.returned
   pub names : 0 < st.stray.left → judged v.setting.layout st.stray.entry ≡ Some st.stray.buffer
-  -- each loan was of a byte that was taken, and is of one that it doesn't hold any more
-  pub bound : length v.loans + length v.returned + total held_len v.helds ≤ total taken_len v.taken
+  -- each loan was of a byte that was taken, and is of one that it doesn't keep any more
+  pub bound : length v.loans + length v.returned + total held_len v.helds + total (λ f. short_bytes f.queue) st.flows ≤ total taken_len v.taken
 
 -- between two turns
 pub record AppStands (st : State) (v : AppView) : Type 0 where
@@ -190,8 +204,12 @@ one_if b = if b then 1 else 0
 
 -- Notes, loans and entries, each at the place that it has come to, and what comes once. Each turn that did something
 -- raises it, and none lowers it.
+abbrev pub due_one : Option Lending → ℕ
+due_one None = 0
+due_one (Some l) = 1
+
 abbrev pub app_steps : State → AppView → ℕ
-app_steps st v = length v.taken + length v.loans + 4 * length v.returned + over_due (λ _. 1) st.due + 2 * length st.leaked.items + one_if v.ended
+app_steps st v = length v.taken + length v.loans + 4 * length v.returned + due_one st.due + 2 * length st.leaked.items + one_if v.ended
     + one_if st.bare + one_if v.left + (st.how.stray * length v.returned - st.stray.left)
 
 -- it goes no further than the notes that were taken, their bytes, and the entries that may follow each, let it

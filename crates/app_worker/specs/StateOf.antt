@@ -21,5 +21,6 @@ state_of st = record {
   stopped = st.stopped;
   ended = st.ended;
   bare = st.bare;
-  short = st.short;
+  copied = st.copied;
+  flush = st.flush;
 }

@@ -2,21 +2,22 @@
 use Rattle.std.specs.Prelude.{◌≡◌, ℕ, List, ◌++◌, Option}
 use Rattle.zr_io.specs.Moved.{Gained}
 use Rattle.board_face.specs.declared.views.app.Reading.{Reading}
+use Rattle.board_face.specs.declared.views.app.TakenNote.{TakenNote}
 use Rattle.board_face.specs.declared.views.app.AppView.{AppView}
 use Rattle.app_worker.specs.Marks.{Mark, marks_of}
 use Rattle.app_worker.specs.Core.{AreReadAt}
 
--- these bytes were read at the first of these marks, one at each
-pub record IsFront (reads : List Reading) (marks : List Mark) (bytes : List ℕ) : Type 0 where
+-- these are the bytes at the first of these marks, one at each
+pub record IsFront (taken : List TakenNote) (reads : List Reading) (marks : List Mark) (bytes : List ℕ) : Type 0 where
   pub read : List Mark
   pub rest : List Mark
   pub parts : marks ≡ read ++ rest
-  pub are : AreReadAt reads read bytes
+  pub are : AreReadAt taken reads read bytes
 
--- since `first`, each flow gained bytes that were read at the first of its marks
+-- since `first`, each flow gained the bytes at the first of its marks
 abbrev pub HasFronts : (ℕ → Option (List ℕ)) → (ℕ → Option (List ℕ)) → AppView → Type 0
-HasFronts first kept v = (flow : ℕ) → Gained (first flow) (kept flow) (IsFront v.reads (marks_of flow v.taken))
+HasFronts first kept v = (flow : ℕ) → Gained (first flow) (kept flow) (IsFront v.taken v.reads (marks_of flow v.taken))
 
 -- and those at all of them
 abbrev pub HasAll : (ℕ → Option (List ℕ)) → (ℕ → Option (List ℕ)) → AppView → Type 0
-HasAll first kept v = (flow : ℕ) → Gained (first flow) (kept flow) (AreReadAt v.reads (marks_of flow v.taken))
+HasAll first kept v = (flow : ℕ) → Gained (first flow) (kept flow) (AreReadAt v.taken v.reads (marks_of flow v.taken))

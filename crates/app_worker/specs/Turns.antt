@@ -10,12 +10,13 @@ use Rattle.board_face.specs.declared.views.app.AppLook.TheVariants.{NoNote as no
 use Rattle.board_face.specs.declared.views.app.TakenNote.{TakenNote}
 use Rattle.board_face.specs.declared.views.app.AppView.{AppView}
 use Rattle.app_worker.specs.declared.turn.Turn.{Turn}
-use Rattle.app_worker.specs.declared.turn.Turn.TheVariants.{Did, Idle, Finished, Failed, NotYet}
+use Rattle.app_worker.specs.declared.turn.Turn.TheVariants.{Did, Idle, Finished, Failed}
 use Rattle.app_worker.specs.declared.turn.Why.{Why}
 use Rattle.app_worker.specs.declared.turn.Why.TheVariants.{NoNote, RefillFull, Unsettled, ReserveHeld, NotQuiet}
 use Rattle.app_worker.specs.Core.{Each}
 use Rattle.app_worker.specs.State.{State, IsAtRest, Working, AppStands, app_steps}
 use Rattle.app_worker.specs.Moves.{Moves, Goes}
+use Rattle.app_worker.specs.Stages.{NoneInReserve}
 
 -- ---- a turn that did nothing
 
@@ -33,21 +34,22 @@ look_of NotQuiet = not_quiet
 
 -- ---- when a note may be taken
 
--- No piece of any flow is in order, each loan that was read was given back or is kept, each entry that
--- follows one was written, and few enough completions are unread.
-pub record MayPoll (st : State) : Type 0 where
+-- No piece of any flow is in order, each loan that was read was given back or is kept to the end, each entry that follows
+-- one was written, and few enough completions are unread, none of them in the reserve.
+pub record MayPoll (st : State) (v : AppView) : Type 0 where
   pub in_order : Each IsAtRest st.flows
   pub given : st.due ≡ None
   pub none_left : st.stray.left ≡ 0
   pub posted : st.posted.entries ≡ []
   pub unread : length st.unread ≤ st.how.hold
+  pub reserve : NoneInReserve st v
 
 -- On its way the turn came to a state and a view in which a note may be taken, and no note was taken before.
 pub record Polled (was now : State) (old new : AppView) : Type 0 where
   pub then_state : State
   pub then_view : AppView
   pub works : Working then_state then_view
-  pub may : MayPoll then_state
+  pub may : MayPoll then_state then_view
   pub before : then_view.taken ≡ old.taken
   pub to : Moves was then_state old then_view
   pub from : Moves then_state now then_view new
@@ -61,7 +63,6 @@ Answers was now old new faults faults_now Finished = (old.left ≡ false) × (ne
 Answers was now old new faults faults_now (Failed memory_fault) = (was.stopped ≡ stop.No) × (now.stopped ≡ stop.Memory)
 Answers was now old new faults faults_now (Failed write_fault) = (was.stopped ≡ stop.No) × (now.stopped ≡ stop.Write) × Rose faults faults_now
 Answers was now old new faults faults_now (Failed other) = ⊥
-Answers was now old new faults faults_now NotYet = (was.short ≡ false) × (now.short ≡ true)
 
 -- ---- a turn
 
@@ -92,7 +93,7 @@ pub record Turns (was now : State) (old new : AppView) (kept kept_now : ℕ → 
   -- a note is taken only where that may be
   pub polled : was.bare ≡ false → new.taken ≢ old.taken → Polled was now old new
   -- and so is NoNote answered
-  pub none : was.bare ≡ false → result ≡ Idle NoNote → MayPoll was
+  pub none : was.bare ≡ false → result ≡ Idle NoNote → MayPoll was old
   -- the shelf stops it only where that failed
   pub cause : was.stopped ≢ stop.Write → now.stopped ≡ stop.Write → Rose faults faults_now
   -- once it is stopped, it only takes notes
@@ -104,4 +105,3 @@ turn_after did (Idle why) = if did then Did else Idle why
 turn_after did Did = Did
 turn_after did Finished = Finished
 turn_after did (Failed fault) = Failed fault
-turn_after did NotYet = NotYet

@@ -13,7 +13,7 @@ use Rattle.board_face.specs.declared.views.app.TakenNote.{TakenNote}
 use Rattle.board_face.specs.declared.views.app.AppView.{AppView}
 use Rattle.app_worker.specs.declared.stack.FlowQueue.{FlowQueue}
 use Rattle.app_worker.specs.declared.stack.Delivery.{Delivery}
-use Rattle.app_worker.specs.declared.stack.Delivery.TheVariants.{Did as lent_it, NoneInOrder, Full, Unsettled}
+use Rattle.app_worker.specs.declared.stack.Delivery.TheVariants.{Did as lent_it, NoneInOrder, Full, Unsettled, ReserveHeld}
 use Rattle.app_worker.specs.declared.turning.Read.{Read}
 use Rattle.app_worker.specs.declared.turning.Read.TheVariants.{Did as read_it, NoneUnread, Quit, Failed}
 use Rattle.app_worker.specs.declared.reading.Pushed.{Pushed}
@@ -21,15 +21,16 @@ use Rattle.app_worker.specs.declared.reading.Pushed.TheVariants.{Nothing as push
 use Rattle.app_worker.specs.declared.straying.Gave.{Gave}
 use Rattle.app_worker.specs.declared.straying.Gave.TheVariants.{Nothing as nothing_given, Did as given, Part as given_in_part, InUse as given_none}
 use Rattle.app_worker.specs.declared.turning.Taken.{Taken}
-use Rattle.app_worker.specs.declared.turning.Taken.TheVariants.{Did as took, Short, NoNote, Ended, Memory}
-use Rattle.app_worker.specs.Core.{total, HasTokens, Each, many, AreReadAt, placed_of}
+use Rattle.app_worker.specs.declared.turning.Taken.TheVariants.{Did as took, NoNote, Ended, Memory}
+use Rattle.app_worker.specs.Core.{HasTokens, Each, many, AreReadAt, placed_of}
 use Rattle.app_worker.specs.State.{State, read_of, IsAtRest, Working, Common, FlowEnds, app_steps}
 use Rattle.app_worker.specs.Shelves.{AreShelved, AreFronts}
+use Rattle.app_worker.specs.Steps.{SawNoSpare}
 use Rattle.app_worker.specs.Moves.{Moves, Goes}
 
 -- what was kept of a flow went on by the bytes that were read at its next marks
 pub record Appended (flow : FlowQueue) (taken : List TakenNote) (new : AppView) (len : ℕ) (kept kept_now : ℕ → Option (List ℕ)) : Type 0 where
-  pub gained : Gained (kept flow.number) (kept_now flow.number) (λ bytes. AreReadAt new.reads (values_from (placed_of flow taken).at len flow.bytes) bytes)
+  pub gained : Gained (kept flow.number) (kept_now flow.number) (λ bytes. AreReadAt taken new.reads (values_from (placed_of flow taken).at len flow.bytes) bytes)
   pub others : (other : ℕ) → other ≢ flow.number → Keeps (kept other) (kept_now other)
 
 -- ---- the queue of a note's flow
@@ -49,9 +50,8 @@ IsChosen was now note i =
 -- The piece that is next in the stream was lent and posted.
 pub record LentOne (was now : State) (old new : AppView) : Type 0 where
   pub steps : app_steps was old < app_steps now new
-  pub helds : total (λ _. 1) new.helds + 1 ≡ total (λ _. 1) old.helds
   pub posted : length now.posted.entries ≡ length was.posted.entries + 1
-  pub same : now ≡ record was { flows = now.flows; posted = now.posted; loans = now.loans }
+  pub same : now ≡ record was { flows = now.flows; posted = now.posted; loans = now.loans; copied = now.copied; flush = now.flush }
   pub taken : new.taken ≡ old.taken
   pub left : new.left ≡ old.left
 
@@ -60,6 +60,7 @@ Lends was now old new lent_it = LentOne was now old new
 Lends was now old new NoneInOrder = (now ≡ was) × (new ≡ old) × Each IsAtRest was.flows
 Lends was now old new Full = (now ≡ was) × (new ≡ old) × IsFull was.posted
 Lends was now old new Unsettled = (now ≡ was) × AppOnlySaw RawOnItsWay old new
+Lends was now old new ReserveHeld = (now ≡ was) × SawNoSpare old new
 
 -- ---- giving back
 
@@ -103,7 +104,10 @@ pub record ReadOne (was now : State) (old new : AppView) (kept kept_now : ℕ �
   pub steps : app_steps was old < app_steps now new
   pub unread : length was.unread ≡ length now.unread + 1
   pub due : now.due ≢ None
-  pub same : now ≡ record was { flows = now.flows; unread = now.unread; due = now.due; written = now.written }
+  pub same : now ≡ record was { flows = now.flows; unread = now.unread; due = now.due; written = now.written; flush = now.flush }
+  -- once nothing is unread, all was read that was to be
+  pub flush : now.flush ≡ true → (was.flush ≡ true) × (now.unread ≢ [])
+  pub flushed : now.flush ≡ false → (was.flush ≡ false) ⊎ (now.unread ≡ [])
   pub taken : new.taken ≡ old.taken
   pub left : new.left ≡ old.left
 
@@ -120,7 +124,7 @@ pub record ReadQuit (was now : State) (old new : AppView) (kept kept_now : ℕ �
   pub moves : Moves was now old new
   pub shelved : (first : ℕ → Option (List ℕ)) → AreShelved first kept was.flows old → AreShelved first kept_now now.flows new
   pub stopped : now.stopped ≡ stop.Quit
-  pub same : now ≡ record was { flows = now.flows; unread = now.unread; due = now.due; written = now.written; stopped = now.stopped }
+  pub same : now ≡ record was { flows = now.flows; unread = now.unread; due = now.due; written = now.written; flush = now.flush; stopped = now.stopped }
   pub taken : new.taken ≡ old.taken
   pub left : new.left ≡ old.left
 
@@ -131,7 +135,7 @@ pub record ReadFailed (was now : State) (old new : AppView) (kept kept_now : ℕ
   pub moves : Moves was now old new
   pub rose : Rose faults faults_now
   pub fronts : (first : ℕ → Option (List ℕ)) → AreShelved first kept was.flows old → AreFronts first kept_now now.flows new
-  pub same : now ≡ record was { flows = now.flows; unread = now.unread; due = now.due; written = now.written }
+  pub same : now ≡ record was { flows = now.flows; unread = now.unread; due = now.due; written = now.written; flush = now.flush }
   pub taken : new.taken ≡ old.taken
   pub left : new.left ≡ old.left
 
@@ -170,7 +174,6 @@ pub record TookNone (was now : State) (old new : AppView) : Type 0 where
 
 abbrev pub Takes : State → State → AppView → AppView → Taken → Type 0
 Takes was now old new took = TookOne was now old new
-Takes was now old new Short = TookNone was now old new
 Takes was now old new Memory = TookNone was now old new
 Takes was now old new NoNote = (now ≡ was) × AppOnlySaw no_note old new
 Takes was now old new Ended = (now ≡ was) × ToldEnd old new

@@ -4,21 +4,21 @@ ghost use Rattle.circular_buffer.specs.Buffer.{buffer};
 ghost use Rattle.board_face.specs.declared.views.app.HeldPiece.{HeldPiece};
 ghost use Rattle.board_face.specs.declared.views.app.LentPiece.{LentPiece};
 ghost use Rattle.board_face.specs.AppCalls.{IsHere};
-ghost use Rattle.app_worker.specs.Core.{LieApart, total, over_kept, lent_piece, over_due, over_read};
+ghost use Rattle.app_worker.specs.Core.{LieApart, total, over_kept, short_bytes, lent_piece, over_due, over_read};
 ghost use Rattle.app_worker.specs.Steps.{OnlyHelds};
 ghost use Rattle.app_worker.specs.State.{Common};
 ghost use Rattle.app_worker.specs.StateOf.{state_of};
 ghost use Rattle.app_worker.specs.Whole.{Torn};
 ghost use Rattle.app_worker.specs.Letting.{facts_of, Abandons, LetGo};
 
-use crate::stack::{FlowQueue, Lending, Piece, Stack};
+use crate::stack::{FlowQueue, Lending, Stack, Waiting, give_back};
 use board_face::AppFace;
 use circular_buffer::HeapCircularBuffer;
 use tcp_reorder::RecvQueue;
 use zr_kinds::Completion;
 
 /// Gives up all pieces of a queue.
-fn release_kept<F: AppFace>(face: &mut F, queue: &mut RecvQueue<Piece>)
+fn release_kept<F: AppFace>(face: &mut F, queue: &mut RecvQueue<Waiting>)
     requires here { IsHere (F.seen face.old) }
     requires apart { LieApart (F.seen face.old) }
     requires out { (f : HeldPiece → ℕ) → over_kept f queue.old ≤ total f (F.seen face.old).helds }
@@ -27,8 +27,8 @@ fn release_kept<F: AppFace>(face: &mut F, queue: &mut RecvQueue<Piece>)
     ensures base { queue.new.base ≡ queue.old.base }
     ensures beside { F.beside face.new ≡ F.beside face.old }
 {
-    while let Some((piece, _)) = queue.pull() {
-        face.release(piece.held);
+    while let Some((waiting, _)) = queue.pull() {
+        give_back(face, waiting);
     }
 }
 
@@ -39,6 +39,7 @@ fn release_all<F: AppFace>(face: &mut F, flows: &mut Vec<FlowQueue>)
     requires out { (f : HeldPiece → ℕ) → total f (F.seen face.old).helds ≡ total (λ flow. over_kept f flow.queue) flows.old.items }
     ensures view { F.seen face.new ≡ record (F.seen face.old) { helds = [] } }
     ensures facts { map facts_of flows.new.items ≡ map facts_of flows.old.items }
+    ensures short { total (λ f. short_bytes f.queue) flows.new.items ≡ 0 }
     ensures beside { F.beside face.new ≡ F.beside face.old }
 {
     let mut i = 0;
@@ -52,8 +53,8 @@ fn release_all<F: AppFace>(face: &mut F, flows: &mut Vec<FlowQueue>)
 fn abandon_all<F: AppFace>(face: &mut F, unread: &mut HeapCircularBuffer<(Completion, Lending)>)
     requires here { IsHere (F.seen face.old) }
     requires apart { LieApart (F.seen face.old) }
-    requires out { (f : LentPiece → ℕ) → total (λ p. f (lent_piece p.1)) unread.old.items ≤ total f (F.seen face.old).loans }
-    ensures abandons { Abandons (F.seen face.old) (F.seen face.new) (λ f. total (λ p. f (lent_piece p.1)) unread.old.items) }
+    requires out { (f : LentPiece → ℕ) → total (λ p. f (lent_piece (F.seen face.old).taken p.1)) unread.old.items ≤ total f (F.seen face.old).loans }
+    ensures abandons { Abandons (F.seen face.old) (F.seen face.new) (λ f. total (λ p. f (lent_piece (F.seen face.old).taken p.1)) unread.old.items) }
     ensures empty { unread.new ≡ buffer [] unread.old.capacity }
     ensures beside { F.beside face.new ≡ F.beside face.old }
 {
@@ -66,8 +67,8 @@ fn abandon_all<F: AppFace>(face: &mut F, unread: &mut HeapCircularBuffer<(Comple
 fn abandon_due<F: AppFace>(face: &mut F, due: &mut Option<Lending>)
     requires here { IsHere (F.seen face.old) }
     requires apart { LieApart (F.seen face.old) }
-    requires out { (f : LentPiece → ℕ) → over_due f due.old ≤ total f (F.seen face.old).loans }
-    ensures abandons { Abandons (F.seen face.old) (F.seen face.new) (λ f. over_due f due.old) }
+    requires out { (f : LentPiece → ℕ) → over_due (F.seen face.old).taken f due.old ≤ total f (F.seen face.old).loans }
+    ensures abandons { Abandons (F.seen face.old) (F.seen face.new) (λ f. over_due (F.seen face.old).taken f due.old) }
     ensures none { due.new ≡ None }
     ensures beside { F.beside face.new ≡ F.beside face.old }
 {
@@ -80,8 +81,8 @@ fn abandon_due<F: AppFace>(face: &mut F, due: &mut Option<Lending>)
 fn abandon_leaked<F: AppFace>(face: &mut F, leaked: &mut HeapCircularBuffer<Lending>)
     requires here { IsHere (F.seen face.old) }
     requires apart { LieApart (F.seen face.old) }
-    requires out { (f : LentPiece → ℕ) → over_read f leaked.old.items ≤ total f (F.seen face.old).loans }
-    ensures abandons { Abandons (F.seen face.old) (F.seen face.new) (λ f. over_read f leaked.old.items) }
+    requires out { (f : LentPiece → ℕ) → over_read (F.seen face.old).taken f leaked.old.items ≤ total f (F.seen face.old).loans }
+    ensures abandons { Abandons (F.seen face.old) (F.seen face.new) (λ f. over_read (F.seen face.old).taken f leaked.old.items) }
     ensures empty { leaked.new ≡ buffer [] leaked.old.capacity }
     ensures beside { F.beside face.new ≡ F.beside face.old }
 {

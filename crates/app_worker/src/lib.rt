@@ -1,8 +1,10 @@
 //! The application: notes into the queues of their flows, loans, completions, reading and giving back.
 #![tactic(auto)]
 
+mod lending;
 mod letting;
 mod reading;
+mod short;
 mod stack;
 mod stages;
 mod state;

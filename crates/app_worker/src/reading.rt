@@ -30,7 +30,8 @@ pub fn read_loan<F: AppFace, T: Shelf>(
 ) -> Result<(), Failed>
     requires here { IsHere (F.seen face.old) }
     requires apart { LieApart (F.seen face.old) }
-    requires out { IsIn (lent_piece lending.now) (F.seen face.old).loans }
+    requires out { IsIn (lent_piece (F.seen face.old).taken lending.now) (F.seen face.old).loans }
+    requires note { lending.now.note < length (F.seen face.old).taken }
     requires part { most ≤ lending.now.loan.len }
     requires room { bytes.old + most < 2 ^ 64 }
     ensures only { OnlyReads (F.seen face.old) (F.seen face.new) }
@@ -38,9 +39,9 @@ pub fn read_loan<F: AppFace, T: Shelf>(
     ensures whole { OnOk result (bytes.new ≡ bytes.old + most) }
     ensures short { OnErr result (bytes.new < bytes.old + most) }
     ensures gained { Gained (T.kept shelf.old flow) (T.kept shelf.new flow)
-        (λ (read : List ℕ). IsReadOf (F.seen face.new).reads lending.now (bytes.new - bytes.old) most read) }
+        (λ (read : List ℕ). IsReadOf (F.seen face.old).taken (F.seen face.new).reads lending.now (bytes.new - bytes.old) most read) }
     ensures exact { OnOk result (Gained (T.kept shelf.old flow) (T.kept shelf.new flow)
-        (λ (read : List ℕ). IsReadOf (F.seen face.new).reads lending.now most most read)) }
+        (λ (read : List ℕ). IsReadOf (F.seen face.old).taken (F.seen face.new).reads lending.now most most read)) }
     ensures others { (other : ℕ) → other ≢ flow → Keeps (T.kept shelf.old other) (T.kept shelf.new other) }
     ensures later { T.faults shelf.old ≤ T.faults shelf.new }
     ensures cause { OnErr result (Rose (T.faults shelf.old) (T.faults shelf.new)) }
@@ -96,7 +97,7 @@ pub fn give_due<F: AppFace>(
 ) -> bool
     requires here { IsHere (F.seen face.old) }
     requires apart { LieApart (F.seen face.old) }
-    requires out { IfSome due.old (λ l. IsIn (lent_piece l) (F.seen face.old).loans) }
+    requires out { IfSome due.old (λ l. IsIn (lent_piece (F.seen face.old).taken l) (F.seen face.old).loans) }
     ensures given { Given most (F.seen face.old) (F.seen face.new) due.old due.new stray.old stray.new result }
     ensures told { result ≡ false → F.tells RefillInUse (app_gist (F.seen face.new)) (F.beside face.new) }
     ensures beside { F.beside face.new ≡ F.beside face.old }

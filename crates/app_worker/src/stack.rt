@@ -1,17 +1,20 @@
-//! The core of a turn, for split pieces: pieces into queues, lending, reading, giving back.
-ghost use Rattle.std.specs.Prelude.{◌≡◌, false, ℕ, ◌+◌, ◌-◌, ◌^◌, ◌<◌, ◌≤◌, length, IfSome, OnOk};
+//! The core of a turn: what waits in the queues, pieces into queues, lending.
+ghost use Rattle.std.specs.Prelude.{◌≡◌, true, false, ℕ, ◌+◌, ◌-◌, ◌^◌, ◌<◌, ◌≤◌, length, IfSome, OnOk, List, [], Some, slice_get};
 ghost use Rattle.zr_kinds.specs.CopyingReceiver.{Placed};
 ghost use Rattle.tcp_reorder.specs.Values.{Holds};
 ghost use Rattle.board_face.specs.AppCalls.{IsHere};
 ghost use Rattle.board_face.specs.Texts.{IsSplitNote};
 ghost use Rattle.app_worker.specs.Marks.{Mark};
 ghost use Rattle.board_face.specs.declared.views.app.HeldPiece.{HeldPiece};
-ghost use Rattle.app_worker.specs.Core.{LieApart, IsIn, total, held_piece, over_kept, marks_of_piece, received_note};
+ghost use Rattle.app_worker.specs.Core.{LieApart, IsIn, total, held_piece, over_kept, marks_of_waiting, received_note, short_bytes, IsOfNote, Each};
+ghost use Rattle.tcp_reorder.specs.Values.{AreSized};
+ghost use Rattle.board_face.specs.declared.views.app.TakenNote.{TakenNote};
 ghost use Rattle.board_face.specs.AppEvents.{app_gist};
-ghost use Rattle.board_face.specs.declared.views.app.AppLook.TheVariants.{RawOnItsWay};
-ghost use Rattle.app_worker.specs.State.{held_len};
-ghost use Rattle.app_worker.specs.Steps.{OnlyHelds, GaveFront, CutFirst, whole_piece, over_others, Delivered};
+ghost use Rattle.board_face.specs.declared.views.app.AppLook.TheVariants.{RawOnItsWay, NoSpare};
+ghost use Rattle.app_worker.specs.State.{held_len, unsplit_len};
+ghost use Rattle.app_worker.specs.Steps.{OnlyHelds, GaveFront, CutFirst, whole_piece, over_others, Delivered, is_short, IsOut, given_back};
 
+use crate::lending::{lend_copy, lend_piece};
 use board_face::{AppFace, Held, Loan};
 use circular_buffer::HeapCircularBuffer;
 use completion_ring::CqRing;
@@ -25,6 +28,35 @@ pub struct Piece {
     pub note: u64,
     pub at: u32,
     pub held: Held,
+}
+
+/// Bytes of a note in which they travelled, from one of its bytes on: in memory of their own while they wait.
+#[derive(Drop)]
+pub struct Short {
+    pub note: u64,
+    pub at: u32,
+    pub bytes: Vec<u8>,
+}
+
+/// What waits in a flow's queue.
+#[derive(Drop)]
+pub enum Waiting {
+    /// A piece that lies in the area.
+    InArea(Piece),
+    /// Bytes that are copied into a buffer when it is their turn.
+    Copied(Short),
+}
+
+impl Waiting {
+    /// Whether these are bytes that came with their note.
+    fn is_short(&self) -> bool
+        ensures { result ≡ is_short self.now }
+    {
+        match self {
+            Waiting::InArea(_) => false,
+            Waiting::Copied(_) => true,
+        }
+    }
 }
 
 /// A loan, with the mark of its first byte.
@@ -105,7 +137,7 @@ pub struct Wanting;
 /// The parts of a piece that its flow still wants enter the flow's queue, and the others are given up.
 pub fn enter<F: AppFace>(
     face: &mut F,
-    queue: &mut RecvQueue<Piece>,
+    queue: &mut RecvQueue<Waiting>,
     note: &Note,
     number: u64,
     held: Held,
@@ -119,8 +151,11 @@ pub fn enter<F: AppFace>(
         (λ f. over_kept f queue.new) }
     ensures fewer { total held_len (F.seen face.new).helds ≤ total held_len (F.seen face.old).helds }
     ensures same { (queue.new.base ≡ queue.old.base) × (queue.new.popped ≡ queue.old.popped) }
-    ensures enters { OnOk result ((placed : Placed Mark) → Holds marks_of_piece queue.old placed →
-        Holds marks_of_piece queue.new (received_note queue.old.base placed (record { number = number; note = note.now }))) }
+    ensures enters { OnOk result ((placed : Placed Mark) → Holds marks_of_waiting queue.old placed →
+        Holds marks_of_waiting queue.new (received_note queue.old.base placed (record { number = number; note = note.now }))) }
+    ensures short { short_bytes queue.new ≡ short_bytes queue.old }
+    ensures notes { (taken : List TakenNote) (t : TakenNote) → slice_get taken number ≡ Some t → t.note.split ≡ true
+        → Each (λ k. IsOfNote taken k.piece) queue.old.kept → Each (λ k. IsOfNote taken k.piece) queue.new.kept }
     ensures beside { F.beside face.new ≡ F.beside face.old }
 {
     if !queue.accepts(note.seq, note.total) {
@@ -142,16 +177,30 @@ pub fn enter<F: AppFace>(
         };
         let wanted = skip(face, piece, gap.skip);
         let (first, others) = split(face, wanted, gap.len);
-        match queue.take(from.wrapping_add(gap.skip), gap.len, first) {
+        match queue.take(from.wrapping_add(gap.skip), gap.len, Waiting::InArea(first)) {
             Ok(()) => left = others,
-            Err(first) => {
-                face.release(first.held);
+            Err(back) => {
+                give_back(face, back);
                 give_up(face, others);
                 return Err(Wanting);
             }
         }
     }
     Ok(())
+}
+
+/// Gives up what was to wait: a piece in the area is released.
+pub fn give_back<F: AppFace>(face: &mut F, waiting: Waiting)
+    requires here { IsHere (F.seen face.old) }
+    requires apart { LieApart (F.seen face.old) }
+    requires out { IsOut (F.seen face.old) waiting }
+    ensures view { F.seen face.new ≡ given_back (F.seen face.old) waiting }
+    ensures beside { F.beside face.new ≡ F.beside face.old }
+{
+    match waiting {
+        Waiting::InArea(piece) => face.release(piece.held),
+        Waiting::Copied(_short) => {}
+    }
 }
 
 /// Gives a piece up, if there is one.
@@ -171,7 +220,7 @@ fn give_up<F: AppFace>(face: &mut F, piece: Option<Piece>)
 #[derive(Drop)]
 pub struct FlowQueue {
     pub number: u32,
-    pub queue: RecvQueue<Piece>,
+    pub queue: RecvQueue<Waiting>,
     pub bytes: u64,
 }
 
@@ -186,54 +235,48 @@ pub enum Delivery {
     Full,
     /// A raw entry is on its way.
     Unsettled,
+    /// No buffer is free to copy into, and the reserve is held.
+    ReserveHeld,
 }
 
-/// Lends the piece that is next in the stream, and posts it.
+/// Lends what is next in the stream, and posts it. Bytes that came with their note are copied into a spare for that,
+/// and counted. `flush` is set where the loan lies in the reserve.
 pub fn deliver<F: AppFace>(
     face: &mut F,
     own: &mut FlowQueue,
     posted: &mut CqRing<Lending>,
+    copied: &mut u64,
+    flush: &mut bool,
 ) -> Delivery
     requires here { IsHere (F.seen face.old) }
     requires counted { (F.seen face.old).scrubbed ≡ false }
     requires apart { LieApart (F.seen face.old) }
+    requires owns { (F.seen face.old).owns ≡ [] }
     requires out { (f : HeldPiece → ℕ) → over_kept f own.old.queue ≤ total f (F.seen face.old).helds }
-    ensures delivered { Delivered (F.seen face.old) (F.seen face.new) own.old own.new posted.old posted.new result }
+    requires notes { Each (λ k. IsOfNote (F.seen face.old).taken k.piece) own.old.queue.kept }
+    requires sized { AreSized marks_of_waiting own.old.queue.kept }
+    requires spare { (F.seen face.old).spares + short_bytes own.old.queue ≤ total unsplit_len (F.seen face.old).taken }
+    ensures delivered { Delivered (F.seen face.old) (F.seen face.new) own.old own.new posted.old posted.new copied.old copied.new flush.old flush.new
+        result }
     ensures told { result ≡ Delivery.Unsettled → F.tells RawOnItsWay (app_gist (F.seen face.new)) (F.beside face.new) }
+    ensures no_spare { result ≡ Delivery.ReserveHeld → F.tells NoSpare (app_gist (F.seen face.new)) (F.beside face.new) }
     ensures beside { F.beside face.new ≡ F.beside face.old }
 {
     if posted.is_full() {
         return Delivery::Full;
     }
-    if own.queue.front().is_none() {
+    let Some(first) = own.queue.front_piece() else {
         return Delivery::NoneInOrder;
-    }
+    };
+    let is_short = first.is_short();
     if !face.settle() {
         return Delivery::Unsettled;
     }
-    let Some((piece, _)) = own.queue.pop_front() else {
-        return Delivery::NoneInOrder;
-    };
-    let place = piece.held.place();
-    let completion = Completion {
-        user_data: u64::from(own.number),
-        res: place.len as i32,
-        flags: 2,
-        off: face.off(&place),
-    };
-    let loan = face.lend(piece.held);
-    let lending = Lending {
-        note: piece.note,
-        at: piece.at,
-        loan,
-    };
-    match posted.post(completion, lending) {
-        Ok(()) => Delivery::Did,
-        // The ring wasn't full, so this is never reached.
-        Err((_, lending)) => {
-            face.abandon(lending.loan);
-            Delivery::Full
-        }
+    if is_short {
+        lend_copy(face, own, posted, copied, flush)
+    } else {
+        lend_piece(face, own, posted, flush);
+        Delivery::Did
     }
 }
 
@@ -270,6 +313,8 @@ pub struct Stack {
     pub ended: bool,
     /// It has no piece and no loan any more, and takes none.
     pub bare: bool,
-    /// It was sent a short payload while it wasn't stopped.
-    pub short: bool,
+    /// How many of these were of bytes that had to be copied.
+    pub copied: u64,
+    /// All that is unread is to be read, since a loan in the reserve was posted.
+    pub flush: bool,
 }

@@ -3,10 +3,10 @@ ghost use Rattle.std.specs.Prelude.{◌≡◌, false, true, ℕ, ◌+◌, ◌≤
 ghost use Rattle.completion_ring.specs.Ring.{ring};
 ghost use Rattle.board_face.specs.AppCalls.{IsHere, CanLeave};
 ghost use Rattle.board_face.specs.AppEvents.{app_gist};
-ghost use Rattle.board_face.specs.declared.views.app.AppLook.TheVariants.{RawOnItsWay, NotQuiet};
+ghost use Rattle.board_face.specs.declared.views.app.AppLook.TheVariants.{RawOnItsWay, NoSpare, NotQuiet};
 ghost use Rattle.app_worker.specs.State.{Working, Common};
 ghost use Rattle.app_worker.specs.StateOf.{state_of};
-ghost use Rattle.app_worker.specs.Stages.{ReadsTo, LentSome, LendsAll, Leaves};
+ghost use Rattle.app_worker.specs.Stages.{kept_of, ReadsTo, LentSome, LendsAll, Leaves};
 
 use crate::letting::let_go;
 use crate::stack::{Delivery, Stack};
@@ -38,10 +38,12 @@ pub enum Lent {
     Nothing,
     /// Pieces were lent.
     Did,
-    /// A piece is in order, and can't be lent yet.
+    /// A piece is in order, and can't be lent yet, since a raw entry is on its way.
     Stuck,
     /// The application has written as many bytes as it is to write, which stopped it.
     Quit,
+    /// Bytes are in order, and can't be copied yet: no buffer is free, and the reserve is held.
+    NoSpare,
     /// The shelf failed, which stopped the application.
     Failed,
 }
@@ -56,7 +58,15 @@ fn reap_all(st: &mut Stack)
     }
 }
 
-/// Reads and gives back the oldest loans, down to as many that it may keep unread.
+/// How many may stay unread: none, while all is to be read.
+fn least_kept(st: &Stack, keep: usize) -> usize
+    ensures { result ≡ kept_of keep (state_of st.now) }
+{
+    if st.flush { 0 } else { keep }
+}
+
+/// Reads and gives back the oldest loans, down to as many that it may keep unread, or all where a loan in the reserve
+/// was posted.
 pub fn drain<F: AppFace, T: Shelf>(
     face: &mut F,
     st: &mut Stack,
@@ -69,13 +79,15 @@ pub fn drain<F: AppFace, T: Shelf>(
     requires due { st.old.due ≡ None }
     requires pushed { st.old.stray.left ≡ 0 }
     requires reaped { st.old.posted.entries ≡ [] }
+    requires keep { st.old.ended ≡ false → st.old.how.hold ≤ keep }
     ensures reads { ReadsTo keep (state_of st.old) (state_of st.new) (F.seen face.old) (F.seen face.new) (T.kept shelf.old) (T.kept shelf.new)
         (T.faults shelf.old) (T.faults shelf.new) result }
     ensures later { T.faults shelf.old ≤ T.faults shelf.new }
     ensures beside { F.beside face.new ≡ F.beside face.old }
 {
+    let least = least_kept(st, keep);
     let mut did = false;
-    while st.unread.len() > keep {
+    while st.unread.len() > least {
         match read_one(face, st, shelf) {
             Read::Failed => {
                 let_go(face, st);
@@ -106,6 +118,7 @@ fn lend_some<F: AppFace>(face: &mut F, st: &mut Stack) -> (bool, Delivery)
     requires more { st.old.ended ≡ false }
     ensures lends { LentSome (state_of st.old) (state_of st.new) (F.seen face.old) (F.seen face.new) result.0 result.1 }
     ensures told { result.1 ≡ Delivery.Unsettled → F.tells RawOnItsWay (app_gist (F.seen face.new)) (F.beside face.new) }
+    ensures no_spare { result.1 ≡ Delivery.ReserveHeld → F.tells NoSpare (app_gist (F.seen face.new)) (F.beside face.new) }
     ensures beside { F.beside face.new ≡ F.beside face.old }
 {
     let mut did = false;
@@ -130,6 +143,7 @@ pub fn lend_all<F: AppFace, T: Shelf>(face: &mut F, st: &mut Stack, shelf: &mut 
     ensures lends { LendsAll (state_of st.old) (state_of st.new) (F.seen face.old) (F.seen face.new) (T.kept shelf.old) (T.kept shelf.new) (T.faults shelf.old)
         (T.faults shelf.new) result }
     ensures told { result ≡ Lent.Stuck → F.tells RawOnItsWay (app_gist (F.seen face.new)) (F.beside face.new) }
+    ensures no_spare { result ≡ Lent.NoSpare → F.tells NoSpare (app_gist (F.seen face.new)) (F.beside face.new) }
     ensures later { T.faults shelf.old ≤ T.faults shelf.new }
     ensures beside { F.beside face.new ≡ F.beside face.old }
 {
@@ -140,6 +154,7 @@ pub fn lend_all<F: AppFace, T: Shelf>(face: &mut F, st: &mut Stack, shelf: &mut 
             return match end {
                 _ if did => Lent::Did,
                 Delivery::Unsettled => Lent::Stuck,
+                Delivery::ReserveHeld => Lent::NoSpare,
                 _ => Lent::Nothing,
             };
         }

@@ -1,5 +1,5 @@
 //! What an application keeps between its turns, and its turn.
-ghost use Rattle.std.specs.Prelude.{◌≡◌, false, ℕ, ◌+◌, ◌≤◌, List, Option, IfOk};
+ghost use Rattle.std.specs.Prelude.{◌≡◌, false, ℕ, ◌+◌, ◌<◌, ◌≤◌, List, length, Option, IfOk};
 ghost use Rattle.board_face.specs.AppCalls.{IsHere};
 ghost use Rattle.board_face.specs.AppEvents.{app_gist};
 ghost use Rattle.board_face.specs.declared.views.app.AppView.{AppView};
@@ -11,6 +11,7 @@ ghost use Rattle.app_worker.specs.Shelves.{AreShelved, AreFronts};
 ghost use Rattle.app_worker.specs.Streams.{HasFronts, HasAll};
 ghost use Rattle.app_worker.specs.State.{AppStands, app_steps, furthest};
 ghost use Rattle.app_worker.specs.Kept.{new_state, IsFresh, flow_bytes};
+ghost use Rattle.app_worker.specs.Moves.{reads_of, reserve_loans};
 ghost use Rattle.app_worker.specs.Turns.{Turns, look_of};
 
 use crate::stack::{Stack, Stray};
@@ -79,7 +80,8 @@ impl AppState {
             stopped: if at_once { Stopped::Quit } else { Stopped::No },
             ended: false,
             bare: at_once,
-            short: false,
+            copied: 0,
+            flush: false,
         };
         Ok(AppState { stack })
     }
@@ -98,11 +100,11 @@ impl AppState {
         self.stack.loans
     }
 
-    /// How many of these were of bytes that had to be copied: none, as long as no short payload is.
+    /// How many of these were of bytes that had to be copied.
     pub fn copied(&self) -> u64
-        ensures { result ≡ 0 }
+        ensures { result ≡ self.now.copied }
     {
-        0
+        self.stack.copied
     }
 
     /// What stopped it.
@@ -133,6 +135,14 @@ impl AppState {
 /// Loans that are due are given back first. Where no piece of the active flow is in order, one note is taken, and what
 /// its flow wants of it enters the flow's queue. Then pieces in order are lent and posted, and what is more than the
 /// application keeps unread is read, appended and given back.
+///
+/// Bytes that came with their note are copied when it is their turn: into a listed buffer, or else into the reserve. Once
+/// a loan in the reserve is posted, all that is kept unread is read and given back.
+///
+/// The first `leak` loans that would be given back are kept to the end, those in the reserve aside. Each other is followed
+/// by up to `stray` raw entries with its `off` and `len`: one is dropped where a loan in its buffer is out, and what a slot
+/// in use keeps back comes first in the next turn. Once `quit` bytes are written, the last piece cut there, the
+/// application stops: it gives all up that it has, and from then on only takes notes.
 pub fn app_turn<F: AppFace, T: Shelf>(
     alloc: Global,
     face: &mut F,
@@ -144,7 +154,7 @@ pub fn app_turn<F: AppFace, T: Shelf>(
     ensures turns { Turns st.old st.new (F.seen face.old) (F.seen face.new)
         (T.kept shelf.old) (T.kept shelf.new) (T.faults shelf.old) (T.faults shelf.new) result }
     // Where the pieces of each frame stand together among the notes, what the shelf has of each flow since the first turn
-    // was read at the first of the flow's marks.
+    // are the bytes at the first of the flow's marks: read through a loan of their note, or come with it.
     ensures fronts { (first : ℕ → Option (List ℕ)) → AreWholeFrames (F.seen face.new).taken
         → AreShelved first (T.kept shelf.new) st.new.flows (F.seen face.new)
         → HasFronts first (T.kept shelf.new) (F.seen face.new) }
@@ -152,13 +162,18 @@ pub fn app_turn<F: AppFace, T: Shelf>(
     ensures failed { (first : ℕ → Option (List ℕ)) → AreWholeFrames (F.seen face.new).taken
         → AreFronts first (T.kept shelf.new) st.new.flows (F.seen face.new)
         → HasFronts first (T.kept shelf.new) (F.seen face.new) }
-    // It leaves with all of them, unless it was stopped, or sent a short payload.
-    ensures whole { (first : ℕ → Option (List ℕ)) → result ≡ Finished → st.new.stopped ≡ No → st.new.short ≡ false
+    // It leaves with all of them, unless it was stopped.
+    ensures whole { (first : ℕ → Option (List ℕ)) → result ≡ Finished → st.new.stopped ≡ No
         → AreWholeFrames (F.seen face.new).taken
         → AreShelved first (T.kept shelf.new) st.new.flows (F.seen face.new)
         → HasAll first (T.kept shelf.new) (F.seen face.new) }
     // It goes no further than the notes that were taken, their bytes, and the entries that may follow each, let it.
     ensures within { app_steps st.new (F.seen face.new) ≤ furthest st.new.how.stray (F.seen face.new) }
+    // Where a loan was read, all that it may keep stays unread, unless no note comes any more, or a loan in the reserve comes
+    // between.
+    ensures keeps { st.old.flush ≡ false → st.new.bare ≡ false → st.new.ended ≡ false
+        → reserve_loans (F.seen face.new) ≡ reserve_loans (F.seen face.old)
+        → reads_of st.old (F.seen face.old) < reads_of st.new (F.seen face.new) → st.new.how.hold ≤ length st.new.unread }
     // What it saw is so, on a board for one thread.
     ensures told { (why : Why) → result ≡ Idle why → F.tells (look_of why) (app_gist (F.seen face.new)) (F.beside face.new) }
     ensures later { T.faults shelf.old ≤ T.faults shelf.new }

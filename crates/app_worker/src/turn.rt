@@ -11,8 +11,6 @@ pub enum Turn {
     Finished,
     /// The application stopped by this fault: `Write` or `Memory`.
     Failed(Fault),
-    /// A short payload came, which it can't copy yet. It takes nothing more for its flows.
-    NotYet,
 }
 
 /// Why a turn did nothing.

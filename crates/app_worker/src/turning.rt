@@ -1,9 +1,11 @@
 //! The steps of a turn, over all that an application keeps.
 ghost use Rattle.std.specs.Prelude.{◌≡◌, ◌≢◌, false, true, ℕ, ◌+◌, ◌-◌, ◌<◌, ◌≤◌, [], List, Option, None, length, MatchResult};
-ghost use Rattle.std.specs.Prelude.{◌^◌, OnOk, IfSome};
-ghost use Rattle.board_face.specs.AppCalls.{IsHere};
+ghost use Rattle.std.specs.Prelude.{◌^◌, OnOk, IfSome, ◌⊎◌};
+ghost use Rattle.board_face.specs.AppCalls.{IsHere, TookLinear};
+ghost use Rattle.board_face.specs.Texts.{IsLinearNote};
+ghost use Rattle.board_face.specs.declared.views.app.AppView.{AppView};
 ghost use Rattle.board_face.specs.AppEvents.{app_gist};
-ghost use Rattle.board_face.specs.declared.views.app.AppLook.TheVariants.{RawOnItsWay, NoNote as no_note, RefillInUse};
+ghost use Rattle.board_face.specs.declared.views.app.AppLook.TheVariants.{RawOnItsWay, NoNote as no_note, NoSpare, RefillInUse};
 ghost use Rattle.app_worker.specs.Core.{Each};
 ghost use Rattle.app_worker.specs.State.{Working, Common, IsAtRest, IsIndex, place_in, wanted_of};
 ghost use Rattle.app_worker.specs.StateOf.{state_of};
@@ -11,21 +13,21 @@ ghost use Rattle.app_worker.specs.Moves.{Goes};
 ghost use Rattle.app_worker.specs.Whole.{Lends, Gives, Takes, Reads, IsChosen};
 
 use crate::reading::{give_due, keep_due, read_loan};
-use crate::stack::{Delivery, FlowQueue, Stack, Wanting, deliver, enter};
+use crate::short::enter_short;
+use crate::stack::{Delivery, FlowQueue, Lending, Stack, Wanting, deliver, enter};
 use board_face::{AppFace, Polled};
+use circular_buffer::HeapCircularBuffer;
 use std::alloc::Global;
 use std::collections::BTreeMap;
 use tcp_reorder::RecvQueue;
 use zr_io::{Failed, Shelf};
-use zr_kinds::{Note, Stopped};
+use zr_kinds::{Completion, Note, Stopped};
 
 /// What a look for a note did.
 #[derive(Clone, Copy, Debug, PartialEq, Eq)]
 pub enum Taken {
-    /// A piece was taken, and what its flow wants of it entered the queue.
+    /// A note was taken, and what its flow wants of it entered the queue.
     Did,
-    /// A short payload was taken.
-    Short,
     NoNote,
     Ended,
     /// There was no memory.
@@ -56,12 +58,14 @@ pub fn deliver_one<F: AppFace>(face: &mut F, st: &mut Stack) -> Delivery
     ensures goes { (kept : ℕ → Option (List ℕ)) → Goes (state_of st.old) (state_of st.new) (F.seen face.old) (F.seen face.new) kept kept }
     ensures lends { Lends (state_of st.old) (state_of st.new) (F.seen face.old) (F.seen face.new) result }
     ensures told { result ≡ Delivery.Unsettled → F.tells RawOnItsWay (app_gist (F.seen face.new)) (F.beside face.new) }
+    ensures no_spare { result ≡ Delivery.ReserveHeld → F.tells NoSpare (app_gist (F.seen face.new)) (F.beside face.new) }
     ensures beside { F.beside face.new ≡ F.beside face.old }
 {
     if st.active >= st.flows.len() {
         return Delivery::NoneInOrder;
     }
-    let delivery = deliver(face, &mut st.flows[st.active], &mut st.posted);
+    let own = &mut st.flows[st.active];
+    let delivery = deliver(face, own, &mut st.posted, &mut st.copied, &mut st.flush);
     if let Delivery::Did = delivery {
         st.loans = st.loans.saturating_add(1);
     }
@@ -94,6 +98,14 @@ fn find(index: &BTreeMap<u64, usize>, number: u64) -> Option<usize>
     index.get(&number).copied()
 }
 
+/// Whether all that is unread is to be read, once the oldest was taken out: no more once nothing is unread.
+fn still_flushes(flush: bool, unread: &HeapCircularBuffer<(Completion, Lending)>) -> bool
+    ensures on { result ≡ true → (flush ≡ true) × (unread.now.items ≢ []) }
+    ensures off { result ≡ false → (flush ≡ false) ⊎ (unread.now.items ≡ []) }
+{
+    flush && !unread.is_empty()
+}
+
 /// How many of the next bytes the application is to write.
 fn wanted(quit: Option<u64>, written: u64, len: u32) -> u32
     ensures is { result ≡ wanted_of quit written len }
@@ -114,6 +126,7 @@ pub fn read_one<F: AppFace, T: Shelf>(face: &mut F, st: &mut Stack, shelf: &mut 
     requires due { st.old.due ≡ None }
     requires pushed { st.old.stray.left ≡ 0 }
     requires reaped { st.old.posted.entries ≡ [] }
+    requires more { st.old.ended ≡ false → st.old.flush ≡ false → st.old.how.hold < length st.old.unread.items }
     ensures reads { Reads (state_of st.old) (state_of st.new) (F.seen face.old) (F.seen face.new) (T.kept shelf.old) (T.kept shelf.new) (T.faults shelf.old)
         (T.faults shelf.new) result }
     ensures later { T.faults shelf.old ≤ T.faults shelf.new }
@@ -122,6 +135,7 @@ pub fn read_one<F: AppFace, T: Shelf>(face: &mut F, st: &mut Stack, shelf: &mut 
     let Some((completion, lending)) = st.unread.pop_front() else {
         return Read::NoneUnread;
     };
+    st.flush = still_flushes(st.flush, &st.unread);
     let Some(i) = find(&st.index, completion.user_data) else {
         // Each completion is of a flow that has a queue, so this is never reached.
         st.due = Some(lending);
@@ -177,7 +191,32 @@ fn place_for(
     Ok(i)
 }
 
-/// Takes a note. What its flow wants of a piece enters the flow's queue, and the rest is given up.
+/// A short payload was taken, the first bytes of these. What its flow wants of it enters the flow's queue.
+fn take_short(alloc: Global, st: &mut Stack, note: &Note, linear: &[u8]) -> Taken
+    requires fields { IsLinearNote note.now }
+    requires long { note.now.total ≤ length linear.now }
+    requires index { IsIndex st.old.index.entries st.old.flows.items }
+    ensures takes { (old new : AppView) → Working (state_of st.old) old → Common (state_of st.old) old → Each IsAtRest st.old.flows.items
+        → st.old.ended ≡ false → TookLinear old new linear.now note.now → Takes (state_of st.old) (state_of st.new) old new result }
+    ensures kind { (result ≡ Taken.Did) ⊎ (result ≡ Taken.Memory) }
+{
+    let number = st.notes;
+    let Some(notes) = number.checked_add(1) else {
+        return Taken::Memory;
+    };
+    let Ok(i) = place_for(alloc, &mut st.flows, &mut st.index, note) else {
+        return Taken::Memory;
+    };
+    st.notes = notes;
+    st.active = i;
+    let payload = &linear[..note.total as usize];
+    match enter_short(alloc, &mut st.flows[i].queue, note, number, payload) {
+        Ok(()) => Taken::Did,
+        Err(Wanting) => Taken::Memory,
+    }
+}
+
+/// Takes a note. What its flow wants of it enters the flow's queue, and the rest of a piece is given up.
 pub fn take_note<F: AppFace>(alloc: Global, face: &mut F, st: &mut Stack) -> Taken
     requires here { IsHere (F.seen face.old) }
     requires working { Working (state_of st.old) (F.seen face.old) }
@@ -191,7 +230,7 @@ pub fn take_note<F: AppFace>(alloc: Global, face: &mut F, st: &mut Stack) -> Tak
     let mut linear = [0; 256];
     let (note, held) = match face.poll(&mut linear) {
         Polled::Note(note, held) => (note, held),
-        Polled::Linear(_) => return Taken::Short,
+        Polled::Linear(note) => return take_short(alloc, st, &note, &linear),
         Polled::Empty => return Taken::NoNote,
         Polled::Ended => return Taken::Ended,
     };

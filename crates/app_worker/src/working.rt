@@ -109,6 +109,7 @@ fn look<F: AppFace, T: Shelf>(alloc: Global, face: &mut F, st: &mut Stack, shelf
     requires pushed { st.old.stray.left ≡ 0 }
     requires reaped { st.old.posted.entries ≡ [] }
     requires few { length st.old.unread.items ≤ st.old.how.hold }
+    requires flush { st.old.flush ≡ false }
     ensures turns { Turns (state_of st.old) (state_of st.new) (F.seen face.old) (F.seen face.new) (T.kept shelf.old) (T.kept shelf.new) (T.faults shelf.old)
         (T.faults shelf.new) result }
     ensures told { (why : Why) → result ≡ Idle why → F.tells (look_of why) (app_gist (F.seen face.new)) (F.beside face.new) }
@@ -130,11 +131,6 @@ fn look<F: AppFace, T: Shelf>(alloc: Global, face: &mut F, st: &mut Stack, shelf
             st.stopped = Stopped::Memory;
             Turn::Failed(Fault::Memory)
         }
-        Taken::Short => {
-            let_go(face, st);
-            st.short = true;
-            Turn::NotYet
-        }
     }
 }
 
@@ -148,6 +144,7 @@ fn go_on<F: AppFace, T: Shelf>(alloc: Global, face: &mut F, st: &mut Stack, shel
     requires pushed { st.old.stray.left ≡ 0 }
     requires reaped { st.old.posted.entries ≡ [] }
     requires few { length st.old.unread.items ≤ st.old.how.hold }
+    requires flush { st.old.flush ≡ false }
     ensures turns { Turns (state_of st.old) (state_of st.new) (F.seen face.old) (F.seen face.new) (T.kept shelf.old) (T.kept shelf.new) (T.faults shelf.old)
         (T.faults shelf.new) result }
     ensures told { (why : Why) → result ≡ Idle why → F.tells (look_of why) (app_gist (F.seen face.new)) (F.beside face.new) }
@@ -159,6 +156,7 @@ fn go_on<F: AppFace, T: Shelf>(alloc: Global, face: &mut F, st: &mut Stack, shel
         Lent::Quit => Turn::Did,
         Lent::Failed => Turn::Failed(Fault::Write),
         Lent::Stuck => Turn::Idle(Why::Unsettled),
+        Lent::NoSpare => Turn::Idle(Why::ReserveHeld),
         Lent::Nothing => look(alloc, face, st, shelf),
     }
 }

@@ -15,6 +15,8 @@ use std::test::*;
 use zr_io::MemShelf;
 use zr_kinds::{Behaviour, Fault, Note, Place, Stopped};
 
+mod leaving;
+
 /// One step of a run.
 #[derive(Clone, Copy, Debug)]
 enum Step {
@@ -24,6 +26,8 @@ enum Step {
     Short(u32, u32, &'static [u8]),
     /// It deals with a refill entry.
     Dealt(Entry),
+    /// It gives its buffer up.
+    Shut,
     /// It closes its buffer and ends.
     End,
     /// The application takes a turn, with this answer.
@@ -94,6 +98,11 @@ fn card_part(
         Step::Dealt(entry) => {
             let (board, dealt) = card_step(board, hand, CardCall::Entry(0));
             assert_eq!(rt; dealt, Answer::Entry(entry));
+            board
+        }
+        Step::Shut => {
+            let (board, shut) = card_step(board, hand, CardCall::Shut);
+            assert_eq!(rt; shut, Answer::Done);
             board
         }
         Step::End => {
@@ -328,287 +337,107 @@ fn shelf_fails(rt: HostRuntime) -> Result<(), Fail> {
     Ok(())
 }
 
-/// A short payload is told of.
+/// A short payload is copied when it is its turn, read and given back.
 #[test]
 fn short_payload(rt: HostRuntime) -> Result<(), Fail> {
     let steps = [
         Step::Send(0, 1000, b"ab"),
         DID,
         Step::Short(0, 1002, b"cd"),
-        Step::Takes(Turn::NotYet),
+        DID,
+        NO_NOTE,
+        HONOURED,
+        HONOURED,
+        Step::End,
+        FINISHED,
+    ];
+    let (st, shelf) = run(&rt, rt.alloc(), behaviour(0), 4, 1000, &[], &steps)?;
+    assert_eq!(rt; shelf.flow(0), b"abcd".as_slice());
+    assert_eq!(rt; st.written(), 4);
+    assert_eq!(rt; st.loans(), 2);
+    assert_eq!(rt; st.copied(), 1);
+    Ok(())
+}
+
+/// The application gives up the last piece of a buffer, which is listed then. The copy lies in it.
+#[test]
+fn copy_in_a_listed_buffer(rt: HostRuntime) -> Result<(), Fail> {
+    let steps = [
+        Step::Send(0, 1000, b"ab"),
+        DID,
+        HONOURED,
+        Step::Send(0, 1000, b"ab"),
+        Step::Shut,
+        DID,
+        Step::Short(0, 1002, b"cd"),
+        DID,
+        FREED,
         NO_NOTE,
     ];
     let (st, shelf) = run(&rt, rt.alloc(), behaviour(0), 4, 1000, &[], &steps)?;
-    assert_eq!(rt; shelf.flow(0), b"ab".as_slice());
-    assert_eq!(rt; st.written(), 2);
-    Ok(())
-}
-
-/// An application that is to write so many bytes.
-const fn quitting(bytes: u64) -> Behaviour {
-    Behaviour {
-        hold: 0,
-        leak: 0,
-        stray: 0,
-        quit: Some(bytes),
-    }
-}
-
-/// It stops in the middle of a payload, and goes on taking notes.
-#[test]
-fn quits_in_a_payload(rt: HostRuntime) -> Result<(), Fail> {
-    let steps = [
-        Step::Send(0, 1000, b"ab"),
-        DID,
-        Step::Send(0, 1002, b"cdefg"),
-        DID,
-        Step::Send(0, 1007, b"hi"),
-        DID,
-        NO_NOTE,
-        Step::End,
-        DID,
-        Step::Takes(Turn::Idle(Why::NotQuiet)),
-        HONOURED,
-        FINISHED,
-    ];
-    let (st, shelf) = run(&rt, rt.alloc(), quitting(4), 4, 1000, &[], &steps)?;
     assert_eq!(rt; shelf.flow(0), b"abcd".as_slice());
-    assert_eq!(rt; st.written(), 4);
-    assert_eq!(rt; st.loans(), 2);
-    assert_eq!(rt; st.flow_bytes(0), 4);
-    assert_eq!(rt; st.stopped(), Stopped::Quit);
+    assert_eq!(rt; st.copied(), 1);
     Ok(())
 }
 
-/// It stops with the last byte of a payload, and keeps no piece that waits.
+/// Of a short payload only what is missing is kept, each part at its place.
 #[test]
-fn quits_behind_a_payload(rt: HostRuntime) -> Result<(), Fail> {
-    let steps = [
-        Step::Send(0, 1004, b"ef"),
-        DID,
-        Step::Send(0, 1000, b"ab"),
-        DID,
-        Step::End,
-        FINISHED,
-    ];
-    let (st, shelf) = run(&rt, rt.alloc(), quitting(2), 4, 1000, &[], &steps)?;
-    assert_eq!(rt; shelf.flow(0), b"ab".as_slice());
-    assert_eq!(rt; st.written(), 2);
-    assert_eq!(rt; st.stopped(), Stopped::Quit);
-    Ok(())
-}
-
-/// One that is to write nothing is stopped from the start.
-#[test]
-fn quits_at_once(rt: HostRuntime) -> Result<(), Fail> {
-    let steps = [
-        NO_NOTE,
-        Step::Send(0, 1000, b"ab"),
-        DID,
-        NO_NOTE,
-        Step::End,
-        FINISHED,
-    ];
-    let (st, shelf) = run(&rt, rt.alloc(), quitting(0), 4, 1000, &[], &steps)?;
-    assert_eq!(rt; shelf.flow(0), b"".as_slice());
-    assert_eq!(rt; st.written(), 0);
-    assert_eq!(rt; st.loans(), 0);
-    assert_eq!(rt; st.stopped(), Stopped::Quit);
-    Ok(())
-}
-
-/// One that is to write more than there is isn't stopped.
-#[test]
-fn quits_never(rt: HostRuntime) -> Result<(), Fail> {
-    let steps = [
-        Step::Send(0, 1000, b"ab"),
-        DID,
-        Step::End,
-        DID,
-        FREED,
-        FINISHED,
-    ];
-    let (st, shelf) = run(&rt, rt.alloc(), quitting(3), 4, 1000, &[], &steps)?;
-    assert_eq!(rt; shelf.flow(0), b"ab".as_slice());
-    assert_eq!(rt; st.stopped(), Stopped::No);
-    Ok(())
-}
-
-/// An application that keeps so many loans to the end.
-const fn leaking(leak: u32, hold: u32) -> Behaviour {
-    Behaviour {
-        hold,
-        leak,
-        stray: 0,
-        quit: None,
-    }
-}
-
-/// The first loan that would be given back is kept to the end, and the next are given back.
-#[test]
-fn leaks_the_first(rt: HostRuntime) -> Result<(), Fail> {
-    let steps = [
-        Step::Send(0, 1000, b"ab"),
-        DID,
-        EMPTY,
-        Step::Send(0, 1002, b"cd"),
-        DID,
-        HONOURED,
-        EMPTY,
-        NO_NOTE,
-        Step::End,
-        FINISHED,
-    ];
-    let (st, shelf) = run(&rt, rt.alloc(), leaking(1, 0), 4, 1000, &[], &steps)?;
-    assert_eq!(rt; shelf.flow(0), b"abcd".as_slice());
-    assert_eq!(rt; st.written(), 4);
-    assert_eq!(rt; st.loans(), 2);
-    assert_eq!(rt; st.stopped(), Stopped::No);
-    Ok(())
-}
-
-/// All loans are kept where more may be than there are, also those that are read at the end.
-#[test]
-fn leaks_all(rt: HostRuntime) -> Result<(), Fail> {
+fn short_payload_around_a_gap(rt: HostRuntime) -> Result<(), Fail> {
     let steps = [
         Step::Send(0, 1002, b"cd"),
         DID,
-        Step::Send(0, 1000, b"ab"),
+        Step::Short(0, 1000, b"abXYef"),
         DID,
-        Step::End,
-        FINISHED,
-    ];
-    let (st, shelf) = run(&rt, rt.alloc(), leaking(9, 1), 1, 1000, &[], &steps)?;
-    assert_eq!(rt; shelf.flow(0), b"abcd".as_slice());
-    assert_eq!(rt; st.loans(), 2);
-    Ok(())
-}
-
-/// What is leaked is abandoned where the application quits.
-#[test]
-fn leaks_and_quits(rt: HostRuntime) -> Result<(), Fail> {
-    let how = Behaviour {
-        hold: 0,
-        leak: 2,
-        stray: 0,
-        quit: Some(10),
-    };
-    let steps = [
-        Step::Send(0, 100, b"abcdefgh"),
-        DID,
-        Step::Send(0, 108, b"ijklmnop"),
-        DID,
-        EMPTY,
-        Step::End,
-        FINISHED,
-    ];
-    let (st, shelf) = run(&rt, rt.alloc(), how, 4, 100, &[], &steps)?;
-    assert_eq!(rt; shelf.flow(0), b"abcdefghij".as_slice());
-    assert_eq!(rt; st.written(), 10);
-    assert_eq!(rt; st.loans(), 2);
-    assert_eq!(rt; st.stopped(), Stopped::Quit);
-    Ok(())
-}
-
-/// An application whose returns are each followed by so many further entries.
-const fn straying(stray: u32, hold: u32) -> Behaviour {
-    Behaviour {
-        hold,
-        leak: 0,
-        stray,
-        quit: None,
-    }
-}
-
-const STRAY: Step = Step::Dealt(Entry::Stray);
-
-const EMPTY: Step = Step::Dealt(Entry::Empty);
-
-/// Each return is followed by further entries, which the card finds to be strays.
-#[test]
-fn strays_follow(rt: HostRuntime) -> Result<(), Fail> {
-    let steps = [
-        Step::Send(0, 1000, b"ab"),
-        DID,
-        HONOURED,
-        STRAY,
-        STRAY,
-        EMPTY,
-        Step::Send(0, 1002, b"cd"),
-        DID,
-        HONOURED,
-        STRAY,
-        STRAY,
-        EMPTY,
-        Step::End,
-        FINISHED,
-    ];
-    let (st, shelf) = run(&rt, rt.alloc(), straying(2, 0), 4, 1000, &[], &steps)?;
-    assert_eq!(rt; shelf.flow(0), b"abcd".as_slice());
-    assert_eq!(rt; st.loans(), 2);
-    Ok(())
-}
-
-/// Where the ring is full, the entries that are left come first in the next turn.
-#[test]
-fn strays_wait_for_slots(rt: HostRuntime) -> Result<(), Fail> {
-    let steps = [
-        Step::Send(0, 1000, b"ab"),
-        DID,
-        Step::Takes(Turn::Idle(Why::RefillFull)),
+        // The first copy was in the reserve, and is on its way back.
+        Step::Takes(Turn::Idle(Why::ReserveHeld)),
         HONOURED,
         DID,
-        Step::Takes(Turn::Idle(Why::RefillFull)),
-        STRAY,
-        DID,
-        STRAY,
-        EMPTY,
         NO_NOTE,
     ];
-    let (_, shelf) = run(&rt, rt.alloc(), straying(2, 0), 1, 1000, &[], &steps)?;
-    assert_eq!(rt; shelf.flow(0), b"ab".as_slice());
+    let (st, shelf) = run(&rt, rt.alloc(), behaviour(0), 4, 1000, &[], &steps)?;
+    assert_eq!(rt; shelf.flow(0), b"abcdef".as_slice());
+    assert_eq!(rt; st.copied(), 2);
     Ok(())
 }
 
-/// Nothing is lent while a raw entry is on its way.
+/// No buffer is listed. A copy in the reserve is read and given back at once, though one completion may stay unread. The
+/// next waits until the card has dealt with that entry.
 #[test]
-fn strays_unsettle(rt: HostRuntime) -> Result<(), Fail> {
+fn held_reserve(rt: HostRuntime) -> Result<(), Fail> {
+    let steps = [
+        Step::Short(0, 1000, b"ab"),
+        DID,
+        Step::Short(0, 1002, b"cd"),
+        DID,
+        Step::Takes(Turn::Idle(Why::ReserveHeld)),
+        HONOURED,
+        DID,
+        NO_NOTE,
+    ];
+    let (st, shelf) = run(&rt, rt.alloc(), behaviour(1), 4, 1000, &[], &steps)?;
+    assert_eq!(rt; shelf.flow(0), b"abcd".as_slice());
+    assert_eq!(rt; st.copied(), 2);
+    Ok(())
+}
+
+/// With it all is read that was kept unread before.
+#[test]
+fn reserve_reads_all(rt: HostRuntime) -> Result<(), Fail> {
     let steps = [
         Step::Send(0, 1000, b"ab"),
         DID,
         Step::Send(0, 1002, b"cd"),
         DID,
-        Step::Takes(Turn::Idle(Why::Unsettled)),
-        HONOURED,
-        STRAY,
+        Step::Short(0, 1004, b"ef"),
         DID,
-    ];
-    let (st, shelf) = run(&rt, rt.alloc(), straying(1, 0), 4, 1000, &[], &steps)?;
-    assert_eq!(rt; shelf.flow(0), b"abcd".as_slice());
-    assert_eq!(rt; st.loans(), 2);
-    Ok(())
-}
-
-/// An entry is dropped where a loan in its buffer is out.
-#[test]
-fn strays_spare_live_buffers(rt: HostRuntime) -> Result<(), Fail> {
-    let steps = [
-        Step::Send(0, 1000, b"ab"),
-        DID,
-        Step::Send(0, 1002, b"cd"),
-        DID,
-        HONOURED,
-        EMPTY,
         NO_NOTE,
-        Step::End,
+        Step::Send(0, 1006, b"gh"),
         DID,
-        FREED,
-        STRAY,
-        EMPTY,
-        FINISHED,
+        NO_NOTE,
     ];
-    let (_, shelf) = run(&rt, rt.alloc(), straying(1, 1), 4, 1000, &[], &steps)?;
-    assert_eq!(rt; shelf.flow(0), b"abcd".as_slice());
+    let (st, shelf) = run(&rt, rt.alloc(), behaviour(2), 4, 1000, &[], &steps)?;
+    assert_eq!(rt; shelf.flow(0), b"abcdef".as_slice());
+    assert_eq!(rt; st.loans(), 4);
     Ok(())
 }
 

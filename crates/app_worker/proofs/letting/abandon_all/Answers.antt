@@ -12,7 +12,8 @@ use Rattle.app_worker.proofs.letting.abandon_all.Goals as goal
 
 pub loop-lending-init : goal.loop-lending-init
 loop-lending-init g c = (
-  abandons-none (g.F.AppFace.seen c.args.face.now) c.requires.apart (λ f. total (λ p. f (lent_piece p.1)) c.args.unread.now.items),
+  abandons-none (g.F.AppFace.seen c.args.face.now) c.requires.apart
+      (λ f. total (λ p. f (lent_piece (g.F.AppFace.seen c.args.face.now).taken p.1)) c.args.unread.now.items),
   refl,
   refl,
 )
@@ -25,10 +26,10 @@ abandon-requires-clause-out g c =
     let xs : List (Completion × Lending) = c.loop-lending.unread.items in
     let p : Completion × Lending = (c.in-Some.field-0-0, l) in
     let unread : xs ≡ p ∷ drop 1 xs = front-of xs p (search rules) in
-    let all : (LentPiece → ℕ) → ℕ = λ f. total (λ p. f (lent_piece p.1)) c.args.unread.now.items in
-    let some : AbandonsSome u v all (λ f. f (lent_piece l) + total (λ p. f (lent_piece p.1)) (drop 1 xs)) = subst
-    (λ ys. AbandonsSome u v all (λ f. total (λ p. f (lent_piece p.1)) ys)) unread c.loop-lending.invariant.0 in
-    in-contains (λ l. l.place) (lent_piece l) v.loans (first-lent u v all (λ f. total (λ p. f (lent_piece p.1)) (drop 1 xs)) l c.requires.out some)
+    let all : (LentPiece → ℕ) → ℕ = λ f. total (λ p. f (lent_piece u.taken p.1)) c.args.unread.now.items in
+    let some : AbandonsSome u v all (λ f. f (lent_piece u.taken l) + total (λ p. f (lent_piece u.taken p.1)) (drop 1 xs)) = subst
+    (λ ys. AbandonsSome u v all (λ f. total (λ p. f (lent_piece u.taken p.1)) ys)) unread c.loop-lending.invariant.0 in
+    in-contains (λ l. l.place) (lent_piece u.taken l) v.loans (first-lent u v all (λ f. total (λ p. f (lent_piece u.taken p.1)) (drop 1 xs)) u.taken l c.requires.out some)
 
 pub loop-lending-preserved : goal.loop-lending-preserved
 loop-lending-preserved g c =
@@ -38,15 +39,15 @@ loop-lending-preserved g c =
     let xs : List (Completion × Lending) = c.loop-lending.unread.items in
     let p : Completion × Lending = (c.in-Some.field-0-0, l) in
     let unread : xs ≡ p ∷ drop 1 xs = front-of xs p (search rules) in
-    let all : (LentPiece → ℕ) → ℕ = λ f. total (λ p. f (lent_piece p.1)) c.args.unread.now.items in
-    let left : (LentPiece → ℕ) → ℕ = λ f. total (λ p. f (lent_piece p.1)) (drop 1 xs) in
-    let some : AbandonsSome u v all (λ f. f (lent_piece l) + left f) = subst
-    (λ ys. AbandonsSome u v all (λ f. total (λ p. f (lent_piece p.1)) ys)) unread c.loop-lending.invariant.0 in
+    let all : (LentPiece → ℕ) → ℕ = λ f. total (λ p. f (lent_piece u.taken p.1)) c.args.unread.now.items in
+    let left : (LentPiece → ℕ) → ℕ = λ f. total (λ p. f (lent_piece u.taken p.1)) (drop 1 xs) in
+    let some : AbandonsSome u v all (λ f. f (lent_piece u.taken l) + left f) = subst
+    (λ ys. AbandonsSome u v all (λ f. total (λ p. f (lent_piece u.taken p.1)) ys)) unread c.loop-lending.invariant.0 in
     let items : c.pop_front.new.self.items ≡ drop 1 xs = ap (λ (b : Buffer (Completion × Lending)). b.items) c.pop_front.ensures.items in
     let capacity : c.pop_front.new.self.capacity ≡ c.loop-lending.unread.capacity = ap
     (λ (b : Buffer (Completion × Lending)). b.capacity) c.pop_front.ensures.items in
     rw (c.abandon.ensures.view, items) (
-      abandons-one u v all left l (first-lent u v all left l c.requires.out some) some,
+      abandons-one u v all left u.taken l (first-lent u v all left u.taken l c.requires.out some) some,
       capacity
           ∙ c.loop-lending.invariant.1,
       search rules,

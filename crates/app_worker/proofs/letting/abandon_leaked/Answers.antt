@@ -10,7 +10,7 @@ use Rattle.app_worker.proofs.LetGone.{AbandonsSome, abandons-none, abandons-one,
 use Rattle.app_worker.proofs.letting.abandon_leaked.Goals as goal
 
 pub loop-lending-init : goal.loop-lending-init
-loop-lending-init g c = (abandons-none (g.F.AppFace.seen c.args.face.now) c.requires.apart (λ f. over_read f c.args.leaked.now.items), refl, refl)
+loop-lending-init g c = (abandons-none (g.F.AppFace.seen c.args.face.now) c.requires.apart (λ f. over_read (g.F.AppFace.seen c.args.face.now).taken f c.args.leaked.now.items), refl, refl)
 
 pub abandon-requires-clause-out : goal.abandon-requires-clause-out
 abandon-requires-clause-out g c =
@@ -19,10 +19,10 @@ abandon-requires-clause-out g c =
     let l : Lending = c.in-Some.lending in
     let xs : List Lending = c.loop-lending.leaked.items in
     let first : xs ≡ l ∷ drop 1 xs = front-of xs l (search rules) in
-    let all : (LentPiece → ℕ) → ℕ = λ f. over_read f c.args.leaked.now.items in
-    let some : AbandonsSome u v all (λ f. f (lent_piece l) + over_read f (drop 1 xs)) = subst
-    (λ ys. AbandonsSome u v all (λ f. over_read f ys)) first c.loop-lending.invariant.0 in
-    in-contains (λ l. l.place) (lent_piece l) v.loans (first-lent u v all (λ f. over_read f (drop 1 xs)) l c.requires.out some)
+    let all : (LentPiece → ℕ) → ℕ = λ f. over_read u.taken f c.args.leaked.now.items in
+    let some : AbandonsSome u v all (λ f. f (lent_piece u.taken l) + over_read u.taken f (drop 1 xs)) = subst
+    (λ ys. AbandonsSome u v all (λ f. over_read u.taken f ys)) first c.loop-lending.invariant.0 in
+    in-contains (λ l. l.place) (lent_piece u.taken l) v.loans (first-lent u v all (λ f. over_read u.taken f (drop 1 xs)) u.taken l c.requires.out some)
 
 pub loop-lending-preserved : goal.loop-lending-preserved
 loop-lending-preserved g c =
@@ -31,14 +31,14 @@ loop-lending-preserved g c =
     let l : Lending = c.in-Some.lending in
     let xs : List Lending = c.loop-lending.leaked.items in
     let first : xs ≡ l ∷ drop 1 xs = front-of xs l (search rules) in
-    let all : (LentPiece → ℕ) → ℕ = λ f. over_read f c.args.leaked.now.items in
-    let left : (LentPiece → ℕ) → ℕ = λ f. over_read f (drop 1 xs) in
-    let some : AbandonsSome u v all (λ f. f (lent_piece l) + left f) = subst (λ ys. AbandonsSome u v all (λ f. over_read f ys)) first
+    let all : (LentPiece → ℕ) → ℕ = λ f. over_read u.taken f c.args.leaked.now.items in
+    let left : (LentPiece → ℕ) → ℕ = λ f. over_read u.taken f (drop 1 xs) in
+    let some : AbandonsSome u v all (λ f. f (lent_piece u.taken l) + left f) = subst (λ ys. AbandonsSome u v all (λ f. over_read u.taken f ys)) first
     c.loop-lending.invariant.0 in
     let items : c.pop_front.new.self.items ≡ drop 1 xs = ap (λ (b : Buffer Lending). b.items) c.pop_front.ensures.items in
     let capacity : c.pop_front.new.self.capacity ≡ c.loop-lending.leaked.capacity = ap (λ (b : Buffer Lending). b.capacity) c.pop_front.ensures.items in
     rw (c.abandon.ensures.view, items) (
-      abandons-one u v all left l (first-lent u v all left l c.requires.out some) some,
+      abandons-one u v all left u.taken l (first-lent u v all left u.taken l c.requires.out some) some,
       capacity ∙ c.loop-lending.invariant.1,
       search rules,
     )

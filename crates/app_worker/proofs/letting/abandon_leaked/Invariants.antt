@@ -6,7 +6,8 @@ use Rattle.app_worker.proofs.letting.abandon_leaked.Given as goal
 
 abbrev pub invariant-loop-lending : goal.invariant-loop-lending
 invariant-loop-lending g l =
-    AbandonsSome (g.F.AppFace.seen l.fn.face) (g.F.AppFace.seen l.face) (λ f. over_read f l.fn.leaked.items) (λ f. over_read f l.leaked.items)
+    AbandonsSome (g.F.AppFace.seen l.fn.face) (g.F.AppFace.seen l.face) (λ f. over_read (g.F.AppFace.seen l.fn.face).taken f l.fn.leaked.items)
+    (λ f. over_read (g.F.AppFace.seen l.fn.face).taken f l.leaked.items)
     × (l.leaked.capacity ≡ l.fn.leaked.capacity)
     × (g.F.AppFace.beside l.face ≡ g.F.AppFace.beside l.fn.face)
 

@@ -2,7 +2,7 @@ use Rattle.std.proofs.Common.{rules, ◌≡◌, ℕ, ◌≤◌, ◌<◌, ◌∙�
 use Rattle.board_face.specs.declared.views.app.HeldPiece.{HeldPiece}
 use Rattle.board_face.specs.declared.views.app.AppView.{AppView}
 use Rattle.app_worker.specs.declared.stack.FlowQueue.{FlowQueue}
-use Rattle.app_worker.specs.Core.{total, over_kept, held_piece}
+use Rattle.app_worker.specs.Core.{total, over_kept, over_waiting, short_len, short_bytes}
 use Rattle.app_worker.specs.Steps.{OnlyHelds}
 use Rattle.app_worker.proofs.Tokens.{total-append}
 use Rattle.app_worker.proofs.Standing.{At, split-at, total-changed}
@@ -43,7 +43,8 @@ loop-i-preserved g c =
     let at : At flows i own = split-at flows i own within value in
     let only : OnlyHelds v w (λ f. over_kept f own.queue) (λ f. 0) = c.release_kept.ensures.only in
     let none : (f : HeldPiece → ℕ) → over_kept f c.release_kept.new.queue
-    ≡ 0 = λ f. ap (total (λ k. f (held_piece k.piece))) c.release_kept.ensures.empty in
+    ≡ 0 = λ f. ap (total (λ k. over_waiting f k.piece)) c.release_kept.ensures.empty in
+    let no_bytes : short_bytes c.release_kept.new.queue ≡ 0 = ap (total (λ k. short_len k.piece)) c.release_kept.ensures.empty in
     let sums : (f : HeldPiece → ℕ) → total f w.helds ≡ total (λ flow. over_kept f flow.queue) (set flows i now) = λ f.
     (let over : FlowQueue → ℕ = λ flow. over_kept f flow.queue in omega
     (arith, only.moved f, inv.2 f, ap (total over) at.is, ap (total over) (at.set_is now), total-changed at.before at.after own now over, none f)) in (
@@ -54,4 +55,10 @@ loop-i-preserved g c =
       omega (arith, length-set-same flows i now),
       map-set _ flows i own now within value (ap (λ b. record { number = own.number; base = b; bytes = own.bytes }) c.release_kept.ensures.base) ∙ inv.5,
       search rules,
+      total-take-set (λ flow. short_bytes flow.queue) flows i now within ∙ (omega (arith, inv.7, no_bytes)),
     )
+
+pub returns-clause-short : goal.returns-clause-short
+returns-clause-short g c =
+    let past : length c.loop-i.flows.items ≤ c.loop-i.i = search rules in
+    sym (total-take-all (λ flow. short_bytes flow.queue) c.loop-i.flows.items c.loop-i.i past) ∙ c.loop-i.invariant.7

@@ -1,7 +1,7 @@
 -- The first flows keep nothing any more.
 use Rattle.std.specs.Prelude.{◌≡◌, ◌-◌, ◌≤◌, ℕ, map, take, length}
 use Rattle.board_face.specs.declared.views.app.HeldPiece.{HeldPiece}
-use Rattle.app_worker.specs.Core.{LieApart, total, over_kept}
+use Rattle.app_worker.specs.Core.{LieApart, total, over_kept, short_bytes}
 use Rattle.app_worker.specs.Letting.{facts_of}
 use Rattle.app_worker.proofs.letting.release_all.Given as goal
 
@@ -14,6 +14,7 @@ invariant-loop-i g l =
     × (l.i ≤ length l.flows.items)
     × (map facts_of l.flows.items ≡ map facts_of l.fn.flows.items)
     × (g.F.AppFace.beside l.face ≡ g.F.AppFace.beside l.fn.face)
+    × (total (λ flow. short_bytes flow.queue) (take l.i l.flows.items) ≡ 0)
 
 abbrev pub decreases-loop-i : goal.decreases-loop-i
 decreases-loop-i g l = length l.flows.items - l.i

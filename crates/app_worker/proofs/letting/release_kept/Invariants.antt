@@ -4,11 +4,11 @@ use Rattle.app_worker.specs.Core.{over_kept}
 use Rattle.app_worker.specs.Steps.{OnlyHelds}
 use Rattle.app_worker.proofs.letting.release_kept.Given as goal
 
-abbrev pub invariant-loop-piece : goal.invariant-loop-piece
-invariant-loop-piece g l =
+abbrev pub invariant-loop-waiting : goal.invariant-loop-waiting
+invariant-loop-waiting g l =
     OnlyHelds (g.F.AppFace.seen l.fn.face) (g.F.AppFace.seen l.face) (λ f. over_kept f l.fn.queue) (λ f. over_kept f l.queue)
     × (l.queue.base ≡ l.fn.queue.base)
     × (g.F.AppFace.beside l.face ≡ g.F.AppFace.beside l.fn.face)
 
-abbrev pub decreases-loop-piece : goal.decreases-loop-piece
-decreases-loop-piece g l = length l.queue.kept
+abbrev pub decreases-loop-waiting : goal.decreases-loop-waiting
+decreases-loop-waiting g l = length l.queue.kept

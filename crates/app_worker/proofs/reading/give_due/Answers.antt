@@ -18,8 +18,8 @@ pub give-requires-clause-out : goal.give-requires-clause-out
 give-requires-clause-out g c =
     let v : AppView = g.F.AppFace.seen c.args.face.now in
     let is : c.args.due.now ≡ Some c.in-Some.lending = search rules in
-    let out : IsIn (lent_piece c.in-Some.lending) v.loans = subst (λ o. IfSome o (λ l. IsIn (lent_piece l) v.loans)) is c.requires.out in
-    in-contains (λ l. l.place) (lent_piece c.in-Some.lending) v.loans out
+    let out : IsIn (lent_piece v.taken c.in-Some.lending) v.loans = subst (λ o. IfSome o (λ l. IsIn (lent_piece v.taken l) v.loans)) is c.requires.out in
+    in-contains (λ l. l.place) (lent_piece v.taken c.in-Some.lending) v.loans out
 
 pub returns-in-Ok-clause-given : goal.returns-in-Ok-clause-given
 returns-in-Ok-clause-given g c =
@@ -27,11 +27,11 @@ returns-in-Ok-clause-given g c =
     let l : Lending = c.in-Some.lending in
     let is : c.args.due.now ≡ Some l = search rules in
     let then : c.take.new.self ≡ None = search rules in
-    let out : IsIn (lent_piece l) v.loans = subst (λ o. IfSome o (λ l. IsIn (lent_piece l) v.loans)) is c.requires.out in
-    let gives = is-given v c.requires.apart (lent_piece l) out in
+    let out : IsIn (lent_piece v.taken l) v.loans = subst (λ o. IfSome o (λ l. IsIn (lent_piece v.taken l) v.loans)) is c.requires.out in
+    let gives = is-given v c.requires.apart (lent_piece v.taken l) out in
     let view : g.F.AppFace.seen c.give.new.self ≡ gave v l.loan = c.in-Ok.ensures.view in
-    let lies : LiesIn v.setting.layout l.loan = loan-lies v c.requires.apart (lent_piece l) out in
-    let some : 0 < l.loan.len = loan-some v c.requires.apart (lent_piece l) out in
+    let lies : LiesIn v.setting.layout l.loan = loan-lies v c.requires.apart (lent_piece v.taken l) out in
+    let some : 0 < l.loan.len = loan-some v c.requires.apart (lent_piece v.taken l) out in
     let inside : l.loan.offset < size_of v.setting.layout l.loan.buffer = omega (arith, lies.bytes, some) in
     let step : Gave v (gave v l.loan) l = record {
       view = refl;
@@ -63,6 +63,6 @@ off-requires g c =
     let v : AppView = g.F.AppFace.seen c.args.face.now in
     let l : Lending = c.in-Some.lending in
     let is : c.args.due.now ≡ Some l = search rules in
-    let out : IsIn (lent_piece l) v.loans = subst (λ o. IfSome o (λ l. IsIn (lent_piece l) v.loans)) is c.requires.out in
+    let out : IsIn (lent_piece v.taken l) v.loans = subst (λ o. IfSome o (λ l. IsIn (lent_piece v.taken l) v.loans)) is c.requires.out in
     let place : c.place-place.result ≡ l.loan = search rules in
-    subst (HasPlace v) (sym place) (inr (in-contains (λ l. l.place) (lent_piece l) v.loans out))
+    subst (HasPlace v) (sym place) (inr (in-contains (λ l. l.place) (lent_piece v.taken l) v.loans out))

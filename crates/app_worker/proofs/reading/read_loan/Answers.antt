@@ -1,4 +1,5 @@
-use Rattle.std.proofs.Common.{rules, ◌≡◌, ℕ, ◌+◌, ◌-◌, ◌≤◌, length, take, drop, length-append, refl, subst, arith, min}
+use Rattle.board_face.specs.declared.views.app.TakenNote.{TakenNote}
+use Rattle.std.proofs.Common.{rules, List, ◌≡◌, ℕ, ◌+◌, ◌-◌, ◌≤◌, length, take, drop, length-append, refl, subst, arith, min}
 use Rattle.std.specs.Io.KnownBytes.{Appends}
 use Rattle.std.proofs.KnownBytes.{Keeps-trans}
 use Rattle.std.proofs.lemmas.List.{length-drop}
@@ -15,7 +16,9 @@ pub read-requires-clause-out : goal.read-requires-clause-out
 read-requires-clause-out g c =
     let l : Lending = c.args.lending.now in
     let v : AppView = g.F.AppFace.seen c.loop-done.face in
-    in-contains (λ l. l.place) (lent_piece l) v.loans (still-out (g.F.AppFace.seen c.args.face.now) v (lent_piece l) c.loop-done.invariant.4 c.requires.out)
+    let taken : List TakenNote = (g.F.AppFace.seen c.args.face.now).taken in
+    in-contains (λ l. l.place) (lent_piece taken l) v.loans
+    (still-out (g.F.AppFace.seen c.args.face.now) v (lent_piece taken l) c.loop-done.invariant.4 c.requires.out)
 
 pub returns-in_err-append-clause-only : goal.returns-in_err-append-clause-only
 returns-in_err-append-clause-only g c =
@@ -31,7 +34,8 @@ returns-in_err-append-clause-gained g c =
     let v : AppView = g.F.AppFace.seen c.loop-done.face in
     let inv = c.loop-done.invariant in
     let lie : LieApart v = still-apart v0 v inv.4 c.requires.apart in
-    let out : IsIn (lent_piece l) v.loans = still-out v0 v (lent_piece l) inv.4 c.requires.out in
+    let taken : List TakenNote = v0.taken in
+    let out : IsIn (lent_piece taken l) v.loans = still-out v0 v (lent_piece taken l) inv.4 c.requires.out in
     let first = g.T.Shelf.kept c.args.shelf.now c.args.flow in
     let before = g.T.Shelf.kept c.loop-done.shelf c.args.flow in
     let after = g.T.Shelf.kept c.append.new.self c.args.flow in
@@ -40,7 +44,8 @@ returns-in_err-append-clause-gained g c =
     let fits : c.loop-done.done + length c.read.new.into ≤ c.args.most = omega (arith, size, n, inv.0, inv.1) in
     let added : (n : ℕ) × Appends before after (take n c.read.new.into) = c.in_err-append.ensures.bytes in
     let done : c.loop-done.bytes - c.args.bytes.now ≡ c.loop-done.done = omega (arith, inv.2) in
-    rw (c.read.ensures.view, done) (some-more first before after v lie l c.loop-done.done c.args.most added.0 c.read.new.into c.read.new.into out refl fits inv.5 added.1)
+    rw (c.read.ensures.view, done) (some-more taken first before after v lie l c.loop-done.done c.args.most added.0 c.read.new.into c.read.new.into out
+    c.requires.note c.read.ensures.copied c.requires.part fits refl inv.5 added.1)
 
 pub loop-done-preserved : goal.loop-done-preserved
 loop-done-preserved g c =
@@ -49,7 +54,8 @@ loop-done-preserved g c =
     let v : AppView = g.F.AppFace.seen c.loop-done.face in
     let inv = c.loop-done.invariant in
     let lie : LieApart v = still-apart v0 v inv.4 c.requires.apart in
-    let out : IsIn (lent_piece l) v.loans = still-out v0 v (lent_piece l) inv.4 c.requires.out in
+    let taken : List TakenNote = v0.taken in
+    let out : IsIn (lent_piece taken l) v.loans = still-out v0 v (lent_piece taken l) inv.4 c.requires.out in
     let first = g.T.Shelf.kept c.args.shelf.now c.args.flow in
     let before = g.T.Shelf.kept c.loop-done.shelf c.args.flow in
     let after = g.T.Shelf.kept c.append.new.self c.args.flow in
@@ -64,8 +70,9 @@ loop-done-preserved g c =
       omega (arith, inv.2, from),
       omega (arith, length-append c.read.new.into (drop c.min-n.result c.loop-done.buffer), length-drop c.min-n.result c.loop-done.buffer, size, n, inv.3),
       only-then v0 v w inv.4 (only-read v l c.loop-done.done c.read.new.into),
-      subst (λ k. Gained first after (IsReadTo w.reads l (c.loop-done.done + k))) size
-          (one-more first before after v lie l c.loop-done.done c.read.new.into c.read.new.into out refl inv.5 added),
+      subst (λ k. Gained first after (IsReadTo taken w.reads l (c.loop-done.done + k))) size
+          (one-more taken first before after v lie l c.loop-done.done c.read.new.into c.read.new.into out c.requires.note c.read.ensures.copied
+          (omega (arith, size, n, inv.0, inv.1)) refl inv.5 added),
       λ other away. Keeps-trans _ _ _ (inv.6 other away) (c.append.ensures.others other away),
       search rules,
       search rules,

@@ -9,10 +9,14 @@ use Rattle.board_face.specs.AppEvents.{released}
 use Rattle.board_face.specs.declared.views.app.HeldPiece.{HeldPiece}
 use Rattle.board_face.specs.declared.views.app.AppView.{AppView}
 use Rattle.app_worker.specs.declared.stack.Piece.{Piece}
-use Rattle.app_worker.specs.Core.{held_piece, over_kept}
-use Rattle.app_worker.specs.Steps.{OnlyHelds, whole_piece, over_others}
+use Rattle.app_worker.specs.declared.stack.Waiting.{Waiting}
+use Rattle.app_worker.specs.declared.stack.Waiting.TheVariants.{InArea}
+use Rattle.app_worker.specs.Core.{held_piece, over_kept, short_len, IsOfNote}
+use Rattle.app_worker.specs.Steps.{OnlyHelds, whole_piece, over_others, given_back}
 use Rattle.app_worker.proofs.Tokens.{in-contains, is-released}
 use Rattle.app_worker.proofs.Entering.{IsLeft, all-there, ignored, none-wanted, later, others-still, all-given, still-left, taken-only, rest-given}
+use Rattle.app_worker.proofs.Entering.{over-with_kept, each-with_kept, one}
+use Rattle.std.specs.Prelude.{slice_get}
 use Rattle.app_worker.proofs.Entering.{entered-nothing, begun-left}
 use Rattle.app_worker.proofs.Shrinking.{shrink-gave, shrink-cut, shrink-released, shrink-given}
 use Rattle.app_worker.proofs.stack.enter.Goals as goal
@@ -41,6 +45,8 @@ loop-left-init g c =
           c.requires.out,
       refl,
       omega arith,
+      refl,
+      λ taken t is split each. each,
     )
 
 pub returns-then-not-accepts-clause-fewer : goal.returns-then-not-accepts-clause-fewer
@@ -123,8 +129,8 @@ loop-left-preserved g c =
     let v1 : AppView = g.F.AppFace.seen c.skip-wanted.new.face in
     let v2 : AppView = g.F.AppFace.seen c.split-first.new.face in
     let note : Note = c.args.note.now in
-    let was : Queue Piece = c.args.queue.now in
-    let now : Queue Piece = c.loop-left.queue in
+    let was : Queue Waiting = c.args.queue.now in
+    let now : Queue Waiting = c.loop-left.queue in
     let seq : ℕ = (note.seq + note.at) % 2 ^ 32 in
     let from : ℕ = origin was note.seq + note.at in
     let piece : Piece = c.in-Some.piece in
@@ -139,6 +145,7 @@ loop-left-preserved g c =
     let fits : note.place.len ≤ 2 ^ 30 = omega (arith, c.requires.fields.within, c.requires.fields.bounded) in
     let gave = c.skip-wanted.ensures.gave in
     let cut = c.split-first.ensures.cut in
+    let of_note : c.split-first.result.0.note ≡ c.args.number = ap (λ (p : Piece). p.note) cut.front ∙ ap (λ (p : Piece). p.note) gave.rest ∙ left.1 in
     let taken : c.take.new.self ≡ later v v1 v2 was now c.args.number seq note.place.len from piece c.skip-wanted.result c.split-first.result.0
     c.split-first.result.1 gap sound fits left first gave cut = search rules in
     rw taken (
@@ -157,26 +164,35 @@ loop-left-preserved g c =
         shrink-gave v v1 piece gap.skip c.skip-wanted.result gave,
         shrink-cut v1 v2 c.skip-wanted.result gap.len c.split-first.result.0 c.split-first.result.1 (search rules) cut,
       ),
+      omega (
+        arith,
+        c.loop-left.invariant.8,
+        over-with_kept short_len now.kept (one v v1 v2 was now c.args.number seq note.place.len from piece
+            c.skip-wanted.result c.split-first.result.0 c.split-first.result.1 gap sound fits left first gave cut),
+      ),
+      λ taken t is split each. each-with_kept (IsOfNote taken) now.kept (one v v1 v2 was now c.args.number seq note.place.len from piece
+          c.skip-wanted.result c.split-first.result.0 c.split-first.result.1 gap sound fits left first gave cut)
+          (record { note = t; is = ap (slice_get taken) of_note ∙ is; split = split }) (c.loop-left.invariant.9 taken t is split each),
     )
 
-pub release-requires-in-Err-clause-out : goal.release-requires-in-Err-clause-out
-release-requires-in-Err-clause-out g c =
-    let back : c.in-Err.first ≡ c.split-first.result.0 = search rules in
+pub give_back-requires-clause-out : goal.give_back-requires-clause-out
+give_back-requires-clause-out g c =
+    let back : c.in-Err.back ≡ InArea c.split-first.result.0 = search rules in
     let cut = c.split-first.ensures.cut in
-    rw back (in-contains (λ h. h.place) (held_piece c.split-first.result.0) (g.F.AppFace.seen c.split-first.new.face).helds cut.out)
+    rw back cut.out
 
 pub give_up-requires-clause-apart : goal.give_up-requires-clause-apart
 give_up-requires-clause-apart g c =
-    let back : c.in-Err.first ≡ c.split-first.result.0 = search rules in
+    let back : c.in-Err.back ≡ InArea c.split-first.result.0 = search rules in
     let cut = c.split-first.ensures.cut in
-    rw (c.release-in-Err.ensures.view, back) (is-released (g.F.AppFace.seen c.split-first.new.face) cut.only.apart
+    rw (c.give_back.ensures.view, back) (is-released (g.F.AppFace.seen c.split-first.new.face) cut.only.apart
     (held_piece c.split-first.result.0) cut.out).apart
 
 pub give_up-requires-clause-out : goal.give_up-requires-clause-out
 give_up-requires-clause-out g c =
-    let back : c.in-Err.first ≡ c.split-first.result.0 = search rules in
+    let back : c.in-Err.back ≡ InArea c.split-first.result.0 = search rules in
     let some : 0 < c.in-Some-gap.gap.len = search rules in
-    rw (c.release-in-Err.ensures.view, back) (others-still (g.F.AppFace.seen c.skip-wanted.new.face)
+    rw (c.give_back.ensures.view, back) (others-still (g.F.AppFace.seen c.skip-wanted.new.face)
     (g.F.AppFace.seen c.split-first.new.face) c.skip-wanted.result c.split-first.result.0 c.split-first.result.1 c.in-Some-gap.gap.len some
     c.split-first.ensures.cut)
 
@@ -187,16 +203,16 @@ returns-in-Err-clause-only g c =
     let v1 : AppView = g.F.AppFace.seen c.skip-wanted.new.face in
     let v2 : AppView = g.F.AppFace.seen c.split-first.new.face in
     let v4 : AppView = g.F.AppFace.seen c.give_up.new.face in
-    let was : Queue Piece = c.args.queue.now in
-    let now : Queue Piece = c.loop-left.queue in
+    let was : Queue Waiting = c.args.queue.now in
+    let now : Queue Waiting = c.loop-left.queue in
     let piece : Piece = c.in-Some.piece in
-    let back : c.in-Err.first ≡ c.split-first.result.0 = search rules in
+    let back : c.in-Err.back ≡ InArea c.split-first.result.0 = search rules in
     let same : c.take.new.self ≡ now = search rules in
     let gone : (HeldPiece → ℕ) → ℕ = λ f. f (held_piece (whole_piece c.args.number c.args.held)) + over_kept f was in
     let only : OnlyHelds v0 v gone (λ f. over_others f (Some piece) + over_kept f now) = subst
     (λ o. OnlyHelds v0 v gone (λ f. over_others f o + over_kept f now)) c.in-Some.is c.loop-left.invariant.2 in
-    let view3 : g.F.AppFace.seen c.release-in-Err.new.self ≡ released v2 c.split-first.result.0.held = c.release-in-Err.ensures.view
-    ∙ ap (λ (p : Piece). released v2 p.held) back in
+    let view3 : g.F.AppFace.seen c.give_back.new.face ≡ released v2 c.split-first.result.0.held = c.give_back.ensures.view
+    ∙ ap (given_back v2) back in
     let last : OnlyHelds (released v2 c.split-first.result.0.held) v4 (λ f. over_others f c.split-first.result.1) (λ f. 0) = subst
     (λ w. OnlyHelds w v4 (λ f. over_others f c.split-first.result.1) (λ f. 0)) view3 c.give_up.ensures.only in
     rw same (all-given v0 v v1 v2 v4 now piece c.skip-wanted.result c.split-first.result.0 c.split-first.result.1 c.in-Some-gap.gap gone only
@@ -209,10 +225,10 @@ returns-in-Err-clause-fewer g c =
     let v2 : AppView = g.F.AppFace.seen c.split-first.new.face in
     let v4 : AppView = g.F.AppFace.seen c.give_up.new.face in
     let gap : Gap = c.in-Some-gap.gap in
-    let back : c.in-Err.first ≡ c.split-first.result.0 = search rules in
+    let back : c.in-Err.back ≡ InArea c.split-first.result.0 = search rules in
     let cut = c.split-first.ensures.cut in
-    let view3 : g.F.AppFace.seen c.release-in-Err.new.self ≡ released v2 c.split-first.result.0.held = c.release-in-Err.ensures.view
-    ∙ ap (λ (p : Piece). released v2 p.held) back in
+    let view3 : g.F.AppFace.seen c.give_back.new.face ≡ released v2 c.split-first.result.0.held = c.give_back.ensures.view
+    ∙ ap (given_back v2) back in
     let last : OnlyHelds (released v2 c.split-first.result.0.held) v4 (λ f. over_others f c.split-first.result.1) (λ f. 0) = subst
     (λ w. OnlyHelds w v4 (λ f. over_others f c.split-first.result.1) (λ f. 0)) view3 c.give_up.ensures.only in
     omega (

@@ -1,7 +1,8 @@
 -- What of the piece is there, and that the rest is out.
-use Rattle.std.specs.Prelude.{◌≡◌, ◌+◌, ◌%◌, ◌^◌, ◌≤◌}
+use Rattle.std.specs.Prelude.{◌≡◌, ◌+◌, ◌%◌, ◌^◌, ◌≤◌, List, Some, slice_get, true}
 use Rattle.tcp_reorder.specs.Gaps.{origin}
-use Rattle.app_worker.specs.Core.{held_piece, over_kept, total}
+use Rattle.board_face.specs.declared.views.app.TakenNote.{TakenNote}
+use Rattle.app_worker.specs.Core.{held_piece, over_kept, short_bytes, total, IsOfNote, Each}
 use Rattle.app_worker.specs.State.{held_len}
 use Rattle.app_worker.specs.Steps.{OnlyHelds, whole_piece, over_others}
 use Rattle.app_worker.proofs.Entering.{IsLeft, left_len}
@@ -16,6 +17,9 @@ invariant-loop-left g l =
     × IsLeft (g.F.AppFace.seen l.face) l.fn.queue l.queue l.number l.seq l.note.place.len (origin l.fn.queue l.note.seq + l.note.at) l.left
     × (g.F.AppFace.beside l.face ≡ g.F.AppFace.beside l.fn.face)
     × (total held_len (g.F.AppFace.seen l.face).helds ≤ total held_len (g.F.AppFace.seen l.fn.face).helds)
+    × (short_bytes l.queue ≡ short_bytes l.fn.queue)
+    × ((taken : List TakenNote) (t : TakenNote) → slice_get taken l.fn.number ≡ Some t → t.note.split ≡ true
+    → Each (λ k. IsOfNote taken k.piece) l.fn.queue.kept → Each (λ k. IsOfNote taken k.piece) l.queue.kept)
 
 abbrev pub decreases-loop-left : goal.decreases-loop-left
 decreases-loop-left g l = left_len l.left

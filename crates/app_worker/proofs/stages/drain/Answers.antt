@@ -1,12 +1,14 @@
-use Rattle.std.proofs.Common.{◌≢◌, rules, ◌≤◌, ℕ, ◌<◌, List, Option, length, ap, ◌∙◌, arith}
+use Rattle.std.proofs.Common.{rules, ◌≡◌, ◌≢◌, ℕ, ◌<◌, ◌≤◌, true, false, List, [], ◌∷◌, Option, length, refl, sym, ap, ◌∙◌, arith, ⊎_elim, ◌⊎◌, inl, inr}
+use Rattle.std.specs.Prelude.{if◌then◌else◌}
+use Rattle.std.proofs.lemmas.Bool.{cases_Bool}
 use Rattle.board_face.specs.declared.views.app.AppView.{AppView}
 use Rattle.app_worker.specs.declared.turning.Read.TheVariants.{Quit, Failed}
 use Rattle.zr_kinds.specs.declared.behaviour.Stopped.TheVariants.{Write}
-use Rattle.app_worker.specs.State.{State, app_steps}
+use Rattle.app_worker.specs.State.{State}
 use Rattle.app_worker.specs.StateOf.{state_of}
 use Rattle.app_worker.specs.Whole.{ReadOne, GaveBack}
 use Rattle.app_worker.proofs.Pushing.{back-did}
-use Rattle.app_worker.specs.Stages.{Through}
+use Rattle.app_worker.specs.Stages.{Through, kept_of}
 use Rattle.app_worker.proofs.Through.{write-stopped, write-later, read-did, through-then, through-read, through-gave, through-in-use}
 use Rattle.app_worker.proofs.Quitting.{has-quit, quit-later}
 use Rattle.app_worker.proofs.stages.drain.Goals as goal
@@ -48,13 +50,13 @@ returns-in-Quit-clause-reads g c =
     quit-later a b e u v x k l m inv.0 (has-quit b d e v w x l m inv.0.reaped c.in-Quit.ensures.reads c.let_go-in-Quit.ensures.done)
 
 pub read_one-requires-clause-pushed : goal.read_one-requires-clause-pushed
-read_one-requires-clause-pushed g c = c.loop-face.invariant.6
+read_one-requires-clause-pushed g c = c.loop-face.invariant.10
 
 pub let_go-requires-clause-pushed : goal.let_go-requires-clause-pushed
-let_go-requires-clause-pushed g c = ap (λ (s : State). s.stray.left) c.in-Failed.ensures.reads.same ∙ c.loop-face.invariant.6
+let_go-requires-clause-pushed g c = ap (λ (s : State). s.stray.left) c.in-Failed.ensures.reads.same ∙ c.loop-face.invariant.10
 
 pub let_go-requires-in-Quit-clause-pushed : goal.let_go-requires-in-Quit-clause-pushed
-let_go-requires-in-Quit-clause-pushed g c = ap (λ (s : State). s.stray.left) c.in-Quit.ensures.reads.same ∙ c.loop-face.invariant.6
+let_go-requires-in-Quit-clause-pushed g c = ap (λ (s : State). s.stray.left) c.in-Quit.ensures.reads.same ∙ c.loop-face.invariant.10
 
 pub returns-in-Part-clause-reads : goal.returns-in-Part-clause-reads
 returns-in-Part-clause-reads g c =
@@ -82,6 +84,7 @@ returns-in-Part-clause-reads g c =
     (c.give_back.ensures.goes m) gave in (
       through-then a b e u v x k l m inv.0 (through-then b d e v w x l m m first second),
       omega (arith, inv.0.goes.moves.steps, read.steps, (c.give_back.ensures.goes m).moves.steps),
+      omega (arith, inv.6, c.loop-face-test.true, c.len.ensures.len, read.unread, ap (λ (s : State). length s.unread) gave.same),
     )
 
 pub returns-in-InUse-clause-reads : goal.returns-in-InUse-clause-reads
@@ -110,15 +113,37 @@ returns-in-InUse-clause-reads g c =
     (c.give_back.ensures.goes m) gives.0 gives.1 in (
       through-then a b e u v x k l m inv.0 (through-then b d e v w x l m m first second),
       omega (arith, inv.0.goes.moves.steps, read.steps, (c.give_back.ensures.goes m).moves.steps),
+      omega (arith, inv.6, c.loop-face-test.true, c.len.ensures.len, read.unread, ap (λ (s : State). length s.unread) gives.0),
     )
 
-pub returns-then-did-clause-reads : goal.returns-then-did-clause-reads
-returns-then-did-clause-reads g c =
+-- where not all is to be read, that was so, or nothing is unread
+off-too : (a b d e : State) → d.flush ≡ false → e.unread ≡ d.unread → (b.flush ≡ false → (a.flush ≡ false) ⊎ (b.unread ≡ []))
+    → (d.flush ≡ false → (b.flush ≡ false) ⊎ (d.unread ≡ [])) → b.unread ≢ [] → (a.flush ≡ false) ⊎ (e.unread ≡ [])
+off-too a b d e off same before read some = ⊎_elim
+    (λ (b_off : b.flush ≡ false). ⊎_elim
+    (λ (a_off : a.flush ≡ false). inl a_off)
+    (λ (none : b.unread ≡ []). absurd (some none))
+    (before b_off))
+    (λ (none : d.unread ≡ []). inr (same ∙ none))
+    (read off)
+
+more-than-kept : (a b : State) (keep least : ℕ) → (a.ended ≡ false → a.how.hold ≤ keep) → b.how ≡ a.how → b.ended ≡ a.ended → least ≡ kept_of keep a
+    → (b.flush ≡ false → (a.flush ≡ false) ⊎ (b.unread ≡ [])) → least < length b.unread
+    → b.ended ≡ false → b.flush ≡ false → b.how.hold < length b.unread
+more-than-kept a b keep least hold how ended is before more notes off = ⊎_elim
+    (λ (a_off : a.flush ≡ false).
+    let all : least ≡ keep = is ∙ ap (λ x. if x then 0 else keep) a_off in
+    omega (arith, all, hold (sym ended ∙ notes), ap (λ h. h.hold) how, more))
+    (λ (none : b.unread ≡ []). absurd (omega (arith, more, ap length none)))
+    (before off)
+
+pub read_one-requires-clause-more : goal.read_one-requires-clause-more
+read_one-requires-clause-more g c =
+    let a : State = state_of c.args.st.now in
+    let b : State = state_of c.loop-face.st in
     let inv = c.loop-face.invariant in
-    let did : app_steps (state_of c.args.st.now) (g.F.AppFace.seen c.args.face.now)
-    < app_steps (state_of c.loop-face.st) (g.F.AppFace.seen c.loop-face.face) = search rules in
-    let few : length c.loop-face.st.unread.items ≤ c.args.keep = search rules in
-    (inv.0, did, inv.1, few, inv.6)
+    let more : c.least_kept-least.result < length b.unread = omega (arith, c.loop-face-test.true, c.len.ensures.len) in
+    more-than-kept a b c.args.keep c.least_kept-least.result c.requires.keep inv.0.goes.moves.how.1 inv.0.ended inv.6 inv.9 more
 
 pub loop-face-preserved : goal.loop-face-preserved
 loop-face-preserved g c =
@@ -150,7 +175,45 @@ loop-face-preserved g c =
       λ no. absurd (cc),
       omega (arith, inv.4, c.read_one.ensures.later),
       c.give_back.ensures.beside ∙ c.read_one.ensures.beside ∙ inv.5,
+      inv.6,
+      λ _. omega (arith, c.loop-face-test.true, c.len.ensures.len, read.unread, ap (λ (s : State). length s.unread) gave.0.same),
+      λ on. (
+          let flushes : d.flush ≡ true = sym (ap (λ (s : State). s.flush) gave.0.same) ∙ on in
+          let both = read.flush flushes in
+          ((inv.8 both.0).0, λ _ none. both.1 (sym (ap (λ (s : State). s.unread) gave.0.same) ∙ none))),
+      λ off. off-too a b d e (sym (ap (λ (s : State). s.flush) gave.0.same) ∙ off) (ap (λ (s : State). s.unread) gave.0.same) inv.9 read.flushed
+          (λ none. absurd (omega (arith, some, ap length none))),
       gave.2,
+    )
+
+-- all that was to be read was
+done-flush : (least keep : ℕ) (was now : State) → least ≡ kept_of keep was → length now.unread ≤ least
+    → (now.flush ≡ true → (was.flush ≡ true) × (now.unread ≢ [])) → now.flush ≡ false
+done-flush least keep was now is few flushes = ⊎_elim
+    (λ (on : now.flush ≡ true).
+    let both = flushes on in
+    let none : least ≡ 0 = is ∙ ap (λ b. if b then 0 else keep) both.0 in
+    absurd (both.1 (empty now.unread (omega (arith, few, none)))))
+    (λ (off : now.flush ≡ false). off)
+    (cases_Bool now.flush)
+  where
+    empty : {A : Type 0} (xs : List A) → length xs ≤ 0 → xs ≡ []
+    empty [] none = refl
+    empty (y ∷ ys) none = absurd (omega arith)
+
+pub returns-then-did-clause-reads : goal.returns-then-did-clause-reads
+returns-then-did-clause-reads g c =
+    let a : State = state_of c.args.st.now in
+    let b : State = state_of c.loop-face.st in
+    let inv = c.loop-face.invariant in
+    let did : c.loop-face.did ≡ true = search rules in
+    let few : length b.unread ≤ c.least_kept-least.result = omega (arith, c.loop-face-test.false, c.len.ensures.len) in (
+      inv.0,
+      inv.2 did,
+      inv.1,
+      omega (arith, few, inv.7 did, inv.6),
+      done-flush c.least_kept-least.result c.args.keep a b inv.6 few (λ on. ((inv.8 on).0, (inv.8 on).1 did)),
+      inv.10,
     )
 
 pub loop-face-smaller : goal.loop-face-smaller

@@ -1,8 +1,8 @@
 -- Some were read and given back, or nothing happened yet.
-use Rattle.std.specs.Prelude.{◌≡◌, ◌<◌, ◌≤◌, true, false, None, length}
+use Rattle.std.specs.Prelude.{◌⊎◌, ◌≡◌, ◌≢◌, ◌<◌, ◌≤◌, true, false, None, [], length}
 use Rattle.app_worker.specs.State.{app_steps}
 use Rattle.app_worker.specs.StateOf.{state_of}
-use Rattle.app_worker.specs.Stages.{Through, Untouched}
+use Rattle.app_worker.specs.Stages.{Through, Untouched, kept_of}
 use Rattle.app_worker.proofs.stages.drain.Given as goal
 
 abbrev pub invariant-loop-face : goal.invariant-loop-face
@@ -14,6 +14,10 @@ invariant-loop-face g l =
     (g.T.Shelf.kept l.shelf))
     × (g.T.Shelf.faults l.fn.shelf ≤ g.T.Shelf.faults l.shelf)
     × (g.F.AppFace.beside l.face ≡ g.F.AppFace.beside l.fn.face)
+    × (l.least ≡ kept_of l.fn.keep (state_of l.fn.st))
+    × (l.did ≡ true → l.least ≤ length l.st.unread.items)
+    × (l.st.flush ≡ true → (l.fn.st.flush ≡ true) × (l.did ≡ true → l.st.unread.items ≢ []))
+    × (l.st.flush ≡ false → (l.fn.st.flush ≡ false) ⊎ (l.st.unread.items ≡ []))
     × (l.st.stray.left ≡ 0)
 
 abbrev pub decreases-loop-face : goal.decreases-loop-face

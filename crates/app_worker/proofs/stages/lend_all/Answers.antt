@@ -148,7 +148,7 @@ loop-end-preserved g c =
       omega (arith, inv.4, c.drain.ensures.later),
       c.drain.ensures.beside ∙ c.lend_some-lent.ensures.beside ∙ inv.5,
       omega (arith, then.2, ap (λ h. h.hold) then.0.goes.moves.how.1),
-      then.3,
+      then.4,
     )
 
 pub loop-end-smaller : goal.loop-end-smaller

@@ -1,6 +1,6 @@
 use Rattle.std.proofs.Common.{◌∙◌, refl}
 use Rattle.app_worker.specs.StateOf.{state_of}
-use Rattle.app_worker.proofs.LentSoFar.{lent-none, lent-more, lent-end}
+use Rattle.app_worker.proofs.LentSoFar.{lent-none, lent-more, lent-further, lent-end}
 use Rattle.app_worker.proofs.stages.lend_some.Goals as goal
 
 pub loop-did-init : goal.loop-did-init
@@ -14,6 +14,11 @@ loop-did-preserved g c = (
   c.deliver_one.ensures.beside ∙ c.loop-did.invariant.1,
 )
 
+pub loop-did-smaller : goal.loop-did-smaller
+loop-did-smaller g c = lent-further (state_of c.args.st.now) (state_of c.loop-did.st) (state_of c.deliver_one.new.st) (g.F.AppFace.seen c.args.face.now)
+    (g.F.AppFace.seen c.loop-did.face) (g.F.AppFace.seen c.deliver_one.new.face) c.loop-did.did
+    c.loop-did.invariant.0 c.deliver_one.ensures.working c.deliver_one.ensures.common c.in-Did.ensures.lends
+
 pub returns-in_default : goal.returns-in_default
 returns-in_default g c = record {
   lends = lent-end (state_of c.args.st.now) (state_of c.loop-did.st) (state_of c.deliver_one.new.st) (g.F.AppFace.seen c.args.face.now)
@@ -21,5 +26,6 @@ returns-in_default g c = record {
       c.loop-did.invariant.0 c.in_default.not-Did c.deliver_one.ensures.working c.deliver_one.ensures.common c.deliver_one.ensures.goes
       c.deliver_one.ensures.lends;
   told = c.deliver_one.ensures.told;
+  no_spare = c.deliver_one.ensures.no_spare;
   beside = c.deliver_one.ensures.beside ∙ c.loop-did.invariant.1;
 }

@@ -1,6 +1,6 @@
 -- Some were lent, or nothing happened yet.
-use Rattle.std.specs.Prelude.{◌≡◌}
-use Rattle.app_worker.specs.Core.{total}
+use Rattle.std.specs.Prelude.{◌≡◌, ◌-◌}
+use Rattle.app_worker.specs.State.{app_steps, furthest}
 use Rattle.app_worker.specs.StateOf.{state_of}
 use Rattle.app_worker.proofs.LentSoFar.{LentSoFar}
 use Rattle.app_worker.proofs.stages.lend_some.Given as goal
@@ -11,4 +11,4 @@ invariant-loop-did g l =
     × (g.F.AppFace.beside l.face ≡ g.F.AppFace.beside l.fn.face)
 
 abbrev pub decreases-loop-did : goal.decreases-loop-did
-decreases-loop-did g l = total (λ _. 1) (g.F.AppFace.seen l.face).helds
+decreases-loop-did g l = furthest l.st.how.stray (g.F.AppFace.seen l.face) - app_steps (state_of l.st) (g.F.AppFace.seen l.face)

@@ -5,6 +5,7 @@ use Rattle.app_worker.specs.StateOf.{state_of}
 use Rattle.app_worker.specs.Turns.{Answers}
 use Rattle.app_worker.specs.declared.turn.Turn.TheVariants.{Finished}
 use Rattle.app_worker.proofs.StreamLemmas.{stands-fronts, stands-failed, stands-all, stands-within}
+use Rattle.app_worker.proofs.TurnLemmas.{turns-keep}
 use Rattle.app_worker.proofs.state.app_turn.Goals as goal
 
 pub returns-clause-fronts : goal.returns-clause-fronts
@@ -16,14 +17,19 @@ returns-clause-failed g c = λ first whole shelved. stands-failed first (g.T.She
     (g.F.AppFace.seen c.turn.new.face) c.turn.ensures.turns.stands whole shelved
 
 pub returns-clause-whole : goal.returns-clause-whole
-returns-clause-whole g c = λ first is going split whole shelved.
+returns-clause-whole g c = λ first is going whole shelved.
     let a : State = state_of c.st.inside.stack in
     let e : State = state_of c.turn.new.st in
     let u : AppView = g.F.AppFace.seen c.args.face.now in
     let w : AppView = g.F.AppFace.seen c.turn.new.face in
     let answer : Answers a e u w (g.T.Shelf.faults c.args.shelf.now) (g.T.Shelf.faults c.turn.new.shelf) Finished = subst
     (Answers a e u w (g.T.Shelf.faults c.args.shelf.now) (g.T.Shelf.faults c.turn.new.shelf)) is c.turn.ensures.turns.answer in
-    stands-all first (g.T.Shelf.kept c.turn.new.shelf) e w c.turn.ensures.turns.stands answer.2 going split whole shelved
+    stands-all first (g.T.Shelf.kept c.turn.new.shelf) e w c.turn.ensures.turns.stands answer.2 going whole shelved
 
 pub returns-clause-within : goal.returns-clause-within
 returns-clause-within g c = stands-within (state_of c.turn.new.st) (g.F.AppFace.seen c.turn.new.face) c.turn.ensures.turns.stands
+
+pub returns-clause-keeps : goal.returns-clause-keeps
+returns-clause-keeps g c = rw (← c.st.view_is) (λ off live notes lent read. turns-keep (state_of c.st.inside.stack) (state_of c.turn.new.st) (g.F.AppFace.seen c.args.face.now)
+    (g.F.AppFace.seen c.turn.new.face) (g.T.Shelf.kept c.args.shelf.now) (g.T.Shelf.kept c.turn.new.shelf) (g.T.Shelf.faults c.args.shelf.now)
+    (g.T.Shelf.faults c.turn.new.shelf) c.turn.result c.turn.ensures.turns off live notes lent read)

@@ -1,11 +1,13 @@
-use Rattle.std.proofs.Common.{rules, ◌≡◌, ◌≢◌, ◌<◌, ◌+◌, ◌-◌, ◌^◌, min, List, length, refl, subst, arith, ◌++◌}
+use Rattle.std.proofs.Common.{rules, ◌≡◌, ◌≢◌, ◌<◌, ◌+◌, ◌-◌, ◌^◌, min, List, length, refl, subst, ap, arith, ◌++◌, ◌∷◌}
 use Rattle.board_face.specs.declared.views.app.AppView.{AppView}
 use Rattle.app_worker.specs.declared.stack.Delivery.TheVariants.{Did}
 use Rattle.app_worker.specs.declared.stack.FlowQueue.{FlowQueue}
-use Rattle.app_worker.specs.Core.{Stands}
+use Rattle.app_worker.specs.Core.{Stands, FlowStands, short_bytes, total}
 use Rattle.app_worker.specs.State.{State, read_of}
 use Rattle.app_worker.specs.StateOf.{state_of}
+use Rattle.app_worker.proofs.Tokens.{total-append}
 use Rattle.app_worker.proofs.Standing.{At, split-at, flow-out}
+use Rattle.app_worker.proofs.Standing2.{own-stands}
 use Rattle.app_worker.proofs.Delivering.{lent-bundle, none-lent}
 use Rattle.app_worker.proofs.Moving.{no-write}
 use Rattle.app_worker.proofs.Resting.{rest-none}
@@ -14,12 +16,44 @@ use Rattle.app_worker.proofs.turning.deliver_one.Goals as goal
 pub deliver-delivery-requires-clause-out : goal.deliver-delivery-requires-clause-out
 deliver-delivery-requires-clause-out g c =
     let st : State = state_of c.args.st.now in
-    let own : FlowQueue = c.index_mut.result.now in
+    let own : FlowQueue = c.index_mut-own.result.now in
     let v : AppView = g.F.AppFace.seen c.args.face.now in
     let within : st.active < length st.flows = search rules in
-    let at : At st.flows st.active own = split-at st.flows st.active own within c.index_mut.ensures.value in
+    let at : At st.flows st.active own = split-at st.flows st.active own within c.index_mut-own.ensures.value in
     flow-out st.notes at.before at.after own (st.unread ++ st.posted.entries) (read_of st) v
     (subst (λ (fs : List FlowQueue). Stands st.notes fs (st.unread ++ st.posted.entries) (read_of st) v) at.is c.requires.working.stands)
+
+pub deliver-delivery-requires-clause-notes : goal.deliver-delivery-requires-clause-notes
+deliver-delivery-requires-clause-notes g c =
+    let st : State = state_of c.args.st.now in
+    let own : FlowQueue = c.index_mut-own.result.now in
+    let v : AppView = g.F.AppFace.seen c.args.face.now in
+    let within : st.active < length st.flows = search rules in
+    let at : At st.flows st.active own = split-at st.flows st.active own within c.index_mut-own.ensures.value in
+    let stands : FlowStands v.taken (st.unread ++ st.posted.entries) own = own-stands st.notes at.before at.after own
+    (st.unread ++ st.posted.entries) (read_of st) v
+    (subst (λ (fs : List FlowQueue). Stands st.notes fs (st.unread ++ st.posted.entries) (read_of st) v) at.is c.requires.working.stands) in
+    stands.notes
+
+pub deliver-delivery-requires-clause-sized : goal.deliver-delivery-requires-clause-sized
+deliver-delivery-requires-clause-sized g c =
+    let st : State = state_of c.args.st.now in
+    let own : FlowQueue = c.index_mut-own.result.now in
+    let v : AppView = g.F.AppFace.seen c.args.face.now in
+    let within : st.active < length st.flows = search rules in
+    let at : At st.flows st.active own = split-at st.flows st.active own within c.index_mut-own.ensures.value in
+    let stands : FlowStands v.taken (st.unread ++ st.posted.entries) own = own-stands st.notes at.before at.after own
+    (st.unread ++ st.posted.entries) (read_of st) v
+    (subst (λ (fs : List FlowQueue). Stands st.notes fs (st.unread ++ st.posted.entries) (read_of st) v) at.is c.requires.working.stands) in
+    stands.holds.sized
+
+pub deliver-delivery-requires-clause-spare : goal.deliver-delivery-requires-clause-spare
+deliver-delivery-requires-clause-spare g c =
+    let st : State = state_of c.args.st.now in
+    let own : FlowQueue = c.index_mut-own.result.now in
+    let within : st.active < length st.flows = search rules in
+    let at : At st.flows st.active own = split-at st.flows st.active own within c.index_mut-own.ensures.value in
+    omega (arith, c.requires.common.spares, ap (total (λ f. short_bytes f.queue)) at.is, total-append (λ f. short_bytes f.queue) at.before (own ∷ at.after))
 
 pub returns-then-st-len-clause-lends : goal.returns-then-st-len-clause-lends
 returns-then-st-len-clause-lends g c = (refl, refl, rest-none c.args.st.now.active c.args.st.now.flows.items (search rules) c.requires.working.rest)
@@ -30,9 +64,9 @@ returns-in-Did g c =
     let within : st.active < length st.flows = search rules in
     let delivered = c.in-Did.ensures.delivered in
     let count : c.saturating_add-st.result ≡ min (st.loans + 1) (2 ^ 64 - 1) = omega arith in
-    let lent = lent-bundle st c.index_mut.result.now c.deliver-delivery.new.own c.deliver-delivery.new.posted (g.F.AppFace.seen c.args.face.now)
-    (g.F.AppFace.seen c.deliver-delivery.new.face) c.saturating_add-st.result c.requires.more count within c.index_mut.ensures.value delivered
-    c.requires.working c.requires.common in
+    let lent = lent-bundle st c.index_mut-own.result.now c.deliver-delivery.new.own c.deliver-delivery.new.posted (g.F.AppFace.seen c.args.face.now)
+    (g.F.AppFace.seen c.deliver-delivery.new.face) c.saturating_add-st.result c.deliver-delivery.new.copied c.deliver-delivery.new.flush c.requires.more count
+    within c.index_mut-own.ensures.value delivered c.requires.working c.requires.common in
     record {
       working = lent.working;
       common = lent.common;
@@ -43,6 +77,7 @@ returns-in-Did g c =
       };
       lends = rw c.in-Did.is lent.one;
       told = c.deliver-delivery.ensures.told;
+      no_spare = c.deliver-delivery.ensures.no_spare;
       beside = c.deliver-delivery.ensures.beside;
     }
 
@@ -51,8 +86,9 @@ returns-in_default g c =
     let st : State = state_of c.args.st.now in
     let within : st.active < length st.flows = search rules in
     let other : c.deliver-delivery.result ≢ Did = search rules in
-    let none = none-lent st c.index_mut.result.now c.deliver-delivery.new.own c.deliver-delivery.new.posted (g.F.AppFace.seen c.args.face.now)
-    (g.F.AppFace.seen c.deliver-delivery.new.face) c.deliver-delivery.result other within c.index_mut.ensures.value c.deliver-delivery.ensures.delivered
+    let none = none-lent st c.index_mut-own.result.now c.deliver-delivery.new.own c.deliver-delivery.new.posted c.deliver-delivery.new.copied
+    c.deliver-delivery.new.flush (g.F.AppFace.seen c.args.face.now)
+    (g.F.AppFace.seen c.deliver-delivery.new.face) c.deliver-delivery.result other within c.index_mut-own.ensures.value c.deliver-delivery.ensures.delivered
     c.requires.working c.requires.common in
     record {
       working = none.0.working;
@@ -60,5 +96,6 @@ returns-in_default g c =
       goes = none.0.goes;
       lends = none.1;
       told = c.deliver-delivery.ensures.told;
+      no_spare = c.deliver-delivery.ensures.no_spare;
       beside = c.deliver-delivery.ensures.beside;
     }

@@ -1,3 +1,4 @@
+use Rattle.std.proofs.Common.{true, false, [], ◌⊎◌}
 use Rattle.std.proofs.Common.{rules, ◌≡◌, ◌≢◌, ◌<◌, ◌+◌, ◌-◌, ◌^◌, min, ℕ, List, drop, length, get_or, sym, ap, subst, ◌∙◌, arith}
 use Rattle.std.proofs.Common.{◌++◌, ◌∷◌, ◌≤◌, Some}
 use Rattle.zr_kinds.specs.declared.ring.Completion.{Completion}
@@ -38,6 +39,10 @@ returns-in-Err-clause-reads g c =
     let found : (get_or st.flows i own).number ≡ c.in-Some.completion.user_data = at_place.1 own in
     let number : own.number ≡ c.in-Some.completion.user_data = ap (λ (f : FlowQueue). f.number) value ∙ found in
     let items : c.pop_front.new.self.items ≡ drop 1 st.unread = ap (λ (b : Buffer (Completion × Lending)). b.items) c.pop_front.ensures.items in
+    let flush_on : c.still_flushes-st.result ≡ true → (st.flush ≡ true) × (drop 1 st.unread ≢ []) = subst
+    (λ es. c.still_flushes-st.result ≡ true → (st.flush ≡ true) × (es ≢ [])) items c.still_flushes-st.ensures.on in
+    let flush_off : c.still_flushes-st.result ≡ false → (st.flush ≡ false) ⊎ (drop 1 st.unread ≡ []) = subst
+    (λ es. c.still_flushes-st.result ≡ false → (st.flush ≡ false) ⊎ (es ≡ [])) items c.still_flushes-st.ensures.off in
     let capacity : c.pop_front.new.self.capacity ≡ st.room = ap (λ (b : Buffer (Completion × Lending)). b.capacity) c.pop_front.ensures.items in
     let most : ℕ = c.wanted-most.result in
     let is : most ≡ wanted_of st.how.quit st.written c.in-Some.lending.loan.len = search rules in
@@ -50,7 +55,8 @@ returns-in-Err-clause-reads g c =
     most c.saturating_add-st.result c.in-Some.lending.loan.len is (omega (arith, short, counted.0)) count going in
     rw (items, capacity) (oldest-failed st i own p (drop 1 st.unread) (g.F.AppFace.seen c.args.face.now)
     (g.F.AppFace.seen c.read_loan-result.new.face) unread c.requires.due c.requires.pushed within value
-    (sym number) c.read_loan-result.ensures.only c.requires.working c.requires.common
+    (sym number) c.read_loan-result.ensures.only c.requires.working c.requires.common c.requires.reaped
+    c.still_flushes-st.result flush_on flush_off c.requires.more
     c.read_loan-result.new.bytes c.saturating_add-st.result most (g.T.Shelf.faults c.args.shelf.now) (g.T.Shelf.faults c.read_loan-result.new.shelf)
     (g.T.Shelf.kept c.args.shelf.now) (g.T.Shelf.kept c.read_loan-result.new.shelf) counted.0 part counted.1 count
     (subst (Quits st.how.quit c.saturating_add-st.result) (sym c.requires.working.going) quits)
@@ -71,6 +77,10 @@ returns-then-eq-clause-reads g c =
     let found : (get_or st.flows i own).number ≡ c.in-Some.completion.user_data = at_place.1 own in
     let number : own.number ≡ c.in-Some.completion.user_data = ap (λ (f : FlowQueue). f.number) value ∙ found in
     let items : c.pop_front.new.self.items ≡ drop 1 st.unread = ap (λ (b : Buffer (Completion × Lending)). b.items) c.pop_front.ensures.items in
+    let flush_on : c.still_flushes-st.result ≡ true → (st.flush ≡ true) × (drop 1 st.unread ≢ []) = subst
+    (λ es. c.still_flushes-st.result ≡ true → (st.flush ≡ true) × (es ≢ [])) items c.still_flushes-st.ensures.on in
+    let flush_off : c.still_flushes-st.result ≡ false → (st.flush ≡ false) ⊎ (drop 1 st.unread ≡ []) = subst
+    (λ es. c.still_flushes-st.result ≡ false → (st.flush ≡ false) ⊎ (es ≡ [])) items c.still_flushes-st.ensures.off in
     let capacity : c.pop_front.new.self.capacity ≡ st.room = ap (λ (b : Buffer (Completion × Lending)). b.capacity) c.pop_front.ensures.items in
     let most : ℕ = c.wanted-most.result in
     let is : most ≡ wanted_of st.how.quit st.written c.in-Some.lending.loan.len = search rules in
@@ -80,10 +90,11 @@ returns-then-eq-clause-reads g c =
     let count : c.saturating_add-st.result ≡ min (st.written + most) (2 ^ 64 - 1) = omega (arith, bytes) in
     let all : st.how.quit ≡ Some c.saturating_add-st.result = search rules in
     let exact : Gained (g.T.Shelf.kept c.args.shelf.now own.number) (g.T.Shelf.kept c.read_loan-result.new.shelf own.number)
-    (λ (read : List ℕ). IsReadOf (g.F.AppFace.seen c.read_loan-result.new.face).reads c.in-Some.lending most most read) = search rules in
+    (λ (read : List ℕ). IsReadOf (g.F.AppFace.seen c.args.face.now).taken (g.F.AppFace.seen c.read_loan-result.new.face).reads c.in-Some.lending most most read) = search rules in
     rw (items, capacity) (oldest-quit st i own p (drop 1 st.unread) (g.F.AppFace.seen c.args.face.now)
     (g.F.AppFace.seen c.read_loan-result.new.face) unread c.requires.due c.requires.pushed within value
-    (sym number) c.read_loan-result.ensures.only c.requires.working c.requires.common
+    (sym number) c.read_loan-result.ensures.only c.requires.working c.requires.common c.requires.reaped
+    c.still_flushes-st.result flush_on flush_off c.requires.more
     c.read_loan-result.new.bytes c.saturating_add-st.result most (g.T.Shelf.kept c.args.shelf.now)
     (g.T.Shelf.kept c.read_loan-result.new.shelf) part bytes count (quits-now st.how.quit st.written c.saturating_add-st.result all) exact
     c.read_loan-result.ensures.others)
@@ -103,6 +114,10 @@ returns-clause-reads g c =
     let found : (get_or st.flows i own).number ≡ c.in-Some.completion.user_data = at_place.1 own in
     let number : own.number ≡ c.in-Some.completion.user_data = ap (λ (f : FlowQueue). f.number) value ∙ found in
     let items : c.pop_front.new.self.items ≡ drop 1 st.unread = ap (λ (b : Buffer (Completion × Lending)). b.items) c.pop_front.ensures.items in
+    let flush_on : c.still_flushes-st.result ≡ true → (st.flush ≡ true) × (drop 1 st.unread ≢ []) = subst
+    (λ es. c.still_flushes-st.result ≡ true → (st.flush ≡ true) × (es ≢ [])) items c.still_flushes-st.ensures.on in
+    let flush_off : c.still_flushes-st.result ≡ false → (st.flush ≡ false) ⊎ (drop 1 st.unread ≡ []) = subst
+    (λ es. c.still_flushes-st.result ≡ false → (st.flush ≡ false) ⊎ (es ≡ [])) items c.still_flushes-st.ensures.off in
     let capacity : c.pop_front.new.self.capacity ≡ st.room = ap (λ (b : Buffer (Completion × Lending)). b.capacity) c.pop_front.ensures.items in
     let most : ℕ = c.wanted-most.result in
     let is : most ≡ wanted_of st.how.quit st.written c.in-Some.lending.loan.len = search rules in
@@ -114,14 +129,15 @@ returns-clause-reads g c =
     let not = quits-not st.how.quit st.written most c.saturating_add-st.result c.in-Some.lending.loan.len (search rules) is count other going in
     let whole : most ≡ c.in-Some.lending.loan.len = not.1 in
     let exact : Gained (g.T.Shelf.kept c.args.shelf.now own.number) (g.T.Shelf.kept c.read_loan-result.new.shelf own.number)
-    (λ (read : List ℕ). IsReadOf (g.F.AppFace.seen c.read_loan-result.new.face).reads c.in-Some.lending most most read) = search rules in
+    (λ (read : List ℕ). IsReadOf (g.F.AppFace.seen c.args.face.now).taken (g.F.AppFace.seen c.read_loan-result.new.face).reads c.in-Some.lending most most read) = search rules in
     rw (items, capacity) (oldest-read st i own p (drop 1 st.unread) (g.F.AppFace.seen c.args.face.now)
     (g.F.AppFace.seen c.read_loan-result.new.face) unread c.requires.due c.requires.pushed within value
-    (sym number) c.read_loan-result.ensures.only c.requires.working c.requires.common
+    (sym number) c.read_loan-result.ensures.only c.requires.working c.requires.common c.requires.reaped
+    c.still_flushes-st.result flush_on flush_off c.requires.more
     c.read_loan-result.new.bytes c.saturating_add-st.result (g.T.Shelf.kept c.args.shelf.now)
     (g.T.Shelf.kept c.read_loan-result.new.shelf) (bytes ∙ ap (λ n. own.bytes + n) whole)
     (count ∙ ap (λ n. min (st.written + n) (2 ^ 64 - 1)) whole)
     (subst (Quits st.how.quit c.saturating_add-st.result) (sym c.requires.working.going) not.0)
     (subst (λ (n : ℕ). Gained (g.T.Shelf.kept c.args.shelf.now own.number) (g.T.Shelf.kept c.read_loan-result.new.shelf own.number)
-    (λ (read : List ℕ). IsReadOf (g.F.AppFace.seen c.read_loan-result.new.face).reads c.in-Some.lending n n read)) whole exact)
+    (λ (read : List ℕ). IsReadOf (g.F.AppFace.seen c.args.face.now).taken (g.F.AppFace.seen c.read_loan-result.new.face).reads c.in-Some.lending n n read)) whole exact)
     c.read_loan-result.ensures.others)

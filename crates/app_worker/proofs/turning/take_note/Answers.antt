@@ -8,12 +8,13 @@ use Rattle.app_worker.specs.Steps.{whole_piece}
 use Rattle.app_worker.specs.Whole.{IsChosen}
 use Rattle.app_worker.proofs.Tokens.{in-contains}
 use Rattle.app_worker.proofs.Took.{is-took}
-use Rattle.app_worker.proofs.NoteTaken.{short-taken, released-taken, torn-taken, entered-taken}
+use Rattle.app_worker.proofs.NoteTaken.{released-taken, piece-torn, piece-entered}
 use Rattle.app_worker.proofs.turning.take_note.Goals as goal
 
 pub returns-in-Linear-clause-takes : goal.returns-in-Linear-clause-takes
-returns-in-Linear-clause-takes g c = short-taken (state_of c.args.st.now) (g.F.AppFace.seen c.args.face.now)
-    (g.F.AppFace.seen c.poll.new.self) c.poll.new.linear c.in-Linear.field-0 c.in-Linear.ensures.view c.requires.working c.requires.common
+returns-in-Linear-clause-takes g c =
+    c.take_short.ensures.takes (g.F.AppFace.seen c.args.face.now) (g.F.AppFace.seen c.poll.new.self) c.requires.working c.requires.common c.requires.rest
+    c.requires.more c.in-Linear.ensures.view
 
 pub release-requires-clause-out : goal.release-requires-clause-out
 release-requires-clause-out g c =
@@ -60,17 +61,17 @@ returns-in-Ok-enter-clause-takes g c =
     let flows : List FlowQueue = c.place_for.new.flows.items in
     let chosen : (c.in-Ok.i < length flows) × IsChosen c.args.st.now.flows.items flows c.in-Note.note c.in-Ok.i = c.in-Ok.ensures.chosen in
     let count : c.in-Some.notes ≡ c.args.st.now.notes + 1 = search rules in
-    entered-taken (state_of c.args.st.now) (g.F.AppFace.seen c.args.face.now)
+    piece-entered (state_of c.args.st.now) (g.F.AppFace.seen c.args.face.now)
     (g.F.AppFace.seen c.poll.new.self) c.in-Note.note c.in-Note.held c.in-Note.ensures.view c.requires.working c.requires.common
     (g.F.AppFace.seen c.enter.new.face) flows c.in-Ok.i c.index_mut.result.now c.enter.new.queue chosen.1 chosen.0 c.index_mut.ensures.value
-    c.enter.ensures.only c.enter.ensures.fewer c.enter.ensures.same.0 c.place_for.new.index.entries
-    c.in-Some.notes c.in-Ok.ensures.index count c.requires.rest c.requires.more c.enter.ensures.same.1 c.in-Ok-enter.ensures.enters
+    c.enter.ensures.only c.enter.ensures.fewer c.enter.ensures.same.0 c.enter.ensures.short c.place_for.new.index.entries
+    c.in-Some.notes c.in-Ok.ensures.index count c.requires.rest c.requires.more c.enter.ensures.same.1 c.in-Ok-enter.ensures.enters c.enter.ensures.notes
 
 pub returns-in-Err-clause-takes : goal.returns-in-Err-clause-takes
 returns-in-Err-clause-takes g c =
     let flows : List FlowQueue = c.place_for.new.flows.items in
     let chosen : (c.in-Ok.i < length flows) × IsChosen c.args.st.now.flows.items flows c.in-Note.note c.in-Ok.i = c.in-Ok.ensures.chosen in
-    torn-taken (state_of c.args.st.now) (g.F.AppFace.seen c.args.face.now)
+    piece-torn (state_of c.args.st.now) (g.F.AppFace.seen c.args.face.now)
     (g.F.AppFace.seen c.poll.new.self) c.in-Note.note c.in-Note.held c.in-Note.ensures.view c.requires.working c.requires.common
     (g.F.AppFace.seen c.enter.new.face) flows c.in-Ok.i c.index_mut.result.now c.enter.new.queue chosen.1 chosen.0 c.index_mut.ensures.value
-    c.enter.ensures.only c.enter.ensures.fewer c.enter.ensures.same.0 c.place_for.new.index.entries c.in-Some.notes
+    c.enter.ensures.only c.enter.ensures.fewer c.enter.ensures.same.0 c.enter.ensures.short c.place_for.new.index.entries c.in-Some.notes

@@ -1,28 +1,38 @@
 use Rattle.std.proofs.Common.{ℕ, List, Option, sym, subst}
 use Rattle.board_face.specs.declared.views.app.AppView.{AppView}
 use Rattle.app_worker.specs.declared.turn.Turn.TheVariants.{Idle}
-use Rattle.app_worker.specs.declared.turn.Why.TheVariants.{Unsettled}
+use Rattle.app_worker.specs.declared.turn.Why.TheVariants.{Unsettled, ReserveHeld}
 use Rattle.app_worker.specs.State.{State}
 use Rattle.app_worker.specs.StateOf.{state_of}
 use Rattle.app_worker.specs.Turns.{Turns}
-use Rattle.app_worker.proofs.TurnLemmas.{turns-saw, turns-idle, turns-first}
+use Rattle.app_worker.proofs.TurnLemmas.{turns-saw, turns-no-spare, turns-first}
 use Rattle.app_worker.proofs.working.go_on.Goals as goal
 
 pub returns-in-Stuck-clause-turns : goal.returns-in-Stuck-clause-turns
 returns-in-Stuck-clause-turns g c =
     let a : State = state_of c.args.st.now in
-    let b : State = state_of c.lend_all.new.st in
     let u : AppView = g.F.AppFace.seen c.args.face.now in
     let v : AppView = g.F.AppFace.seen c.lend_all.new.face in
     let k : ℕ → Option (List ℕ) = g.T.Shelf.kept c.args.shelf.now in
-    let m : ℕ → Option (List ℕ) = g.T.Shelf.kept c.lend_all.new.shelf in
     let f : ℕ = g.T.Shelf.faults c.args.shelf.now in
     let f2 : ℕ = g.T.Shelf.faults c.lend_all.new.shelf in
     let lends = c.in-Stuck.ensures.lends in
-    subst (λ (s : State). Turns a s u v k m f f2 (Idle Unsettled)) (sym lends.0)
-    (subst (λ (kept : ℕ → Option (List ℕ)). Turns a a u v k kept f f2 (Idle Unsettled)) (sym lends.1)
-    (turns-idle a u v k f f2 Unsettled
-    (turns-saw a u v Unsettled k f c.requires.working c.requires.common c.requires.reaped (λ is. absurd (cc)) lends.2)))
+    subst (λ (s : State). Turns a s u v k (g.T.Shelf.kept c.lend_all.new.shelf) f f2 (Idle Unsettled)) (sym lends.0)
+    (subst (λ (q : ℕ → Option (List ℕ)). Turns a a u v k q f f2 (Idle Unsettled)) (sym lends.1)
+    (turns-saw a u v k f f2 Unsettled lends.2 c.requires.working c.requires.common c.requires.reaped (λ is. absurd (cc))))
+
+pub returns-in-NoSpare-clause-turns : goal.returns-in-NoSpare-clause-turns
+returns-in-NoSpare-clause-turns g c =
+    let a : State = state_of c.args.st.now in
+    let u : AppView = g.F.AppFace.seen c.args.face.now in
+    let v : AppView = g.F.AppFace.seen c.lend_all.new.face in
+    let k : ℕ → Option (List ℕ) = g.T.Shelf.kept c.args.shelf.now in
+    let f : ℕ = g.T.Shelf.faults c.args.shelf.now in
+    let f2 : ℕ = g.T.Shelf.faults c.lend_all.new.shelf in
+    let lends = c.in-NoSpare.ensures.lends in
+    subst (λ (s : State). Turns a s u v k (g.T.Shelf.kept c.lend_all.new.shelf) f f2 (Idle ReserveHeld)) (sym lends.0)
+    (subst (λ (q : ℕ → Option (List ℕ)). Turns a a u v k q f f2 (Idle ReserveHeld)) (sym lends.1)
+    (turns-no-spare a u v k f f2 lends.2 c.requires.working c.requires.common c.requires.reaped))
 
 pub returns-in-Nothing-clause-turns : goal.returns-in-Nothing-clause-turns
 returns-in-Nothing-clause-turns g c =

@@ -1,13 +1,14 @@
 use Rattle.std.proofs.Common.{◌≡◌, ℕ, true, [], List, Option, sym, ap, subst, ◌∙◌}
 use Rattle.board_face.specs.declared.views.app.AppView.{AppView}
-use Rattle.app_worker.specs.declared.turn.Turn.TheVariants.{Idle}
-use Rattle.app_worker.specs.declared.turn.Why.TheVariants.{NoNote}
 use Rattle.app_worker.specs.State.{State, Working, Common}
 use Rattle.app_worker.specs.StateOf.{state_of}
 use Rattle.app_worker.specs.Whole.{TookOne, TookNone}
 use Rattle.app_worker.specs.Turns.{MayPoll, Turns}
+use Rattle.app_worker.proofs.Looking.{took-failed, took-did, ended-working, ended-common, turns-ended, turns-memory}
 use Rattle.app_worker.proofs.TurnLemmas.{turns-saw}
-use Rattle.app_worker.proofs.Looking.{ended-working, ended-common, took-failed, took-did, turns-ended, turns-memory, turns-short}
+use Rattle.app_worker.specs.declared.turn.Turn.TheVariants.{Idle}
+use Rattle.app_worker.specs.declared.turn.Why.TheVariants.{NoNote}
+use Rattle.app_worker.proofs.LentAll.{none-in-reserve}
 use Rattle.app_worker.proofs.working.look.Goals as goal
 
 pub close-requires-clause-working : goal.close-requires-clause-working
@@ -26,18 +27,6 @@ close-requires-clause-common g c =
     subst (λ (s : State). Common (record s { ended = true }) v) (sym takes.0)
     (ended-common a (g.F.AppFace.seen c.args.face.now) v c.requires.common takes.1)
 
-pub returns-in-NoNote-clause-turns : goal.returns-in-NoNote-clause-turns
-returns-in-NoNote-clause-turns g c =
-    let a : State = state_of c.args.st.now in
-    let u : AppView = g.F.AppFace.seen c.args.face.now in
-    let v : AppView = g.F.AppFace.seen c.take_note.new.face in
-    let k : ℕ → Option (List ℕ) = g.T.Shelf.kept c.args.shelf.now in
-    let f : ℕ = g.T.Shelf.faults c.args.shelf.now in
-    let may : MayPoll a = record { in_order = c.requires.rest; given = c.requires.due; none_left = c.requires.pushed; posted = c.requires.reaped; unread = c.requires.few } in
-    let takes = c.in-NoNote.ensures.takes in
-    subst (λ (s : State). Turns a s u v k k f f (Idle NoNote)) (sym takes.0)
-    (turns-saw a u v NoNote k f c.requires.working c.requires.common c.requires.reaped (λ _. may) takes.1)
-
 pub returns-in-Failed-clause-turns : goal.returns-in-Failed-clause-turns
 returns-in-Failed-clause-turns g c =
     let a : State = state_of c.args.st.now in
@@ -46,7 +35,14 @@ returns-in-Failed-clause-turns g c =
     let v : AppView = g.F.AppFace.seen c.take_note.new.face in
     let k : ℕ → Option (List ℕ) = g.T.Shelf.kept c.args.shelf.now in
     let f : ℕ = g.T.Shelf.faults c.args.shelf.now in
-    let may : MayPoll a = record { in_order = c.requires.rest; given = c.requires.due; none_left = c.requires.pushed; posted = c.requires.reaped; unread = c.requires.few } in
+    let may : MayPoll a u = record {
+      in_order = c.requires.rest;
+      given = c.requires.due;
+      none_left = c.requires.pushed;
+      posted = c.requires.reaped;
+      unread = c.requires.few;
+      reserve = none-in-reserve a u c.requires.working c.requires.reaped c.requires.flush;
+    } in
     let e : State = state_of c.lend_all.new.st in
     let w : AppView = g.F.AppFace.seen c.lend_all.new.face in
     let m : ℕ → Option (List ℕ) = g.T.Shelf.kept c.lend_all.new.shelf in
@@ -62,7 +58,14 @@ returns-in_default g c =
     let v : AppView = g.F.AppFace.seen c.take_note.new.face in
     let k : ℕ → Option (List ℕ) = g.T.Shelf.kept c.args.shelf.now in
     let f : ℕ = g.T.Shelf.faults c.args.shelf.now in
-    let may : MayPoll a = record { in_order = c.requires.rest; given = c.requires.due; none_left = c.requires.pushed; posted = c.requires.reaped; unread = c.requires.few } in
+    let may : MayPoll a u = record {
+      in_order = c.requires.rest;
+      given = c.requires.due;
+      none_left = c.requires.pushed;
+      posted = c.requires.reaped;
+      unread = c.requires.few;
+      reserve = none-in-reserve a u c.requires.working c.requires.reaped c.requires.flush;
+    } in
     let e : State = state_of c.lend_all.new.st in
     let w : AppView = g.F.AppFace.seen c.lend_all.new.face in
     let m : ℕ → Option (List ℕ) = g.T.Shelf.kept c.lend_all.new.shelf in
@@ -84,7 +87,14 @@ returns-in-Ended-clause-turns g c =
     let v : AppView = g.F.AppFace.seen c.take_note.new.face in
     let k : ℕ → Option (List ℕ) = g.T.Shelf.kept c.args.shelf.now in
     let f : ℕ = g.T.Shelf.faults c.args.shelf.now in
-    let may : MayPoll a = record { in_order = c.requires.rest; given = c.requires.due; none_left = c.requires.pushed; posted = c.requires.reaped; unread = c.requires.few } in
+    let may : MayPoll a u = record {
+      in_order = c.requires.rest;
+      given = c.requires.due;
+      none_left = c.requires.pushed;
+      posted = c.requires.reaped;
+      unread = c.requires.few;
+      reserve = none-in-reserve a u c.requires.working c.requires.reaped c.requires.flush;
+    } in
     let e : State = state_of c.close.new.st in
     let w : AppView = g.F.AppFace.seen c.close.new.face in
     let m : ℕ → Option (List ℕ) = g.T.Shelf.kept c.close.new.shelf in
@@ -101,19 +111,32 @@ returns-in-Memory-clause-turns g c =
     let v : AppView = g.F.AppFace.seen c.take_note.new.face in
     let k : ℕ → Option (List ℕ) = g.T.Shelf.kept c.args.shelf.now in
     let f : ℕ = g.T.Shelf.faults c.args.shelf.now in
-    let may : MayPoll a = record { in_order = c.requires.rest; given = c.requires.due; none_left = c.requires.pushed; posted = c.requires.reaped; unread = c.requires.few } in
+    let may : MayPoll a u = record {
+      in_order = c.requires.rest;
+      given = c.requires.due;
+      none_left = c.requires.pushed;
+      posted = c.requires.reaped;
+      unread = c.requires.few;
+      reserve = none-in-reserve a u c.requires.working c.requires.reaped c.requires.flush;
+    } in
     let took : TookNone a b u v = c.in-Memory.ensures.takes in
     turns-memory a b (state_of c.let_go.new.st) u v (g.F.AppFace.seen c.let_go.new.face) k f c.requires.working may took c.let_go.ensures.done
 
-pub returns-in-Short-clause-turns : goal.returns-in-Short-clause-turns
-returns-in-Short-clause-turns g c =
+pub returns-in-NoNote-clause-turns : goal.returns-in-NoNote-clause-turns
+returns-in-NoNote-clause-turns g c =
     let a : State = state_of c.args.st.now in
-    let b : State = state_of c.take_note.new.st in
     let u : AppView = g.F.AppFace.seen c.args.face.now in
     let v : AppView = g.F.AppFace.seen c.take_note.new.face in
     let k : ℕ → Option (List ℕ) = g.T.Shelf.kept c.args.shelf.now in
     let f : ℕ = g.T.Shelf.faults c.args.shelf.now in
-    let may : MayPoll a = record { in_order = c.requires.rest; given = c.requires.due; none_left = c.requires.pushed; posted = c.requires.reaped; unread = c.requires.few } in
-    let took : TookNone a b u v = c.in-Short.ensures.takes in
-    turns-short a b (state_of c.let_go-in-Short.new.st) u v (g.F.AppFace.seen c.let_go-in-Short.new.face) k f c.requires.working may took
-    c.let_go-in-Short.ensures.done
+    let may : MayPoll a u = record {
+      in_order = c.requires.rest;
+      given = c.requires.due;
+      none_left = c.requires.pushed;
+      posted = c.requires.reaped;
+      unread = c.requires.few;
+      reserve = none-in-reserve a u c.requires.working c.requires.reaped c.requires.flush;
+    } in
+    let takes = c.in-NoNote.ensures.takes in
+    subst (λ (s : State). Turns a s u v k k f f (Idle NoNote)) (sym takes.0)
+    (turns-saw a u v k f f NoNote takes.1 c.requires.working c.requires.common c.requires.reaped (λ _. may))

@@ -1,0 +1,397 @@
+-- Bytes that came with their note are copied into a spare, which is lent.
+use Rattle.std.proofs.Common.{◌≡◌, ◌≢◌, ℕ, ◌+◌, ◌-◌, ◌<◌, ◌≤◌, Bool, true, false, List, [], ◌∷◌, ◌++◌, Some, None, length}
+use Rattle.std.proofs.Common.{map, take, drop, refl, sym, ap, subst, ◌∙◌, arith, ⊎_elim, ◌⊎◌, inl, inr, ◌^◌, min}
+use Rattle.std.specs.Prelude.{◌==◌, ◌||◌, All, Contains, if◌then◌else◌, slice_get, nat_lt}
+use Rattle.std.proofs.lemmas.Bool.{cases_Bool, cases_lt}
+use Rattle.std.proofs.lemmas.Bool.Decides.{nat_tests}
+use Rattle.std.proofs.lemmas.List.Elements.{All-head, All-tail}
+use Rattle.std.proofs.lemmas.List.Recursion.{is_sum_by}
+use Rattle.std.proofs.lemmas.Option.{slice_get_within}
+use Rattle.zr_kinds.specs.declared.ring.Completion.{Completion}
+use Rattle.completion_ring.specs.Ring.{Ring, ring}
+use Rattle.zr_kinds.specs.declared.place.Place.{Place}
+use Rattle.zr_kinds.specs.declared.place.Note.{Note}
+use Rattle.area_layout.specs.Layout.{Shape, pool_buffers}
+use Rattle.tcp_reorder.specs.declared.places.Span.{Span}
+use Rattle.tcp_reorder.specs.Queue.{Kept, Queue, front_of, AreApart as ApartFrom}
+use Rattle.tcp_reorder.specs.Gaps.{LosesFirst, kept_at}
+use Rattle.tcp_reorder.specs.Values.{AreSized}
+use Rattle.tcp_reorder.proofs.Sound.{front_of-in_order}
+use Rattle.board_face.specs.Texts.{unsplit_bytes}
+use Rattle.board_face.specs.Tokens.{filled_by, same_filling}
+use Rattle.board_face.specs.Looks.{AppLooksStay}
+use Rattle.board_face.specs.NicEvents.{fresh}
+use Rattle.board_face.specs.AppCalls.{HasSpare, HasNoneIn, MaySpare, HasPlace}
+use Rattle.board_face.specs.AppEvents.{got_spare, filled, own_bytes, lent_own, begin_place, lent, came_to_rest, reserve_of}
+use Rattle.board_face.specs.declared.views.parts.Filling.{Filling}
+use Rattle.board_face.specs.declared.views.app.Origin.{Origin}
+use Rattle.board_face.specs.declared.views.app.Origin.TheVariants.{Note as of_note, Copied as of_copy}
+use Rattle.board_face.specs.declared.views.app.AppLook.TheVariants.{NoneListed}
+use Rattle.board_face.specs.declared.views.app.TakenNote.{TakenNote}
+use Rattle.board_face.specs.declared.views.app.LentPiece.{LentPiece}
+use Rattle.board_face.specs.declared.views.app.AppView.{AppView}
+use Rattle.board_face.proofs.ListLemmas.{same_filling-refl}
+use Rattle.app_worker.specs.declared.stack.Piece.{Piece}
+use Rattle.app_worker.specs.declared.stack.Short.{Short}
+use Rattle.app_worker.specs.declared.stack.Lending.{Lending}
+use Rattle.app_worker.specs.declared.stack.FlowQueue.{FlowQueue}
+use Rattle.app_worker.specs.declared.stack.Delivery.{Delivery}
+use Rattle.app_worker.specs.declared.stack.Delivery.TheVariants.{Did, NoneInOrder, Full, Unsettled, ReserveHeld}
+use Rattle.app_worker.specs.declared.stack.Waiting.{Waiting}
+use Rattle.app_worker.specs.declared.stack.Waiting.TheVariants.{InArea, Copied}
+use Rattle.area_layout.specs.Layout.{IsLayout, LiesIn, total as buffers_of}
+use Rattle.board_face.specs.OwnBuffers.{IsOwnBuffer}
+use Rattle.app_worker.specs.Core.{total, IsIn, held_piece, LieApart, has_at, is_odd, lent_piece, origin_in, IsInArea, IsShort, short_len, short_bytes, marks_of_waiting}
+use Rattle.app_worker.specs.State.{unsplit_len}
+use Rattle.app_worker.specs.Steps.{IsNext, is_short, completion_of, Delivers, Delivered}
+use Rattle.app_worker.proofs.Tokens.{total-append, not-odd, Lent, is-lent, as_loan, in-contains, in-right}
+use Rattle.app_worker.proofs.Entering.{marks-length}
+use Rattle.app_worker.proofs.Moving.{looks-same, looks-more}
+
+-- ---- what is next
+
+-- what is handed over is of the kind that was next
+pub first-kind : (short : Bool) (old new : Queue Waiting) (piece : Waiting) (span : Span) → IsNext short old → LosesFirst old new piece span
+    → span.position ≡ old.popped → is_short piece ≡ short
+first-kind short old new piece span next loses begins =
+    let front : front_of old ≡ Some (kept_at span piece) = front_of-in_order old (kept_at span piece) new.kept loses.first begins in
+    let both : Some next.first ≡ Some (kept_at span piece) = sym next.is ∙ front in
+    let same : next.first ≡ kept_at span piece = cc in
+    ap (λ (k : Kept Waiting). is_short k.piece) (sym same) ∙ next.kind
+
+-- the first of a queue is at its front
+front-first : (queue : Queue Waiting) (kept : List (Kept Waiting)) (first : Kept Waiting) → queue.kept ≡ kept → front_of queue ≡ Some first
+    → (rest : List (Kept Waiting)) × (queue.kept ≡ first ∷ rest)
+front-first queue [] first is front = absurd (let e : front_of queue ≡ None = rw is refl in let both : Some first ≡ None = sym front ∙ e in cc)
+front-first queue (one ∷ others) first is front = ⊎_elim
+    (λ (yes : (one.position == queue.popped) ≡ true).
+    let e : front_of queue ≡ Some one = rw (is, yes) refl in
+    let both : Some first ≡ Some one = sym front ∙ e in
+    let same : one ≡ first = cc in
+    (others, is ∙ ap (λ k. k ∷ others) same))
+    (λ (no : (one.position == queue.popped) ≡ false). absurd
+    (let e : front_of queue ≡ None = rw (is, no) refl in let both : Some first ≡ None = sym front ∙ e in cc))
+    (cases_Bool (one.position == queue.popped))
+
+-- a short piece that is next has a byte
+pub next-bytes : (queue : Queue Waiting) → IsNext true queue → AreSized marks_of_waiting queue.kept → 0 < short_bytes queue
+next-bytes queue next sized =
+    let (rest, is) = front-first queue queue.kept next.first refl next.is in
+    let apart : ApartFrom queue.popped (next.first ∷ rest) = subst (ApartFrom queue.popped) is next.sound.apart in
+    let size : AreSized marks_of_waiting (next.first ∷ rest) = subst (AreSized marks_of_waiting) is sized in
+    let sum : short_bytes queue ≡ short_len next.first.piece + total (λ k. short_len k.piece) rest = ap (total (λ k. short_len k.piece)) is in
+    let len : length (marks_of_waiting next.first.piece) ≡ short_len next.first.piece = of-short next.first.piece next.kind in
+    omega (arith, sum, len, size.0, apart.1)
+  where
+    of-short : (w : Waiting) → is_short w ≡ true → length (marks_of_waiting w) ≡ short_len w
+    of-short (InArea p) is = absurd (cc)
+    of-short (Copied s) is = marks-length s.note s.at (length s.bytes.items)
+
+-- ---- the condition of a spare
+
+of_notes : List Note → ℕ
+of_notes [] = 0
+of_notes (n ∷ ns) = (if n.split then 0 else n.total) + of_notes ns
+
+unsplit-notes : (taken : List TakenNote) → total unsplit_len taken ≡ of_notes (map (λ t. t.note) taken)
+unfolding of_notes
+unsplit-notes [] = refl
+unsplit-notes (t ∷ ts) = ap (λ n. unsplit_len t + n) (unsplit-notes ts)
+
+pub unsplit-is : (taken : List TakenNote) → total unsplit_len taken ≡ unsplit_bytes (map (λ t. t.note) taken)
+unfolding of_notes
+unsplit-is taken = unsplit-notes taken ∙ is_sum_by of_notes (λ n. if n.split then 0 else n.total) refl (λ n ns. refl) (map (λ t. t.note) taken)
+
+pub may-spare : (v : AppView) (queue : Queue Waiting) → IsNext true queue → AreSized marks_of_waiting queue.kept
+    → v.spares + short_bytes queue ≤ total unsplit_len v.taken → MaySpare v
+may-spare v queue next sized room = subst (λ n. v.spares < n) (unsplit-is v.taken) (omega (arith, next-bytes queue next sized, room))
+
+-- ---- origins
+
+-- the loan of a piece in the area has the piece's origin
+pub area-origin : (taken : List TakenNote) (p : Piece) → IsInArea taken p
+    → lent_piece taken (record { note = p.note; at = p.at; loan = p.held }) ≡ record { place = p.held; origin = of_note p.note p.at }
+area-origin taken p of =
+    let origin : origin_in (slice_get taken p.note) p.note p.at p.held.len ≡ of_note p.note p.at = rw (of.is, of.split) refl in
+    ap (λ (o : Origin). the_loan p.held o) origin
+  where
+    the_loan : Place → Origin → LentPiece
+    the_loan place origin = record { place = place; origin = origin }
+
+-- and that of a copy its bytes
+pub copy-origin : (taken : List TakenNote) (s : Short) (b : ℕ) → IsShort taken s
+    → lent_piece taken (record { note = s.note; at = s.at; loan = begin_place b (length s.bytes.items) })
+    ≡ record { place = begin_place b (length s.bytes.items); origin = of_copy s.bytes.items }
+copy-origin taken s b of =
+    let origin : origin_in (slice_get taken s.note) s.note s.at (length s.bytes.items) ≡ of_copy (take (length s.bytes.items) (drop s.at of.note.bytes)) =
+    rw (of.is, of.split) refl in
+    ap (λ (o : Origin). the_loan (begin_place b (length s.bytes.items)) o) (origin ∙ ap (λ bs. of_copy bs) (sym of.bytes))
+  where
+    the_loan : Place → Origin → LentPiece
+    the_loan place origin = record { place = place; origin = origin }
+
+-- ---- the spare is had, filled and lent
+
+-- nothing of these places lies in a buffer
+none-in : {A : Type 0} (place : A → Place) (b x c : ℕ) (n : ℕ) (xs : List A) → All (λ y. (place y).buffer ≢ b) xs → has_at c x (begin_place b n) ≡ 1
+    → total (λ y. has_at c x (place y)) xs ≡ 0
+none-in place b x c n [] all has = refl
+none-in place b x c n (y ∷ ys) all has =
+    let other : (place y).buffer ≢ b = All-head (λ y. (place y).buffer ≢ b) y ys all in
+    omega (arith, away (place y) other, none-in place b x c n ys (All-tail (λ y. (place y).buffer ≢ b) y ys all) has)
+  where
+    away : (p : Place) → p.buffer ≢ b → has_at c x p ≡ 0
+    away p other = apart p c b (begin_place b n) other refl has
+      where
+        apart : (p : Place) (c b : ℕ) (q : Place) → p.buffer ≢ b → q.buffer ≡ b → has_at c x q ≡ 1 → has_at c x p ≡ 0
+        apart p c b q other is has = grind (arith, nat_tests)
+
+has-le : (c x : ℕ) (p : Place) → has_at c x p ≤ 1
+has-le c x p = grind (arith, nat_tests)
+
+module _ (v : AppView) (b : ℕ) (bytes : List ℕ) (owns : v.owns ≡ []) where
+  abbrev pub spare : Filling
+  spare = fresh v.setting b
+
+  abbrev pub full : Filling
+  full = filled_by spare (length bytes)
+
+  abbrev pub filled_spare : AppView
+  filled_spare = filled (got_spare v b) spare bytes
+
+  abbrev pub copy_lent : AppView
+  copy_lent = lent_own filled_spare full
+
+  pub has-spare : HasSpare (got_spare v b) spare
+  has-spare = rw owns (0, omega arith, refl)
+
+  same_spare : same_filling spare spare ≡ true
+  same_spare = same_filling-refl spare
+
+  same_full : same_filling full full ≡ true
+  same_full = same_filling-refl full
+
+  filled-owns : filled_spare.owns ≡ record { own = full; bytes = bytes } ∷ []
+  filled-owns = rw (owns, same_spare) refl
+
+  pub has-full : HasSpare filled_spare full
+  has-full = rw filled-owns (0, omega arith, refl)
+
+  pub bytes-are : own_bytes filled_spare full ≡ bytes
+  bytes-are = rw (filled-owns, same_full) refl
+
+  abbrev pub the_loan : LentPiece
+  the_loan = record { place = begin_place b (length bytes); origin = of_copy bytes }
+
+  lent-owns : copy_lent.owns ≡ []
+  lent-owns = rw (filled-owns, same_full) refl
+
+  lent-loans : copy_lent.loans ≡ v.loans ++ the_loan ∷ []
+  lent-loans = ap (λ bs. v.loans ++ record { place = begin_place b (length bs); origin = of_copy bs } ∷ []) bytes-are
+
+  pub lent-view : copy_lent
+      ≡ record v { helds = copy_lent.helds; loans = copy_lent.loans; spares = copy_lent.spares; picked = copy_lent.picked; looks = copy_lent.looks }
+  lent-view = ap (λ os. record copy_lent { owns = os }) (lent-owns ∙ sym owns)
+
+  pub lent-sums : (f : LentPiece → ℕ) → total f copy_lent.loans ≡ total f v.loans + f the_loan
+  lent-sums f = omega (arith, ap (total f) lent-loans, total-append f v.loans (the_loan ∷ []))
+
+  pub lent-looks : AppLooksStay v copy_lent
+  lent-looks = ⊎_elim
+      (λ (yes : nat_lt b (pool_buffers v.setting.layout) ≡ true). looks-same v copy_lent (rw yes refl))
+      (λ (no : nat_lt b (pool_buffers v.setting.layout) ≡ false). looks-more v copy_lent NoneListed (rw no refl))
+      (cases_Bool (nat_lt b (pool_buffers v.setting.layout)))
+
+  pub lent-apart : LieApart v → HasNoneIn v b → LiesIn v.setting.layout (begin_place b (length bytes)) → 0 < length bytes → length bytes ≤ 256
+      → LieApart copy_lent
+  lent-apart lie none lies some few = record {
+    once = λ c x. once c x;
+    some = omega (
+      arith,
+      lie.some,
+      lent-sums (λ l. is_odd v.setting.layout l.place),
+      not-odd v.setting.layout (begin_place b (length bytes)) some (omega arith) lies,
+    );
+  }
+    where
+      once : (c x : ℕ) → total (λ h. has_at c x h.place) copy_lent.helds + total (λ l. has_at c x l.place) copy_lent.loans ≤ 1
+      once c x = ⊎_elim
+          (λ (out : has_at c x (begin_place b (length bytes)) < 1). omega (arith, lie.once c x, lent-sums (λ l. has_at c x l.place), out))
+          (λ (there : 1 ≤ has_at c x (begin_place b (length bytes))).
+          let one : has_at c x (begin_place b (length bytes)) ≡ 1 = omega (arith, there, has-le c x (begin_place b (length bytes))) in
+          omega (
+            arith,
+            lent-sums (λ l. has_at c x l.place),
+            one,
+            none-in (λ h. h.place) b x c (length bytes) v.helds none.helds one,
+            none-in (λ l. l.place) b x c (length bytes) v.loans none.loans one,
+          ))
+          (cases_lt (has_at c x (begin_place b (length bytes))) 1)
+
+-- ---- what is lent is posted
+
+abbrev pub short_at : Short → Place → Lending
+short_at s place = record { note = s.note; at = s.at; loan = place }
+
+abbrev pub piece_at : Piece → Place → Lending
+piece_at p place = record { note = p.note; at = p.at; loan = place }
+
+-- few bytes at the begin of a pool buffer, or of the application's reserve
+pub own-lies : (v : AppView) (b len : ℕ) → IsOwnBuffer v b → reserve_of v < buffers_of v.setting.layout → IsLayout v.setting.layout → len ≤ 256
+    → LiesIn v.setting.layout (begin_place b len)
+own-lies v b len own reserve sound few = record {
+  buffer = ⊎_elim (λ (pool : b < pool_buffers v.setting.layout). omega (arith, pool)) (λ (is : b ≡ reserve_of v). omega (arith, is, reserve)) own;
+  bytes = omega (arith, few, sound.size.least);
+}
+
+-- the completion behind the others
+abbrev pub with_posted : Ring (Completion × Lending) → Shape → ℕ → Lending → Ring (Completion × Lending)
+with_posted posted layout flow l = ring (posted.entries ++ (completion_of layout flow l, l) ∷ []) posted.places
+
+module _ (v w : AppView) (was : FlowQueue) (q : Queue Waiting) (span : Span) (posted after_it : Ring (Completion × Lending)) (flush flush_now : Bool)
+    (begins : span.position ≡ was.queue.popped) (settled : v.settled ≡ true) (lie : LieApart v) (within : length posted.entries < posted.places)
+    (place : Place) where
+  pub copy-delivers : (s : Short) (b copied copied_now : ℕ) (owns : v.owns ≡ []) → LosesFirst was.queue q (Copied s) span → IsShort v.taken s
+      → HasNoneIn v b → LiesIn v.setting.layout (begin_place b (length s.bytes.items)) → 0 < length s.bytes.items → w ≡ copy_lent v b s.bytes.items owns → place ≡ begin_place b (length s.bytes.items)
+      → after_it ≡ with_posted posted w.setting.layout was.number (short_at s place) → copied_now ≡ min (copied + 1) (2 ^ 64 - 1)
+      → flush_now ≡ flush || (place.buffer == reserve_of w)
+      → Delivers v w was (record was { queue = q }) posted after_it copied copied_now flush flush_now
+  copy-delivers s b copied copied_now owns loses of none lies some is place_is post copies flushes =
+      let l : Lending = short_at s (begin_place b (length s.bytes.items)) in
+      rw is (record {
+        piece = Copied s;
+        span = span;
+        lending = l;
+        completion = completion_of v.setting.layout was.number l;
+        loses = loses;
+        begins = begins;
+        flow = refl;
+        room = within;
+        post = post ∙ ap (λ (x : AppView). with_posted posted x.setting.layout was.number (short_at s place)) is
+            ∙ ap (λ (p : Place). with_posted posted v.setting.layout was.number (short_at s p)) place_is;
+        number = refl;
+        tells = record { size = refl; flags = refl; off = refl };
+        marks = refl;
+        len = omega arith;
+        of_note = slice_get_within v.taken s.note of.note of.is;
+        view = lent-view v b s.bytes.items owns ∙ ap (λ (t : Bool). record v {
+          settled = t;
+          helds = (copy_lent v b s.bytes.items owns).helds;
+          loans = (copy_lent v b s.bytes.items owns).loans;
+          spares = (copy_lent v b s.bytes.items owns).spares;
+          picked = (copy_lent v b s.bytes.items owns).picked;
+          looks = (copy_lent v b s.bytes.items owns).looks;
+        }) settled;
+        looks = lent-looks v b s.bytes.items owns;
+        apart = lent-apart v b s.bytes.items owns lie none lies some of.few;
+        helds = λ f. omega arith;
+        loans = λ f. omega (arith, lent-sums v b s.bytes.items owns f, ap f (copy-origin v.taken s b of));
+        spares = refl;
+        copies = copies;
+        flushes = flushes ∙ ap (λ (x : AppView). flush || (place.buffer == reserve_of x)) is
+            ∙ ap (λ (p : Place). flush || (p.buffer == reserve_of v)) place_is;
+      })
+
+  pub piece-delivers : (p : Piece) (copied : ℕ) → LosesFirst was.queue q (InArea p) span → IsInArea v.taken p → IsIn (held_piece p) v.helds
+      → w ≡ lent v p.held → place ≡ p.held → after_it ≡ with_posted posted w.setting.layout was.number (piece_at p place)
+      → flush_now ≡ flush || (place.buffer == reserve_of w)
+      → Delivers v w was (record was { queue = q }) posted after_it copied copied flush flush_now
+  piece-delivers p copied loses of out is place_is post flushes =
+      let l : Lending = piece_at p p.held in
+      let step : Lent v lie (held_piece p) = is-lent v lie (held_piece p) out in
+      rw is (record {
+        piece = InArea p;
+        span = span;
+        lending = l;
+        completion = completion_of v.setting.layout was.number l;
+        loses = loses;
+        begins = begins;
+        flow = refl;
+        room = within;
+        post = post ∙ ap (λ (x : AppView). with_posted posted x.setting.layout was.number (piece_at p place)) is
+            ∙ ap (λ (r : Place). with_posted posted v.setting.layout was.number (piece_at p r)) place_is;
+        number = refl;
+        tells = record { size = refl; flags = refl; off = refl };
+        marks = refl;
+        len = omega arith;
+        of_note = slice_get_within v.taken p.note of.note of.is;
+        view = ap (λ (t : Bool). record v { settled = t; helds = (lent v p.held).helds; loans = (lent v p.held).loans }) settled;
+        looks = looks-same v (lent v p.held) refl;
+        apart = step.apart;
+        helds = step.helds;
+        loans = λ f. omega (arith, step.loans f, ap f (area-origin v.taken p of));
+        spares = omega arith;
+        copies = refl;
+        flushes = flushes ∙ ap (λ (x : AppView). flush || (place.buffer == reserve_of x)) is
+            ∙ ap (λ (r : Place). flush || (r.buffer == reserve_of v)) place_is;
+      })
+
+-- the loan is out
+pub copy-out : (v w : AppView) (b : ℕ) (bytes : List ℕ) (owns : v.owns ≡ []) (place : Place) → w ≡ copy_lent v b bytes owns
+    → place ≡ begin_place b (length bytes) → HasPlace w place
+copy-out v w b bytes owns place is place_is = rw (is, place_is) (inr (subst (λ ls. Contains (map (λ l. l.place) ls) (begin_place b (length bytes)))
+    (sym (lent-loans v b bytes owns))
+    (in-contains (λ l. l.place) (the_loan v b bytes owns) (v.loans ++ the_loan v b bytes owns ∷ [])
+    (in-right (the_loan v b bytes owns) v.loans (the_loan v b bytes owns ∷ []) (inl refl)))))
+
+pub piece-out : (v w : AppView) (lie : LieApart v) (p : Piece) (place : Place) → IsIn (held_piece p) v.helds → w ≡ lent v p.held → place ≡ p.held
+    → HasPlace w place
+piece-out v w lie p place out is place_is =
+    let step : Lent v lie (held_piece p) = is-lent v lie (held_piece p) out in
+    let loans : (lent v p.held).loans ≡ v.loans ++ as_loan v lie (held_piece p) ∷ [] = ap (λ (x : AppView). x.loans) step.view in
+    rw (is, place_is) (inr (subst (λ ls. Contains (map (λ l. l.place) ls) p.held) (sym loans)
+    (in-contains (λ l. l.place) (as_loan v lie (held_piece p)) (v.loans ++ as_loan v lie (held_piece p) ∷ [])
+    (in-right (as_loan v lie (held_piece p)) v.loans (as_loan v lie (held_piece p) ∷ []) (inl refl)))))
+
+-- the same from the moment on before no raw entry was on its way
+pub from-rest : (v w : AppView) (was now : FlowQueue) (posted after_it : Ring (Completion × Lending)) (copied copied_now : ℕ) (flush flush_now : Bool)
+    → Delivers (came_to_rest v) w was now posted after_it copied copied_now flush flush_now
+    → Delivers v w was now posted after_it copied copied_now flush flush_now
+from-rest v w was now posted after_it copied copied_now flush flush_now step = record {
+  piece = step.piece;
+  span = step.span;
+  lending = step.lending;
+  completion = step.completion;
+  loses = step.loses;
+  begins = step.begins;
+  flow = step.flow;
+  room = step.room;
+  post = step.post;
+  number = step.number;
+  tells = step.tells;
+  marks = step.marks;
+  len = step.len;
+  of_note = step.of_note;
+  view = step.view;
+  looks = record { later = step.looks.later };
+  apart = step.apart;
+  helds = step.helds;
+  loans = step.loans;
+  spares = step.spares;
+  copies = step.copies;
+  flushes = step.flushes;
+}
+
+pub delivered-from-rest : (v w : AppView) (was now : FlowQueue) (posted after_it : Ring (Completion × Lending)) (copied copied_now : ℕ)
+    (flush flush_now : Bool) (result : Delivery) → (result ≡ Did) ⊎ (result ≡ ReserveHeld)
+    → Delivered (came_to_rest v) w was now posted after_it copied copied_now flush flush_now result
+    → Delivered v w was now posted after_it copied copied_now flush flush_now result
+delivered-from-rest v w was now posted after_it copied copied_now flush flush_now Did kind step =
+    from-rest v w was now posted after_it copied copied_now flush flush_now step
+delivered-from-rest v w was now posted after_it copied copied_now flush flush_now ReserveHeld kind step =
+    (record { event = step.0.event; rose = record { rose = step.0.rose.rose } }, step.1, step.2, step.3, step.4)
+delivered-from-rest v w was now posted after_it copied copied_now flush flush_now NoneInOrder kind step = absurd (other kind)
+  where
+    other : (NoneInOrder ≡ Did) ⊎ (NoneInOrder ≡ ReserveHeld) → ⊥
+    other (inl e) = absurd (cc)
+    other (inr e) = absurd (cc)
+delivered-from-rest v w was now posted after_it copied copied_now flush flush_now Full kind step = absurd (other kind)
+  where
+    other : (Full ≡ Did) ⊎ (Full ≡ ReserveHeld) → ⊥
+    other (inl e) = absurd (cc)
+    other (inr e) = absurd (cc)
+delivered-from-rest v w was now posted after_it copied copied_now flush flush_now Unsettled kind step = absurd (other kind)
+  where
+    other : (Unsettled ≡ Did) ⊎ (Unsettled ≡ ReserveHeld) → ⊥
+    other (inl e) = absurd (cc)
+    other (inr e) = absurd (cc)
