@@ -1,5 +1,7 @@
 -- The stream of a flow, without the frames that are left out, by the frames that were offered.
-use Rattle.std.proofs.Common.{◌≡◌, ℕ, suc, ◌+◌, ◌^◌, List, [], ◌∷◌, ◌++◌, length, map, filter, append_assoc, length-append, refl, sym, ap, subst, ◌∙◌, ⊎_elim, arith, Bool, true, false, not, nat_lt, if◌then◌else◌, ◌==◌, Some, None, option_map}
+use Rattle.std.proofs.Common.{◌≡◌, ℕ, suc, ◌+◌, ◌^◌, List, [], ◌∷◌, ◌++◌, length, map, filter, append_assoc, length-append, refl}
+use Rattle.std.proofs.Common.{sym, ap, subst, ◌∙◌, ⊎_elim, arith, Bool, true, false, not, nat_lt, if◌then◌else◌, ◌==◌, Some, None}
+use Rattle.std.proofs.Common.{option_map}
 use Rattle.std.specs.Prelude.{All}
 use Rattle.std.specs.List.{list_any, slice_get}
 use Rattle.std.proofs.lemmas.Bool.{eqb-true, eqb-false, ne_eqb, cases_Bool, true≢false}
@@ -24,8 +26,10 @@ use Rattle.replay_turns.proofs.MarksStreamed.{received_offered, front_streamed}
 abbrev pub IsLike : Placed ℕ → Placed ℕ → Type 0
 IsLike one other = MapsPlaced (λ (x : ℕ). x) one other
 
-received-like : (base s : ℕ) (one other : Placed ℕ) (values : List ℕ) → IsLike one other → IsLike (received base one s values) (received base other s values)
-received-like base s one other values like = subst (λ bs. IsLike (received base one s values) (received base other s bs)) (map-itself values) (received-map (λ (x : ℕ). x) base one other s values like)
+received-like : (base s : ℕ) (one other : Placed ℕ) (values : List ℕ) → IsLike one other → IsLike (received base one s values)
+    (received base other s values)
+received-like base s one other values like = subst (λ bs. IsLike (received base one s values) (received base other s bs)) (map-itself values)
+    (received-map (λ (x : ℕ). x) base one other s values like)
 
 nothing_brought : (from p : ℕ) → brought {A = ℕ} [] from p ≡ None
 nothing_brought from p = ⊎_elim
@@ -37,7 +41,10 @@ nothing_brought from p = ⊎_elim
 nothing_if : (b : Bool) (one other : Placed ℕ) (from : ℕ) → IsLike one other → IsLike (if b then filled one from [] else one) other
 nothing_if true one other from like = record {
   at = λ p. like.at p ∙ ap (option_map (λ (x : ℕ). x)) (sym (ap (first_of (one.at p)) (nothing_brought from p) ∙ first_of-nothing (one.at p)));
-  bounded = record { past = λ p past. ap (first_of (one.at p)) (nothing_brought from p) ∙ first_of-nothing (one.at p) ∙ like.bounded.past p (omega (arith, past)) };
+  bounded = record {
+    past = λ p past. ap (first_of (one.at p)) (nothing_brought from p) ∙ first_of-nothing (one.at p) ∙ like.bounded.past p
+        (omega (arith, past));
+  };
   mapped_bounded = like.mapped_bounded;
 }
 nothing_if false one other from like = like
@@ -48,7 +55,8 @@ received-nothing base s one other like = nothing_if (accepts base (next_missing 
 
 no_bytes : (payload : List ℕ) → not (length payload == 0) ≡ false → payload ≡ []
 no_bytes [] is = refl
-no_bytes (b ∷ bs) is = let some : (length (b ∷ bs) == 0) ≡ false = ne_eqb (suc (length bs)) 0 (λ (e : suc (length bs) ≡ 0). absurd (omega (arith, e))) in absurd (true≢false (rw some at is))
+no_bytes (b ∷ bs) is = let some : (length (b ∷ bs) == 0) ≡ false = ne_eqb (suc (length bs)) 0
+    (λ (e : suc (length bs) ≡ 0). absurd (omega (arith, e))) in absurd (true≢false (rw some at is))
 
 -- the frames of a flow among those that are offered and not left out
 abbrev pub mine_of : ℕ → List ℕ → List Offered → List Offered
@@ -56,7 +64,8 @@ mine_of number left_out offered = filter (λ o. o.flow == number) (without left_
 
 -- a flow's segments, and its frames among those that are offered
 of_flow_like : (left_out : List ℕ) (number base : ℕ) (flows : List Flow) (steered : List Steered) (one other : Placed ℕ) → IsLike one other
-    → IsLike (received_all base left_out one (of_flow_after number flows steered)) (received_offered base other (mine_of number left_out (offered_after flows steered)))
+    → IsLike (received_all base left_out one (of_flow_after number flows steered))
+    (received_offered base other (mine_of number left_out (offered_after flows steered)))
 of_flow_like left_out number base flows [] one other like = like
 of_flow_like left_out number base flows (s ∷ ss) one other like = ⊎_elim
     (λ (some : not (length s.segment.payload == 0) ≡ true). ⊎_elim
@@ -80,7 +89,8 @@ of_flow_like left_out number base flows (s ∷ ss) one other like = ⊎_elim
     rw (mine, none, out) (of_flow_like left_out number base (flows_with flows s) ss one other like))
     (λ (stays : list_any (λ n. n == s.record_number) left_out ≡ false).
     rw (mine, none, stays) (of_flow_like left_out number base (flows_with flows s) ss (received base one (first_byte s.segment) s.segment.payload) other
-    (subst (λ bs. IsLike (received base one (first_byte s.segment) bs) other) (sym (no_bytes s.segment.payload none)) (received-nothing base (first_byte s.segment) one other like))))
+    (subst (λ bs. IsLike (received base one (first_byte s.segment) bs) other) (sym (no_bytes s.segment.payload none))
+    (received-nothing base (first_byte s.segment) one other like))))
     (cases_Bool (list_any (λ n. n == s.record_number) left_out)))
     (λ (others : (number_of_flow flows s == number) ≡ false).
     rw (others, none) (of_flow_like left_out number base (flows_with flows s) ss one other like))
@@ -97,7 +107,8 @@ first_base o mine rest all k shown =
     let of_frame : AreOf o (shown.first ∷ shown.others) = rw shown.are at shown.of_frame in
     rw shown.are (ap base_of (of_flow-mine o shown.first k (shown.others ++ rest) of_frame.0) ∙ of_frame.0.base)
 
-pub base_shown : (split flow : ℕ) (os : List Offered) (all before notes : List SentNote) → all ≡ before ++ notes → ShowFrames split os notes → HaveBytes os → (o : Offered) (later : List Offered)
+pub base_shown : (split flow : ℕ) (os : List Offered) (all before notes : List SentNote) → all ≡ before ++ notes → ShowFrames split os notes
+    → HaveBytes os → (o : Offered) (later : List Offered)
     → filter (λ p. p.flow == flow) os ≡ o ∷ later → base_of (flow_notes flow (length before) notes) ≡ o.base
 base_shown split flow [] all before notes is shows some o later first = absurd (grind (arith, ap length first))
 base_shown split flow (p ∷ os) all before notes is shows some o later first =
@@ -111,7 +122,8 @@ base_shown split flow (p ∷ os) all before notes is shows some o later first =
     (λ (is_mine : (p.flow == flow) ≡ true).
     let same : p.flow ≡ flow = eqb-true p.flow flow is_mine in
     let one : p ≡ o = same_first (rw is_mine at first) in
-    subst (λ f. base_of (flow_notes f (length before) (mine ++ rest)) ≡ p.base) same (first_base p mine rest all (length before) shown) ∙ ap (λ (q : Offered). q.base) one)
+    subst (λ f. base_of (flow_notes f (length before) (mine ++ rest)) ≡ p.base) same (first_base p mine rest all (length before) shown) ∙ ap
+    (λ (q : Offered). q.base) one)
     (λ (not_mine : (p.flow == flow) ≡ false).
     let later_first : filter (λ q. q.flow == flow) os ≡ o ∷ later = rw not_mine at first in
     rw (passed p flow mine rest (length before) shown.of_frame (λ same. eqb-false p.flow flow not_mine same))
@@ -126,13 +138,15 @@ like_front one other like = front_of-map (λ (x : ℕ). x) one other like ∙ ma
 nothing_like : IsLike nothing_placed nothing_placed
 nothing_like = record { at = λ p. refl; bounded = IsBounded-nothing; mapped_bounded = IsBounded-nothing }
 
-any_base : (b base : ℕ) (os : List Offered) → ((o : Offered) (later : List Offered) → os ≡ o ∷ later → b ≡ base) → received_offered b nothing_placed os ≡ received_offered base nothing_placed os
+any_base : (b base : ℕ) (os : List Offered) → ((o : Offered) (later : List Offered) → os ≡ o ∷ later → b ≡ base)
+    → received_offered b nothing_placed os ≡ received_offered base nothing_placed os
 any_base b base [] same = refl
 any_base b base (o ∷ os) same = ap (λ k. received_offered k nothing_placed (o ∷ os)) (same o os refl)
 
 -- Where the notes to an application show its frames, and what was read is what was sent, the bytes at a flow's first marks
 -- are a front of the flow's stream, without the frames that are left out; and those at all marks are the stream.
-pub stream_accounted : (split number : ℕ) (left_out : List ℕ) (steered : List Steered) (flow : Flow) (os : List Offered) (notes : List SentNote) (v : AppView) (bytes : List ℕ)
+pub stream_accounted : (split number : ℕ) (left_out : List ℕ) (steered : List Steered) (flow : Flow) (os : List Offered) (notes : List SentNote)
+    (v : AppView) (bytes : List ℕ)
     → slice_get (flows_of steered) number ≡ Some flow → ShowFrames split os notes → Ascend os → HaveBytes os
     → filter (λ o. o.flow == number) os ≡ mine_of number left_out (offered_after [] steered)
     → ((o : Offered) (later : List Offered) → filter (λ o. o.flow == number) os ≡ o ∷ later → o.base ≡ flow.base)
@@ -143,8 +157,10 @@ stream_accounted split number left_out steered flow os notes v bytes known shows
     let mine_os : List Offered = filter (λ o. o.flow == number) os in
     let got = front_streamed split number os notes v bytes shows ascend some taken reads front in
     let based : received_offered (base_of (flow_notes number 0 notes)) nothing_placed mine_os ≡ received_offered flow.base nothing_placed mine_os =
-    any_base (base_of (flow_notes number 0 notes)) flow.base mine_os (λ o later first. base_shown split number os notes [] notes refl shows some o later first ∙ base o later first) in
+    any_base (base_of (flow_notes number 0 notes)) flow.base mine_os
+    (λ o later first. base_shown split number os notes [] notes refl shows some o later first ∙ base o later first) in
     let like = of_flow_like left_out number flow.base [] steered nothing_placed nothing_placed nothing_like in
-    let streamed : front_of (received_all flow.base left_out nothing_placed (of_flow_after number [] steered)) ≡ front_of (received_offered flow.base nothing_placed mine_os) =
+    let streamed : front_of (received_all flow.base left_out nothing_placed (of_flow_after number [] steered)) ≡ front_of
+    (received_offered flow.base nothing_placed mine_os) =
     sym (like_front _ _ like) ∙ ap (λ xs. front_of (received_offered flow.base nothing_placed xs)) (sym mine) in
     rw known (got.0, streamed ∙ sym (ap front_of based) ∙ got.1, got.2)

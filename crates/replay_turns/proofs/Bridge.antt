@@ -1,5 +1,6 @@
 -- A board that accounts for a run gives each flow its stream.
-use Rattle.std.proofs.Common.{◌≡◌, ℕ, ◌<◌, List, [], ◌∷◌, ◌++◌, length, filter, Bool, true, false, not, ◌==◌, Option, ⊎_elim, sym, ap, ◌∙◌, append-nil, arith}
+use Rattle.std.proofs.Common.{◌≡◌, ℕ, ◌<◌, List, [], ◌∷◌, ◌++◌, length, filter, Bool, true, false, not, ◌==◌, Option, ⊎_elim, sym}
+use Rattle.std.proofs.Common.{ap, ◌∙◌, append-nil, arith}
 use Rattle.std.proofs.lemmas.Bool.{cases_Bool, true≢false}
 use Rattle.zr_io.proofs.Moved.{Gained-weaker}
 use Rattle.flow_table.specs.Stream.{stream_of}
@@ -51,7 +52,8 @@ give_streams kept shelves shelves_now plan frames left_out nic apps lines strays
     Gained-weaker (kept_in kept shelves flow.app number) (kept_in kept shelves_now flow.app number) (IsFlowRead app line.stopped number)
     (IsStreamedTo line.stopped (stream_of (steered_in ports frames) left_out number))
     (λ got read.
-    let streamed = stream_accounted plan.split number left_out (steered_in ports frames) flow os (sent_to flow.app nic) app.view got known own.notes (ascends 1 os rises) bytes
+    let streamed = stream_accounted plan.split number left_out (steered_in ports frames) flow os (sent_to flow.app nic) app.view got known own.notes
+    (ascends 1 os rises) bytes
     (app-filter number flow all are) (first-base number flow os (AreOfFlow-filter number flow _ all are)) own.taken reads read.front in
     record {
       rest = streamed.0;

@@ -13,3 +13,4 @@ pub mod OfFlow
 pub mod Bridge
 pub mod Standing
 pub mod Beginning
+pub mod Sharing

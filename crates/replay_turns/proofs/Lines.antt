@@ -1,5 +1,6 @@
 -- The lines of the flows, one after another.
-use Rattle.std.proofs.Common.{◌≡◌, ⊎_elim, ℕ, zero, suc, ◌+◌, ◌<◌, ◌≤◌, List, [], ◌∷◌, ◌++◌, length, map, get_or, Option, Some, None, option_map, refl, sym, ap, subst, ◌∙◌, length-append, arith, ◌==◌}
+use Rattle.std.proofs.Common.{◌≡◌, ⊎_elim, ℕ, zero, suc, ◌+◌, ◌<◌, ◌≤◌, List, [], ◌∷◌, ◌++◌, length, map, get_or, Option}
+use Rattle.std.proofs.Common.{Some, None, option_map, refl, sym, ap, subst, ◌∙◌, length-append, arith, ◌==◌}
 use Rattle.std.specs.List.{slice_get}
 use Rattle.std.proofs.lemmas.Bool.{cases_lt, eqb-true}
 use Rattle.std.proofs.lemmas.List.{length-map}
@@ -23,7 +24,8 @@ pub record AreLinesBelow (n : ℕ) (flows : List Flow) (bytes : List ℕ) (lines
   pub each : (number : ℕ) (flow : Flow) (count : ℕ) → number < n → slice_get flows number ≡ Some flow → slice_get bytes number ≡ Some count
       → slice_get lines number ≡ Some (line_of flow count)
 
-pub told_of : (found : Option Flow) (info : FlowInfo) → option_map info_of found ≡ Some info → (flow : Flow) × (found ≡ Some flow) × (info_of flow ≡ info)
+pub told_of : (found : Option Flow) (info : FlowInfo) → option_map info_of found ≡ Some info → (flow : Flow) × (found ≡ Some flow) ×
+    (info_of flow ≡ info)
 told_of None info is = absurd (cc)
 told_of (Some flow) info is = (flow, refl, same is)
   where
@@ -46,7 +48,8 @@ port_at [] i d within = absurd (omega arith)
 port_at (a ∷ apps) zero d within = refl
 port_at (a ∷ apps) (suc i) d within = port_at apps i d (omega arith)
 
-module _ (ports : List ℕ) (apps : List AppLine) (flows : List Flow) (have_ports : HavePorts ports apps) (have : HaveApps ports flows) (number : ℕ) (flow : Flow)
+module _ (ports : List ℕ) (apps : List AppLine) (flows : List Flow) (have_ports : HavePorts ports apps) (have : HaveApps ports flows) (number : ℕ)
+    (flow : Flow)
     (is : slice_get flows number ≡ Some flow) where
   pub app-within : flow.app < length apps
   app-within =
@@ -69,8 +72,10 @@ line-is apps flow info count line same is port =
 pub lines-none : (flows : List Flow) (bytes : List ℕ) → AreLinesBelow 0 flows bytes []
 lines-none flows bytes = record { many = refl; each = λ number flow count below. absurd (omega (arith, below)) }
 
-pub lines-more : (n : ℕ) (flows : List Flow) (bytes : List ℕ) (lines : List FlowLine) (flow : Flow) (count : ℕ) (line : FlowLine) → AreLinesBelow n flows bytes lines
-    → slice_get flows n ≡ Some flow → slice_get bytes n ≡ Some count → line ≡ line_of flow count → AreLinesBelow (n + 1) flows bytes (lines ++ line ∷ [])
+pub lines-more : (n : ℕ) (flows : List Flow) (bytes : List ℕ) (lines : List FlowLine) (flow : Flow) (count : ℕ) (line : FlowLine)
+    → AreLinesBelow n flows bytes lines
+    → slice_get flows n ≡ Some flow → slice_get bytes n ≡ Some count → line ≡ line_of flow count → AreLinesBelow (n + 1) flows bytes
+    (lines ++ line ∷ [])
 lines-more n flows bytes lines flow count line so_far here counted is = record {
   many = length-append lines (line ∷ []) ∙ omega (arith, so_far.many);
   each = λ number f k below at_flow at_count. ⊎_elim
@@ -86,11 +91,13 @@ lines-more n flows bytes lines flow count line so_far here counted is = record {
     by : {f : Flow} {k : ℕ} → Some flow ≡ Some f → Some count ≡ Some k → line_of flow count ≡ line_of f k
     by same_flow same_count = cc
 
-pub lines-all : (n : ℕ) (flows : List Flow) (bytes : List ℕ) (lines : List FlowLine) → AreLinesBelow n flows bytes lines → length flows ≤ n → n ≤ length flows
+pub lines-all : (n : ℕ) (flows : List Flow) (bytes : List ℕ) (lines : List FlowLine) → AreLinesBelow n flows bytes lines → length flows ≤ n
+    → n ≤ length flows
     → AreLinesOf flows bytes lines
 lines-all n flows bytes lines below reached most = record {
   many = omega (arith, below.many, reached, most);
-  each = λ number flow count at_flow at_count. below.each number flow count (let within = within_of flows number flow at_flow in omega (arith, within, reached)) at_flow at_count;
+  each = λ number flow count at_flow at_count. below.each number flow count
+      (let within = within_of flows number flow at_flow in omega (arith, within, reached)) at_flow at_count;
 }
   where
     within_of : (fs : List Flow) (i : ℕ) (f : Flow) → slice_get fs i ≡ Some f → i < length fs

@@ -1,5 +1,6 @@
 -- What stands at a flow's marks is what the copying receiver has of the flow's frames.
-use Rattle.std.proofs.Common.{◌≡◌, ℕ, zero, suc, ◌+◌, ◌-◌, ◌<◌, List, [], ◌∷◌, ◌++◌, length, map, filter, take, drop, length-append, get_or, refl, sym, ap, subst, ◌∙◌, ⊎_elim, arith, true, false, ◌==◌, Some, None}
+use Rattle.std.proofs.Common.{◌≡◌, ℕ, zero, suc, ◌+◌, ◌-◌, ◌<◌, List, [], ◌∷◌, ◌++◌, length, map, filter, take, drop}
+use Rattle.std.proofs.Common.{length-append, get_or, refl, sym, ap, subst, ◌∙◌, ⊎_elim, arith, true, false, ◌==◌, Some, None}
 use Rattle.std.specs.Prelude.{All}
 use Rattle.std.specs.List.{slice_get}
 use Rattle.std.proofs.lemmas.Bool.{cases_Bool}
@@ -33,11 +34,13 @@ same_tail : {a b : Shown} {xs ys : List Shown} → a ∷ xs ≡ b ∷ ys → xs 
 same_tail same = cc
 
 -- a frame of which all is there is received as any list of values
-whole_frame : (base : ℕ) (placed : Placed Mark) (f : Frame) → f.total ≡ length f.marks → received_frame base placed f ≡ received base placed f.seq f.marks
+whole_frame : (base : ℕ) (placed : Placed Mark) (f : Frame) → f.total ≡ length f.marks
+    → received_frame base placed f ≡ received base placed f.seq f.marks
 unfolding received
 whole_frame base placed f whole = rw whole refl
 
-mapped_frames : (all : List SentNote) (base : ℕ) (fs : List Frame) (os : List Offered) (placed : Placed Mark) (bytes : Placed ℕ) → map (shown_by all) fs ≡ map shown_of os → MapsPlaced (byte_at all) placed bytes
+mapped_frames : (all : List SentNote) (base : ℕ) (fs : List Frame) (os : List Offered) (placed : Placed Mark) (bytes : Placed ℕ) → map
+    (shown_by all) fs ≡ map shown_of os → MapsPlaced (byte_at all) placed bytes
     → MapsPlaced (byte_at all) (received_frames base placed fs) (received_offered base bytes os)
 mapped_frames all base [] [] placed bytes same is = is
 mapped_frames all base [] (o ∷ os) placed bytes same is = absurd (grind (arith, ap length same))
@@ -53,10 +56,12 @@ mapped_frames all base (f ∷ fs) (o ∷ os) placed bytes same is =
     mapped_frames all base fs os (received_frame base placed f) (received base bytes o.seq o.payload) (same_tail same) received_one
 
 pub marks_streamed : (split flow : ℕ) (os : List Offered) (notes : List SentNote) → ShowFrames split os notes → Ascend os → HaveBytes os
-    → map (byte_at notes) (marks_of flow (map as_taken notes)) ≡ front_of (received_offered (base_of (flow_notes flow 0 notes)) nothing_placed (filter (λ o. o.flow == flow) os))
+    → map (byte_at notes) (marks_of flow (map as_taken notes)) ≡ front_of
+    (received_offered (base_of (flow_notes flow 0 notes)) nothing_placed (filter (λ o. o.flow == flow) os))
 marks_streamed split flow os notes shows ascend some =
     let frames = frames_shown split flow os notes [] notes refl shows ascend some in
-    sym (front_of-map (byte_at notes) _ _ (mapped_frames notes (base_of (flow_notes flow 0 notes)) _ _ nothing_placed nothing_placed frames (record { at = λ p. refl; bounded = IsBounded-nothing; mapped_bounded = IsBounded-nothing })))
+    sym (front_of-map (byte_at notes) _ _ (mapped_frames notes (base_of (flow_notes flow 0 notes)) _ _ nothing_placed nothing_placed frames
+    (record { at = λ p. refl; bounded = IsBounded-nothing; mapped_bounded = IsBounded-nothing })))
 
 -- ---- what was read are the bytes that were sent
 
@@ -108,7 +113,8 @@ reading_sent notes (q ∷ reads) r sent there = ⊎_elim
     (λ later. reading_sent notes reads r (All-tail (IsAsSent notes) q reads sent) later)
     there
 
-read_byte : (notes : List SentNote) (v : AppView) (m : Mark) (b : ℕ) → v.taken ≡ map as_taken notes → All (IsAsSent notes) v.reads → IsByteAt v.taken v.reads m b → b ≡ byte_at notes m
+read_byte : (notes : List SentNote) (v : AppView) (m : Mark) (b : ℕ) → v.taken ≡ map as_taken notes → All (IsAsSent notes) v.reads
+    → IsByteAt v.taken v.reads m b → b ≡ byte_at notes m
 read_byte notes v m b taken reads is =
     let t_of = taken_of notes m.note is.note (rw taken at is.is) in
     let split : is.note.note.split ≡ t_of.note.note.split = ap (λ (t : TakenNote). t.note.split) t_of.is in
@@ -122,7 +128,8 @@ read_byte notes v m b taken reads is =
     let whole : value_at r.bytes (m.place - read.from) ≡ value_at (take (length r.bytes) (drop read.from (bytes_sent m.note notes))) (m.place - read.from) =
     ap (λ bs. value_at bs (m.place - read.from)) (sent ∙ ap (λ origin. origin_bytes notes origin (length r.bytes)) read.origin) in
     let back : read.from + (m.place - read.from) ≡ m.place = omega (arith, read.at_or_behind) in
-    ap byte_or (sym there ∙ whole ∙ value_at-take _ (length r.bytes) (m.place - read.from) less ∙ value_at-drop (bytes_sent m.note notes) read.from (m.place - read.from)
+    ap byte_or (sym there ∙ whole ∙ value_at-take _ (length r.bytes) (m.place - read.from) less ∙ value_at-drop (bytes_sent m.note notes) read.from
+    (m.place - read.from)
     ∙ ap (value_at (bytes_sent m.note notes)) back))
     (λ (with_note : is.note.note.split ≡ false).
     let there : value_at is.note.bytes m.place ≡ Some b = rw with_note at is.stands in
@@ -131,9 +138,11 @@ read_byte notes v m b taken reads is =
     ap byte_or (sym there ∙ ap (λ bs. value_at bs m.place) bytes))
     (cases_Bool is.note.note.split)
 
-read_bytes : (notes : List SentNote) (v : AppView) (ms : List Mark) (bs : List ℕ) → v.taken ≡ map as_taken notes → All (IsAsSent notes) v.reads → AreBytesAt v.taken v.reads ms bs → bs ≡ map (byte_at notes) ms
+read_bytes : (notes : List SentNote) (v : AppView) (ms : List Mark) (bs : List ℕ) → v.taken ≡ map as_taken notes → All (IsAsSent notes) v.reads
+    → AreBytesAt v.taken v.reads ms bs → bs ≡ map (byte_at notes) ms
 read_bytes notes v [] [] taken reads are = refl
-read_bytes notes v (m ∷ ms) (b ∷ bs) taken reads are = let one = read_byte notes v m b taken reads are.0 in rw one (ap (λ others. byte_at notes m ∷ others) (read_bytes notes v ms bs taken reads are.1))
+read_bytes notes v (m ∷ ms) (b ∷ bs) taken reads are = let one = read_byte notes v m b taken reads are.0 in rw one
+    (ap (λ others. byte_at notes m ∷ others) (read_bytes notes v ms bs taken reads are.1))
 read_bytes notes v [] (b ∷ bs) taken reads are = absurd are
 read_bytes notes v (m ∷ ms) [] taken reads are = absurd are
 
@@ -149,9 +158,11 @@ no_rest f read (m ∷ rest) all parts whole = absurd (let many = ap length parts
 
 -- The bytes at the first marks of a flow are a front of what the copying receiver has of its frames, and those at all marks
 -- are all of it.
-pub front_streamed : (split flow : ℕ) (os : List Offered) (notes : List SentNote) (v : AppView) (bytes : List ℕ) → ShowFrames split os notes → Ascend os → HaveBytes os
+pub front_streamed : (split flow : ℕ) (os : List Offered) (notes : List SentNote) (v : AppView) (bytes : List ℕ) → ShowFrames split os notes
+    → Ascend os → HaveBytes os
     → v.taken ≡ map as_taken notes → All (IsAsSent notes) v.reads → IsFrontAt v.taken v.reads (marks_of flow v.taken) bytes
-    → (rest : List ℕ) × (front_of (received_offered (base_of (flow_notes flow 0 notes)) nothing_placed (filter (λ o. o.flow == flow) os)) ≡ bytes ++ rest)
+    → (rest : List ℕ) × (front_of (received_offered (base_of (flow_notes flow 0 notes)) nothing_placed (filter (λ o. o.flow == flow) os)) ≡ bytes
+    ++ rest)
     × (length bytes ≡ length (marks_of flow v.taken) → rest ≡ [])
 front_streamed split flow os notes v bytes shows ascend some taken reads front =
     let streamed = marks_streamed split flow os notes shows ascend some in

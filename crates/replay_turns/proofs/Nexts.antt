@@ -13,11 +13,13 @@ use Rattle.frames_read.proofs.Endings.{ends-without, ends-by, ends-frame, goes_o
 use Rattle.replay_turns.specs.declared.intake.Stage.TheVariants as stage
 use Rattle.replay_turns.specs.Coming.{NextGives}
 
-module _ {S : Type 0} (Wants : List (List ℕ) → List ℕ → Type 0) (left : S → Option (List ℕ)) (faults : S → ℕ) (first old now : S) (ports : List ℕ)
+module _ {S : Type 0} (Wants : List (List ℕ) → List ℕ → Type 0) (left : S → Option (List ℕ)) (faults : S → ℕ) (first old now : S)
+    (ports : List ℕ)
     (capture : Reading) (is_on : capture.fault ≡ None) (records : List Captured)
     (read : HasRead capture.order (left first) (left old) (faults first) (faults old) ports records) where
   -- there is a record, or the bytes end
-  pub next-gives : (later : Reading) → later ≡ capture → (found : Option Record) (frame : List ℕ) → Gives capture.order (left old) (left now) frame (Ok found)
+  pub next-gives : (later : Reading) → later ≡ capture → (found : Option Record) (frame : List ℕ) → Gives capture.order (left old) (left now) frame
+      (Ok found)
       → HasReadCause (faults old) (faults now) (Ok found)
       → NextGives Wants left faults first now ports (stage.Open later) (frames_of records) frame (Ok (is_some found))
   next-gives later kept None frame gives cause = ends-without Wants read (left now) (faults now) (cause.still (λ failed. cc)) gives.0 gives.1

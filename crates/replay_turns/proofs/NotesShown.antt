@@ -1,5 +1,7 @@
 -- Notes that show frames have these frames' marks.
-use Rattle.std.proofs.Common.{◌≡◌, ◌≢◌, ℕ, zero, suc, ◌+◌, ◌<◌, ◌≤◌, List, [], ◌∷◌, ◌++◌, length, map, filter, take, drop, append_assoc, length-append, refl, sym, ap, subst, ◌∙◌, ⊎_elim, arith, Bool, true, false, ◌==◌, Option, Some, None}
+use Rattle.std.proofs.Common.{◌≡◌, ◌≢◌, ℕ, zero, suc, ◌+◌, ◌<◌, ◌≤◌, List, [], ◌∷◌, ◌++◌, length, map, filter, take}
+use Rattle.std.proofs.Common.{drop, append_assoc, length-append, refl, sym, ap, subst, ◌∙◌, ⊎_elim, arith, Bool, true, false, ◌==◌, Option, Some}
+use Rattle.std.proofs.Common.{None}
 use Rattle.std.proofs.lemmas.Bool.{eq-eqb, ne_eqb, eqb-true, eqb-false, cases_Bool, cases_lt}
 use Rattle.std.proofs.lemmas.List.{append-nil, map-append, take-append-drop, length-take, length-drop}
 use Rattle.std.proofs.Math.Seq.{drop-nil, drop-length}
@@ -24,7 +26,8 @@ value_at-here : (pre : List ℕ) (b : ℕ) (bs : List ℕ) → value_at (pre ++ 
 value_at-here [] b bs = refl
 value_at-here (p ∷ pre) b bs = value_at-here pre b bs
 
-marks-bytes : (all : List SentNote) (k : ℕ) (pre bs : List ℕ) → bytes_sent k all ≡ pre ++ bs → map (byte_at all) (marks_from k (length pre) (length bs)) ≡ bs
+marks-bytes : (all : List SentNote) (k : ℕ) (pre bs : List ℕ) → bytes_sent k all ≡ pre ++ bs → map (byte_at all)
+    (marks_from k (length pre) (length bs)) ≡ bs
 marks-bytes all k pre [] full = refl
 marks-bytes all k pre (b ∷ bs) full =
     let here : byte_at all (record { note = k; place = length pre }) ≡ b = rw (full, value_at-here pre b bs) refl in
@@ -49,7 +52,8 @@ drop-more n (suc at) (x ∷ xs) = let e : suc at + n ≡ suc (at + n) = omega ar
 take-drop-more : (n at : ℕ) (xs : List ℕ) → take n (drop at xs) ++ drop (at + n) xs ≡ drop at xs
 take-drop-more n at xs = rw (drop-more n at xs) (take-append-drop n (drop at xs))
 
-rest-bytes : (o : Offered) (at : ℕ) (before mine rest all : List SentNote) → all ≡ before ++ (mine ++ rest) → ShowRest o at mine → map (byte_at all) (marks_in (length before) mine) ≡ drop at o.payload
+rest-bytes : (o : Offered) (at : ℕ) (before mine rest all : List SentNote) → all ≡ before ++ (mine ++ rest) → ShowRest o at mine → map (byte_at all)
+    (marks_in (length before) mine) ≡ drop at o.payload
 rest-bytes o at before [] rest all is show = rw show (sym (drop-length o.payload))
 rest-bytes o at before (s ∷ ss) rest all is show =
     let len : ℕ = s.note.place.len in
@@ -59,8 +63,11 @@ rest-bytes o at before (s ∷ ss) rest all is show =
     let first : map (byte_at all) (marks_from (length before) 0 len) ≡ s.bytes = rw (sym size) (marks-bytes all (length before) [] s.bytes bytes) in
     let next : suc (length before) ≡ length (before ++ s ∷ []) = simp length-append (omega arith) in
     let all_is : all ≡ (before ++ s ∷ []) ++ (ss ++ rest) = is ∙ sym (append_assoc before (s ∷ []) (ss ++ rest)) in
-    let others : map (byte_at all) (marks_in (suc (length before)) ss) ≡ drop (at + len) o.payload = rw next (rest-bytes o (at + len) (before ++ s ∷ []) ss rest all all_is show.1) in
-    map-append (byte_at all) (marks_from (length before) 0 len) (marks_in (suc (length before)) ss) ∙ ap (λ xs. xs ++ map (byte_at all) (marks_in (suc (length before)) ss)) (first ∙ show.0.bytes) ∙ ap (λ xs. take len (drop at o.payload) ++ xs) others ∙ take-drop-more len at o.payload
+    let others : map (byte_at all) (marks_in (suc (length before)) ss) ≡ drop (at + len) o.payload = rw next
+    (rest-bytes o (at + len) (before ++ s ∷ []) ss rest all all_is show.1) in
+    map-append (byte_at all) (marks_from (length before) 0 len) (marks_in (suc (length before)) ss) ∙ ap
+    (λ xs. xs ++ map (byte_at all) (marks_in (suc (length before)) ss)) (first ∙ show.0.bytes) ∙ ap
+    (λ xs. take len (drop at o.payload) ++ xs) others ∙ take-drop-more len at o.payload
 
 -- ---- frames
 
@@ -94,11 +101,14 @@ goes_on o s k marks fs of_o = let test = eq-eqb o.frame o.frame refl in rw (of_o
 abbrev pub flow_notes : ℕ → ℕ → List SentNote → List Numbered
 flow_notes flow k notes = of_flow flow (numbered k (map as_taken notes))
 
-pub of_flow-mine : (o : Offered) (s : SentNote) (k : ℕ) (notes : List SentNote) → IsNoteOf o s → flow_notes o.flow k (s ∷ notes) ≡ record { number = k; note = s.note } ∷ flow_notes o.flow (suc k) notes
+pub of_flow-mine : (o : Offered) (s : SentNote) (k : ℕ) (notes : List SentNote) → IsNoteOf o s → flow_notes o.flow k
+    (s ∷ notes) ≡ record { number = k; note = s.note } ∷ flow_notes o.flow (suc k) notes
 of_flow-mine o s k notes of_o = let mine = eq-eqb s.note.flow o.flow of_o.flow in rw mine refl
 
-merged : (o : Offered) (s : SentNote) (ss rest : List SentNote) (k : ℕ) → AreOf o (s ∷ ss) → IsNotFirst o.frame (frames_of (flow_notes o.flow (k + length (s ∷ ss)) rest))
-    → frames_of (flow_notes o.flow k ((s ∷ ss) ++ rest)) ≡ frame_of o (marks_in k (s ∷ ss)) ∷ frames_of (flow_notes o.flow (k + length (s ∷ ss)) rest)
+merged : (o : Offered) (s : SentNote) (ss rest : List SentNote) (k : ℕ) → AreOf o (s ∷ ss) → IsNotFirst o.frame
+    (frames_of (flow_notes o.flow (k + length (s ∷ ss)) rest))
+    → frames_of (flow_notes o.flow k ((s ∷ ss) ++ rest)) ≡ frame_of o (marks_in k (s ∷ ss)) ∷ frames_of
+    (flow_notes o.flow (k + length (s ∷ ss)) rest)
 merged o s [] rest k of_o other =
     let next : k + 1 ≡ suc k = omega arith in
     let none : IsNotFirst o.frame (frames_of (flow_notes o.flow (suc k) rest)) = rw next at other in
@@ -110,7 +120,8 @@ merged o s (t ∷ ts) rest k of_o other =
     ∙ goes_on o s k (marks_in (suc k) (t ∷ ts)) (frames_of (flow_notes o.flow (suc k + length (t ∷ ts)) rest)) of_o.0 ∙ rw next refl
 
 -- the notes of another flow don't count
-pub passed : (o : Offered) (flow : ℕ) (mine rest : List SentNote) (k : ℕ) → AreOf o mine → o.flow ≢ flow → flow_notes flow k (mine ++ rest) ≡ flow_notes flow (k + length mine) rest
+pub passed : (o : Offered) (flow : ℕ) (mine rest : List SentNote) (k : ℕ) → AreOf o mine → o.flow ≢ flow → flow_notes flow k
+    (mine ++ rest) ≡ flow_notes flow (k + length mine) rest
 passed o flow [] rest k of_o other = let e : k + 0 ≡ k = omega arith in rw e refl
 passed o flow (s ∷ ss) rest k of_o other =
     let not_mine = ne_eqb s.note.flow flow (λ same. other (sym of_o.0.flow ∙ same)) in
@@ -139,7 +150,8 @@ pub record IsShownBy (o : Offered) (k : ℕ) (mine all : List SentNote) : Type 0
   pub of_frame : AreOf o mine
   pub bytes : map (byte_at all) (marks_in k mine) ≡ o.payload
 
-by_rest : (o : Offered) (before mine rest all : List SentNote) → all ≡ before ++ (mine ++ rest) → 0 < length o.payload → ShowRest o 0 mine → IsShownBy o (length before) mine all
+by_rest : (o : Offered) (before mine rest all : List SentNote) → all ≡ before ++ (mine ++ rest) → 0 < length o.payload → ShowRest o 0 mine
+    → IsShownBy o (length before) mine all
 by_rest o before [] rest all is some show = absurd (omega (arith, show))
 by_rest o before (s ∷ ss) rest all is some show = record {
   first = s;
@@ -149,7 +161,8 @@ by_rest o before (s ∷ ss) rest all is some show = record {
   bytes = rest-bytes o 0 before (s ∷ ss) rest all is show;
 }
 
-by_short : (o : Offered) (before mine rest all : List SentNote) (s : SentNote) → all ≡ before ++ (mine ++ rest) → mine ≡ s ∷ [] → ShowsWhole o s → IsShownBy o (length before) mine all
+by_short : (o : Offered) (before mine rest all : List SentNote) (s : SentNote) → all ≡ before ++ (mine ++ rest) → mine ≡ s ∷ [] → ShowsWhole o s
+    → IsShownBy o (length before) mine all
 by_short o before mine rest all s is one short =
     let there : all ≡ before ++ s ∷ rest = rw one at is in
     let sent : bytes_sent (length before) all ≡ o.payload = rw there (sent-here before rest s) ∙ short.bytes in
@@ -161,7 +174,8 @@ by_short o before mine rest all s is one short =
       bytes = rw (append-nil, short.len) (marks-bytes all (length before) [] o.payload sent);
     })
 
-pub is_shown : (split : ℕ) (o : Offered) (before mine rest all : List SentNote) → all ≡ before ++ (mine ++ rest) → 0 < length o.payload → ShowsFrame split o mine → IsShownBy o (length before) mine all
+pub is_shown : (split : ℕ) (o : Offered) (before mine rest all : List SentNote) → all ≡ before ++ (mine ++ rest) → 0 < length o.payload
+    → ShowsFrame split o mine → IsShownBy o (length before) mine all
 is_shown split o before mine rest all is some shows = ⊎_elim
     (λ (long : split < length o.payload). by_rest o before mine rest all is some (shows.long long))
     (λ (short : length o.payload ≤ split). let one = shows.short short in by_short o before mine rest all one.0 is one.1 one.2)
@@ -188,7 +202,8 @@ above-filter p n (o ∷ os) above = ⊎_elim
     (λ (not : p o ≡ false). rw not (above-filter p n os above.1))
     (cases_Bool (p o))
 
-not-first : (all : List SentNote) (n : ℕ) (fs : List Frame) (os : List Offered) → AreAbove n os → map (shown_by all) fs ≡ map shown_of os → IsNotFirst n fs
+not-first : (all : List SentNote) (n : ℕ) (fs : List Frame) (os : List Offered) → AreAbove n os → map (shown_by all) fs ≡ map shown_of os
+    → IsNotFirst n fs
 not-first all n [] os above same = tt
 not-first all n (f ∷ fs) [] above same = absurd (grind (arith, ap length same))
 not-first all n (f ∷ fs) (o ∷ os) above same = λ first.
@@ -212,11 +227,13 @@ frame_first o os all mine rest k shown above later =
     not-first all o.frame _ (filter (λ p. p.flow == o.flow) os) (above-filter (λ p. p.flow == o.flow) o.frame os above) there in
     rw are
     (ap (λ fs. map (shown_by all) fs) (merged o s ss rest k of_frame other)
-    ∙ ap (λ bs. record { number = o.frame; seq = o.seq; total = length o.payload; bytes = bs } ∷ map (shown_by all) (frames_of (flow_notes o.flow (k + length (s ∷ ss)) rest))) bytes
+    ∙ ap (λ bs. record { number = o.frame; seq = o.seq; total = length o.payload; bytes = bs } ∷ map (shown_by all)
+    (frames_of (flow_notes o.flow (k + length (s ∷ ss)) rest))) bytes
     ∙ ap (λ others. shown_of o ∷ others) there)
 
 -- Notes that show frames have, of each flow, the frames of that flow, with their bytes.
-pub frames_shown : (split flow : ℕ) (os : List Offered) (all before notes : List SentNote) → all ≡ before ++ notes → ShowFrames split os notes → Ascend os → HaveBytes os
+pub frames_shown : (split flow : ℕ) (os : List Offered) (all before notes : List SentNote) → all ≡ before ++ notes → ShowFrames split os notes
+    → Ascend os → HaveBytes os
     → map (shown_by all) (frames_of (flow_notes flow (length before) notes)) ≡ map shown_of (filter (λ o. o.flow == flow) os)
 frames_shown split flow [] all before notes is shows ascend some = rw shows refl
 frames_shown split flow (o ∷ os) all before notes is shows ascend some =
@@ -230,7 +247,9 @@ frames_shown split flow (o ∷ os) all before notes is shows ascend some =
     rw parts (⊎_elim
     (λ (is_mine : (o.flow == flow) ≡ true).
     let same : flow ≡ o.flow = sym (eqb-true o.flow flow is_mine) in
-    rw is_mine (subst (λ f. map (shown_by all) (frames_of (flow_notes f (length before + length mine) rest)) ≡ map shown_of (filter (λ p. p.flow == f) os) → map (shown_by all) (frames_of (flow_notes f (length before) (mine ++ rest))) ≡ shown_of o ∷ map shown_of (filter (λ p. p.flow == f) os)) (sym same) (frame_first o os all mine rest (length before) shown ascend.0) later))
+    rw is_mine (subst (λ f. map (shown_by all) (frames_of (flow_notes f (length before + length mine) rest)) ≡ map shown_of (filter (λ p. p.flow == f) os)
+    → map (shown_by all) (frames_of (flow_notes f (length before) (mine ++ rest))) ≡ shown_of o ∷ map shown_of (filter (λ p. p.flow == f) os))
+    (sym same) (frame_first o os all mine rest (length before) shown ascend.0) later))
     (λ (not_mine : (o.flow == flow) ≡ false).
     rw (not_mine, passed o flow mine rest (length before) shown.of_frame (λ same. eqb-false o.flow flow not_mine same)) later)
     (cases_Bool (o.flow == flow)))

@@ -1,5 +1,6 @@
 -- A flow's frames go to its application and have its base.
-use Rattle.std.proofs.Common.{◌≡◌, ℕ, zero, suc, ◌<◌, List, [], ◌∷◌, ◌++◌, length, filter, Bool, true, false, ◌==◌, Option, Some, None, option_to_list, ⊎_elim, refl, sym, ap, subst, ◌∙◌, arith}
+use Rattle.std.proofs.Common.{◌≡◌, ℕ, zero, suc, ◌<◌, List, [], ◌∷◌, ◌++◌, length, filter, Bool, true, false, ◌==◌, Option, Some}
+use Rattle.std.proofs.Common.{None, option_to_list, ⊎_elim, refl, sym, ap, subst, ◌∙◌, arith}
 use Rattle.std.specs.List.{slice_get}
 use Rattle.std.proofs.lemmas.Bool.{cases_Bool, eq-eqb, eqb-true}
 use Rattle.frame_headers.specs.FrameClass.{TcpSegment}
@@ -16,7 +17,8 @@ abbrev pub AreSteered : List ℕ → List Steered → Type 0
 AreSteered ports [] = Unit {0}
 AreSteered ports (s ∷ ss) = (app_of ports s.segment.dport ≡ Some s.app) × AreSteered ports ss
 
-port-steered : (ports : List ℕ) (n : ℕ) (segment : TcpSegment) (app : Option ℕ) (s : Steered) → app_of ports segment.dport ≡ app → steer_to n segment app ≡ Some s
+port-steered : (ports : List ℕ) (n : ℕ) (segment : TcpSegment) (app : Option ℕ) (s : Steered) → app_of ports segment.dport ≡ app
+    → steer_to n segment app ≡ Some s
     → app_of ports s.segment.dport ≡ Some s.app
 port-steered ports n segment None s place is = absurd (cc)
 port-steered ports n segment (Some app) s place is = subst (λ (t : Steered). app_of ports t.segment.dport ≡ Some t.app) (same is) place
@@ -24,7 +26,8 @@ port-steered ports n segment (Some app) s place is = subst (λ (t : Steered). ap
     same : {a b : Steered} → Some a ≡ Some b → a ≡ b
     same e = cc
 
-one-steered : (ports : List ℕ) (n : ℕ) (segment : Option TcpSegment) (s : Steered) → steer ports n segment ≡ Some s → app_of ports s.segment.dport ≡ Some s.app
+one-steered : (ports : List ℕ) (n : ℕ) (segment : Option TcpSegment) (s : Steered) → steer ports n segment ≡ Some s
+    → app_of ports s.segment.dport ≡ Some s.app
 one-steered ports n None s is = absurd (cc)
 one-steered ports n (Some segment) s is = port-steered ports n segment (app_of ports segment.dport) s refl is
 
@@ -52,7 +55,8 @@ record Stays (own last : Flow) : Type 0 where
   app_is : last.app ≡ own.app
   base_is : last.base ≡ own.base
 
-stays : (flows : List Flow) (steered : List Steered) (i : ℕ) (own last : Flow) → slice_get flows i ≡ Some own → slice_get (flows_after flows steered) i ≡ Some last
+stays : (flows : List Flow) (steered : List Steered) (i : ℕ) (own last : Flow) → slice_get flows i ≡ Some own → slice_get
+    (flows_after flows steered) i ≡ Some last
     → Stays own last
 stays flows [] i own last at now = record { app_is = cc; base_is = cc }
 stays flows (s ∷ ss) i own last at now =
@@ -84,11 +88,13 @@ of_flow ports flows (s ∷ ss) number flow have are last =
 no_apps : (ports : List ℕ) → HaveApps ports []
 no_apps ports = λ i flow at. absurd (cc)
 
-pub flow-frames : (ports : List ℕ) (frames : List (List ℕ)) (number : ℕ) (flow : Flow) → slice_get (flows_of (steered_in ports frames)) number ≡ Some flow
+pub flow-frames : (ports : List ℕ) (frames : List (List ℕ)) (number : ℕ) (flow : Flow) → slice_get
+    (flows_of (steered_in ports frames)) number ≡ Some flow
     → AreOfFlow number flow (offered_after [] (steered_in ports frames))
 flow-frames ports frames number flow last = of_flow ports [] (steered_in ports frames) number flow (no_apps ports) (are-steered ports frames) last
 
-pub AreOfFlow-filter : (number : ℕ) (flow : Flow) (p : Offered → Bool) (os : List Offered) → AreOfFlow number flow os → AreOfFlow number flow (filter p os)
+pub AreOfFlow-filter : (number : ℕ) (flow : Flow) (p : Offered → Bool) (os : List Offered) → AreOfFlow number flow os → AreOfFlow number flow
+    (filter p os)
 AreOfFlow-filter number flow p [] are = tt
 AreOfFlow-filter number flow p (o ∷ os) are = ⊎_elim
     (λ (is : p o ≡ true). rw is (are.0, AreOfFlow-filter number flow p os are.1))

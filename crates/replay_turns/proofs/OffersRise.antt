@@ -1,5 +1,6 @@
 -- The frames that are offered rise, and what one more frame adds to them.
-use Rattle.std.proofs.Common.{◌≡◌, ℕ, suc, ◌<◌, ◌≤◌, List, [], ◌∷◌, ◌++◌, filter, Bool, true, false, if◌then◌else◌, Option, Some, None, option_to_list, ⊎_elim, refl, sym, ap, subst, ◌∙◌, arith, All}
+use Rattle.std.proofs.Common.{◌≡◌, ℕ, suc, ◌<◌, ◌≤◌, List, [], ◌∷◌, ◌++◌, filter, Bool, true, false, if◌then◌else◌, Option}
+use Rattle.std.proofs.Common.{Some, None, option_to_list, ⊎_elim, refl, sym, ap, subst, ◌∙◌, arith, All}
 use Rattle.std.proofs.lemmas.Bool.{cases_Bool}
 use Rattle.std.proofs.lemmas.List.Elements.{All-nil, All-cons, filter-append}
 use Rattle.frame_headers.specs.FrameClass.{TcpSegment}
@@ -38,7 +39,8 @@ steered-number : (ports : List ℕ) (n : ℕ) (segment : Option TcpSegment) (s :
 steered-number ports n None s is = absurd (cc)
 steered-number ports n (Some segment) s is = number-steered n segment (app_of ports segment.dport) s is
 
-rise-from : (ports : List ℕ) (flows : List Flow) (n : ℕ) (segments : List (Option TcpSegment)) → RiseFrom n (offered_after flows (steered_from ports n segments))
+rise-from : (ports : List ℕ) (flows : List Flow) (n : ℕ) (segments : List (Option TcpSegment)) → RiseFrom n
+    (offered_after flows (steered_from ports n segments))
 rise-from ports flows n [] = tt
 rise-from ports flows n (segment ∷ segments) = by_next (λ later. rise-from ports later (suc n) segments) (steer ports n segment) refl
   where
@@ -64,15 +66,18 @@ rise-last n (p ∷ os) o rise = (let last = rise-last (suc p.frame) os o rise.1 
 -- the last is above the others
 pub below-last : (n : ℕ) (os : List Offered) (o : Offered) → RiseFrom n (os ++ o ∷ []) → All (λ (p : Offered). p.frame < o.frame) os
 below-last n [] o rise = All-nil _
-below-last n (p ∷ os) o rise = All-cons (λ (q : Offered). q.frame < o.frame) p os (rise-last (suc p.frame) os o rise.1) (below-last (suc p.frame) os o rise.1)
+below-last n (p ∷ os) o rise = All-cons (λ (q : Offered). q.frame < o.frame) p os (rise-last (suc p.frame) os o rise.1)
+    (below-last (suc p.frame) os o rise.1)
 
 -- ---- one frame more
 
-offered_after-more : (flows : List Flow) (xs ys : List Steered) → offered_after flows (xs ++ ys) ≡ offered_after flows xs ++ offered_after (flows_after flows xs) ys
+offered_after-more : (flows : List Flow) (xs ys : List Steered) → offered_after flows (xs ++ ys) ≡ offered_after flows xs ++ offered_after
+    (flows_after flows xs) ys
 offered_after-more flows [] ys = refl
 offered_after-more flows (x ∷ xs) ys = ap (λ more. offered_one flows x ∷ more) (offered_after-more (flows_with flows x) xs ys)
 
-offers-one : (flows : List Flow) (next : Option Steered) → filter has_payload (offered_after flows (option_to_list next)) ≡ option_to_list (offer_one flows next)
+offers-one : (flows : List Flow) (next : Option Steered) → filter has_payload (offered_after flows (option_to_list next)) ≡ option_to_list
+    (offer_one flows next)
 offers-one flows None = refl
 offers-one flows (Some s) = by_test (has_payload (offered_one flows s))
   where

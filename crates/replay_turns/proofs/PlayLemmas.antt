@@ -1,5 +1,6 @@
 -- What the parts of a turn do at the face: how far they come, and that they do nothing where they say so.
-use Rattle.std.proofs.Common.{◌≡◌, inl, inr, ℕ, ◌+◌, ◌<◌, ◌≤◌, Bool, true, false, List, [], ◌∷◌, ◌++◌, length, Option, Some, None, option_to_list, refl, sym, ap, subst, ◌∙◌, length-append, arith}
+use Rattle.std.proofs.Common.{◌≡◌, inl, inr, ℕ, ◌+◌, ◌<◌, ◌≤◌, Bool, true, false, List, [], ◌∷◌, ◌++◌, length, Option, Some}
+use Rattle.std.proofs.Common.{None, option_to_list, refl, sym, ap, subst, ◌∙◌, length-append, arith}
 use Rattle.std.proofs.lemmas.List.{length-map}
 use Rattle.std.proofs.lemmas.List.Elements.{All-head}
 use Rattle.zr_kinds.specs.declared.outcome.PoolStats.{PoolStats}
@@ -66,7 +67,8 @@ module _ (was pool now : PoolState) (old mid new : NicView) (count : ℕ) (stood
       let before = notes-count was old stood in
       let after = notes-count pool mid stands in
       let same = ap length sends.notes in
-      let sent : length mid.sent ≡ length old.sent + length sends.gone = ap (λ (v : NicView). length v.sent) sends.view ∙ length-append old.sent sends.gone in
+      let sent : length mid.sent ≡ length old.sent + length sends.gone = ap (λ (v : NicView). length v.sent) sends.view
+      ∙ length-append old.sent sends.gone in
       omega (arith, before, after, same, sent)
 
   still-pending : pending_count now ≡ pending_count pool
@@ -74,7 +76,8 @@ module _ (was pool now : PoolState) (old mid new : NicView) (count : ℕ) (stood
 
   -- nothing changed
   pub put_off-idle : {B : Type 0} (tells : NicLook → NicView → B → Type 0) (beside beside_now : B) (intake : Intake) (closed : Bool) (app : ℕ)
-      → pending_count was ≤ pending_count now → count ≡ 0 → IsNextApp pool app → NicRose (NoteInUse app) old mid → tells (NoteInUse app) (nic_gist mid) beside
+      → pending_count was ≤ pending_count now → count ≡ 0 → IsNextApp pool app → NicRose (NoteInUse app) old mid → tells (NoteInUse app)
+      (nic_gist mid) beside
       → nic_gist new ≡ nic_gist mid → beside_now ≡ beside
       → ((a : ℕ) → a < apps_of mid.setting → NicRose (RingEmpty a) mid new × tells (RingEmpty a) (nic_gist new) beside_now)
       → IsIdle tells beside_now (feed_of intake was closed) (feed_of intake now closed) old new
@@ -146,7 +149,8 @@ module _ (was now : PoolState) (old new : NicView) (o : Offer) (stood : PoolStan
 
 module _ (was now : PoolState) (old new : NicView) (count : ℕ) (drains : DrainsRings was.stats now.stats old new count)
     (now_is : now ≡ record was { stats = now.stats }) where
-  pub drained-idle : {B : Type 0} (tells : NicLook → NicView → B → Type 0) (beside_now : B) (intake : Intake) (closed : Bool) → closed ≡ true → count ≡ 0
+  pub drained-idle : {B : Type 0} (tells : NicLook → NicView → B → Type 0) (beside_now : B) (intake : Intake) (closed : Bool) → closed ≡ true
+      → count ≡ 0
       → nic_gist new ≡ nic_gist old
       → ((a : ℕ) → a < apps_of old.setting → NicRose (RingEmpty a) old new × tells (RingEmpty a) (nic_gist new) beside_now)
       → IsIdle tells beside_now (feed_of intake was closed) (feed_of intake now closed) old new

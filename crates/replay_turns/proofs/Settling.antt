@@ -1,8 +1,11 @@
 -- What becomes of the frame at hand: all notes show what was offered and not refused.
-use Rattle.std.proofs.Common.{◌≡◌, ◌≢◌, ℕ, ◌<◌, List, [], ◌∷◌, ◌++◌, length, true, false, not, ◌||◌, nat_le, if◌then◌else◌, ◌==◌, Option, Some, None, option_to_list, ⊎_elim, refl, sym, ap, subst, ◌∙◌, append-nil, arith, All}
+use Rattle.std.proofs.Common.{◌≡◌, ◌≢◌, ℕ, ◌<◌, List, [], ◌∷◌, ◌++◌, length, true, false, not, ◌||◌, nat_le}
+use Rattle.std.proofs.Common.{if◌then◌else◌, ◌==◌, Option, Some, None, option_to_list, ⊎_elim, refl, sym, ap, subst, ◌∙◌, append-nil, arith}
+use Rattle.std.proofs.Common.{All}
 use Rattle.std.specs.List.{list_any}
 use Rattle.std.proofs.lemmas.Bool.{cases_Bool, eq-eqb, ne_eqb, leb-false}
-use Rattle.std.proofs.lemmas.List.Elements.{All-push, All-head, All-tail, All-weaker, All-contains, All-get_or, filter-append, Contains-append_left, Contains-push}
+use Rattle.std.proofs.lemmas.List.Elements.{All-push, All-head, All-tail, All-weaker, All-contains, All-get_or, filter-append, Contains-append_left}
+use Rattle.std.proofs.lemmas.List.Elements.{Contains-push}
 use Rattle.std.proofs.lemmas.List.Quantifiers.{all_pairs_push}
 use Rattle.board_face.specs.declared.views.nic.SentNote.{SentNote}
 use Rattle.board_face.specs.declared.views.nic.NicView.{NicView}
@@ -64,7 +67,8 @@ without-refused left_out settled o below =
 
 -- ---- the frames that were refused
 
-long-more : (split : ℕ) (settled : List Offered) (o : Offered) (number : ℕ) → IsLongIn split settled number → IsLongIn split (settled ++ o ∷ []) number
+long-more : (split : ℕ) (settled : List Offered) (o : Offered) (number : ℕ) → IsLongIn split settled number → IsLongIn split
+    (settled ++ o ∷ []) number
 long-more split settled o number (p, there, is, long) = (p, Contains-append_left settled (o ∷ []) p there, is, long)
 
 refused-below : (split : ℕ) (settled : List Offered) (refused : List ℕ) (k : ℕ) → All (λ (p : Offered). p.frame < k) settled
@@ -73,13 +77,15 @@ refused-below split settled refused k below each =
     All-weaker (IsLongIn split settled) (λ m. m < k) (λ number (p, there, is, long).
     let less = All-contains (λ (q : Offered). q.frame < k) settled p below there in omega (arith, less, is)) refused each
 
-AreRefused-more : (split : ℕ) (settled : List Offered) (refused : List ℕ) (o : Offered) → AreRefused split settled refused → AreRefused split (settled ++ o ∷ []) refused
+AreRefused-more : (split : ℕ) (settled : List Offered) (refused : List ℕ) (o : Offered) → AreRefused split settled refused → AreRefused split
+    (settled ++ o ∷ []) refused
 AreRefused-more split settled refused o are = record {
   rise = are.rise;
   each = All-weaker (IsLongIn split settled) (IsLongIn split (settled ++ o ∷ [])) (λ number long. long-more split settled o number long) refused are.each;
 }
 
-AreRefused-one : (split : ℕ) (settled : List Offered) (refused : List ℕ) (o : Offered) → All (λ (p : Offered). p.frame < o.frame) settled → split < length o.payload
+AreRefused-one : (split : ℕ) (settled : List Offered) (refused : List ℕ) (o : Offered) → All (λ (p : Offered). p.frame < o.frame) settled
+    → split < length o.payload
     → AreRefused split settled refused → AreRefused split (settled ++ o ∷ []) (refused ++ o.frame ∷ [])
 AreRefused-one split settled refused o below long are =
     let less = refused-below split settled refused o.frame below are.each in

@@ -1,5 +1,6 @@
 -- Where a segment goes, and what keeps it from there.
-use Rattle.std.proofs.Common.{◌≡◌, ◌≢◌, inl, inr, ℕ, ◌<◌, List, length, Bool, Option, Some, None, option_map, Ok, Err, refl, sym, ap, ◌∙◌}
+use Rattle.std.proofs.Common.{◌≡◌, ◌≢◌, inl, inr, ℕ, ◌<◌, List, length, Bool, Option, Some, None, option_map, Ok, Err, refl, sym, ap}
+use Rattle.std.proofs.Common.{◌∙◌}
 use Rattle.std.specs.List.{slice_get}
 use Rattle.std.proofs.lemmas.Bool.{eq-eqb, ne_eqb}
 use Rattle.zr_kinds.specs.declared.fault.Fault.TheVariants.{Memory, TooManyFlows}
@@ -18,7 +19,8 @@ module _ (old : KnownFlows) (segment : TcpSegment) (number : ℕ) where
   abbrev pub next : Option Steered
   next = steer_to number segment (app_of old.ports segment.dport)
 
-  not_last : (app : ℕ) → number_of_flow old.flows (steered_to app segment number) ≢ 65535 → flow_ending old.flows (Some (steered_to app segment number)) ≡ None
+  not_last : (app : ℕ) → number_of_flow old.flows (steered_to app segment number) ≢ 65535 → flow_ending old.flows
+      (Some (steered_to app segment number)) ≡ None
   not_last app few = let test = ne_eqb (number_of_flow old.flows (steered_to app segment number)) 65535 few in rw test refl
 
   number-is : (app : ℕ) → app_of old.ports segment.dport ≡ Some app
@@ -42,22 +44,26 @@ module _ (old : KnownFlows) (segment : TcpSegment) (number : ℕ) where
   no_flow split new begins few same = by_app (app_of old.ports segment.dport) refl
     where
       by_app : (found : Option ℕ) → app_of old.ports segment.dport ≡ found → Steers split old new next (Err Memory)
-      by_app None is = absurd (let none : number_for old segment number ≡ None = ap (option_map (λ a. number_of_flow old.flows (steered_to a segment number))) is in cc)
+      by_app None is = absurd (let none : number_for old segment number ≡ None = ap
+          (option_map (λ a. number_of_flow old.flows (steered_to a segment number))) is in cc)
       by_app (Some app) is =
           let here : number_of_flow old.flows (steered_to app segment number) ≡ length old.flows = (let both = sym (number-is app is) ∙ begins in cc) in
           rw is (not_last app (λ last. few (number-is app is ∙ ap Some last)), inl here, same)
 
-  pub too_many : (split : ℕ) (new : KnownFlows) → number_for old segment number ≡ Some 65535 → new ≡ old → Steers split old new next (Err TooManyFlows)
+  pub too_many : (split : ℕ) (new : KnownFlows) → number_for old segment number ≡ Some 65535 → new ≡ old → Steers split old new next
+      (Err TooManyFlows)
   too_many split new last same = by_app (app_of old.ports segment.dport) refl
     where
       by_app : (found : Option ℕ) → app_of old.ports segment.dport ≡ found → Steers split old new next (Err TooManyFlows)
-      by_app None is = absurd (let none : number_for old segment number ≡ None = ap (option_map (λ a. number_of_flow old.flows (steered_to a segment number))) is in cc)
+      by_app None is = absurd (let none : number_for old segment number ≡ None = ap
+          (option_map (λ a. number_of_flow old.flows (steered_to a segment number))) is in cc)
       by_app (Some app) is =
           let here : number_of_flow old.flows (steered_to app segment number) ≡ 65535 = (let both = sym (number-is app is) ∙ last in cc) in
           let test = eq-eqb (number_of_flow old.flows (steered_to app segment number)) 65535 here in
           rw (is, test) (refl, same)
 
-  pub known_is : (k : KnownFlows) (ports : List ℕ) (flows : List Flow) → k.ports ≡ ports → k.flows ≡ flows → k ≡ record { ports = ports; flows = flows }
+  pub known_is : (k : KnownFlows) (ports : List ℕ) (flows : List Flow) → k.ports ≡ ports → k.flows ≡ flows
+      → k ≡ record { ports = ports; flows = flows }
   known_is k ports flows same_ports same_flows = rw (sym same_ports, sym same_flows) refl
 
   base_there : (found : Option Flow) (base : ℕ) → option_map (λ (f : Flow). f.base) found ≡ Some base → base_of found ≡ base

@@ -1,5 +1,6 @@
 -- One more frame is counted, its flow sees it, and it is at hand where it is offered.
-use Rattle.std.proofs.Common.{◌≡◌, ◌≢◌, ℕ, suc, ◌+◌, ◌<◌, List, [], ◌∷◌, ◌++◌, length, nat_lt, Bool, true, false, not, Option, Some, None, is_some, option_to_list, Ok, Err, refl, sym, ap, subst, ◌∙◌, append-nil, arith, ◌==◌, if◌then◌else◌}
+use Rattle.std.proofs.Common.{◌≡◌, ◌≢◌, ℕ, suc, ◌+◌, ◌<◌, List, [], ◌∷◌, ◌++◌, length, nat_lt, Bool, true, false, not, Option}
+use Rattle.std.proofs.Common.{Some, None, is_some, option_to_list, Ok, Err, refl, sym, ap, subst, ◌∙◌, append-nil, arith, ◌==◌, if◌then◌else◌}
 use Rattle.std.proofs.lemmas.Bool.{ne_eqb, lt-ltb}
 use Rattle.zr_kinds.specs.declared.fault.Fault.{Fault}
 use Rattle.zr_kinds.specs.declared.fault.Fault.TheVariants.{Memory, Usage, NotPcap, Version, LinkType, Cut, LongRecord, Read, Write, TooManyFlows}
@@ -25,7 +26,8 @@ use Rattle.replay_turns.specs.Intake.{RoutesTo, Steers, Knows}
 
 -- ---- the segment of a frame
 
-segment-steered : (ports : List ℕ) (number : ℕ) (segment : Option TcpSegment) (s : Steered) → steer ports number segment ≡ Some s → segment ≡ Some s.segment
+segment-steered : (ports : List ℕ) (number : ℕ) (segment : Option TcpSegment) (s : Steered) → steer ports number segment ≡ Some s
+    → segment ≡ Some s.segment
 segment-steered ports number None s is = absurd (cc)
 segment-steered ports number (Some segment) s is = by_app (app_of ports segment.dport) is
   where
@@ -41,7 +43,8 @@ module _ (split : ℕ) (ports : List ℕ) (frames : List (List ℕ)) (frame : Li
   pub next-is : (found : Seen) → class_seen found ≡ class_of frame
       → steer old.table.ports (old.counting.tally.records + 1) (segment_seen found) ≡ steered_next ports frames frame
   next-is found class =
-      let number : old.counting.tally.records + 1 ≡ suc (length frames) = (let records = ap (λ (t : Tally). t.records) knows.tally in omega (arith, records)) in
+      let number : old.counting.tally.records + 1 ≡ suc (length frames) =
+      (let records = ap (λ (t : Tally). t.records) knows.tally in omega (arith, records)) in
       ap (λ n. steer old.table.ports n (segment_seen found)) number
       ∙ ap (λ (k : KnownFlows). steer k.ports (suc (length frames)) (segment_seen found)) knows.known
       ∙ ap (steer ports (suc (length frames))) (seen-segment found ∙ ap segment_of class)
@@ -63,7 +66,8 @@ module _ (split : ℕ) (ports : List ℕ) (frames : List (List ℕ)) (frame : Li
   known-more : (new : KnownFlows) (next : Option Steered) (found : Option Route) → RoutesTo (known_at (steered_in ports frames)) new next found
       → new ≡ known_at (steered_in ports frames ++ option_to_list next)
   known-more new None None routes = routes ∙ ap known_at (sym (append-nil (steered_in ports frames)))
-  known-more new (Some s) (Some r) routes = routes.known ∙ ap (λ flows. record { ports = ports; flows = flows }) (sym (flows_of-push (steered_in ports frames) s))
+  known-more new (Some s) (Some r) routes = routes.known ∙ ap (λ flows. record { ports = ports; flows = flows })
+      (sym (flows_of-push (steered_in ports frames) s))
   known-more new None (Some r) routes = absurd routes
   known-more new (Some s) None routes = absurd routes
 
@@ -91,11 +95,16 @@ module _ (split : ℕ) (ports : List ℕ) (frames : List (List ℕ)) (frame : Li
   hand-is new None (Some r) payload routes = absurd routes
   hand-is new (Some s) None payload routes = absurd routes
 
-  pub frame-taken : (seen : Seen) → class_seen seen ≡ class_of frame → old.counting.tally.records ≢ 16777216 → (found : Option Route) (tally : Tally) (new : KnownFlows)
+  pub frame-taken : (seen : Seen) → class_seen seen ≡ class_of frame → old.counting.tally.records ≢ 16777216 → (found : Option Route)
+      (tally : Tally) (new : KnownFlows)
       → Steers split old.table new (steer old.table.ports (old.counting.tally.records + 1) (segment_seen seen)) (Ok found)
       → tally ≡ counted old.counting.tally (class_seen seen) (is_some found)
       → (ending_at ports frames frame ≡ None)
-      × ((tally ≡ tally_of ports (frames ++ frame ∷ [])) × (new ≡ record { ports = ports; flows = flows_of (steered_in ports (frames ++ frame ∷ [])) }))
+      × ((tally ≡ tally_of ports (frames ++ frame ∷ [])) × (new ≡ record {
+        ports = ports;
+        flows = flows_of
+            (steered_in ports (frames ++ frame ∷ []));
+      }))
       × (at_hand (with_payload found) frame ≡ offer_next ports frames frame)
   frame-taken seen class few found tally new steers counts =
       let next : Option Steered = steered_next ports frames frame in
@@ -107,7 +116,8 @@ module _ (split : ℕ) (ports : List ℕ) (frames : List (List ℕ)) (frame : Li
         ending-flow ports frames frame (below-limit few) ∙ here.0,
         (
           counts ∙ ap (λ c. counted old.counting.tally c (is_some found)) class
-              ∙ tally-more ports frames frame old.counting.tally (is_some found) knows.tally (is_found (known_at (steered_in ports frames)) new next found here.1) more,
+              ∙ tally-more ports frames frame old.counting.tally (is_some found) knows.tally
+              (is_found (known_at (steered_in ports frames)) new next found here.1) more,
           known-more new next found here.1 ∙ ap known_at (sym more),
         ),
         hand-is new next found (λ s there. ap payload_at (segment-steered ports (suc (length frames)) (segment_of (class_of frame)) s there)) here.1,
@@ -126,7 +136,8 @@ module _ (split : ℕ) (ports : List ℕ) (frames : List (List ℕ)) (frame : Li
       by_fault fault (subst (λ (k : KnownFlows). Steers split k new (steered_next ports frames frame) (Err fault)) knows.known
       (subst (λ (n : Option Steered). Steers split old.table new n (Err fault)) (next-is seen class) steers))
     where
-      ends : (end : Option Fault) → flow_ending (flows_of (steered_in ports frames)) (steered_next ports frames frame) ≡ end → ending_at ports frames frame ≡ end
+      ends : (end : Option Fault) → flow_ending (flows_of (steered_in ports frames)) (steered_next ports frames frame) ≡ end
+          → ending_at ports frames frame ≡ end
       ends end is = ending-flow ports frames frame (below-limit few) ∙ is
 
       by_fault : (fault : Fault) → Steers split (known_at (steered_in ports frames)) new (steered_next ports frames frame) (Err fault)

@@ -23,12 +23,14 @@ use Rattle.replay_turns.specs.Parts.{feed_of}
 use Rattle.replay_turns.proofs.OffersRise.{offers-rise, offers-more}
 use Rattle.replay_turns.proofs.Settling.{settled-read, settled-accepted, settled-refused}
 
-known_is : (k : KnownFlows) (known_ports : List ℕ) (flows : List Flow) → k.ports ≡ known_ports → k.flows ≡ flows → k ≡ record { ports = known_ports; flows = flows }
+known_is : (k : KnownFlows) (known_ports : List ℕ) (flows : List Flow) → k.ports ≡ known_ports → k.flows ≡ flows
+    → k ≡ record { ports = known_ports; flows = flows }
 known_is k known_ports flows same_ports same_flows = rw (sym same_ports, sym same_flows) refl
 
 -- ---- pending notes stay
 
-drained-notes : (pool now : PoolState) (old new : NicView) (count : ℕ) → DrainsRings pool.stats now.stats old new count → now ≡ record pool { stats = now.stats }
+drained-notes : (pool now : PoolState) (old new : NicView) (count : ℕ) → DrainsRings pool.stats now.stats old new count
+    → now ≡ record pool { stats = now.stats }
     → all_notes now new ≡ all_notes pool old
 drained-notes pool now old new count done now_is = rw (done.deals.view, now_is) refl
 
@@ -43,7 +45,8 @@ closed-notes pool old new closes = by_current pool.current closes
 
 module _ {S : Type 0} (left : S → Option (List ℕ)) (faults : S → ℕ) (first : S) (ports : List ℕ) (split : ℕ) where
   -- nothing more was read
-  settles-feed : (source : S) (frames : List (List ℕ)) (was now : FeedState) (old new : NicView) → FeedStands left faults first source ports split frames was old
+  settles-feed : (source : S) (frames : List (List ℕ)) (was now : FeedState) (old new : NicView)
+      → FeedStands left faults first source ports split frames was old
       → now.ports ≡ was.ports → now.stage ≡ was.stage → now.tally ≡ was.tally → now.flows ≡ was.flows → now.pool.split ≡ was.pool.split
       → AreSettled split (offers_of (steered_in ports frames)) now.refused now.at_hand (all_notes now.pool new)
       → FeedStands left faults first source ports split frames now new
@@ -56,7 +59,8 @@ module _ {S : Type 0} (left : S → Option (List ℕ)) (faults : S → ℕ) (fir
     settled = settled;
   }
 
-  same-settled : (source : S) (frames : List (List ℕ)) (was now : FeedState) (old new : NicView) → FeedStands left faults first source ports split frames was old
+  same-settled : (source : S) (frames : List (List ℕ)) (was now : FeedState) (old new : NicView)
+      → FeedStands left faults first source ports split frames was old
       → now ≡ record was { pool = now.pool } → now.pool.split ≡ was.pool.split → all_notes now.pool new ≡ all_notes was.pool old
       → FeedStands left faults first source ports split frames now new
   same-settled source frames was now old new stands same split_same notes =
@@ -99,7 +103,8 @@ module _ {S : Type 0} (left : S → Option (List ℕ)) (faults : S → ℕ) (fir
       let pool_is : now.pool ≡ record pool { current = None } = ap (λ (f : FeedState). f.pool) same in
       let notes : all_notes now.pool new ≡ all_notes was.pool old = ap (λ p. all_notes p new) pool_is ∙ closed-notes pool mid new closes ∙ sends.notes in
       settles-feed source frames was now old new stands (ap (λ (f : FeedState). f.ports) same) (ap (λ (f : FeedState). f.stage) same)
-      (ap (λ (f : FeedState). f.tally) same) (ap (λ (f : FeedState). f.flows) same) (ap (λ (p : PoolState). p.split) pool_is ∙ ap (λ (p : PoolState). p.split) sends.pool)
+      (ap (λ (f : FeedState). f.tally) same) (ap (λ (f : FeedState). f.flows) same)
+      (ap (λ (p : PoolState). p.split) pool_is ∙ ap (λ (p : PoolState). p.split) sends.pool)
       (rw (ap (λ (f : FeedState). f.refused) same, ap (λ (f : FeedState). f.at_hand) same, notes) stands.settled)
   played source frames was now old new (finishes on none over (pool, mid, sends, inr (waits, (count, drained, same)))) stands =
       let pool_is : now.pool ≡ record pool { stats = now.pool.stats } = ap (λ (f : FeedState). f.pool) same in
@@ -125,7 +130,8 @@ module _ {S : Type 0} (left : S → Option (List ℕ)) (faults : S → ℕ) (fir
 
   pub read-one : (source later : S) (frames : List (List ℕ)) (was now : Intake) (pool : PoolState) (closed : Bool) (v : NicView)
       → FeedStands left faults first source ports split frames (feed_of was pool closed) v
-      → was.hand ≡ None → pool.split ≡ was.split → now.split ≡ was.split → now.refused.items ≡ was.refused.items → now.table.ports ≡ was.table.ports
+      → was.hand ≡ None → pool.split ≡ was.split → now.split ≡ was.split → now.refused.items ≡ was.refused.items
+      → now.table.ports ≡ was.table.ports
       → Reads left faults first later ports frames now → HasRead later frames (feed_of was pool closed) (feed_of now pool closed) v
   read-one source later frames was now pool closed v stands none pool_split same_split refused same_ports (inl read) =
       let split_is : now.split ≡ split = same_split ∙ sym pool_split ∙ stands.split_is in
@@ -170,7 +176,8 @@ module _ {S : Type 0} (left : S → Option (List ℕ)) (faults : S → ℕ) (fir
       (stands : FeedStands left faults first source ports split frames (feed_of was pool closed) old) where
     pub turn-read : (later : S) (now : Intake) → IsReadable was → pool.split ≡ was.split
         → (now.split ≡ was.split) × (now.refused.items ≡ was.refused.items) × (now.table.ports ≡ was.table.ports)
-        → (Knows ports frames was → ComesTo (WantsRoom was.split ports) left faults first source ports was.stage frames → Reads left faults first later ports frames now)
+        → (Knows ports frames was → ComesTo (WantsRoom was.split ports) left faults first source ports was.stage frames
+        → Reads left faults first later ports frames now)
         → Plays (feed_of now pool closed) end old new
         → FeedTurns left faults first later ports split frames (feed_of was pool closed) end old new
     turn-read later now readable pool_split same reads plays =

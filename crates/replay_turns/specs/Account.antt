@@ -24,6 +24,7 @@ use Rattle.page_pool.specs.Dealing.{strays_in}
 use Rattle.app_worker.specs.Marks.{Mark, marks_of}
 use Rattle.app_worker.specs.Core.{IsReadAt}
 use Rattle.replay_turns.specs.Offered.{offers_of, without}
+use Rattle.replay_turns.specs.Feed.{FeedState, FeedStands, IsReady}
 use Rattle.replay_turns.specs.declared.plan.Plan.{Plan}
 use Rattle.replay_turns.specs.Plan.{layout_of}
 
@@ -94,6 +95,15 @@ pub record AccountsFor {T : Type 0} (kept : T → ℕ → Option (List ℕ)) (sh
       → Gained (kept_in kept shelves flow.app number) (kept_in kept shelves_now flow.app number) (IsFlowRead app line.stopped number)
   pub strays_are : strays ≡ capped (strays_in nic.view.dealt)
 
+-- ---- what was sent, once the card is closed
+
+-- The notes that were sent to each application show its frames, but those that were refused.
+abbrev pub ClosedFeedsShow : {S : Type 0} → (S → Option (List ℕ)) → (S → ℕ) → Type 0
+ClosedFeedsShow {S} left faults =
+    (first source : S) (ports : List ℕ) (split : ℕ) (frames : List (List ℕ)) (feed : FeedState) (nic : NicSide)
+    → FeedStands left faults first source ports split frames feed nic.view → IsReady feed nic.view → feed.closed ≡ true
+    → (a : ℕ) → ShowFrames split (offered_to a feed.refused (steered_in ports frames)) (sent_to a nic)
+
 -- ---- the bridge
 
 -- a front of the stream, and all of it where the application wasn't stopped
@@ -106,7 +116,8 @@ pub record IsStreamedTo (stopped : Stopped) (stream bytes : List ℕ) : Type 0 w
 -- receiver has of the flow's frames, but those that are left out; and all of it where its application wasn't stopped.
 abbrev pub AccountsGiveStreams : {T : Type 0} → (T → ℕ → Option (List ℕ)) → Type 0
 AccountsGiveStreams {T} kept =
-    (shelves shelves_now : List T) (plan : Plan) (frames : List (List ℕ)) (left_out : List ℕ) (nic : NicSide) (apps : List AppSide) (lines : List AppLine) (strays : ℕ)
+    (shelves shelves_now : List T) (plan : Plan) (frames : List (List ℕ)) (left_out : List ℕ) (nic : NicSide) (apps : List AppSide) (lines : List AppLine)
+    (strays : ℕ)
     → AccountsFor kept shelves shelves_now plan frames left_out nic apps lines strays
     → (number : ℕ) (flow : Flow) (app : AppSide) (line : AppLine) → slice_get (flows_of (steered_in plan.ports.items frames)) number ≡ Some flow
     → IsApp apps flow.app app → slice_get lines flow.app ≡ Some line → All (IsAsSent (sent_to flow.app nic)) app.view.reads

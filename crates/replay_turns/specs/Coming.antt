@@ -8,7 +8,8 @@ use Rattle.replay_turns.specs.declared.intake.Stage.{Stage}
 use Rattle.replay_turns.specs.declared.intake.Stage.TheVariants as stage
 
 -- Nothing was read yet; or these frames were, and the reading goes on; or it ended after them.
-abbrev pub ComesTo : {S : Type 0} → (List (List ℕ) → List ℕ → Type 0) → (S → Option (List ℕ)) → (S → ℕ) → S → S → List ℕ → Stage → List (List ℕ) → Type 0
+abbrev pub ComesTo : {S : Type 0} → (List (List ℕ) → List ℕ → Type 0) → (S → Option (List ℕ)) → (S → ℕ) → S → S → List ℕ
+    → Stage → List (List ℕ) → Type 0
 ComesTo Wants left faults first now ports stage.Unopened frames = (frames ≡ []) × (now ≡ first)
 ComesTo Wants left faults first now ports (stage.Open capture) frames =
     (capture.fault ≡ None) × ((records : List Captured) × (frames ≡ frames_of records)
@@ -22,7 +23,8 @@ is_over (stage.Open capture) = false
 is_over (stage.Over end) = true
 
 -- One more frame was read. If it doesn't end the reading, that goes on; if it does, that has ended before it.
-pub record IsBehind {S : Type 0} (Wants : List (List ℕ) → List ℕ → Type 0) (left : S → Option (List ℕ)) (faults : S → ℕ) (first now : S) (ports : List ℕ)
+pub record IsBehind {S : Type 0} (Wants : List (List ℕ) → List ℕ → Type 0) (left : S → Option (List ℕ)) (faults : S → ℕ) (first now : S)
+    (ports : List ℕ)
     (now_stage : Stage) (frames : List (List ℕ)) (frame : List ℕ) : Type 0 where
   pub goes : ending_at ports frames frame ≡ None → ComesTo Wants left faults first now ports now_stage (frames ++ frame ∷ [])
   pub ends : (fault : Fault) → EndsAt Wants ports frames frame fault
@@ -30,7 +32,8 @@ pub record IsBehind {S : Type 0} (Wants : List (List ℕ) → List ℕ → Type 
   pub on : is_over now_stage ≡ false
 
 -- A frame was read, or the reading ended.
-abbrev pub NextGives : {S : Type 0} → (List (List ℕ) → List ℕ → Type 0) → (S → Option (List ℕ)) → (S → ℕ) → S → S → List ℕ → Stage → List (List ℕ)
+abbrev pub NextGives : {S : Type 0} → (List (List ℕ) → List ℕ → Type 0) → (S → Option (List ℕ)) → (S → ℕ) → S → S → List ℕ
+    → Stage → List (List ℕ)
     → List ℕ → Result Bool Fault → Type 0
 NextGives Wants left faults first now ports now_stage frames frame (Ok true) = IsBehind Wants left faults first now ports now_stage frames frame
 NextGives Wants left faults first now ports now_stage frames frame (Ok false) =
@@ -44,7 +47,8 @@ is_open (stage.Open capture) = true
 is_open (stage.Over end) = false
 
 -- the file header was read, or it ends the reading
-abbrev pub OpenGives : {S : Type 0} → (List (List ℕ) → List ℕ → Type 0) → (S → Option (List ℕ)) → (S → ℕ) → S → S → List ℕ → Stage → List (List ℕ)
+abbrev pub OpenGives : {S : Type 0} → (List (List ℕ) → List ℕ → Type 0) → (S → Option (List ℕ)) → (S → ℕ) → S → S → List ℕ
+    → Stage → List (List ℕ)
     → Result (Unit {0}) Fault → Type 0
 OpenGives Wants left faults first now ports now_stage frames (Ok done) = ComesTo Wants left faults first now ports now_stage frames
 OpenGives Wants left faults first now ports now_stage frames (Err fault) =

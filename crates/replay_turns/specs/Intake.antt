@@ -81,6 +81,7 @@ pub record ReadsFault {S : Type 0} (left : S → Option (List ℕ)) (faults : S 
   pub knows : Knows ports frames intake
   pub hand : intake.hand ≡ None
 
-abbrev pub ReadsOr : {S : Type 0} → (S → Option (List ℕ)) → (S → ℕ) → S → S → List ℕ → List (List ℕ) → Intake → Result (Unit {0}) Fault → Type 0
+abbrev pub ReadsOr : {S : Type 0} → (S → Option (List ℕ)) → (S → ℕ) → S → S → List ℕ → List (List ℕ) → Intake → Result
+    (Unit {0}) Fault → Type 0
 ReadsOr left faults first now ports frames intake (Ok done) = Reads left faults first now ports frames intake
 ReadsOr left faults first now ports frames intake (Err fault) = ReadsFault left faults first now ports frames intake fault

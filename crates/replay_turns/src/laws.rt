@@ -1,4 +1,4 @@
-ghost use Rattle.replay_turns.specs.Account.{AccountsGiveStreams};
+ghost use Rattle.replay_turns.specs.Account.{AccountsGiveStreams, ClosedFeedsShow};
 ghost use Rattle.replay_turns.specs.Feed.{NewFeedsStand};
 
 use zr_io::{Shelf, Source};
@@ -12,4 +12,10 @@ pub fn accounts_give_streams<T: Shelf>()
 /// A new feed has read nothing, and nothing was offered of it. It does nothing: its contract is the law.
 pub fn new_feeds_stand<S: Source>()
     ensures { NewFeedsStand S.left S.faults }
+{}
+
+/// Once the card was closed, the notes that were sent to each application show its frames, one after another, but those
+/// that were refused. It does nothing: its contract is the law.
+pub fn closed_feeds_show<S: Source>()
+    ensures { ClosedFeedsShow S.left S.faults }
 {}

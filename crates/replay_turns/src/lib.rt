@@ -12,7 +12,7 @@ mod steps;
 mod turn;
 
 pub use feed::Feed;
-pub use laws::{accounts_give_streams, new_feeds_stand};
+pub use laws::{accounts_give_streams, closed_feeds_show, new_feeds_stand};
 pub use outcome::Outcome;
 pub use plan::Plan;
 pub use steps::{app_step, card_step};

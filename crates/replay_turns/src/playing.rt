@@ -116,7 +116,8 @@ pub fn finish<F: NicFace>(pool: &mut Pool, closed: &mut bool, face: &mut F) -> b
     ensures on { closed.new ≡ false → IsOpen (F.seen face.new) }
     ensures ended { closed.new ≡ true → ((F.seen face.new).ended ≡ true) × HasNonePending pool.new }
     ensures rises { result ≡ true → card_steps closed.old (F.seen face.old) < card_steps closed.new (F.seen face.new) }
-    ensures idle { result ≡ false → (intake : TheIntake) → IsIdle F.tells (F.beside face.new) (feed_of intake pool.old closed.old) (feed_of intake pool.new closed.new)
+    ensures idle { result ≡ false → (intake : TheIntake) → IsIdle F.tells (F.beside face.new)
+        (feed_of intake pool.old closed.old) (feed_of intake pool.new closed.new)
         (F.seen face.old) (F.seen face.new) }
     ensures beside { F.beside face.new ≡ F.beside face.old }
 {

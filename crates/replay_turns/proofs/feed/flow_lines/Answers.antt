@@ -23,7 +23,8 @@ loop-number-preserved c =
       lines = rw c.in_ok-push.ensures.items (lines-more c.loop-number.number c.args.table.now.flows c.args.bytes.now c.loop-number.lines.items flow
           (get_or c.args.bytes.now c.loop-number.number 0) c.flow_line.result c.loop-number.invariant.lines is
           (slice_get-get_or c.args.bytes.now c.loop-number.number 0 (omega (arith, c.loop-number-test.true, c.loop-number.invariant.end, c.requires.bytes)))
-          (line-is c.args.apps.now flow c.line-flow.result (get_or c.args.bytes.now c.loop-number.number 0) c.flow_line.result same (c.flow_line.ensures none_line)
+          (line-is c.args.apps.now flow c.line-flow.result (get_or c.args.bytes.now c.loop-number.number 0) c.flow_line.result same
+          (c.flow_line.ensures none_line)
           (port-is c.args.table.now.ports c.args.apps.now c.args.table.now.flows c.requires.ports c.requires.apps c.loop-number.number flow is none_line)));
       end = c.loop-number.invariant.end;
     }

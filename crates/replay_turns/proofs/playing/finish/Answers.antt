@@ -11,5 +11,6 @@ returns-else-pending-clause-idle g c = λ none_dealt intake.
     let none : c.nic_drain-dealt.result ≡ 0 = omega (arith, ltb-false 0 c.nic_drain-dealt.result none_dealt) in
     put_off-idle _ _ _ _ _ _ _ c.requires.stands c.nic_flush.ensures.stands c.nic_flush.ensures.sends drain.drains drain.pool
     g.F.NicFace.tells _ _ intake c.args.closed.now answer.0
-    (omega (arith, c.if-pending.false, c.pending.ensures.value, c.pending-pending.ensures.value)) none answer.1 answer.2 answer.3 (drain.still none) drain.beside
+    (omega (arith, c.if-pending.false, c.pending.ensures.value, c.pending-pending.ensures.value)) none answer.1 answer.2 answer.3
+    (drain.still none) drain.beside
     (drain.none none)

@@ -40,5 +40,6 @@ returns-else-pending-clause-idle g c = λ none_dealt.
     let seen = c.in-Busy.ensures.pending puts_off.app puts_off.next in
     put_off-idle _ _ _ _ _ _ _ c.requires.stands c.offer.ensures.stands puts_off.sends drain.drains drain.pool
     g.F.NicFace.tells _ _ c.args.intake.now false puts_off.app
-    (omega (arith, c.if-pending.false, c.pending.ensures.value, c.pending-pending.ensures.value)) none puts_off.next seen.0 seen.1 (drain.still none) drain.beside
+    (omega (arith, c.if-pending.false, c.pending.ensures.value, c.pending-pending.ensures.value)) none puts_off.next seen.0 seen.1
+    (drain.still none) drain.beside
     (drain.none none)

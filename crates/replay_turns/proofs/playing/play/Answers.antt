@@ -14,7 +14,8 @@ returns-then-closed-clause-plays g c = drains c.if-closed.true c.nic_drain.resul
 pub returns-then-closed-clause-idle : goal.returns-then-closed-clause-idle
 returns-then-closed-clause-idle g c = λ none_dealt.
     let none : c.nic_drain.result ≡ 0 = omega (arith, ltb-false 0 c.nic_drain.result none_dealt) in
-    inr (drained-idle _ _ _ _ _ c.nic_drain.ensures.drains c.nic_drain.ensures.pool g.F.NicFace.tells _ c.args.intake.now c.args.closed.now c.if-closed.true none
+    inr (drained-idle _ _ _ _ _ c.nic_drain.ensures.drains c.nic_drain.ensures.pool g.F.NicFace.tells _ c.args.intake.now c.args.closed.now
+    c.if-closed.true none
     (c.nic_drain.ensures.still none) (c.nic_drain.ensures.none none))
 
 pub returns-in-Some-clause-plays : goal.returns-in-Some-clause-plays

@@ -10,11 +10,13 @@ returns-clause-turns g c = λ first ports split frames stands.
     let view = sym c.feed.view_is in
     let inside = c.feed.inside in
     elim c.if-reads.branch [
-      | then-reads w ↦ rw (view, w.source-is) (turn-read g.S.Source.left g.S.Source.faults first ports split c.args.source.now frames inside.intake inside.pool inside.closed
+      | then-reads w ↦ rw (view, w.source-is)
+          (turn-read g.S.Source.left g.S.Source.faults first ports split c.args.source.now frames inside.intake inside.pool inside.closed
           _ (g.F.NicFace.seen c.args.face.now) (g.F.NicFace.seen c.play-plays.new.face) (rw view at stands) w.read.new.source w.read.new.self
           (c.is_readable-reads.ensures.0 w.if-reads.true) c.feed.invariant w.read.ensures.same (w.read.ensures.reads first ports frames)
           (rw w.feed-inside-is at c.play-plays.ensures.plays))
-      | else-reads w ↦ rw (view, w.source-is) (turn-rest g.S.Source.left g.S.Source.faults first ports split c.args.source.now frames inside.intake inside.pool inside.closed
+      | else-reads w ↦ rw (view, w.source-is)
+          (turn-rest g.S.Source.left g.S.Source.faults first ports split c.args.source.now frames inside.intake inside.pool inside.closed
           _ (g.F.NicFace.seen c.args.face.now) (g.F.NicFace.seen c.play-plays.new.face) (rw view at stands)
           (λ readable. true≢false (sym (c.is_readable-reads.ensures.1 readable) ∙ w.if-reads.false)) (rw w.feed-inside-is at c.play-plays.ensures.plays))
     ]
