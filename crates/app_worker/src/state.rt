@@ -49,6 +49,8 @@ impl AppState {
         requires most { places ≤ 256 }
         ensures state { IfOk result (λ st. st ≡ new_state app places how) }
         ensures stands { IfOk result (λ st. (v : AppView) → IsFresh app v → AppStands st v) }
+        // what the shelf has since the first turn is nothing yet
+        ensures shelved { IfOk result (λ st. (kept : ℕ → Option (List ℕ)) → (v : AppView) → AreShelved kept kept st.flows v) }
     {
         let room = how.hold as usize + places as usize;
         let unread = HeapCircularBuffer::with_capacity(alloc, room)?;
