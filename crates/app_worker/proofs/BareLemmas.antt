@@ -40,6 +40,7 @@ module _ (st : State) (old : AppView) (bare : Bare st old) (is_bare : st.bare â‰
           unread = bare.unread;
           flows = ends-kept st.flows old new t took bare.flows;
           distinct = bare.distinct;
+          index = bare.index;
           whole = Î» going. absurd (over going);
           known = Î» going. absurd (over going);
         })
@@ -165,6 +166,7 @@ module _ (st : State) (old : AppView) (bare : Bare st old) (is_bare : st.bare â‰
         unread = bare.unread;
         flows = bare.flows;
         distinct = bare.distinct;
+        index = bare.index;
         whole = Î» going. (refl, (bare.whole going).1);
         known = bare.known;
       };

@@ -69,6 +69,7 @@ closed-bare b c v w works ended few reaped gone =
       unread = ap (λ (s : State). s.unread) gone.same;
       flows = gone.ends;
       distinct = gone.distinct;
+      index = gone.index;
       whole = λ going. (
         ap (λ (s : State). s.ended) gone.same ∙ ended,
         subst (λ ts. Each (IsWhole ts) c.flows) (sym gone.taken)
@@ -90,6 +91,7 @@ bare-saw st v look bare = record {
   unread = bare.unread;
   flows = bare.flows;
   distinct = bare.distinct;
+  index = bare.index;
   whole = bare.whole;
   known = bare.known;
 }
@@ -104,6 +106,7 @@ bare-gone st v bare = record {
   unread = bare.unread;
   flows = bare.flows;
   distinct = bare.distinct;
+  index = bare.index;
   whole = bare.whole;
   known = bare.known;
 }

@@ -1,5 +1,5 @@
 -- All that an application has out is given up: what is left.
-use Rattle.std.proofs.Common.{◌≡◌, ℕ, ◌+◌, ◌<◌, ◌≤◌, true, false, List, [], Option, None, IsSome, map, length, refl, sym, ap, subst}
+use Rattle.std.proofs.Common.{◌≡◌, ℕ, zero, suc, get_or, ◌+◌, ◌<◌, ◌≤◌, true, false, List, [], ◌∷◌, Option, None, IsSome, map, length, refl, sym, ap, subst}
 use Rattle.std.proofs.Common.{◌∙◌, arith}
 use Rattle.std.specs.Prelude.{◌==◌, if◌then◌else◌}
 use Rattle.zr_kinds.specs.declared.ring.Completion.{Completion}
@@ -12,8 +12,9 @@ use Rattle.board_face.specs.declared.views.app.LentPiece.{LentPiece}
 use Rattle.board_face.specs.declared.views.app.AppView.{AppView}
 use Rattle.app_worker.specs.declared.stack.Lending.{Lending}
 use Rattle.app_worker.specs.declared.stack.FlowQueue.{FlowQueue}
-use Rattle.app_worker.specs.Core.{total, Each, over_due, over_read, read_out, short_bytes, lent_piece, own_notes, BeginAt, received_notes, AreReadAt}
-use Rattle.app_worker.specs.State.{State, Common, FlowEnds, capped, held_len, taken_len, unsplit_len, due_one, app_steps, one_if}
+use Rattle.app_worker.specs.Core.{total, many, Each, over_due, over_read, read_out, short_bytes, lent_piece, own_notes, BeginAt, received_notes, AreReadAt}
+use Rattle.app_worker.proofs.Indexing.{by-place}
+use Rattle.app_worker.specs.State.{State, IsIndex, place_in, Common, FlowEnds, capped, held_len, taken_len, unsplit_len, due_one, app_steps, one_if}
 use Rattle.app_worker.specs.Shelves.{IsShelved, AreShelved, ReadsFront, IsFrontShelved, AreFronts}
 use Rattle.std.proofs.Math.Nat.{mul-le-mul_left}
 use Rattle.std.proofs.Common.{◌*◌}
@@ -39,6 +40,30 @@ ends-facts taken f g same ends =
           (subst (λ n. IsSome ((received_notes f.queue.base nothing_placed (own_notes n taken)).at p)) (sym number)
           (ends.below p (omega (arith, below, bytes))));
     }
+
+-- and so are the places of flows
+length-facts : (xs ys : List FlowQueue) → map facts_of ys ≡ map facts_of xs → length ys ≡ length xs
+length-facts [] [] same = refl
+length-facts [] (y ∷ ys) same = absurd (cc)
+length-facts (x ∷ xs) [] same = absurd (cc)
+length-facts (x ∷ xs) (y ∷ ys) same = let tail : map facts_of ys ≡ map facts_of xs = cc in ap suc (length-facts xs ys tail)
+
+number-facts : (xs ys : List FlowQueue) → map facts_of ys ≡ map facts_of xs → (k : ℕ) (d : FlowQueue) → (get_or ys k d).number ≡ (get_or xs k d).number
+number-facts [] [] same k d = refl
+number-facts [] (y ∷ ys) same k d = absurd (cc)
+number-facts (x ∷ xs) [] same k d = absurd (cc)
+number-facts (x ∷ xs) (y ∷ ys) same zero d =
+    let head : facts_of y ≡ facts_of x = cc in ap (λ (f : FlowFacts). f.number) head
+number-facts (x ∷ xs) (y ∷ ys) same (suc k) d = let tail : map facts_of ys ≡ map facts_of xs = cc in number-facts xs ys tail k d
+
+index-facts : (index : List (ℕ × ℕ)) (flows now : List FlowQueue) → map facts_of now ≡ map facts_of flows → IsIndex index flows
+    → IsIndex index now
+index-facts index flows now facts is number = by-place (place_in index number) (many number flows ≡ 0) (many number now ≡ 0)
+    (λ k. (k < length flows) × ((d : FlowQueue) → (get_or flows k d).number ≡ number))
+    (λ k. (k < length now) × ((d : FlowQueue) → (get_or now k d).number ≡ number))
+    (λ none. total-facts (λ x. if x.number == number then 1 else 0) flows now facts ∙ none)
+    (λ k there. (omega (arith, length-facts flows now facts, there.0), λ d. number-facts flows now facts k d ∙ there.1 d))
+    (is number)
 
 pub shelved-facts : (first kept : ℕ → Option (List ℕ)) (taken : List TakenNote) (reads : List Reading) (f g : FlowQueue) → facts_of g ≡ facts_of f
     → IsShelved first kept taken reads f → IsShelved first kept taken reads g
@@ -179,6 +204,7 @@ gone-all was now old v1 v2 v3 new reaped not_yet pushed torn common first second
       ends = subst (λ ts. Each (FlowEnds ts) now) (sym taken)
           (each-facts (FlowEnds old.taken) (FlowEnds old.taken) (ends-facts old.taken) was.flows now facts torn.flows);
       distinct = λ n. omega (arith, total-facts (λ x. if x.number == n then 1 else 0) was.flows now facts, torn.distinct n);
+      index = index-facts was.index was.flows now facts torn.index;
       common = record {
         app = ap (λ (v : AppView). v.app) view ∙ common.app;
         ended = ended ∙ common.ended;

@@ -24,7 +24,7 @@ number-set (f ∷ fs) zero own x within value same (suc k) d below = refl
 number-set (f ∷ fs) (suc i) own x within value same zero d below = refl
 number-set (f ∷ fs) (suc i) own x within value same (suc k) d below = number-set fs i own x (omega arith) value same k d (omega arith)
 
-by-place : (found : Option ℕ) (P Q : Type 0) (R S : ℕ → Type 0) → (P → Q) → ((i : ℕ) → R i → S i) → MatchOption found P R
+pub by-place : (found : Option ℕ) (P Q : Type 0) (R S : ℕ → Type 0) → (P → Q) → ((i : ℕ) → R i → S i) → MatchOption found P R
     → MatchOption found Q S
 by-place None P Q R S none some is = none is
 by-place (Some i) P Q R S none some is = some i is

@@ -37,3 +37,4 @@ pub mod BareLemmas
 pub mod Looking
 pub mod EachBoth
 pub mod Indexing
+pub mod FlowBytes

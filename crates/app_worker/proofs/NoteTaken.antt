@@ -38,7 +38,7 @@ all-end st v works = each-map (FlowStands v.taken (st.unread ++ st.posted.entrie
 
 -- it can be given up as it is
 pub torn-of : (st : State) (v : AppView) → Working st v → Torn st v
-torn-of st v works = record { tokens = works.stands.tokens; flows = all-end st v works; distinct = works.stands.distinct }
+torn-of st v works = record { tokens = works.stands.tokens; flows = all-end st v works; distinct = works.stands.distinct; index = works.index }
 
 -- ---- a note
 
@@ -55,6 +55,7 @@ module _ (was : State) (old new : AppView) (t : TakenNote) (works : Working was 
           (ap (λ (v : AppView). v.loans) view) lie helds works.stands;
       flows = ends-kept was.flows old new t view-in (all-end was old works);
       distinct = works.stands.distinct;
+      index = works.index;
     };
     common = common-noted was old new t view-in was.notes was.active was.index was.flows refl
         (record { kept = omega (arith, helds held_len); short = omega arith }) common;
@@ -86,8 +87,8 @@ module _ (was : State) (old new : AppView) (t : TakenNote) (works : Working was 
         record { kept = omega (arith, sum, few); short = omega (arith, sum, short) }
 
     -- there was no memory for a part of it
-    pub torn-taken : (notes : ℕ) → TookNone was (with_note was notes (set flows i (record own { queue = q })) index i) old new
-    torn-taken notes =
+    pub torn-taken : (notes : ℕ) → IsIndex index flows → TookNone was (with_note was notes (set flows i (record own { queue = q })) index i) old new
+    torn-taken notes is_index =
         let now : List FlowQueue = set flows i (record own { queue = q }) in
         record {
           torn = record {
@@ -95,6 +96,7 @@ module _ (was : State) (old new : AppView) (t : TakenNote) (works : Working was 
                 chosen within value works.stands moved;
             flows = ends-noted was.flows old new t view-in (all-end was old works) known-in own (λ x. set flows i x) put-in q base;
             distinct = λ n. (many-noted was.flows t.note own (λ x. set flows i x) q base put-in n).1 (works.stands.distinct n);
+            index = index-set index flows i own (record own { queue = q }) within value refl is_index;
           };
           common = common-noted was old new t view-in notes i index now bytes-in few-in common;
           moves = moves-noted was old new t view-in notes i index now;
@@ -190,9 +192,9 @@ module _ (was : State) (old new : AppView) (linear : List ℕ) (note : Note) (to
     short-short : short_bytes q ≤ short_bytes own.queue + unsplit_len short_note
     short-short = rw took.fields.split short
 
-    pub short-torn : (notes : ℕ) → TookNone was (with_note was notes (set flows i (record own { queue = q })) index i) old new
-    short-torn notes = torn-taken was old new short_note works common short-view short-apart flows i own q chosen within value base short-moved short-few
-        short-short index notes
+    pub short-torn : (notes : ℕ) → IsIndex index flows → TookNone was (with_note was notes (set flows i (record own { queue = q })) index i) old new
+    short-torn notes is_index = torn-taken was old new short_note works common short-view short-apart flows i own q chosen within value base short-moved short-few
+        short-short index notes is_index
 
     pub short-entered : (notes : ℕ) → IsIndex index flows → notes ≡ was.notes + 1 → Each IsAtRest was.flows → was.ended ≡ false
         → q.popped ≡ own.queue.popped
@@ -237,9 +239,9 @@ module _ (was : State) (old mid : AppView) (note : Note) (held : Place) (took : 
     piece-short : short_bytes q ≤ short_bytes own.queue + unsplit_len (taken_note note)
     piece-short = omega (arith, short)
 
-    pub piece-torn : (notes : ℕ) → TookNone was (with_note was notes (set flows i (record own { queue = q })) index i) old new
-    piece-torn notes = torn-taken was old new (taken_note note) works common piece-view only.apart flows i own q chosen within value base piece-moved
-        piece-few piece-short index notes
+    pub piece-torn : (notes : ℕ) → IsIndex index flows → TookNone was (with_note was notes (set flows i (record own { queue = q })) index i) old new
+    piece-torn notes is_index = torn-taken was old new (taken_note note) works common piece-view only.apart flows i own q chosen within value base piece-moved
+        piece-few piece-short index notes is_index
 
     pub piece-entered : (notes : ℕ) → IsIndex index flows → notes ≡ was.notes + 1 → Each IsAtRest was.flows → was.ended ≡ false
         → q.popped ≡ own.queue.popped

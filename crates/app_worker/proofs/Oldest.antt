@@ -347,6 +347,7 @@ module _ (was : State) (i : ℕ) (own : FlowQueue) (p : Completion × Lending) (
             (tokens-read was.notes at.before at.after own bytes p (ps ++ was.posted.entries) was.leaked.items old new only stood);
         flows = subst (λ ts. Each (FlowEnds ts) (set was.flows i later)) (sym same_taken) (subst (Each (FlowEnds old.taken)) (sym (at.set_is later)) flows);
         distinct = λ n. omega (arith, ap (many n) (at.set_is later), many-same at.before at.after own later refl n, stood.distinct n);
+        index = index-set was.index was.flows i own later within value refl works.index;
       }
 
   pub oldest-failed : (bytes written most faults faults_now : ℕ) (kept kept_now : ℕ → Option (List ℕ)) → own.bytes ≤ bytes

@@ -174,7 +174,7 @@ all-of first kept flows v ends all known whole shelved flow =
 
 -- ---- an application that stands
 
-by-mode : (b : Bool) (P Q R : Type 0) → MatchBool b P Q → (b ≡ true → P → R) → (b ≡ false → Q → R) → R
+pub by-mode : (b : Bool) (P Q R : Type 0) → MatchBool b P Q → (b ≡ true → P → R) → (b ≡ false → Q → R) → R
 by-mode true P Q R is first second = first refl is
 by-mode false P Q R is first second = second refl is
 

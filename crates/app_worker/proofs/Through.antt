@@ -98,6 +98,7 @@ bare-of-gone was st old v other gone = record {
   unread = ap (λ (s : State). s.unread) gone.same;
   flows = gone.ends;
   distinct = gone.distinct;
+  index = gone.index;
   whole = λ none. absurd (other none);
   known = λ none. absurd (other none);
 }
@@ -119,6 +120,7 @@ bare-stopped st v cause other was old gone = record {
   unread = ap (λ (s : State). s.unread) gone.same;
   flows = gone.ends;
   distinct = gone.distinct;
+  index = gone.index;
   whole = λ none. absurd (other none);
   known = λ none. absurd (other none);
 }

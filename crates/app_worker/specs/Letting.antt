@@ -5,7 +5,7 @@ use Rattle.board_face.specs.declared.views.app.LentPiece.{LentPiece}
 use Rattle.board_face.specs.declared.views.app.AppView.{AppView}
 use Rattle.app_worker.specs.declared.stack.FlowQueue.{FlowQueue}
 use Rattle.app_worker.specs.Core.{total, LieApart, Each, many}
-use Rattle.app_worker.specs.State.{State, Common, FlowEnds, app_steps}
+use Rattle.app_worker.specs.State.{IsIndex, State, Common, FlowEnds, app_steps}
 use Rattle.app_worker.specs.Shelves.{AreFronts}
 use Rattle.app_worker.specs.Moves.{Moves}
 use Rattle.app_worker.specs.Whole.{KeepsShelves}
@@ -39,6 +39,7 @@ pub record LetGo (was now : State) (old new : AppView) : Type 0 where
   pub facts : map facts_of now.flows ≡ map facts_of was.flows
   pub ends : Each (FlowEnds new.taken) now.flows
   pub distinct : (number : ℕ) → many number now.flows ≤ 1
+  pub index : IsIndex now.index now.flows
   pub common : Common now new
   pub moves : Moves was now old new
   pub steps : app_steps was old < app_steps now new

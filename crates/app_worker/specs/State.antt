@@ -129,6 +129,7 @@ pub record Bare (st : State) (v : AppView) : Type 0 where
   pub unread : st.unread ≡ []
   pub flows : Each (FlowEnds v.taken) st.flows
   pub distinct : (number : ℕ) → many number st.flows ≤ 1
+  pub index : IsIndex st.index st.flows
   -- and where nothing stopped it, all of its flows was appended
   pub whole : st.stopped ≡ No → (st.ended ≡ true) × Each (λ f. f.bytes ≡ next_missing (placed_of f v.taken)) st.flows
   pub known : st.stopped ≡ No → (number : ℕ) → many number st.flows ≡ 0 → own_notes number v.taken ≡ []

@@ -16,6 +16,7 @@ ghost use Rattle.app_worker.specs.Turns.{Turns, look_of};
 
 use crate::stack::{Stack, Stray};
 use crate::turn::Turn;
+use crate::turning::find;
 use crate::working::turn;
 use board_face::AppFace;
 use circular_buffer::HeapCircularBuffer;
@@ -118,17 +119,13 @@ impl AppState {
 
     /// How many bytes of a flow the appends that went well took.
     pub fn flow_bytes(&self, flow: u32) -> u64
+        requires stands { (v : AppView) × AppStands self.now v }
         ensures { result ≡ flow_bytes flow self.now.flows }
     {
-        let flows = &self.stack.flows;
-        let mut i = 0;
-        while i < flows.len() {
-            if flows[i].number == flow {
-                return flows[i].bytes;
-            }
-            i += 1;
+        match find(&self.stack.index, u64::from(flow)) {
+            Some(place) => self.stack.flows[place].bytes,
+            None => 0,
         }
-        0
     }
 }
 

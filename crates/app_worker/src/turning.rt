@@ -92,7 +92,7 @@ pub fn give_one<F: AppFace>(face: &mut F, st: &mut Stack) -> bool
 }
 
 /// The place of the flow with this number.
-fn find(index: &BTreeMap<u64, usize>, number: u64) -> Option<usize>
+pub fn find(index: &BTreeMap<u64, usize>, number: u64) -> Option<usize>
     ensures { result ≡ place_in index.now.entries number }
 {
     index.get(&number).copied()

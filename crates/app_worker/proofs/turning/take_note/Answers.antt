@@ -74,4 +74,4 @@ returns-in-Err-clause-takes g c =
     piece-torn (state_of c.args.st.now) (g.F.AppFace.seen c.args.face.now)
     (g.F.AppFace.seen c.poll.new.self) c.in-Note.note c.in-Note.held c.in-Note.ensures.view c.requires.working c.requires.common
     (g.F.AppFace.seen c.enter.new.face) flows c.in-Ok.i c.index_mut.result.now c.enter.new.queue chosen.1 chosen.0 c.index_mut.ensures.value
-    c.enter.ensures.only c.enter.ensures.fewer c.enter.ensures.same.0 c.enter.ensures.short c.place_for.new.index.entries c.in-Some.notes
+    c.enter.ensures.only c.enter.ensures.fewer c.enter.ensures.same.0 c.enter.ensures.short c.place_for.new.index.entries c.in-Some.notes c.in-Ok.ensures.index

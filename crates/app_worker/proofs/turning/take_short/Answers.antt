@@ -31,4 +31,4 @@ returns-in-Err-clause-takes c = λ old new works common rest more took.
     let chosen : (c.in-Ok.i < length flows) × IsChosen c.args.st.now.flows.items flows c.args.note.now c.in-Ok.i = c.in-Ok.ensures.chosen in
     short-torn (state_of c.args.st.now) old new c.args.linear.now c.args.note.now took works common flows c.in-Ok.i c.index_mut.result.now
     c.enter_short.new.queue chosen.1 chosen.0 c.index_mut.ensures.value c.enter_short.ensures.same.0 c.enter_short.ensures.over
-    c.enter_short.ensures.short c.place_for.new.index.entries c.in-Some.notes
+    c.enter_short.ensures.short c.place_for.new.index.entries c.in-Some.notes c.in-Ok.ensures.index
