@@ -1,5 +1,6 @@
 -- All that an application has out is given up: what is left.
-use Rattle.std.proofs.Common.{◌≡◌, ℕ, zero, suc, get_or, ◌+◌, ◌<◌, ◌≤◌, true, false, List, [], ◌∷◌, Option, None, IsSome, map, length, refl, sym, ap, subst}
+use Rattle.std.proofs.Common.{zero, suc, get_or, ◌∷◌}
+use Rattle.std.proofs.Common.{◌≡◌, ℕ, ◌+◌, ◌<◌, ◌≤◌, true, false, List, [], Option, None, IsSome, map, length, refl, sym, ap, subst}
 use Rattle.std.proofs.Common.{◌∙◌, arith}
 use Rattle.std.specs.Prelude.{◌==◌, if◌then◌else◌}
 use Rattle.zr_kinds.specs.declared.ring.Completion.{Completion}
@@ -48,7 +49,8 @@ length-facts [] (y ∷ ys) same = absurd (cc)
 length-facts (x ∷ xs) [] same = absurd (cc)
 length-facts (x ∷ xs) (y ∷ ys) same = let tail : map facts_of ys ≡ map facts_of xs = cc in ap suc (length-facts xs ys tail)
 
-number-facts : (xs ys : List FlowQueue) → map facts_of ys ≡ map facts_of xs → (k : ℕ) (d : FlowQueue) → (get_or ys k d).number ≡ (get_or xs k d).number
+number-facts : (xs ys : List FlowQueue) → map facts_of ys ≡ map facts_of xs → (k : ℕ) (d : FlowQueue)
+    → (get_or ys k d).number ≡ (get_or xs k d).number
 number-facts [] [] same k d = refl
 number-facts [] (y ∷ ys) same k d = absurd (cc)
 number-facts (x ∷ xs) [] same k d = absurd (cc)

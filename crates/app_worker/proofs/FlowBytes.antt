@@ -7,7 +7,7 @@ use Rattle.app_worker.specs.declared.stack.FlowQueue.{FlowQueue}
 use Rattle.app_worker.specs.Core.{many}
 use Rattle.app_worker.specs.State.{State, IsIndex, AppStands, Bare, Working}
 use Rattle.app_worker.specs.Kept.{flow_bytes}
-use Rattle.app_worker.proofs.Standing.{is_number, number-is, number-not}
+use Rattle.app_worker.proofs.Standing.{number-is, number-not}
 use Rattle.app_worker.proofs.StreamLemmas.{by-mode}
 
 -- between two turns the index tells the place of each flow, of which there is one at most
@@ -17,13 +17,14 @@ stands-index st v stands = by-mode st.bare (Bare st v) (Working st v) (IsIndex s
     (λ _ works. (works.index, works.stands.distinct))
 
 -- a flow that is there is counted
-some-number : (number i : ℕ) (flows : List FlowQueue) (d : FlowQueue) → i < length flows → (get_or flows i d).number ≡ number → 1 ≤ many number flows
+some-number : (number i : ℕ) (flows : List FlowQueue) (d : FlowQueue) → i < length flows → (get_or flows i d).number ≡ number
+    → 1 ≤ many number flows
 some-number number i [] d within is = absurd (omega arith)
 some-number number zero (f ∷ fs) d within is = omega (arith, number-is number f is)
 some-number number (suc i) (f ∷ fs) d within is = omega (arith, some-number number i fs d (omega arith) is)
 
-pub bytes-at : (number i : ℕ) (flows : List FlowQueue) (d : FlowQueue) → i < length flows → (get_or flows i d).number ≡ number → many number flows ≤ 1
-    → flow_bytes number flows ≡ (get_or flows i d).bytes
+pub bytes-at : (number i : ℕ) (flows : List FlowQueue) (d : FlowQueue) → i < length flows → (get_or flows i d).number ≡ number
+    → many number flows ≤ 1 → flow_bytes number flows ≡ (get_or flows i d).bytes
 bytes-at number i [] d within is one = absurd (omega arith)
 bytes-at number zero (f ∷ fs) d within is one = let yes : (f.number == number) ≡ true = eq-eqb f.number number is in rw yes refl
 bytes-at number (suc i) (f ∷ fs) d within is one =

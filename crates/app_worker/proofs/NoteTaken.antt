@@ -87,7 +87,8 @@ module _ (was : State) (old new : AppView) (t : TakenNote) (works : Working was 
         record { kept = omega (arith, sum, few); short = omega (arith, sum, short) }
 
     -- there was no memory for a part of it
-    pub torn-taken : (notes : ℕ) → IsIndex index flows → TookNone was (with_note was notes (set flows i (record own { queue = q })) index i) old new
+    pub torn-taken : (notes : ℕ) → IsIndex index flows
+        → TookNone was (with_note was notes (set flows i (record own { queue = q })) index i) old new
     torn-taken notes is_index =
         let now : List FlowQueue = set flows i (record own { queue = q }) in
         record {
@@ -192,7 +193,8 @@ module _ (was : State) (old new : AppView) (linear : List ℕ) (note : Note) (to
     short-short : short_bytes q ≤ short_bytes own.queue + unsplit_len short_note
     short-short = rw took.fields.split short
 
-    pub short-torn : (notes : ℕ) → IsIndex index flows → TookNone was (with_note was notes (set flows i (record own { queue = q })) index i) old new
+    pub short-torn : (notes : ℕ) → IsIndex index flows
+        → TookNone was (with_note was notes (set flows i (record own { queue = q })) index i) old new
     short-torn notes is_index = torn-taken was old new short_note works common short-view short-apart flows i own q chosen within value base short-moved short-few
         short-short index notes is_index
 
@@ -239,7 +241,8 @@ module _ (was : State) (old mid : AppView) (note : Note) (held : Place) (took : 
     piece-short : short_bytes q ≤ short_bytes own.queue + unsplit_len (taken_note note)
     piece-short = omega (arith, short)
 
-    pub piece-torn : (notes : ℕ) → IsIndex index flows → TookNone was (with_note was notes (set flows i (record own { queue = q })) index i) old new
+    pub piece-torn : (notes : ℕ) → IsIndex index flows
+        → TookNone was (with_note was notes (set flows i (record own { queue = q })) index i) old new
     piece-torn notes is_index = torn-taken was old new (taken_note note) works common piece-view only.apart flows i own q chosen within value base piece-moved
         piece-few piece-short index notes is_index
 
