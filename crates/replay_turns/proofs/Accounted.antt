@@ -18,7 +18,7 @@ use Rattle.board_face.specs.Relay.{as_taken, IsAsSent}
 use Rattle.board_face.specs.declared.views.app.AppView.{AppView}
 use Rattle.app_worker.specs.Marks.{base_of, marks_of}
 use Rattle.page_pool.specs.Frames.{Offered, ShowFrames}
-use Rattle.replay_turns.specs.Account.{IsFrontAt}
+use Rattle.app_worker.specs.Streams.{IsFront}
 use Rattle.replay_turns.specs.Offered.{offered_after, has_payload, without}
 use Rattle.replay_turns.proofs.NotesShown.{AreOf, IsShownBy, is_shown, passed, of_flow-mine, flow_notes, HaveBytes, Ascend}
 use Rattle.replay_turns.proofs.MarksStreamed.{received_offered, front_streamed}
@@ -150,7 +150,7 @@ pub stream_accounted : (split number : ℕ) (left_out : List ℕ) (steered : Lis
     → slice_get (flows_of steered) number ≡ Some flow → ShowFrames split os notes → Ascend os → HaveBytes os
     → filter (λ o. o.flow == number) os ≡ mine_of number left_out (offered_after [] steered)
     → ((o : Offered) (later : List Offered) → filter (λ o. o.flow == number) os ≡ o ∷ later → o.base ≡ flow.base)
-    → v.taken ≡ map as_taken notes → All (IsAsSent notes) v.reads → IsFrontAt v.taken v.reads (marks_of number v.taken) bytes
+    → v.taken ≡ map as_taken notes → All (IsAsSent notes) v.reads → IsFront v.taken v.reads (marks_of number v.taken) bytes
     → (rest : List ℕ) × (stream_of steered left_out number ≡ bytes ++ rest) × (length bytes ≡ length (marks_of number v.taken) → rest ≡ [])
 unfolding stream_of
 stream_accounted split number left_out steered flow os notes v bytes known shows ascend some mine base taken reads front =

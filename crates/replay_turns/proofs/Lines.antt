@@ -3,7 +3,6 @@ use Rattle.std.proofs.Common.{◌≡◌, ⊎_elim, ℕ, zero, suc, ◌+◌, ◌<
 use Rattle.std.proofs.Common.{Some, None, option_map, refl, sym, ap, subst, ◌∙◌, length-append, arith, ◌==◌}
 use Rattle.std.specs.List.{slice_get}
 use Rattle.std.proofs.lemmas.Bool.{cases_lt, eqb-true}
-use Rattle.std.proofs.lemmas.List.{length-map}
 use Rattle.std.proofs.lemmas.List.Quantifiers.{position-Some}
 use Rattle.zr_kinds.specs.declared.behaviour.Stopped.TheVariants as stop
 use Rattle.zr_kinds.specs.declared.outcome.AppLine.{AppLine}
@@ -48,19 +47,18 @@ port_at [] i d within = absurd (omega arith)
 port_at (a ∷ apps) zero d within = refl
 port_at (a ∷ apps) (suc i) d within = port_at apps i d (omega arith)
 
-module _ (ports : List ℕ) (apps : List AppLine) (flows : List Flow) (have_ports : HavePorts ports apps) (have : HaveApps ports flows) (number : ℕ)
-    (flow : Flow)
-    (is : slice_get flows number ≡ Some flow) where
-  pub app-within : flow.app < length apps
-  app-within =
-      let found = position-Some (λ p. p == flow.key.dport) ports flow.app 0 (have number flow is) in
-      let many : length apps ≡ length ports = sym (length-map apps (λ (a : AppLine). a.port)) ∙ ap length have_ports in
-      omega (arith, found.0, many)
+pub app-within : (ports : List ℕ) (apps : List AppLine) (flows : List Flow) → length apps ≡ length ports → HaveApps ports flows → (number : ℕ)
+    (flow : Flow) → slice_get flows number ≡ Some flow → flow.app < length apps
+app-within ports apps flows many have number flow is =
+    let found = position-Some (λ p. p == flow.key.dport) ports flow.app 0 (have number flow is) in
+    omega (arith, found.0, many)
 
-  pub port-is : (d : AppLine) → (get_or apps flow.app d).port ≡ flow.key.dport
-  port-is d =
-      let found = position-Some (λ p. p == flow.key.dport) ports flow.app 0 (have number flow is) in
-      sym (port_at apps flow.app d app-within) ∙ ap (λ ps. get_or ps flow.app 0) have_ports ∙ eqb-true (get_or ports flow.app 0) flow.key.dport found.1
+pub port-is : (ports : List ℕ) (apps : List AppLine) (flows : List Flow) → HavePorts ports apps → length apps ≡ length ports → HaveApps ports flows
+    → (number : ℕ) (flow : Flow) → slice_get flows number ≡ Some flow → (d : AppLine) → (get_or apps flow.app d).port ≡ flow.key.dport
+port-is ports apps flows have_ports many have number flow is d =
+    let found = position-Some (λ p. p == flow.key.dport) ports flow.app 0 (have number flow is) in
+    sym (port_at apps flow.app d (app-within ports apps flows many have number flow is)) ∙ ap (λ ps. get_or ps flow.app 0) have_ports
+    ∙ eqb-true (get_or ports flow.app 0) flow.key.dport found.1
 
 pub line-is : (apps : List AppLine) (flow : Flow) (info : FlowInfo) (count : ℕ) (line : FlowLine) → info_of flow ≡ info
     → line ≡ record { port = (get_or apps info.app none_line).port; base = info.base; bytes = count; fin = info.fin }

@@ -15,11 +15,11 @@ use Rattle.board_face.specs.declared.views.app.TakenNote.{TakenNote}
 use Rattle.board_face.specs.declared.views.app.Reading.{Reading}
 use Rattle.board_face.specs.declared.views.app.AppView.{AppView}
 use Rattle.app_worker.specs.Marks.{Mark, Frame, received_frame, received_frames, base_of, marks_of}
-use Rattle.app_worker.specs.Core.{IsReadAt, IsIn}
+use Rattle.app_worker.specs.Core.{IsReadAt, IsIn, IsByteAt, AreReadAt}
+use Rattle.app_worker.specs.Streams.{IsFront}
 use Rattle.page_pool.specs.Frames.{Offered, ShowFrames}
 use Rattle.zr_kinds.proofs.LeastMissing.{IsBounded-nothing}
 use Rattle.zr_kinds.proofs.Mapped.{MapsPlaced, received-map, front_of-map}
-use Rattle.replay_turns.specs.Account.{IsByteAt, AreBytesAt, IsFrontAt}
 use Rattle.replay_turns.proofs.NotesShown.{byte_or, byte_at, Shown, shown_by, shown_of, flow_notes, frames_shown, Ascend, HaveBytes}
 
 -- what the copying receiver has of these frames
@@ -139,14 +139,14 @@ read_byte notes v m b taken reads is =
     (cases_Bool is.note.note.split)
 
 read_bytes : (notes : List SentNote) (v : AppView) (ms : List Mark) (bs : List ℕ) → v.taken ≡ map as_taken notes → All (IsAsSent notes) v.reads
-    → AreBytesAt v.taken v.reads ms bs → bs ≡ map (byte_at notes) ms
+    → AreReadAt v.taken v.reads ms bs → bs ≡ map (byte_at notes) ms
 read_bytes notes v [] [] taken reads are = refl
 read_bytes notes v (m ∷ ms) (b ∷ bs) taken reads are = let one = read_byte notes v m b taken reads are.0 in rw one
     (ap (λ others. byte_at notes m ∷ others) (read_bytes notes v ms bs taken reads are.1))
 read_bytes notes v [] (b ∷ bs) taken reads are = absurd are
 read_bytes notes v (m ∷ ms) [] taken reads are = absurd are
 
-are-many : (taken : List TakenNote) (reads : List Reading) (ms : List Mark) (bs : List ℕ) → AreBytesAt taken reads ms bs → length bs ≡ length ms
+are-many : (taken : List TakenNote) (reads : List Reading) (ms : List Mark) (bs : List ℕ) → AreReadAt taken reads ms bs → length bs ≡ length ms
 are-many taken reads [] [] are = refl
 are-many taken reads (m ∷ ms) (b ∷ bs) are = ap suc (are-many taken reads ms bs are.1)
 are-many taken reads [] (b ∷ bs) are = absurd are
@@ -160,7 +160,7 @@ no_rest f read (m ∷ rest) all parts whole = absurd (let many = ap length parts
 -- are all of it.
 pub front_streamed : (split flow : ℕ) (os : List Offered) (notes : List SentNote) (v : AppView) (bytes : List ℕ) → ShowFrames split os notes
     → Ascend os → HaveBytes os
-    → v.taken ≡ map as_taken notes → All (IsAsSent notes) v.reads → IsFrontAt v.taken v.reads (marks_of flow v.taken) bytes
+    → v.taken ≡ map as_taken notes → All (IsAsSent notes) v.reads → IsFront v.taken v.reads (marks_of flow v.taken) bytes
     → (rest : List ℕ) × (front_of (received_offered (base_of (flow_notes flow 0 notes)) nothing_placed (filter (λ o. o.flow == flow) os)) ≡ bytes
     ++ rest)
     × (length bytes ≡ length (marks_of flow v.taken) → rest ≡ [])

@@ -1,55 +1,30 @@
 -- The account of a run: what the roles of a board did, read off once the card has ended and all have left, says where each
 -- byte of each stream came from. It is over the sides of the roles alone, so it is the same for every board.
-use Rattle.std.specs.Prelude.{◌≡◌, ℕ, ◌-◌, ◌^◌, ◌==◌, min, true, List, [], ◌∷◌, ◌++◌, length, map, filter, All, Option, Some}
-use Rattle.std.specs.Prelude.{option_and_then, MatchBool}
+use Rattle.std.specs.Prelude.{◌≡◌, ℕ, ◌-◌, ◌^◌, ◌==◌, min, true, List, ◌++◌, length, map, filter, All, Option, Some}
+use Rattle.std.specs.Prelude.{◌≢◌, ◌<◌, option_and_then}
 use Rattle.std.specs.List.{slice_get}
+use Rattle.std.specs.Io.KnownBytes.{Keeps}
 use Rattle.zr_kinds.specs.declared.behaviour.Stopped.{Stopped}
 use Rattle.zr_kinds.specs.declared.behaviour.Stopped.TheVariants as stop
 use Rattle.zr_kinds.specs.declared.outcome.AppLine.{AppLine}
-use Rattle.zr_kinds.specs.CopyingReceiver.{value_at}
 use Rattle.zr_io.specs.Moved.{Gained}
 use Rattle.flow_table.specs.Steered.{Steered}
 use Rattle.flow_table.specs.Flows.{Flow, flows_of}
 use Rattle.flow_table.specs.Stream.{stream_of}
 use Rattle.frames_read.specs.Ending.{steered_in}
-use Rattle.board_face.specs.Sides.{IsApp}
+use Rattle.board_face.specs.Sides.{IsApp, AreNumbered, HaveOneSetting}
 use Rattle.board_face.specs.Holders.{sent_to}
 use Rattle.board_face.specs.Relay.{as_taken, IsAsSent, HasNoLoanStray}
 use Rattle.board_face.specs.declared.views.nic.NicSide.{NicSide}
-use Rattle.board_face.specs.declared.views.app.TakenNote.{TakenNote}
-use Rattle.board_face.specs.declared.views.app.Reading.{Reading}
 use Rattle.board_face.specs.declared.views.app.AppSide.{AppSide}
 use Rattle.page_pool.specs.Frames.{Offered, ShowFrames}
 use Rattle.page_pool.specs.Dealing.{strays_in}
-use Rattle.app_worker.specs.Marks.{Mark, marks_of}
-use Rattle.app_worker.specs.Core.{IsReadAt}
+use Rattle.app_worker.specs.Marks.{marks_of}
+use Rattle.app_worker.specs.Streams.{IsFront}
 use Rattle.replay_turns.specs.Offered.{offers_of, without}
 use Rattle.replay_turns.specs.Feed.{FeedState, FeedStands, IsReady}
 use Rattle.replay_turns.specs.declared.plan.Plan.{Plan}
 use Rattle.replay_turns.specs.Plan.{layout_of}
-
--- ---- bytes at marks
-
--- The byte at a mark: of a split note one that was read through a loan of it, and of an unsplit one that which was taken
--- with it.
-pub record IsByteAt (taken : List TakenNote) (reads : List Reading) (mark : Mark) (byte : ℕ) : Type 0 where
-  pub note : TakenNote
-  pub is : slice_get taken mark.note ≡ Some note
-  pub stands : MatchBool note.note.split (IsReadAt reads mark byte) (value_at note.bytes mark.place ≡ Some byte)
-
--- these are the bytes at these marks, one at each
-abbrev pub AreBytesAt : List TakenNote → List Reading → List Mark → List ℕ → Type 0
-AreBytesAt taken reads [] [] = Unit {0}
-AreBytesAt taken reads (m ∷ ms) (b ∷ bs) = IsByteAt taken reads m b × AreBytesAt taken reads ms bs
-AreBytesAt taken reads [] (b ∷ bs) = ⊥
-AreBytesAt taken reads (m ∷ ms) [] = ⊥
-
--- those at the first of these marks
-pub record IsFrontAt (taken : List TakenNote) (reads : List Reading) (marks : List Mark) (bytes : List ℕ) : Type 0 where
-  pub read : List Mark
-  pub rest : List Mark
-  pub parts : marks ≡ read ++ rest
-  pub are : AreBytesAt taken reads read bytes
 
 -- ---- the account
 
@@ -67,7 +42,7 @@ capped n = min n (2 ^ 64 - 1)
 
 -- The bytes of a flow are those at its marks, from the first on, and all of them where its application wasn't stopped.
 pub record IsFlowRead (app : AppSide) (stopped : Stopped) (number : ℕ) (bytes : List ℕ) : Type 0 where
-  pub front : IsFrontAt app.view.taken app.view.reads (marks_of number app.view.taken) bytes
+  pub front : IsFront app.view.taken app.view.reads (marks_of number app.view.taken) bytes
   pub whole : stopped ≡ stop.No → length bytes ≡ length (marks_of number app.view.taken)
 
 -- One application: the notes that were sent to it show its frames and are those that it took; and its line says how many
@@ -87,12 +62,18 @@ pub record AccountsFor {T : Type 0} (kept : T → ℕ → Option (List ℕ)) (sh
   pub opened : nic.view.setting ≡ record { layout = layout_of plan; places = plan.ring }
   pub ended : nic.view.ended ≡ true
   pub many_apps : length apps ≡ length plan.ports.items
+  pub numbers : AreNumbered 0 apps
+  pub one_setting : HaveOneSetting nic apps
   pub many_lines : length lines ≡ length apps
   pub app : (a : ℕ) (app : AppSide) (line : AppLine) → IsApp apps a app → slice_get lines a ≡ Some line
       → AppAccounts plan.split (steered_in plan.ports.items frames) left_out nic a app line
   pub flow : (number : ℕ) (flow : Flow) (app : AppSide) (line : AppLine) → slice_get (flows_of (steered_in plan.ports.items frames)) number ≡ Some flow
       → IsApp apps flow.app app → slice_get lines flow.app ≡ Some line
       → Gained (kept_in kept shelves flow.app number) (kept_in kept shelves_now flow.app number) (IsFlowRead app line.stopped number)
+  -- no other flow of its shelf gained anything
+  pub others : (a number : ℕ) → a < length apps
+      → ((flow : Flow) → slice_get (flows_of (steered_in plan.ports.items frames)) number ≡ Some flow → flow.app ≢ a)
+      → Keeps (kept_in kept shelves a number) (kept_in kept shelves_now a number)
   pub strays_are : strays ≡ capped (strays_in nic.view.dealt)
 
 -- ---- what was sent, once the card is closed

@@ -21,10 +21,11 @@ pub record AreLinesOf (flows : List Flow) (bytes : List ℕ) (lines : List FlowL
   pub each : (number : ℕ) (flow : Flow) (count : ℕ) → slice_get flows number ≡ Some flow → slice_get bytes number ≡ Some count
       → slice_get lines number ≡ Some (line_of flow count)
 
+-- The lines of the flows have the ports of the lines of their applications.
 pub record IsOutcomeOf (feed : FeedState) (apps : List AppLine) (bytes : List ℕ) (outcome : Outcome) : Type 0 where
   pub tally : outcome.tally ≡ feed.tally
   pub apps_are : outcome.apps.items ≡ apps
-  pub flows : AreLinesOf feed.flows bytes outcome.flows.items
+  pub flows : HavePorts feed.ports apps → AreLinesOf feed.flows bytes outcome.flows.items
   pub refused : outcome.refused.items ≡ feed.refused
   pub pool : outcome.pool ≡ feed.pool.stats
   pub end : outcome.end ≡ end_of feed.stage

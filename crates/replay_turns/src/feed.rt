@@ -78,8 +78,8 @@ impl Feed {
         self.intake.table.count()
     }
 
-    /// Puts the outcome together: `apps` are the lines of the applications, in the order of the ports, and `bytes` says how
-    /// many bytes of each flow were written.
+    /// Puts the outcome together: `apps` are the lines of the applications, one for each port and in their order, and
+    /// `bytes` says how many bytes of each flow were written. A flow's line has the port of its application's.
     pub fn outcome(
         self,
         alloc: Global,
@@ -87,7 +87,7 @@ impl Feed {
         bytes: Vec<u64>,
     ) -> Result<Outcome, AllocError>
         requires closed { self.closed ≡ true }
-        requires apps { HavePorts self.ports apps.items }
+        requires apps { vec_len apps ≡ length self.ports }
         requires bytes { vec_len bytes ≡ length self.flows }
         ensures { IfOk result (IsOutcomeOf self apps.items bytes.items) }
     {
@@ -135,10 +135,10 @@ fn flow_lines(
     apps: &[AppLine],
     bytes: &[u64],
 ) -> Result<Vec<FlowLine>, AllocError>
-    requires ports { HavePorts table.now.ports apps.now }
+    requires many { length apps.now ≡ length table.now.ports }
     requires apps { HaveApps table.now.ports table.now.flows }
     requires bytes { length bytes.now ≡ length table.now.flows }
-    ensures { IfOk result (λ lines. AreLinesOf table.now.flows bytes.now lines.items) }
+    ensures { IfOk result (λ lines. HavePorts table.now.ports apps.now → AreLinesOf table.now.flows bytes.now lines.items) }
 {
     let mut lines = Vec::with_capacity(alloc, bytes.len())?;
     for number in 0..table.count() {

@@ -1,12 +1,17 @@
 //! Turns at the board for one thread: it goes into a role's hands for a turn, and back.
 
-ghost use Rattle.std.specs.Prelude.{◌≡◌, ◌≢◌, ℕ, ◌<◌, List, length, MatchBool};
+ghost use Rattle.std.specs.Prelude.{◌≡◌, ◌≢◌, ℕ, ◌<◌, ◌≤◌, List, length, Option, MatchBool, false};
+ghost use Rattle.zr_kinds.specs.declared.behaviour.Stopped.TheVariants.{No};
 ghost use Rattle.board_face.specs.AppCalls.{IsHere};
 ghost use Rattle.board_face.specs.AppEvents.{app_gist};
 ghost use Rattle.plain_board.specs.Board.{side_of, others_of};
 ghost use Rattle.plain_board.specs.Seen.{IsSeenBy, IsSeenByCard};
 ghost use Rattle.plain_board.specs.Sound.{IsSound};
-ghost use Rattle.app_worker.specs.State.{AppStands};
+ghost use Rattle.app_worker.specs.Marks.{AreWholeFrames};
+ghost use Rattle.app_worker.specs.Moves.{reads_of, reserve_loans};
+ghost use Rattle.app_worker.specs.Shelves.{AreShelved, AreFronts};
+ghost use Rattle.app_worker.specs.State.{AppStands, app_steps, furthest};
+ghost use Rattle.app_worker.specs.Streams.{HasFronts, HasAll};
 ghost use Rattle.app_worker.specs.Turns.{Turns, look_of};
 ghost use Rattle.app_worker.specs.declared.turn.Turn.TheVariants.{Idle, Finished};
 ghost use Rattle.app_worker.specs.declared.turn.Why.{Why};
@@ -61,6 +66,29 @@ pub fn app_step<T: Shelf>(
     ensures here { result.1 ≢ Finished → IsHere (side_of result.0 app).view }
     ensures turns { Turns st.old st.new (side_of board app).view (side_of result.0 app).view
         (T.kept shelf.old) (T.kept shelf.new) (T.faults shelf.old) (T.faults shelf.new) result.1 }
+    // Where the pieces of each frame stand together among the notes, what the shelf has of each flow since the first turn
+    // are the bytes at the first of the flow's marks.
+    ensures fronts { (first : ℕ → Option (List ℕ)) → AreWholeFrames (side_of result.0 app).view.taken
+        → AreShelved first (T.kept shelf.new) st.new.flows (side_of result.0 app).view
+        → HasFronts first (T.kept shelf.new) (side_of result.0 app).view }
+    // Once the shelf has failed it may have some bytes more than are counted.
+    ensures failed { (first : ℕ → Option (List ℕ)) → AreWholeFrames (side_of result.0 app).view.taken
+        → AreFronts first (T.kept shelf.new) st.new.flows (side_of result.0 app).view
+        → HasFronts first (T.kept shelf.new) (side_of result.0 app).view }
+    // It leaves with all of them, unless it was stopped.
+    ensures whole { (first : ℕ → Option (List ℕ)) → result.1 ≡ Finished → st.new.stopped ≡ No
+        → AreWholeFrames (side_of result.0 app).view.taken
+        → AreShelved first (T.kept shelf.new) st.new.flows (side_of result.0 app).view
+        → HasAll first (T.kept shelf.new) (side_of result.0 app).view }
+    // It goes no further than the notes that were taken, their bytes, and the entries that may follow each, let it.
+    ensures within { app_steps st.new (side_of result.0 app).view ≤ furthest st.new.how.stray (side_of result.0 app).view }
+    // Where a loan was read, all that it may keep stays unread, unless no note comes any more, or a loan in the reserve comes
+    // between.
+    ensures keeps { st.old.flush ≡ false → st.new.bare ≡ false → st.new.ended ≡ false
+        → reserve_loans (side_of result.0 app).view ≡ reserve_loans (side_of board app).view
+        → reads_of st.old (side_of board app).view < reads_of st.new (side_of result.0 app).view
+        → st.new.how.hold ≤ length st.new.unread }
+    ensures later { T.faults shelf.old ≤ T.faults shelf.new }
     // Why it did nothing is so.
     ensures told { (why : Why) → result.1 ≡ Idle why
         → IsSeenBy (look_of why) (app_gist (side_of result.0 app).view) (others_of result.0 app) }
