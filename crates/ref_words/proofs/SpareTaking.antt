@@ -5,6 +5,7 @@ use Rattle.std.proofs.lemmas.Bool.{cases_lt, false≢true}
 use Rattle.std.proofs.lemmas.List.Elements.{All-push}
 use Rattle.area_layout.specs.Layout.{total, pool_buffers}
 use Rattle.board_face.specs.AppEvents.{reserve_of}
+use Rattle.board_face.specs.AppCalls.{HasNoneIn}
 use Rattle.board_face.specs.Sides.{IsApp}
 use Rattle.board_face.specs.Counts.{pool_count, EndedWereReturned}
 use Rattle.board_face.specs.FreeOnce.{free_places}
@@ -33,6 +34,19 @@ use Rattle.ref_words.proofs.Counting.{weight-same, weight-other}
 use Rattle.ref_words.proofs.Frees.{AreFreeOnce-taken, AreFreeOnce-reserve, AreKept-app, free_places-hands, in-hands, count-taken, without-none}
 use Rattle.ref_words.proofs.SideSteps.{mine, own-setting, SidesRule-app}
 use Rattle.ref_words.proofs.PoolSteps.{IsPoolStep}
+use Rattle.ref_words.proofs.Taking.{All-none}
+
+-- an application has nothing in a buffer that nobody has
+pub own-none : (b : ℕ) (nic : NicSide) (apps : List AppSide) (a : ℕ) (app : AppSide) → IsApp apps a app → pool_count b nic apps ≡ 0
+    → HasNoneIn app.view b
+own-none b nic apps a app here unheld =
+    let bare : AppSide = record app { view = record app.view { helds = []; owns = []; loans = [] } } in
+    let parts = pool_count-app b nic apps a app bare here in
+    record {
+      helds = All-none (λ h. h.place.buffer) b app.view.helds (omega (arith, parts, unheld));
+      loans = All-none (λ l. l.place.buffer) b app.view.loans (omega (arith, parts, unheld));
+      spares = All-none (λ s. s.own.buffer) b app.view.owns (omega (arith, parts, unheld));
+    }
 
 module _ (setting : Setting) (words : Words) (nic : NicSide) (apps : List AppSide) (a : ℕ) (app : AppSide) (b : ℕ)
     (rule : RefRule setting words nic apps) (here : IsApp apps a app) (due : app.view.spares < unsplit_bytes (map (λ t. t.note) app.view.taken)) where
@@ -131,6 +145,9 @@ module _ (setting : Setting) (words : Words) (nic : NicSide) (apps : List AppSid
     pub none-picked : pool_of words b ≡ 0
     none-picked = rule.pool b inside ∙ unheld
 
+    pub apart-picked : HasNoneIn app.view b
+    apart-picked = own-none b nic apps a app here unheld
+
     pub picked : IsPoolStep setting words nic nic apps apps' b (pool_of words b + 1)
     picked = with-free unheld inside (inl (let s = small in omega (arith, pools)))
         (AreFreeOnce-taken (listed_in words) nic nic apps apps' b refl unheld more gone rule.free)
@@ -158,6 +175,9 @@ module _ (setting : Setting) (words : Words) (nic : NicSide) (apps : List AppSid
 
     pub none-reserve : pool_of words b ≡ 0
     none-reserve = rule.pool b inside-reserve ∙ unheld-reserve
+
+    pub apart-reserve : HasNoneIn app.view b
+    apart-reserve = own-none b nic apps a app here unheld-reserve
 
     nowhere : count_by (nat_eq b) app.inside.hands ≡ 0
     nowhere = omega (arith, in-hands (listed_in words) b nic apps a app here, rule.free.reserves b past)

@@ -29,7 +29,7 @@ use Rattle.ref_words.proofs.Frees.{AreFreeOnce-taken, count-append}
 use Rattle.ref_words.proofs.CardSteps.{SidesRule-card}
 use Rattle.ref_words.proofs.PoolSteps.{IsPoolStep}
 
-All-none : {A : Type 0} (f : A → ℕ) (b : ℕ) (xs : List A) → tally (λ x. f x == b) xs ≡ 0 → All (λ x. f x ≢ b) xs
+pub All-none : {A : Type 0} (f : A → ℕ) (b : ℕ) (xs : List A) → tally (λ x. f x == b) xs ≡ 0 → All (λ x. f x ≢ b) xs
 All-none f b [] none = All-nil (λ x. f x ≢ b)
 All-none f b (x ∷ xs) none =
     All-cons (λ y. f y ≢ b) x xs

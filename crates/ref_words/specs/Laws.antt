@@ -12,7 +12,7 @@ use Rattle.area_layout.specs.Layout.{IsLayout, total, judged}
 use Rattle.board_face.specs.NicEvents.{took}
 use Rattle.board_face.specs.AppEvents.{cut, lent, lent_own, reserve_of}
 use Rattle.board_face.specs.NicCalls.{HasNothingIn, HasOwn, apps_of}
-use Rattle.board_face.specs.AppCalls.{HasHeld, HasSpare, IsFilled, CanLend, MaySpare}
+use Rattle.board_face.specs.AppCalls.{HasHeld, HasSpare, HasNoneIn, IsFilled, CanLend, MaySpare}
 use Rattle.board_face.specs.Opened.{new_nic, new_app, new_apps}
 use Rattle.board_face.specs.Sides.{nic_at, app_at, IsApp}
 use Rattle.board_face.specs.Steps.{side_begun, side_shut, side_judged, side_user_lowered, side_both_lowered}
@@ -88,8 +88,8 @@ pub record LowersPool (setting : Setting) (words : Words) (b n : ℕ) (nic : Nic
   pub enough : n ≤ pool_of words b
   pub rule : RefRule setting (with_pool words b (pool_of words b - n)) nic apps
 
--- A buffer that nobody has is taken: by the card, the one that entered its cache last, in which it has nothing then, or by an
--- application as a spare, one that it picked from the free list or its reserve, which it saw free.
+-- A buffer that nobody has is taken: by the card, the one that entered its cache last, or by an application as a spare, one that
+-- it picked from the free list or its reserve, which it saw free. The taking role has nothing there then.
 pub record TakeLaw : Type 0 where
   pub card : (setting : Setting) (words : Words) (nic : NicSide) (apps : List AppSide) (b : ℕ)
       → RefRule setting words nic apps → nic.view.cache ≡ (took nic.view b).cache ++ b ∷ []
@@ -97,11 +97,12 @@ pub record TakeLaw : Type 0 where
   pub picked : (setting : Setting) (words : Words) (nic : NicSide) (apps : List AppSide) (a : ℕ) (app : AppSide) (b : ℕ)
       → RefRule setting words nic apps → IsApp apps a app → Contains app.inside.hands b
       → MaySpare app.view
-      → RaisesFree setting words b nic (slice_set apps a (side_spare_begun app b))
+      → HasNoneIn app.view b × RaisesFree setting words b nic (slice_set apps a (side_spare_begun app b))
   pub reserve : (setting : Setting) (words : Words) (nic : NicSide) (apps : List AppSide) (a : ℕ) (app : AppSide)
       → RefRule setting words nic apps → IsApp apps a app → app.inside.reserve_seen_free ≡ true
       → MaySpare app.view
-      → RaisesFree setting words (reserve_of app.view) nic (slice_set apps a (side_spare_begun app (reserve_of app.view)))
+      → HasNoneIn app.view (reserve_of app.view)
+      × RaisesFree setting words (reserve_of app.view) nic (slice_set apps a (side_spare_begun app (reserve_of app.view)))
 
 -- A buffer that the stepping role has gets one holder more: the card begins a piece, or an application cuts one in two.
 pub record HoldLaw : Type 0 where

@@ -1,6 +1,6 @@
 ghost use Rattle.std.specs.Prelude.{◌≡◌, ℕ, ◌+◌, ◌<◌, ◌≤◌, [], true, map, slice_index, Contains, ◌==◌};
 ghost use Rattle.area_layout.specs.Layout.{total};
-ghost use Rattle.board_face.specs.AppCalls.{HasHeld};
+ghost use Rattle.board_face.specs.AppCalls.{HasHeld, HasNoneIn};
 ghost use Rattle.board_face.specs.AppEvents.{cut, reserve_of};
 ghost use Rattle.board_face.specs.Sides.{app_at};
 ghost use Rattle.board_face.specs.Texts.{unsplit_bytes};
@@ -14,7 +14,8 @@ use ref_words::laws;
 use std::marker::Brand;
 use zr_kinds::Place;
 
-/// An application holds a buffer that it picked from the free list as a spare: its pool count is raised from 0.
+/// An application holds a buffer that it picked from the free list as a spare: its pool count is raised from 0. Nothing of the
+/// application's lay there.
 pub(crate) fn take_picked(words: &SharedWords, seat: &mut WordSeat, buffer: u32)
     requires table { seat.old.table_id ≡ words.now.table.shared.table_id }
     requires app { seat.old.me ≡ (app_view (app_of seat.old.me.0), []) }
@@ -23,6 +24,7 @@ pub(crate) fn take_picked(words: &SharedWords, seat: &mut WordSeat, buffer: u32)
     requires due { (app_of seat.old.me.0).view.spares < unsplit_bytes (map (λ t. t.note) (app_of seat.old.me.0).view.taken) }
     ensures table { seat.new.table_id ≡ seat.old.table_id }
     ensures event { seat.new.me ≡ (app_view (side_spare_begun (app_of seat.old.me.0) buffer), []) }
+    ensures apart { HasNoneIn (app_of seat.old.me.0).view buffer }
 {
     laws::k4();
     let word = words.map.pool(buffer);
@@ -30,7 +32,8 @@ pub(crate) fn take_picked(words: &SharedWords, seat: &mut WordSeat, buffer: u32)
     add_as::<Brand, u32>(table, seat, word, 1, buffer);
 }
 
-/// An application holds its reserve, which it saw free, as a spare: its pool count is raised from 0.
+/// An application holds its reserve, which it saw free, as a spare: its pool count is raised from 0. Nothing of the
+/// application's lay there.
 pub(crate) fn take_reserve(words: &SharedWords, seat: &mut WordSeat, reserve: u32)
     requires table { seat.old.table_id ≡ words.now.table.shared.table_id }
     requires app { seat.old.me ≡ (app_view (app_of seat.old.me.0), []) }
@@ -40,6 +43,7 @@ pub(crate) fn take_reserve(words: &SharedWords, seat: &mut WordSeat, reserve: u3
     requires due { (app_of seat.old.me.0).view.spares < unsplit_bytes (map (λ t. t.note) (app_of seat.old.me.0).view.taken) }
     ensures table { seat.new.table_id ≡ seat.old.table_id }
     ensures event { seat.new.me ≡ (app_view (side_spare_begun (app_of seat.old.me.0) reserve), []) }
+    ensures apart { HasNoneIn (app_of seat.old.me.0).view reserve }
 {
     laws::k4();
     let word = words.map.pool(reserve);

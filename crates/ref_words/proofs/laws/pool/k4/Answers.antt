@@ -14,13 +14,19 @@ returns c = record {
       rule = RefRule-pool setting words nic _ apps apps b _ rule (taking.step setting words nic apps b rule last);
     },
   );
-  picked = λ setting words nic apps a app b rule here has due. record {
-    unheld = spare.none-picked setting words nic apps a app b rule here due has;
-    rule = RefRule-pool setting words nic nic apps _ b _ rule (spare.picked setting words nic apps a app b rule here due has);
-  };
-  reserve = λ setting words nic apps a app rule here free due. record {
-    unheld = spare.none-reserve setting words nic apps a app (reserve_of app.view) rule here due refl free;
-    rule = RefRule-pool setting words nic nic apps _ (reserve_of app.view) _ rule
-        (spare.reserve setting words nic apps a app (reserve_of app.view) rule here due refl free);
-  };
+  picked = λ setting words nic apps a app b rule here has due. (
+    spare.apart-picked setting words nic apps a app b rule here due has,
+    record {
+      unheld = spare.none-picked setting words nic apps a app b rule here due has;
+      rule = RefRule-pool setting words nic nic apps _ b _ rule (spare.picked setting words nic apps a app b rule here due has);
+    },
+  );
+  reserve = λ setting words nic apps a app rule here free due. (
+    spare.apart-reserve setting words nic apps a app (reserve_of app.view) rule here due refl free,
+    record {
+      unheld = spare.none-reserve setting words nic apps a app (reserve_of app.view) rule here due refl free;
+      rule = RefRule-pool setting words nic nic apps _ (reserve_of app.view) _ rule
+          (spare.reserve setting words nic apps a app (reserve_of app.view) rule here due refl free);
+    },
+  );
 }

@@ -1,6 +1,7 @@
 use Rattle.std.proofs.Common.{ℕ, ◌+◌, ◌%◌, ◌^◌, ◌<◌, set, refl, ap, sym, ◌∙◌, subst, arith}
 use Rattle.area_layout.specs.Layout.{total}
 use Rattle.board_face.specs.declared.views.app.AppSide.{AppSide}
+use Rattle.board_face.specs.AppCalls.{HasNoneIn}
 use Rattle.board_face.specs.Steps.{side_spare_begun}
 use Rattle.ref_words.specs.Laws.{RaisesFree}
 use Rattle.ref_words.specs.Words.{pool_at}
@@ -17,11 +18,12 @@ add_as-requires-clause-allows c =
     let next : ℕ → AppSide = λ _. side_spare_begun mine c.args.reserve in
     let at = c.pool-word.ensures.value ∙ ap (λ s. pool_at s c.args.reserve) words.keyed in
     let within = subst (λ s. c.args.reserve < total s.layout) words.keyed c.requires.within in
-    app-step setting words.table.shared.table_id.slots c.args.seat.now.id c.pool-word.result (λ n. (n + 1) % 2 ^ 64) (λ _. Unit {0}) mine next (λ n. refl)
+    app-step setting words.table.shared.table_id.slots c.args.seat.now.id c.pool-word.result (λ n. (n + 1) % 2 ^ 64)
+    (λ _. HasNoneIn mine.view c.args.reserve) mine next (λ n. refl)
     (λ ws nic apps rule here small.
-    let law = subst (λ b. RaisesFree setting ws b nic (set apps mine.view.app (side_spare_begun mine b))) (sym c.requires.own)
+    let law = subst (λ b. HasNoneIn mine.view b × RaisesFree setting ws b nic (set apps mine.view.app (side_spare_begun mine b))) (sym c.requires.own)
     (c.k4.ensures.reserve setting ws nic apps mine.view.app mine rule here c.requires.free c.requires.due) in
-    (raises setting ws c.args.reserve c.pool-word.result at within rule (omega (arith, law.unheld)) law.rule, tt))
+    (raises setting ws c.args.reserve c.pool-word.result at within rule (omega (arith, law.1.unheld)) law.1.rule, law.0))
     c.args.seat.now.me c.requires.app
 
 pub returns-clause-event : goal.returns-clause-event
