@@ -75,6 +75,7 @@ new_app setting a = record {
     end_unseen = false;
     words_without = [];
     reserve_seen_free = false;
+    scrub_mark = 0;
     scrub_took = replicate (total setting.layout) 0;
     scrub_owes = replicate (total setting.layout) 0;
   };

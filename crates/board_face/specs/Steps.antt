@@ -1,12 +1,13 @@
 -- Steps: what a call of a face does to a side by its single steps on a board of words, where it has more than one. The steps of
 -- a call together are the call's event.
 use Rattle.std.specs.Prelude.{ℕ, ◌+◌, Bool, false, not, ◌&&◌, if◌then◌else◌, List, [], ◌∷◌, ◌++◌, length, nat_lt, nat_eq}
-use Rattle.std.specs.Prelude.{slice_index, slice_set, Some}
+use Rattle.std.specs.Prelude.{◌<◌, slice_index, slice_set, Some, Contains}
 use Rattle.zr_kinds.specs.declared.place.Place.{Place}
 use Rattle.zr_kinds.specs.declared.ring.Rqe.{Rqe}
-use Rattle.area_layout.specs.Layout.{pool_buffers}
+use Rattle.area_layout.specs.Layout.{pool_buffers, total}
 use Rattle.board_face.specs.Lists.{without}
 use Rattle.board_face.specs.Tokens.{next_place}
+use Rattle.board_face.specs.NicCalls.{free_words_of}
 use Rattle.board_face.specs.NicEvents.{cache_room, begun, shut, gave_up, nic_saw}
 use Rattle.board_face.specs.AppEvents.{released, picked_one, spare_begun}
 use Rattle.board_face.specs.declared.views.parts.Filling.{Filling}
@@ -72,6 +73,10 @@ side_released app place last = record {
   inside = record app.inside { hands = hands_with app place.buffer last };
 }
 
+-- In this search for a spare each word of the free list was seen 0, or its buffer was lost to another.
+pub record HasSearched (app : AppSide) : Type 0 where
+  pub words : (j : ℕ) → j < free_words_of app.view.setting → Contains app.inside.words_without j
+
 -- it picked a buffer from the free list
 abbrev pub side_picked : AppSide → ℕ → AppSide
 side_picked app buffer = record {
@@ -79,23 +84,25 @@ side_picked app buffer = record {
   inside = record app.inside { hands = app.inside.hands ++ buffer ∷ [] };
 }
 
--- and holds it as a spare. Its reserve may be that spare, so it isn't known to be free any more.
+-- and holds it as a spare, which ends the search. Its reserve may be that spare, so it isn't known to be free any more.
 abbrev pub side_spare_begun : AppSide → ℕ → AppSide
 side_spare_begun app buffer = record {
   view = spare_begun app.view buffer;
-  inside = record app.inside { hands = without (nat_eq buffer) app.inside.hands; reserve_seen_free = false };
+  inside = record app.inside { hands = without (nat_eq buffer) app.inside.hands; words_without = []; reserve_seen_free = false };
 }
 
--- a scrub took so many user references of a buffer,
+-- A scrub, which goes through the buffers in order, took so many user references of this one. The last one ends it.
 abbrev pub side_user_taken : AppSide → ℕ → ℕ → AppSide
-side_user_taken app b n = record app {
+side_user_taken app b n = record {
+  view = record app.view { scrubbed = nat_eq (b + 1) (total app.view.setting.layout) };
   inside = record app.inside {
+    scrub_mark = b + 1;
     scrub_took = slice_set app.inside.scrub_took b (slice_index app.inside.scrub_took b + n);
     scrub_owes = slice_set app.inside.scrub_owes b (slice_index app.inside.scrub_owes b + n);
   };
 }
 
--- and then as many from its pool count
+-- As many were taken from the buffer's pool count.
 abbrev pub side_owes_lowered : AppSide → ℕ → Bool → AppSide
 side_owes_lowered app b last = record app {
   inside = record app.inside { hands = hands_with app b last; scrub_owes = slice_set app.inside.scrub_owes b 0 };

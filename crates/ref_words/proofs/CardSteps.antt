@@ -62,6 +62,15 @@ SidesRule-card setting nic now apps rule step = record {
     lowered = λ b judged. rw step.setting (h.lowered b judged);
     stray = λ judged app here. rw step.dealt (h.stray judged app here);
   };
+  scrub = λ a app here. let s = rule.scrub a app here in record {
+    within = s.within;
+    done = s.done;
+    whole = s.whole;
+    taken = λ b less. rw (step.dealt, step.entry) (s.taken b less);
+    untaken = s.untaken;
+    quiet = s.quiet;
+    loans = s.loans;
+  };
   scrubbed = λ a app here done. let none = rule.scrubbed a app here done in
       record { loans = none.loans; owed = λ b. rw (step.dealt, step.entry) (none.owed b) };
 }

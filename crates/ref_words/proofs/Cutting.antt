@@ -86,6 +86,15 @@ module _ (setting : Setting) (words : Words) (nic : NicSide) (apps : List AppSid
         scrubbed = r.scrubbed;
         strays = r.strays;
       };
+      scrub = let s = rule.sides.scrub a app here in record {
+        within = s.within;
+        done = s.done;
+        whole = s.whole;
+        taken = s.taken;
+        untaken = s.untaken;
+        quiet = s.quiet;
+        loans = s.loans;
+      };
       scrubbed = λ done. let none = rule.sides.scrubbed a app here done in record { loans = none.loans; owed = none.owed };
       way = refl;
       came_back = λ b. refl;

@@ -28,7 +28,7 @@ use Rattle.board_face.proofs.OpenedLemmas.{FillingsFit-opened, IsFilledByOne-ope
 use Rattle.ref_words.specs.declared.view.View.{View}
 use Rattle.ref_words.specs.Words.{AreSlots, opened_words, free_list, free_word, listed_in, user_of, roles_of, note_width, refill_width}
 use Rattle.ref_words.specs.Seated.{Seated, no_role, side_at}
-use Rattle.ref_words.specs.Sides.{HasScrubLists, HasFreeReserve, IsDealtInOrder, HasNoneOwed}
+use Rattle.ref_words.specs.Sides.{HasScrubLists, HasFreeReserve, IsDealtInOrder, HasNoneOwed, IsScrubbedSoFar}
 use Rattle.ref_words.specs.Rings.{slot_of, AreRefills}
 use Rattle.ref_words.specs.Rule.{RefRule}
 
@@ -195,6 +195,19 @@ module _ (setting : Setting) where
       dealt = λ a app here. subst (IsDealtInOrder (new_nic setting)) here.is
           (All-new (IsDealtInOrder (new_nic setting)) setting 0 (apps_of setting) (λ n. record { order = refl }) a app here.there);
       hand = λ inhand e. absurd (let none : ⊥ = cc in none);
+      scrub = λ a app here.
+          let some : 0 < total setting.layout = omega (arith, here.there, length-new_apps setting 0 (apps_of setting)) in
+          subst (IsScrubbedSoFar (new_nic setting)) here.is
+          (All-new (IsScrubbedSoFar (new_nic setting)) setting 0 (apps_of setting)
+          (λ n. record {
+            within = omega arith;
+            done = λ e. absurd (false≢true e);
+            whole = λ e. absurd (omega (arith, e, some));
+            taken = λ b less. absurd (omega (arith, less));
+            untaken = λ b past. all-alike (total setting.layout) b 0;
+            quiet = λ less. absurd (omega (arith, less));
+            loans = λ less. refl;
+          }) a app here.there);
       scrubbed = λ a app here. subst (λ x. x.view.scrubbed ≡ true → HasNoneOwed (new_nic setting) x) here.is
           (All-new (λ x. x.view.scrubbed ≡ true → HasNoneOwed (new_nic setting) x) setting 0 (apps_of setting) (λ n e. absurd
           (false≢true e)) a app here.there);

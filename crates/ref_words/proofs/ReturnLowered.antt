@@ -156,6 +156,15 @@ module _ (setting : Setting) (words : Words) (nic : NicSide) (apps : List AppSid
             lowered = λ c e. absurd (let none : ⊥ = cc in none);
             stray = λ e. absurd (let none : ⊥ = cc in none);
           });
+      scrub = λ k x here. let s = rule.sides.scrub k x here in record {
+        within = s.within;
+        done = s.done;
+        whole = s.whole;
+        taken = λ c less. omega (arith, s.taken c less, ap (λ h. length (drop h (returned_in c x))) (ends c x));
+        untaken = s.untaken;
+        quiet = s.quiet;
+        loans = s.loans;
+      };
       scrubbed = λ k x here done. let none = rule.sides.scrubbed k x here done in
           record { loans = none.loans; owed = λ c. omega (arith, none.owed c, ap (λ h. length (drop h (returned_in c x))) (ends c x)) };
     };

@@ -2,7 +2,8 @@
 use Rattle.std.proofs.Common.{◌≡◌, ⊎_elim, ℕ, ◌+◌, ◌<◌, ◌≤◌, Bool, true, false, List, [], length, set, get_or, refl, ap, sym}
 use Rattle.std.proofs.Common.{◌∙◌, arith, subst}
 use Rattle.std.proofs.Common.{length-drop, inl}
-use Rattle.std.specs.Prelude.{◌≢◌, ◌==◌, if◌then◌else◌, slice_index}
+use Rattle.std.specs.Prelude.{◌≢◌, ◌==◌, if◌then◌else◌, nat_eq, slice_index}
+use Rattle.std.proofs.lemmas.Bool.{cases_lt, false≢true}
 use Rattle.std.proofs.lemmas.Bool.Decides.{eqb_tells}
 use Rattle.std.proofs.lemmas.List.{length-set, get_or-set_same, get_or-set_other}
 use Rattle.area_layout.specs.Layout.{total}
@@ -17,7 +18,7 @@ use Rattle.board_face.specs.Steps.{side_user_taken}
 use Rattle.board_face.specs.declared.views.parts.Setting.{Setting}
 use Rattle.board_face.specs.declared.views.nic.NicSide.{NicSide}
 use Rattle.board_face.specs.declared.views.app.AppSide.{AppSide}
-use Rattle.board_face.proofs.Parts.{user_part, owed_count, loans_in, returned_in-count}
+use Rattle.board_face.proofs.Parts.{user_part, owed_count, owed-count, loans_in, returned_in-count}
 use Rattle.board_face.proofs.NicLemmas.{app_count-stretch}
 use Rattle.board_face.proofs.AppLemmas.{pool_count-app, user_count-app}
 use Rattle.board_face.proofs.PlacesByEvent.{app_places-stretch}
@@ -25,14 +26,14 @@ use Rattle.board_face.proofs.ArePlacedLemmas.{ArePlaced-app}
 use Rattle.board_face.proofs.MadeLastLemmas.{IsMadeLast-app}
 use Rattle.board_face.proofs.IsFilledByOneLemmas.{IsFilledByOne-app}
 use Rattle.board_face.proofs.FillingsFitLemmas.{FillingsFit-same}
-use Rattle.board_face.proofs.ListLemmas.{eqb_same}
+use Rattle.board_face.proofs.ListLemmas.{eqb_same, not-eqb}
 use Rattle.ref_words.specs.Words.{Words, user_of, listed_in}
 use Rattle.ref_words.specs.Sides.{HasScrubLists}
 use Rattle.ref_words.specs.Rule.{RefRule}
 use Rattle.ref_words.proofs.RingSteps.{refills-app}
 use Rattle.ref_words.proofs.Counting.{if_so}
 use Rattle.ref_words.proofs.Frees.{AreKept-app, free_places-hands}
-use Rattle.ref_words.proofs.SideSteps.{mine, SidesRule-app}
+use Rattle.ref_words.proofs.SideSteps.{mine, own-setting, SidesRule-app}
 use Rattle.ref_words.proofs.UserSteps.{IsUserStep}
 use Rattle.ref_words.proofs.Judging.{own-users}
 
@@ -52,7 +53,7 @@ if-part true l m n e = absurd (let none : ⊥ = cc in none)
 if-part false l m n e = refl
 
 module _ (setting : Setting) (words : Words) (nic : NicSide) (apps : List AppSide) (a : ℕ) (app : AppSide) (b : ℕ)
-    (rule : RefRule setting words nic apps) (here : IsApp apps a app) (there : b < total setting.layout) (quiet : app.view.quiet ≡ true)
+    (rule : RefRule setting words nic apps) (here : IsApp apps a app) (there : b < total setting.layout) (next : app.inside.scrub_mark ≡ b) (quiet : app.view.quiet ≡ true)
     (lent : app.view.loans ≡ []) (counted : app.view.scrubbed ≡ false) where
   abbrev n : ℕ
   n = user_of words a b
@@ -102,7 +103,8 @@ module _ (setting : Setting) (words : Words) (nic : NicSide) (apps : List AppSid
       omega (
         arith,
         pool_count-app c nic apps a app now here,
-        app_count-stretch c 0 nic nic app now.inside refl (sound c) (sound-now c) (omega (arith, took c, owes c)),
+        app_count-stretch c 0 nic nic app now.inside refl (sound c) (record { ended = (sound-now c).ended; returning = (sound-now c).returning })
+            (omega (arith, took c, owes c)),
       )
 
   is-app : a < apps_of setting
@@ -111,6 +113,54 @@ module _ (setting : Setting) (words : Words) (nic : NicSide) (apps : List AppSid
   -- what the application owes then
   owed-now : (c : ℕ) → owed_count c nic now + if_so (b == c) n ≡ owed_count c nic app
   owed-now c = omega (arith, took c, few c, returned_in-count c app)
+
+  layouts : total app.view.setting.layout ≡ total setting.layout
+  layouts = ap (λ s. total s.layout) (own-setting setting nic apps a app rule.sides here)
+
+  if-other : (c : ℕ) → b < c → if_so (b == c) n ≡ 0
+  if-other c less = ap (λ x. if_so x n) (not-eqb b c (λ e. absurd (omega (arith, e, less))))
+
+  -- nothing is owed any more of the buffers to which the scrub came
+  none-below : (c : ℕ) → c < b + 1 → owed_count c nic now ≡ 0
+  none-below c less =
+      ⊎_elim
+      (λ t. let e : b ≡ c = t.1 in
+      subst (λ x. owed_count x nic now ≡ 0) e (omega (arith, owed-now b, owed, ap (λ x. if_so x n) (eqb_same b))))
+      (λ t. let ne : b ≢ c = t.1 in
+      omega (
+        arith,
+        owed-now c,
+        owed-count c nic app,
+        (rule.sides.scrub a app here).taken c (below c less ne),
+      ))
+      (eqb_tells b c)
+    where
+      below : (c : ℕ) → c < b + 1 → b ≢ c → c < app.inside.scrub_mark
+      below c less ne = ⊎_elim (λ small. omega (arith, small, next)) (λ past. absurd (ne (omega (arith, past, less)))) (cases_lt c b)
+
+  -- nor of a number that is no buffer's
+  none-past : (c : ℕ) → total setting.layout ≤ c → owed_count c nic now ≡ 0
+  none-past c past =
+      let bare : AppSide = record app { view = record app.view { returned = [] } } in
+      omega (
+        arith,
+        owed-now c,
+        pool_count-app c nic apps a app bare here,
+        (rule.sides.by_one c).inside (omega (arith, past, ap (λ s. total s.layout) rule.sides.set.card)),
+      )
+
+  all-below : nat_eq (b + 1) (total app.view.setting.layout) ≡ true → b + 1 ≡ total setting.layout
+  all-below e = ⊎_elim
+      (λ t. t.1 ∙ layouts)
+      (λ t. absurd (false≢true (sym t.0 ∙ e)))
+      (eqb_tells (b + 1) (total app.view.setting.layout))
+
+  none-anywhere : (c : ℕ) → b + 1 ≡ total setting.layout → owed_count c nic now ≡ 0
+  none-anywhere c whole =
+      ⊎_elim
+      (λ less. none-below c (omega (arith, less, whole)))
+      (λ past. none-past c past)
+      (cases_lt c (total setting.layout))
 
   places-less : (c : ℕ) → ended_in c nic app + returning_count c nic now ≤ ended_in c nic now + returning_count c nic app
   places-less c = omega (arith, took c, owes c)
@@ -186,10 +236,25 @@ module _ (setting : Setting) (words : Words) (nic : NicSide) (apps : List AppSid
             named = r.named;
             settled = r.settled;
             quiet = r.quiet;
-            scrubbed = r.scrubbed;
+            scrubbed = λ done. way;
             strays = r.strays;
           };
-      scrubbed = λ done. absurd (let wrong : true ≡ false = sym done ∙ counted in let no : ⊥ = cc in no);
+      scrub = record {
+        within = omega (arith, there, layouts);
+        done = λ e. ⊎_elim
+            (λ t. t.1)
+            (λ t. absurd (false≢true (sym t.0 ∙ e)))
+            (eqb_tells (b + 1) (total app.view.setting.layout));
+        whole = λ e. subst (λ m. (b + 1 == m) ≡ true) e (eqb_same (b + 1));
+        taken = λ c less. omega (arith, owed-count c nic now, none-below c less);
+        untaken = λ c past. omega (arith, took c, (rule.sides.scrub a app here).untaken c (omega (arith, next, past)), if-other c (omega (arith, past)));
+        quiet = λ some. quiet;
+        loans = λ some. lent;
+      };
+      scrubbed = λ done. record {
+        loans = lent;
+        owed = λ c. omega (arith, owed-count c nic now, none-anywhere c (all-below done));
+      };
       way = refl;
       came_back = λ c. refl;
       ended = inl ((rule.sides.returns a app here).quiet quiet);

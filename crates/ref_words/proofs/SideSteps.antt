@@ -17,7 +17,7 @@ use Rattle.board_face.specs.declared.views.parts.Setting.{Setting}
 use Rattle.board_face.specs.declared.views.nic.NicSide.{NicSide}
 use Rattle.board_face.specs.declared.views.app.AppSide.{AppSide}
 use Rattle.board_face.proofs.SideLemmas.{AreNumbered-set}
-use Rattle.ref_words.specs.Sides.{SidesRule, HasScrubLists, HasFreeReserve, IsDealtInOrder, HasNoneOwed, IsFirst, IsFirstRaw}
+use Rattle.ref_words.specs.Sides.{SidesRule, HasScrubLists, HasFreeReserve, IsDealtInOrder, HasNoneOwed, IsScrubbedSoFar, IsFirst, IsFirstRaw}
 
 -- What is to be known of the application's new side.
 pub record IsAppStep (nic : NicSide) (apps : List AppSide) (a : ℕ) (app now : AppSide) : Type 0 where
@@ -37,6 +37,7 @@ pub record IsAppStep (nic : NicSide) (apps : List AppSide) (a : ℕ) (app now : 
   pub few : HasFewPicks now
   pub dealt : IsDealtInOrder nic now
   pub returns : AreReturns nic now
+  pub scrub : IsScrubbedSoFar nic now
   pub scrubbed : now.view.scrubbed ≡ true → HasNoneOwed nic now
   pub way : entries_on_way nic now ≡ entries_on_way nic app
   pub came_back : (b : ℕ) → returned_in b now ≡ returned_in b app
@@ -132,6 +133,7 @@ module _ (setting : Setting) (nic : NicSide) (apps : List AppSide) (a : ℕ) (ap
         lowered = h.lowered;
         stray = λ judged. then-now (λ x. IsFirstRaw (entries_on_way nic x)) inhand.app (h.stray judged) (λ e was. rw step.way was);
       };
+      scrub = λ k. then-now (IsScrubbedSoFar nic) k (λ x is. rule.scrub k x is) (λ e was. step.scrub);
       scrubbed = λ k x is done. then-now (λ y. y.view.scrubbed ≡ true
           → HasNoneOwed nic y) k (λ y at. rule.scrubbed k y at) (λ e was. step.scrubbed) x is done;
     }

@@ -36,7 +36,7 @@ use Rattle.ref_words.proofs.Beginning.{few-holders}
 
 module _ (setting : Setting) (words : Words) (nic : NicSide) (apps : List AppSide) (a : ℕ) (app : AppSide) (own : Filling)
     (rule : RefRule setting words nic apps) (here : IsApp apps a app) (out : HasSpare app.view own) (some : IsFilled app.view own)
-    (can : CanLend app.view) where
+    (can : CanLend app.view) (unbegun : app.inside.scrub_mark ≡ 0) where
   abbrev now : AppSide
   now = app_at app (lent_own app.view own)
 
@@ -112,6 +112,15 @@ module _ (setting : Setting) (words : Words) (nic : NicSide) (apps : List AppSid
         quiet = r.quiet;
         scrubbed = r.scrubbed;
         strays = r.strays;
+      };
+      scrub = let s = rule.sides.scrub a app here in record {
+        within = s.within;
+        done = s.done;
+        whole = s.whole;
+        taken = s.taken;
+        untaken = s.untaken;
+        quiet = s.quiet;
+        loans = λ some. absurd (omega (arith, unbegun, some));
       };
       scrubbed = λ done. absurd (let wrong : true ≡ false = sym done ∙ can.counted in let no : ⊥ = cc in no);
       way = refl;

@@ -180,6 +180,21 @@ module _ (setting : Setting) (words : Words) (nic : NicSide) (apps : List AppSid
             lowered = λ c e. let same : b ≡ c = cc in subst (λ n. n < total nic.view.setting.layout) same (known.owed b refl).0;
             stray = λ e. absurd (let none : ⊥ = cc in none);
           });
+      scrub = λ k x here. let s = rule.sides.scrub k x here in record {
+        within = s.within;
+        done = s.done;
+        whole = s.whole;
+        taken = λ c less. omega (
+          arith,
+          s.taken c less,
+          ends c x,
+          length-drop (ended_in c nic x) (returned_in c x),
+          length-drop (ended_in c now x) (returned_in c x),
+        );
+        untaken = s.untaken;
+        quiet = s.quiet;
+        loans = s.loans;
+      };
       scrubbed = λ k x here done. let none = rule.sides.scrubbed k x here done in
           record {
             loans = none.loans;

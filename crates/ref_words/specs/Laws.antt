@@ -16,7 +16,7 @@ use Rattle.board_face.specs.AppCalls.{HasHeld, HasSpare, HasNoneIn, IsFilled, Ca
 use Rattle.board_face.specs.Opened.{new_nic, new_app, new_apps}
 use Rattle.board_face.specs.Sides.{nic_at, app_at, IsApp}
 use Rattle.board_face.specs.Steps.{side_begun, side_shut, side_judged, side_user_lowered, side_both_lowered}
-use Rattle.board_face.specs.Steps.{side_released, side_spare_begun, side_user_taken, side_owes_lowered}
+use Rattle.board_face.specs.Steps.{HasSearched, side_released, side_spare_begun, side_user_taken, side_owes_lowered}
 use Rattle.board_face.specs.declared.views.parts.Setting.{Setting}
 use Rattle.board_face.specs.declared.views.parts.Filling.{Filling}
 use Rattle.board_face.specs.declared.views.nic.Judged.TheVariants.{Not, Owed, UserLowered}
@@ -89,7 +89,8 @@ pub record LowersPool (setting : Setting) (words : Words) (b n : ℕ) (nic : Nic
   pub rule : RefRule setting (with_pool words b (pool_of words b - n)) nic apps
 
 -- A buffer that nobody has is taken: by the card, the one that entered its cache last, or by an application as a spare, one that
--- it picked from the free list or its reserve, which it saw free. The taking role has nothing there then.
+-- it picked from the free list or, once it has looked at each free word, its reserve, which it saw free. The taking role has
+-- nothing there then.
 pub record TakeLaw : Type 0 where
   pub card : (setting : Setting) (words : Words) (nic : NicSide) (apps : List AppSide) (b : ℕ)
       → RefRule setting words nic apps → nic.view.cache ≡ (took nic.view b).cache ++ b ∷ []
@@ -99,8 +100,8 @@ pub record TakeLaw : Type 0 where
       → MaySpare app.view
       → HasNoneIn app.view b × RaisesFree setting words b nic (slice_set apps a (side_spare_begun app b))
   pub reserve : (setting : Setting) (words : Words) (nic : NicSide) (apps : List AppSide) (a : ℕ) (app : AppSide)
-      → RefRule setting words nic apps → IsApp apps a app → app.inside.reserve_seen_free ≡ true
-      → MaySpare app.view
+      → RefRule setting words nic apps → IsApp apps a app → HasSearched app
+      → app.inside.reserve_seen_free ≡ true → MaySpare app.view
       → HasNoneIn app.view (reserve_of app.view)
       × RaisesFree setting words (reserve_of app.view) nic (slice_set apps a (side_spare_begun app (reserve_of app.view)))
 
@@ -138,13 +139,15 @@ pub record RaisesUserCount (setting : Setting) (words : Words) (a b : ℕ) (nic 
   pub rule : RefRule setting (with_user words a b (user_of words a b + 1)) nic apps
 
 -- An application lends: a held piece, or a spare that it filled, becomes a loan, and the reference that it has goes on. No raw
--- entry of the application is on its way.
+-- entry of the application is on its way, and no scrub has begun.
 pub record LendStepLaw : Type 0 where
   pub held : (setting : Setting) (words : Words) (nic : NicSide) (apps : List AppSide) (a : ℕ) (app : AppSide) (place : Place)
       → RefRule setting words nic apps → IsApp apps a app → HasHeld app.view place → CanLend app.view
+      → app.inside.scrub_mark ≡ 0
       → RaisesUserCount setting words a place.buffer nic (slice_set apps a (app_at app (lent app.view place)))
   pub spare : (setting : Setting) (words : Words) (nic : NicSide) (apps : List AppSide) (a : ℕ) (app : AppSide) (own : Filling)
       → RefRule setting words nic apps → IsApp apps a app → HasSpare app.view own → IsFilled app.view own → CanLend app.view
+      → app.inside.scrub_mark ≡ 0
       → RaisesUserCount setting words a own.buffer nic (slice_set apps a (app_at app (lent_own app.view own)))
 
 -- The card looks at a user count for the entry in hand, which names its buffer. Above 0 the entry is a return, and a loan is
@@ -167,11 +170,11 @@ ReturnLaw =
     → RefRule setting words nic apps → nic.inside.entry ≡ Some (record { app = a; entry = entry; judged = Owed b })
     → LowersUserCount setting words a b (side_user_lowered nic a entry b) apps
 
--- An application's scrub swaps it with 0. All slots were seen free and no loan is out, so all that the application owes in the
--- buffer is returning.
+-- An application's scrub swaps it with 0, at the buffer to which the scrub came. All slots were seen free and no loan is out, so all
+-- that the application owes in the buffer is returning. With the last buffer the scrub is done.
 abbrev pub ScrubLaw : Type 0
 ScrubLaw =
     (setting : Setting) (words : Words) (nic : NicSide) (apps : List AppSide) (a : ℕ) (app : AppSide) (b : ℕ)
-    → RefRule setting words nic apps → IsApp apps a app → b < total setting.layout → app.view.quiet ≡ true → app.view.loans ≡ []
-    → app.view.scrubbed ≡ false
+    → RefRule setting words nic apps → IsApp apps a app → b < total setting.layout → app.inside.scrub_mark ≡ b
+    → app.view.quiet ≡ true → app.view.loans ≡ [] → app.view.scrubbed ≡ false
     → RefRule setting (with_user words a b 0) nic (slice_set apps a (side_user_taken app b (user_of words a b)))

@@ -1,5 +1,5 @@
 -- What holds of the sides of all roles between any two steps, whatever the words are.
-use Rattle.std.specs.Prelude.{◌≡◌, ℕ, ◌<◌, true, false, List, [], ◌∷◌, length, map, take, All, Some}
+use Rattle.std.specs.Prelude.{◌≡◌, ℕ, ◌<◌, ◌≤◌, true, false, List, [], ◌∷◌, length, map, take, All, Some, slice_index}
 use Rattle.zr_kinds.specs.declared.ring.Rqe.{Rqe}
 use Rattle.area_layout.specs.Layout.{total}
 use Rattle.board_face.specs.NicCalls.{apps_of}
@@ -30,6 +30,17 @@ pub record AreOf (setting : Setting) (nic : NicSide) (apps : List AppSide) : Typ
 pub record HasScrubLists (setting : Setting) (app : AppSide) : Type 0 where
   pub took : length app.inside.scrub_took ≡ total setting.layout
   pub owes : length app.inside.scrub_owes ≡ total setting.layout
+
+-- How far an application's scrub came: nothing is owed any more of the buffers below its mark, and nothing was taken of those
+-- from there on. It began when all refill slots were quiet and no loan was out, and with the last buffer it is done.
+pub record IsScrubbedSoFar (nic : NicSide) (app : AppSide) : Type 0 where
+  pub within : app.inside.scrub_mark ≤ total app.view.setting.layout
+  pub done : app.view.scrubbed ≡ true → app.inside.scrub_mark ≡ total app.view.setting.layout
+  pub whole : app.inside.scrub_mark ≡ total app.view.setting.layout → app.view.scrubbed ≡ true
+  pub taken : (b : ℕ) → b < app.inside.scrub_mark → length (owed_in b nic app) ≡ 0
+  pub untaken : (b : ℕ) → app.inside.scrub_mark ≤ b → slice_index app.inside.scrub_took b ≡ 0
+  pub quiet : 0 < app.inside.scrub_mark → app.view.quiet ≡ true
+  pub loans : 0 < app.inside.scrub_mark → app.view.loans ≡ []
 
 -- an application that has seen its reserve free, and took no spare since, finds it so
 pub record HasFreeReserve (nic : NicSide) (apps : List AppSide) (app : AppSide) : Type 0 where
@@ -83,7 +94,9 @@ pub record SidesRule (setting : Setting) (nic : NicSide) (apps : List AppSide) :
   pub few : All HasFewPicks apps
   -- what the card dealt with are the first of the entries that were written, in order
   pub dealt : (a : ℕ) (app : AppSide) → IsApp apps a app → IsDealtInOrder nic app
-  -- returns on their way, the entry in hand, and that an application which has scrubbed has no loan and owes none
+  -- returns on their way, the entry in hand, how far a scrub came, and that an application which has scrubbed has no loan and owes
+  -- none
   pub returns : (a : ℕ) (app : AppSide) → IsApp apps a app → AreReturns nic app
   pub hand : (inhand : EntryInHand) → nic.inside.entry ≡ Some inhand → IsInHand nic apps inhand
+  pub scrub : (a : ℕ) (app : AppSide) → IsApp apps a app → IsScrubbedSoFar nic app
   pub scrubbed : (a : ℕ) (app : AppSide) → IsApp apps a app → app.view.scrubbed ≡ true → HasNoneOwed nic app

@@ -90,7 +90,7 @@ pub struct AppView {
     pub ended: bool,
     /// How many spares it was given.
     pub spares: u64,
-    /// The pool buffers among them, in order.
+    /// The pool buffers that it picked for spares, in order. On a board of words one is picked a step before it is given.
     pub picked: LinkedList<u32>,
     /// The sent pieces that it has out.
     pub helds: LinkedList<HeldPiece>,
@@ -133,6 +133,8 @@ pub struct AppInside {
     pub words_without: LinkedList<u32>,
     /// The reserve's pool count was seen at 0, and no spare was taken since.
     pub reserve_seen_free: bool,
+    /// How many buffers a scrub on a board of words has gone through, from the first on.
+    pub scrub_mark: u32,
     /// How many user references a scrub took of each buffer.
     pub scrub_took: LinkedList<u64>,
     /// How many of these are still to be taken from each pool count.

@@ -4,7 +4,7 @@ ghost use Rattle.board_face.specs.AppCalls.{HasHeld, HasNoneIn};
 ghost use Rattle.board_face.specs.AppEvents.{cut, reserve_of};
 ghost use Rattle.board_face.specs.Sides.{app_at};
 ghost use Rattle.board_face.specs.Texts.{unsplit_bytes};
-ghost use Rattle.board_face.specs.Steps.{side_released, side_spare_begun, side_owes_lowered};
+ghost use Rattle.board_face.specs.Steps.{HasSearched, side_released, side_spare_begun, side_owes_lowered};
 ghost use Rattle.ref_words.specs.Seated.{app_view};
 ghost use Rattle.word_board.specs.Board.{app_of};
 
@@ -32,13 +32,14 @@ pub(crate) fn take_picked(words: &SharedWords, seat: &mut WordSeat, buffer: u32)
     add_as::<Brand, u32>(table, seat, word, 1, buffer);
 }
 
-/// An application holds its reserve, which it saw free, as a spare: its pool count is raised from 0. Nothing of the
-/// application's lay there.
+/// An application that has looked at each free word holds its reserve, which it saw free, as a spare: its pool count is raised
+/// from 0. Nothing of the application's lay there.
 pub(crate) fn take_reserve(words: &SharedWords, seat: &mut WordSeat, reserve: u32)
     requires table { seat.old.table_id ≡ words.now.table.shared.table_id }
     requires app { seat.old.me ≡ (app_view (app_of seat.old.me.0), []) }
     requires within { reserve < total words.now.map.layout }
     requires own { reserve ≡ reserve_of (app_of seat.old.me.0).view }
+    requires searched { HasSearched (app_of seat.old.me.0) }
     requires free { (app_of seat.old.me.0).inside.reserve_seen_free ≡ true }
     requires due { (app_of seat.old.me.0).view.spares < unsplit_bytes (map (λ t. t.note) (app_of seat.old.me.0).view.taken) }
     ensures table { seat.new.table_id ≡ seat.old.table_id }

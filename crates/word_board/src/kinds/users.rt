@@ -25,6 +25,7 @@ pub(crate) fn lend_held(words: &SharedWords, seat: &mut WordSeat, app: u32, plac
     requires within { place.buffer < total words.now.map.layout }
     requires out { HasHeld (app_of seat.old.me.0).view place }
     requires can { CanLend (app_of seat.old.me.0).view }
+    requires unbegun { (app_of seat.old.me.0).inside.scrub_mark ≡ 0 }
     ensures table { seat.new.table_id ≡ seat.old.table_id }
     ensures event { seat.new.me ≡ (app_view (app_at (app_of seat.old.me.0) (lent (app_of seat.old.me.0).view place)), []) }
 {
@@ -44,6 +45,7 @@ pub(crate) fn lend_spare(words: &SharedWords, seat: &mut WordSeat, app: u32, own
     requires out { HasSpare (app_of seat.old.me.0).view own }
     requires filled { IsFilled (app_of seat.old.me.0).view own }
     requires can { CanLend (app_of seat.old.me.0).view }
+    requires unbegun { (app_of seat.old.me.0).inside.scrub_mark ≡ 0 }
     ensures table { seat.new.table_id ≡ seat.old.table_id }
     ensures event { seat.new.me ≡ (app_view (app_at (app_of seat.old.me.0) (lent_own (app_of seat.old.me.0).view own)), []) }
 {
@@ -99,13 +101,15 @@ pub(crate) fn lower_user(
     sub_as::<Brand, (u32, Rqe, u32)>(table, seat, word, 1, (app, entry, buffer));
 }
 
-/// An application's scrub swaps its user count for a buffer with 0. It answers how many references it took.
+/// An application's scrub swaps its user count for the buffer to which it came with 0. It answers how many references it took.
+/// With the last buffer the application has scrubbed.
 pub(crate) fn scrub_user(words: &SharedWords, seat: &mut WordSeat, app: u32, buffer: u32) -> u64
     requires table { seat.old.table_id ≡ words.now.table.shared.table_id }
     requires app { seat.old.me ≡ (app_view (app_of seat.old.me.0), []) }
     requires number { (app_of seat.old.me.0).view.app ≡ app }
     requires few { app < apps_of words.now.map }
     requires within { buffer < total words.now.map.layout }
+    requires next { (app_of seat.old.me.0).inside.scrub_mark ≡ buffer }
     requires quiet { (app_of seat.old.me.0).view.quiet ≡ true }
     requires lent { (app_of seat.old.me.0).view.loans ≡ [] }
     requires counted { (app_of seat.old.me.0).view.scrubbed ≡ false }

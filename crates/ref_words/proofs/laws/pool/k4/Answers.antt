@@ -21,7 +21,7 @@ returns c = record {
       rule = RefRule-pool setting words nic nic apps _ b _ rule (spare.picked setting words nic apps a app b rule here due has);
     },
   );
-  reserve = λ setting words nic apps a app rule here free due. (
+  reserve = λ setting words nic apps a app rule here searched free due. (
     spare.apart-reserve setting words nic apps a app (reserve_of app.view) rule here due refl free,
     record {
       unheld = spare.none-reserve setting words nic apps a app (reserve_of app.view) rule here due refl free;

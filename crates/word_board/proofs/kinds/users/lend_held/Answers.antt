@@ -22,7 +22,7 @@ add_as-requires-clause-allows c =
     let within = subst (λ s. c.args.place.buffer < total s.layout) words.keyed c.requires.within in
     app-step setting words.table.shared.table_id.slots c.args.seat.now.id c.user-word.result (λ n. (n + 1) % 2 ^ 64) (λ _. Unit {0}) mine next (λ n. refl)
     (λ ws nic apps rule here small.
-    let law = c.k7.ensures.held setting ws nic apps mine.view.app mine c.args.place rule here c.requires.out c.requires.can in
+    let law = c.k7.ensures.held setting ws nic apps mine.view.app mine c.args.place rule here c.requires.out c.requires.can c.requires.unbegun in
     (raises-user setting ws mine.view.app c.args.place.buffer c.user-word.result at few within rule law.few law.rule, tt))
     c.args.seat.now.me c.requires.app
 

@@ -22,7 +22,8 @@ swap_as-requires-clause-allows c =
     let within = subst (λ s. c.args.buffer < total s.layout) words.keyed c.requires.within in
     app-step setting words.table.shared.table_id.slots c.args.seat.now.id c.user-word.result (λ _. 0) (λ _. Unit {0}) mine next (λ n. refl)
     (λ ws nic apps rule here small.
-    let law = c.k10.ensures setting ws nic apps mine.view.app mine c.args.buffer rule here within c.requires.quiet c.requires.lent c.requires.counted in (
+    let law = c.k10.ensures setting ws nic apps mine.view.app mine c.args.buffer rule here within c.requires.next
+    c.requires.quiet c.requires.lent c.requires.counted in (
       clears-user setting ws mine.view.app c.args.buffer c.user-word.result at few within rule
           (of-user setting ws mine.view.app c.args.buffer c.user-word.result at few within rule (λ n. RefRule setting
           (with_user ws mine.view.app c.args.buffer 0) nic (set apps mine.view.app (next n))) law),
