@@ -74,6 +74,9 @@ module _ (setting : Setting) (words : Words) (nic : NicSide) (apps : List AppSid
       made = IsMadeLast-begun nic apps own n [] out idle (rule.sides.placed own.buffer);
       dealt = refl;
       entry = refl;
+      sent = refl;
+      note_slots = refl;
+      refill_slots = refl;
       unheld = λ b past none. omega (arith, more b, none, held b);
     });
     here = omega (arith, rule.pool own.buffer there, more own.buffer, weight-same own.buffer);

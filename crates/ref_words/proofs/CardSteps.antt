@@ -20,6 +20,9 @@ pub record IsCardStep (nic now : NicSide) (apps : List AppSide) : Type 0 where
   pub made : IsMadeLast now apps
   pub dealt : now.view.dealt ≡ nic.view.dealt
   pub entry : now.inside.entry ≡ nic.inside.entry
+  pub sent : now.view.sent ≡ nic.view.sent
+  pub note_slots : now.inside.note_slots ≡ nic.inside.note_slots
+  pub refill_slots : now.inside.refill_slots ≡ nic.inside.refill_slots
   -- a reserve that nobody had stays so
   pub unheld : (b : ℕ) → pool_buffers nic.view.setting.layout ≤ b → pool_count b nic apps ≡ 0 → pool_count b now apps ≡ 0
 
@@ -53,11 +56,16 @@ SidesRule-card setting nic now apps rule step = record {
       let pools : app.view.setting.layout.buffers ≡ nic.view.setting.layout.buffers = ap (λ s. s.layout.buffers) (theirs ∙ sym rule.set.card) in
       record { unheld = λ free. step.unheld (reserve_of app.view) (omega (arith, pools)) ((rule.reserves a app here).unheld free) };
   few = rule.few;
+  honoured = rw step.dealt rule.honoured;
+  slots = record { notes = rw step.note_slots rule.slots.notes; refills = rw step.refill_slots rule.slots.refills };
+  entries = rule.entries;
+  notes = rw step.sent rule.notes;
   dealt = λ a app here. record { order = rw step.dealt (rule.dealt a app here).order };
   returns = λ a app here. AreReturns-card nic now app step.dealt step.entry (rule.returns a app here);
   hand = λ inhand is. let h = rule.hand inhand (sym step.entry ∙ is) in record {
     app = h.app;
     first = λ app here. rw step.dealt (h.first app here);
+    named = λ b e. rw step.setting (h.named b e);
     owed = λ b judged. rw (step.setting, step.dealt, step.entry) (h.owed b judged);
     lowered = λ b judged. rw step.setting (h.lowered b judged);
     stray = λ judged app here. rw step.dealt (h.stray judged app here);

@@ -74,6 +74,7 @@ module _ (setting : Setting) (words : Words) (nic : NicSide) (apps : List AppSid
       };
       unheld = λ b past ne none. omega (arith, more b, held b, none);
       few = let f = mine setting nic apps a app rule.sides here HasFewPicks rule.sides.few in record { picks = f.picks; spares = f.spares };
+      written = refl;
       dealt = record { order = (rule.sides.dealt a app here).order };
       returns = let r = rule.sides.returns a app here in record {
         written = r.written;
@@ -106,5 +107,5 @@ module _ (setting : Setting) (words : Words) (nic : NicSide) (apps : List AppSid
     free = AreFreeOnce-more (listed_in words) nic nic apps apps' place.buffer refl more held
         (λ b. omega (arith, free_places-hands (listed_in words) b nic apps a app now here)) rule.free;
     kept = AreKept-app (listed_in words) nic apps a app now here refl rule.kept;
-    refills = refills-app setting words nic apps a app now here refl refl refl rule.refills;
+    refills = refills-app setting words nic apps a app now here refl refl refl refl refl rule.refills;
   }

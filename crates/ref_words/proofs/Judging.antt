@@ -101,6 +101,10 @@ module _ (setting : Setting) (words : Words) (nic : NicSide) (apps : List AppSid
                 strays = r.strays;
               };
           dealt = λ k x here. record { order = (rule.sides.dealt k x here).order };
+          honoured = rule.sides.honoured;
+          slots = record { notes = rule.sides.slots.notes; refills = rule.sides.slots.refills };
+          entries = rule.sides.entries;
+          notes = rule.sides.notes;
           hand = hand;
           scrub = λ k x here. let s = rule.sides.scrub k x here in record {
             within = s.within;
@@ -216,6 +220,7 @@ module _ (setting : Setting) (words : Words) (nic : NicSide) (apps : List AppSid
       (record {
         app = known.app;
         first = known.first;
+        named = λ c e. absurd (let none : ⊥ = cc in none);
         owed = λ c e. absurd (let none : ⊥ = cc in none);
         lowered = λ c e. absurd (let none : ⊥ = cc in none);
         stray = λ e app here. stray-raw app here (zero refl);
@@ -230,6 +235,8 @@ module _ (setting : Setting) (words : Words) (nic : NicSide) (apps : List AppSid
       (record {
         app = known.app;
         first = known.first;
+        named = λ c e.
+            let same : b ≡ c = cc in subst (λ n. judged nic.view.setting.layout entry ≡ Some n) same (rw rule.sides.set.card named);
         owed = λ c e.
             let same : b ≡ c = cc in
             subst

@@ -35,7 +35,8 @@ use Rattle.ref_words.proofs.UserSteps.{IsUserStep}
 use Rattle.ref_words.proofs.Beginning.{few-holders}
 
 module _ (setting : Setting) (words : Words) (nic : NicSide) (apps : List AppSide) (a : ℕ) (app : AppSide) (place : Place)
-    (rule : RefRule setting words nic apps) (here : IsApp apps a app) (out : HasHeld app.view place) (can : CanLend app.view) (unbegun : app.inside.scrub_mark ≡ 0) where
+    (rule : RefRule setting words nic apps) (here : IsApp apps a app) (out : HasHeld app.view place) (can : CanLend app.view)
+    (unbegun : app.inside.scrub_mark ≡ 0) where
   abbrev now : AppSide
   now = app_at app (lent app.view place)
 
@@ -100,6 +101,7 @@ module _ (setting : Setting) (words : Words) (nic : NicSide) (apps : List AppSid
       reserve = record { unheld = λ free. same_pool (reserve_of app.view) ∙ (rule.sides.reserves a app here).unheld free };
       unheld = λ b past ne none. same_pool b ∙ none;
       few = let f = mine setting nic apps a app rule.sides here HasFewPicks rule.sides.few in record { picks = f.picks; spares = f.spares };
+      written = refl;
       dealt = record { order = (rule.sides.dealt a app here).order };
       returns = let r = rule.sides.returns a app here in record {
         written = r.written;
@@ -131,5 +133,5 @@ module _ (setting : Setting) (words : Words) (nic : NicSide) (apps : List AppSid
     pool = same_pool;
     free = λ b. omega (arith, free_places-hands (listed_in words) b nic apps a app now here);
     kept = AreKept-app (listed_in words) nic apps a app now here refl rule.kept;
-    refills = refills-app setting words nic apps a app now here refl refl refl rule.refills;
+    refills = refills-app setting words nic apps a app now here refl refl refl refl refl rule.refills;
   }

@@ -2,7 +2,7 @@
 use Rattle.std.proofs.Common.{◌≡◌, ⊎_elim, ℕ, zero, suc, ◌+◌, ◌-◌, ◌*◌, ◌/◌, ◌%◌, ◌<◌, ◌≤◌}
 use Rattle.std.proofs.Common.{List, [], ◌∷◌, length, get_or}
 use Rattle.std.proofs.Common.{mod-lt, replicate, length-drop, refl, ap, sym, ◌∙◌, arith, subst, length-append}
-use Rattle.std.specs.Prelude.{true, ◌==◌, min}
+use Rattle.std.specs.Prelude.{true, ◌==◌, min, All}
 use Rattle.std.specs.Int.{bit_at}
 use mathlib.Core.Option.{some, some-injective, some-ne-none}
 use lib.ListN.{get_elem?}
@@ -29,7 +29,7 @@ use Rattle.ref_words.specs.declared.view.View.{View}
 use Rattle.ref_words.specs.Words.{AreSlots, opened_words, free_list, free_word, listed_in, user_of, roles_of, note_width, refill_width}
 use Rattle.ref_words.specs.Seated.{Seated, no_role, side_at}
 use Rattle.ref_words.specs.Sides.{HasScrubLists, HasFreeReserve, IsDealtInOrder, HasNoneOwed, IsScrubbedSoFar}
-use Rattle.ref_words.specs.Rings.{slot_of, AreRefills}
+use Rattle.ref_words.specs.Rings.{slot_of, AreRefills, EntryFits}
 use Rattle.ref_words.specs.Rule.{RefRule}
 
 module _ (setting : Setting) where
@@ -129,17 +129,22 @@ module _ (setting : Setting) where
       let lie : get_or (opened_words setting).refills a [] ≡ slots = get_or-replicate (apps_of setting) a slots [] small in
       let ends : get_or (new_nic setting).inside.refill_slots a unseen ≡ unseen = get_or-replicate (apps_of setting) a unseen unseen small in
       rw (lie, ends) (record {
-        some = places_some;
-        many = length-replicate setting.places (replicate refill_width 0);
-        wide = λ k. ap length (slot-is places_some k);
-        order = omega arith;
-        room = omega arith;
-        full = λ k d taken written. absurd (omega (arith, taken, written));
-        free = λ k written taken. ap (λ slot. get_or slot 0 0) (slot-is places_some k);
-        writer_seen = λ e. absurd (false≢true e);
-        writer_words = λ e. absurd (false≢true e);
-        reader_seen = λ e. absurd (false≢true e);
-        reader_words = λ e. absurd (false≢true e);
+        ring = record {
+          some = places_some;
+          many = length-replicate setting.places (replicate refill_width 0);
+          wide = λ k. ap length (slot-is places_some k);
+          order = omega arith;
+          room = omega arith;
+          full = λ k d taken written. absurd (omega (arith, taken, written));
+          free = λ k written taken. ap (λ slot. get_or slot 0 0) (slot-is places_some k);
+          writer_seen = λ e. absurd (false≢true e);
+          writer_words = λ e. absurd (false≢true e);
+          reader_seen = λ e. absurd (false≢true e);
+          reader_words = λ e. absurd (false≢true e);
+        };
+        free_slots = All-nil _;
+        raw_slot = λ s e. absurd (let none : ⊥ = cc in none);
+        none_raw = λ e. All-nil _;
       })
 
   pub rule : IsLayout setting.layout → 0 < setting.places → RefRule setting (opened_words setting) (new_nic setting) apps
@@ -194,6 +199,10 @@ module _ (setting : Setting) where
           }) a app here.there);
       dealt = λ a app here. subst (IsDealtInOrder (new_nic setting)) here.is
           (All-new (IsDealtInOrder (new_nic setting)) setting 0 (apps_of setting) (λ n. record { order = refl }) a app here.there);
+      honoured = All-nil _;
+      slots = record { notes = length-replicate (apps_of setting) unseen; refills = length-replicate (apps_of setting) unseen };
+      entries = All-new (λ app. All EntryFits app.view.written) setting 0 (apps_of setting) (λ a. All-nil _);
+      notes = All-nil _;
       hand = λ inhand e. absurd (let none : ⊥ = cc in none);
       scrub = λ a app here.
           let some : 0 < total setting.layout = omega (arith, here.there, length-new_apps setting 0 (apps_of setting)) in

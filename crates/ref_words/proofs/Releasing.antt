@@ -90,6 +90,7 @@ module _ (setting : Setting) (words : Words) (nic : NicSide) (apps : List AppSid
       reserve = record { unheld = λ free. omega (arith, less (reserve_of app.view), (rule.sides.reserves a app here).unheld free) };
       unheld = λ b past ne none. omega (arith, less b, none);
       few = let f = mine setting nic apps a app rule.sides here HasFewPicks rule.sides.few in record { picks = f.picks; spares = f.spares };
+      written = refl;
       dealt = record { order = (rule.sides.dealt a app here).order };
       returns = let r = rule.sides.returns a app here in record {
         written = r.written;
@@ -126,5 +127,5 @@ module _ (setting : Setting) (words : Words) (nic : NicSide) (apps : List AppSid
         ∙ last-is (pool_of words place.buffer) (pool_count place.buffer nic apps') 1 counted)
         (λ past. and-false last _ (le-ltb place.buffer (pool_buffers app.view.setting.layout) (omega (arith, past, pools)))) rule.free;
     kept = AreKept-app (listed_in words) nic apps a app now here refl rule.kept;
-    refills = refills-app setting words nic apps a app now here refl refl refl rule.refills;
+    refills = refills-app setting words nic apps a app now here refl refl refl refl refl rule.refills;
   }

@@ -126,6 +126,10 @@ module _ (setting : Setting) (words : Words) (nic : NicSide) (apps : List AppSid
       reserves = λ k x here. record { unheld = λ free. omega (arith, less (reserve_of x.view), (rule.sides.reserves k x here).unheld free) };
       few = rule.sides.few;
       dealt = λ k x here. record { order = (rule.sides.dealt k x here).order };
+      honoured = rule.sides.honoured;
+      slots = record { notes = rule.sides.slots.notes; refills = rule.sides.slots.refills };
+      entries = rule.sides.entries;
+      notes = rule.sides.notes;
       returns = λ k x here.
           let r = rule.sides.returns k x here in
           let was : lowered_in_hand x.view.app b nic.inside.entry ≡ lowered_in_hand x.view.app b (in_hand a entry (UserLowered b)) = ap
@@ -152,6 +156,7 @@ module _ (setting : Setting) (words : Words) (nic : NicSide) (apps : List AppSid
           (record {
             app = known.app;
             first = known.first;
+            named = known.named;
             owed = λ c e. absurd (let none : ⊥ = cc in none);
             lowered = λ c e. absurd (let none : ⊥ = cc in none);
             stray = λ e. absurd (let none : ⊥ = cc in none);

@@ -18,30 +18,37 @@ AllRefills setting words nic apps = (a : ℕ) (app : AppSide) → IsApp apps a a
 pub refills-card : (setting : Setting) (words : Words) (nic now : NicSide) (apps : List AppSide) → now.view.dealt ≡ nic.view.dealt
     → now.inside.refill_slots ≡ nic.inside.refill_slots → AllRefills setting words nic apps → AllRefills setting words now apps
 refills-card setting words nic now apps dealt slots rings a app here =
-    let r = rings a app here in
+    let all = rings a app here in
+    let r = all.ring in
     rw (dealt, slots) (record {
-      some = r.some;
-      many = r.many;
-      wide = r.wide;
-      order = r.order;
-      room = r.room;
-      full = r.full;
-      free = r.free;
-      writer_seen = r.writer_seen;
-      writer_words = r.writer_words;
-      reader_seen = r.reader_seen;
-      reader_words = r.reader_words;
+      ring = record {
+        some = r.some;
+        many = r.many;
+        wide = r.wide;
+        order = r.order;
+        room = r.room;
+        full = r.full;
+        free = r.free;
+        writer_seen = r.writer_seen;
+        writer_words = r.writer_words;
+        reader_seen = r.reader_seen;
+        reader_words = r.reader_words;
+      };
+      free_slots = all.free_slots;
+      raw_slot = all.raw_slot;
+      none_raw = all.none_raw;
     })
 
--- an application's side changed, but not what it wrote nor what it has seen of its slot
+-- an application's side changed, but not what it wrote nor what it has seen of its slots
 pub refills-app : (setting : Setting) (words : Words) (nic : NicSide) (apps : List AppSide) (a : ℕ) (app now : AppSide) → IsApp apps a app
     → now.view.app ≡ app.view.app → now.view.written ≡ app.view.written → now.inside.refill_slot ≡ app.inside.refill_slot
+    → now.inside.free_slots ≡ app.inside.free_slots → now.inside.raw_slot ≡ app.inside.raw_slot
     → AllRefills setting words nic apps → AllRefills setting words nic (set apps a now)
-refills-app setting words nic apps a app now here number written slot rings k x is =
+refills-app setting words nic apps a app now here number written slot free raw rings k x is =
     ⊎_elim
     (λ t. let e : k ≡ a = t.1 in
     let found : x ≡ now = sym is.is ∙ (ap (λ n. get_or (set apps a now) n x) e ∙ get_or-set_same apps a now x here.there) in
-    subst (AreRefills setting words nic) (sym found) (rw (number, written, slot) (again app (rings a app here))))
+    subst (AreRefills setting words nic) (sym found) (rw (number, written, slot, free, raw) (again app (rings a app here))))
     (λ t. let ne : k ≢ a = t.1 in
     again x (rings k x (record {
       there = omega (arith, is.there, length-set apps a now);
@@ -51,16 +58,21 @@ refills-app setting words nic apps a app now here number written slot rings k x 
     (eqb_tells k a)
   where
     again : (y : AppSide) → AreRefills setting words nic y → AreRefills setting words nic y
-    again y r = record {
-      some = r.some;
-      many = r.many;
-      wide = r.wide;
-      order = r.order;
-      room = r.room;
-      full = r.full;
-      free = r.free;
-      writer_seen = r.writer_seen;
-      writer_words = r.writer_words;
-      reader_seen = r.reader_seen;
-      reader_words = r.reader_words;
+    again y all = let r = all.ring in record {
+      ring = record {
+        some = r.some;
+        many = r.many;
+        wide = r.wide;
+        order = r.order;
+        room = r.room;
+        full = r.full;
+        free = r.free;
+        writer_seen = r.writer_seen;
+        writer_words = r.writer_words;
+        reader_seen = r.reader_seen;
+        reader_words = r.reader_words;
+      };
+      free_slots = all.free_slots;
+      raw_slot = all.raw_slot;
+      none_raw = all.none_raw;
     }

@@ -53,7 +53,8 @@ if-part true l m n e = absurd (let none : ⊥ = cc in none)
 if-part false l m n e = refl
 
 module _ (setting : Setting) (words : Words) (nic : NicSide) (apps : List AppSide) (a : ℕ) (app : AppSide) (b : ℕ)
-    (rule : RefRule setting words nic apps) (here : IsApp apps a app) (there : b < total setting.layout) (next : app.inside.scrub_mark ≡ b) (quiet : app.view.quiet ≡ true)
+    (rule : RefRule setting words nic apps) (here : IsApp apps a app) (there : b < total setting.layout)
+    (next : app.inside.scrub_mark ≡ b) (quiet : app.view.quiet ≡ true)
     (lent : app.view.loans ≡ []) (counted : app.view.scrubbed ≡ false) where
   abbrev n : ℕ
   n = user_of words a b
@@ -219,6 +220,7 @@ module _ (setting : Setting) (words : Words) (nic : NicSide) (apps : List AppSid
       reserve = record { unheld = λ free. same_pool (reserve_of app.view) ∙ (rule.sides.reserves a app here).unheld free };
       unheld = λ c past ne none. same_pool c ∙ none;
       few = let f = mine setting nic apps a app rule.sides here HasFewPicks rule.sides.few in record { picks = f.picks; spares = f.spares };
+      written = refl;
       dealt = record { order = (rule.sides.dealt a app here).order };
       returns = let r = rule.sides.returns a app here in
           let way : entries_on_way nic app ≡ [] = r.quiet quiet in
@@ -264,5 +266,5 @@ module _ (setting : Setting) (words : Words) (nic : NicSide) (apps : List AppSid
     pool = same_pool;
     free = λ c. omega (arith, free_places-hands (listed_in words) c nic apps a app now here);
     kept = AreKept-app (listed_in words) nic apps a app now here refl rule.kept;
-    refills = refills-app setting words nic apps a app now here refl refl refl rule.refills;
+    refills = refills-app setting words nic apps a app now here refl refl refl refl refl rule.refills;
   }

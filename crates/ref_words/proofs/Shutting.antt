@@ -83,6 +83,9 @@ module _ (setting : Setting) (words : Words) (nic : NicSide) (apps : List AppSid
       made = let m = IsMadeLast-nic nic (shut nic.view own last) apps refl refl refl rule.sides.made in record { last = m.last };
       dealt = refl;
       entry = refl;
+      sent = refl;
+      note_slots = refl;
+      refill_slots = refl;
       unheld = λ b past none. omega (arith, less b, none);
     });
     here = let c = counted in omega arith;

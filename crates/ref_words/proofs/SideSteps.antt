@@ -17,6 +17,7 @@ use Rattle.board_face.specs.declared.views.parts.Setting.{Setting}
 use Rattle.board_face.specs.declared.views.nic.NicSide.{NicSide}
 use Rattle.board_face.specs.declared.views.app.AppSide.{AppSide}
 use Rattle.board_face.proofs.SideLemmas.{AreNumbered-set}
+use Rattle.ref_words.specs.Rings.{EntryFits}
 use Rattle.ref_words.specs.Sides.{SidesRule, HasScrubLists, HasFreeReserve, IsDealtInOrder, HasNoneOwed, IsScrubbedSoFar, IsFirst, IsFirstRaw}
 
 -- What is to be known of the application's new side.
@@ -36,6 +37,7 @@ pub record IsAppStep (nic : NicSide) (apps : List AppSide) (a : ℕ) (app now : 
       → pool_count b nic (set apps a now) ≡ 0
   pub few : HasFewPicks now
   pub dealt : IsDealtInOrder nic now
+  pub written : now.view.written ≡ app.view.written
   pub returns : AreReturns nic now
   pub scrub : IsScrubbedSoFar nic now
   pub scrubbed : now.view.scrubbed ≡ true → HasNoneOwed nic now
@@ -117,10 +119,16 @@ module _ (setting : Setting) (nic : NicSide) (apps : List AppSide) (a : ℕ) (ap
       reserves = reserves-now;
       dealt = λ k. then-now (IsDealtInOrder nic) k (λ x is. rule.dealt k x is) (λ e was. step.dealt);
       few = All-set HasFewPicks apps a now step.few rule.few;
+      honoured = rule.honoured;
+      slots = rule.slots;
+      entries = All-set (λ x. All EntryFits x.view.written) apps a now
+          (rw step.written (mine (λ x. All EntryFits x.view.written) rule.entries)) rule.entries;
+      notes = rule.notes;
       returns = λ k. then-now (AreReturns nic) k (λ x is. rule.returns k x is) (λ e was. step.returns);
       hand = λ inhand is. let h = rule.hand inhand is in record {
         app = omega (arith, h.app, length-set apps a now);
         first = then-now (λ x. IsFirst inhand.entry (entries_on_way nic x)) inhand.app h.first (λ e was. rw step.way was);
+        named = h.named;
         owed = λ b judged. (
           (h.owed b judged).0,
           then-now (λ x. ended_in b nic x < length (returned_in b x)) inhand.app (h.owed b judged).1

@@ -36,7 +36,8 @@ use Rattle.ref_words.proofs.Beginning.{few-holders}
 
 module _ (setting : Setting) (words : Words) (nic : NicSide) (apps : List AppSide) (a : ℕ) (app : AppSide) (own : Filling)
     (rule : RefRule setting words nic apps) (here : IsApp apps a app) (out : HasSpare app.view own) (some : IsFilled app.view own)
-    (can : CanLend app.view) (unbegun : app.inside.scrub_mark ≡ 0) where
+    (can : CanLend app.view)
+    (unbegun : app.inside.scrub_mark ≡ 0) where
   abbrev now : AppSide
   now = app_at app (lent_own app.view own)
 
@@ -101,6 +102,7 @@ module _ (setting : Setting) (words : Words) (nic : NicSide) (apps : List AppSid
       reserve = record { unheld = λ free. same_pool (reserve_of app.view) ∙ (rule.sides.reserves a app here).unheld free };
       unheld = λ b past ne none. same_pool b ∙ none;
       few = let f = mine setting nic apps a app rule.sides here HasFewPicks rule.sides.few in record { picks = f.picks; spares = f.spares };
+      written = refl;
       dealt = record { order = (rule.sides.dealt a app here).order };
       returns = let r = rule.sides.returns a app here in record {
         written = r.written;
@@ -132,5 +134,5 @@ module _ (setting : Setting) (words : Words) (nic : NicSide) (apps : List AppSid
     pool = same_pool;
     free = λ b. omega (arith, free_places-hands (listed_in words) b nic apps a app now here);
     kept = AreKept-app (listed_in words) nic apps a app now here refl rule.kept;
-    refills = refills-app setting words nic apps a app now here refl refl refl rule.refills;
+    refills = refills-app setting words nic apps a app now here refl refl refl refl refl rule.refills;
   }

@@ -95,6 +95,7 @@ module _ (setting : Setting) (words : Words) (nic : NicSide) (apps : List AppSid
                 weight-other b c (λ e. ⊎_elim (λ small. let no : ⊥ = omega (arith, e) in no) (λ mine. ne (sym e ∙ mine)) own),
               );
           few = let f = mine setting nic apps a app rule.sides here HasFewPicks rule.sides.few in record { picks = f.picks; spares = omega (arith, due) };
+          written = refl;
           dealt = record { order = (rule.sides.dealt a app here).order };
           returns = let r = rule.sides.returns a app here in record {
             written = r.written;
@@ -126,7 +127,7 @@ module _ (setting : Setting) (words : Words) (nic : NicSide) (apps : List AppSid
         users = λ x c. omega (arith, user_count-app x c nic apps a app now here);
         free = free;
         kept = AreKept-app (listed_in words) nic apps a app now here refl rule.kept;
-        refills = refills-app setting words nic apps a app now here refl refl refl rule.refills;
+        refills = refills-app setting words nic apps a app now here refl refl refl refl refl rule.refills;
       }
 
   -- ---- a buffer in hand

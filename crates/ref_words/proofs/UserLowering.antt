@@ -148,6 +148,10 @@ module _ (setting : Setting) (words : Words) (nic : NicSide) (apps : List AppSid
       reserves = λ k x here. record { unheld = λ free. same_pool (reserve_of x.view) ∙ (rule.sides.reserves k x here).unheld free };
       few = rule.sides.few;
       dealt = λ k x here. record { order = (rule.sides.dealt k x here).order };
+      honoured = rule.sides.honoured;
+      slots = record { notes = rule.sides.slots.notes; refills = rule.sides.slots.refills };
+      entries = rule.sides.entries;
+      notes = rule.sides.notes;
       returns = λ k x here.
           let r = rule.sides.returns k x here in
           let less : (c : ℕ) → length (owed_in c now x) + weight ((a == x.view.app) && (b == c)) ≡ length (owed_in c nic x) = λ c.
@@ -176,6 +180,7 @@ module _ (setting : Setting) (words : Words) (nic : NicSide) (apps : List AppSid
           (record {
             app = known.app;
             first = known.first;
+            named = known.named;
             owed = λ c e. absurd (let none : ⊥ = cc in none);
             lowered = λ c e. let same : b ≡ c = cc in subst (λ n. n < total nic.view.setting.layout) same (known.owed b refl).0;
             stray = λ e. absurd (let none : ⊥ = cc in none);

@@ -1,13 +1,16 @@
 -- Rings of slots. A slot is a list of words of which the first is the flag, 1 where the slot is full. The writer and the reader use
 -- the slots in turn; what either has seen of its next slot is so until it goes on.
-use Rattle.std.specs.Prelude.{◌≡◌, ℕ, ◌+◌, ◌*◌, ◌%◌, ◌^◌, ◌<◌, ◌≤◌, true, List, [], ◌∷◌, length, take, drop}
-use Rattle.std.specs.Prelude.{slice_index, slice_index_or}
+use Rattle.std.specs.Prelude.{◌≡◌, ℕ, ◌+◌, ◌*◌, ◌%◌, ◌^◌, ◌<◌, ◌≤◌, true, false, List, [], ◌∷◌, ◌++◌, length, take, drop}
+use Rattle.std.specs.Prelude.{slice_index, slice_index_or, All, Option, Some, None}
 use Rattle.zr_kinds.specs.declared.ring.Rqe.{Rqe}
 use Rattle.board_face.specs.Opened.{unseen}
 use Rattle.board_face.specs.Relay.{dealt_entries}
+use Rattle.board_face.specs.Returns.{IsOfLoan}
 use Rattle.board_face.specs.declared.views.parts.Setting.{Setting}
 use Rattle.board_face.specs.declared.views.parts.Slot.{Slot}
 use Rattle.board_face.specs.declared.views.nic.NicSide.{NicSide}
+use Rattle.board_face.specs.declared.views.nic.SentNote.{SentNote}
+use Rattle.board_face.specs.declared.views.app.WrittenEntry.{WrittenEntry}
 use Rattle.board_face.specs.declared.views.app.AppSide.{AppSide}
 use Rattle.ref_words.specs.Words.{Words, refill_width}
 
@@ -38,8 +41,51 @@ module _ {X : Type 0} (width : ℕ) (words_of : X → List ℕ) where
 abbrev pub entry_words : Rqe → List ℕ
 entry_words entry = entry.off ∷ (entry.len + entry.pad * 2 ^ 32) ∷ []
 
--- An application's refill ring: the entries that it has written and the card hasn't dealt with lie in the slots.
+-- a slot of the ring that is free
+pub record IsFreeSlot (places : ℕ) (slots : List (List ℕ)) (s : ℕ) : Type 0 where
+  pub within : s < places
+  pub flag : slice_index (slice_index_or slots s []) 0 ≡ 0
+
+-- the last entry that came from no loan was written into this slot
+pub record IsLastRaw (places : ℕ) (written : List WrittenEntry) (s : ℕ) : Type 0 where
+  pub before : List WrittenEntry
+  pub entry : WrittenEntry
+  pub behind : List WrittenEntry
+  pub is : written ≡ before ++ entry ∷ behind
+  pub raw : entry.of_loan ≡ false
+  pub others : All IsOfLoan behind
+  pub slot : s ≡ length before % places
+
+-- A ring of refill entries: those that were written and not yet taken lie in the slots. The slots that the writer has seen free since
+-- it last published are so, and it knows the slot of its last raw entry, where it wrote one.
+pub record IsRefillRing (places : ℕ) (slots : List (List ℕ)) (written : List WrittenEntry) (taken : ℕ) (writer reader : Slot) (free : List ℕ)
+    (raw : Option ℕ) : Type 0 where
+  pub ring : IsRing refill_width (λ w. entry_words w.entry) places slots written taken writer reader
+  pub free_slots : All (IsFreeSlot places slots) free
+  pub raw_slot : (s : ℕ) → raw ≡ Some s → IsLastRaw places written s
+  pub none_raw : raw ≡ None → All IsOfLoan written
+
+-- An application's refill ring: the entries that the card hasn't dealt with lie in the slots.
 abbrev pub AreRefills : Setting → Words → NicSide → AppSide → Type 0
 AreRefills setting words nic app =
-    IsRing refill_width (λ w. entry_words w.entry) setting.places (slice_index_or words.refills app.view.app []) app.view.written
-    (length (dealt_entries app.view.app nic)) app.inside.refill_slot (slice_index_or nic.inside.refill_slots app.view.app unseen)
+    IsRefillRing setting.places (slice_index_or words.refills app.view.app []) app.view.written (length (dealt_entries app.view.app nic))
+    app.inside.refill_slot (slice_index_or nic.inside.refill_slots app.view.app unseen) app.inside.free_slots app.inside.raw_slot
+
+-- ---- fields, which are numbers of as many bits as their parts of words have
+
+pub record EntryFits (w : WrittenEntry) : Type 0 where
+  pub off : w.entry.off < 2 ^ 64
+  pub len : w.entry.len < 2 ^ 32
+  pub pad : w.entry.pad < 2 ^ 32
+
+pub record NoteFits (s : SentNote) : Type 0 where
+  pub frame : s.note.frame < 2 ^ 32
+  pub flow : s.note.flow < 2 ^ 32
+  pub base : s.note.base < 2 ^ 32
+  pub seq : s.note.seq < 2 ^ 32
+  pub at : s.note.at < 2 ^ 32
+  pub total : s.note.total < 2 ^ 32
+  pub buffer : s.note.place.buffer < 2 ^ 32
+  pub offset : s.note.place.offset < 2 ^ 32
+  pub len : s.note.place.len < 2 ^ 32
+  pub bytes : s.note.split ≡ false → All (λ byte. byte < 256) s.bytes

@@ -1,7 +1,7 @@
 -- What holds of the sides of all roles between any two steps, whatever the words are.
-use Rattle.std.specs.Prelude.{◌≡◌, ℕ, ◌<◌, ◌≤◌, true, false, List, [], ◌∷◌, length, map, take, All, Some, slice_index}
+use Rattle.std.specs.Prelude.{◌≡◌, ℕ, ◌<◌, ◌≤◌, true, false, List, [], ◌∷◌, length, map, take, All, Option, Some, None, slice_index}
 use Rattle.zr_kinds.specs.declared.ring.Rqe.{Rqe}
-use Rattle.area_layout.specs.Layout.{total}
+use Rattle.area_layout.specs.Layout.{total, judged}
 use Rattle.board_face.specs.NicCalls.{apps_of}
 use Rattle.board_face.specs.AppEvents.{reserve_of}
 use Rattle.board_face.specs.Counts.{pool_count, EndedWereReturned}
@@ -11,13 +11,16 @@ use Rattle.board_face.specs.Used.{HasFewPicks}
 use Rattle.board_face.specs.Relay.{dealt_entries}
 use Rattle.board_face.specs.Returns.{AreReturns, entries_on_way}
 use Rattle.board_face.specs.Sides.{AreNumbered, IsApp}
+use Rattle.board_face.specs.Judged.{IsHonouredAsNamed}
 use Rattle.board_face.specs.Holders.{ended_in, returned_in, owed_in}
 use Rattle.board_face.specs.declared.views.parts.Setting.{Setting}
 use Rattle.board_face.specs.declared.views.nic.EntryInHand.{EntryInHand}
-use Rattle.board_face.specs.declared.views.nic.Judged.TheVariants.{Stray, Owed, UserLowered}
+use Rattle.board_face.specs.declared.views.nic.Judged.{Judged}
+use Rattle.board_face.specs.declared.views.nic.Judged.TheVariants.{Not, Stray, Owed, UserLowered, BothLowered}
 use Rattle.board_face.specs.declared.views.nic.NicSide.{NicSide}
 use Rattle.board_face.specs.declared.views.app.WrittenEntry.{WrittenEntry}
 use Rattle.board_face.specs.declared.views.app.AppSide.{AppSide}
+use Rattle.ref_words.specs.Rings.{EntryFits, NoteFits}
 
 -- all sides are of one board
 pub record AreOf (setting : Setting) (nic : NicSide) (apps : List AppSide) : Type 0 where
@@ -69,15 +72,29 @@ pub record IsFirstRaw (way : List WrittenEntry) : Type 0 where
   pub is : way ≡ first ∷ others
   pub raw : first.of_loan ≡ false
 
--- An entry in hand is the first of those on their way. Where the user count was seen above 0 for it and isn't lowered yet, a
+-- the buffer that an entry in hand was judged a return for
+abbrev pub judged_for : Judged → Option ℕ
+judged_for Not = None
+judged_for Stray = None
+judged_for (Owed b) = Some b
+judged_for (UserLowered b) = Some b
+judged_for (BothLowered b) = Some b
+
+-- An entry in hand is the first of those on their way, and it names the buffer that it was judged for. Where the user count was seen above 0 for it and isn't lowered yet, a
 -- loan is still owed that it gives back. One that was judged a stray came from no loan.
 pub record IsInHand (nic : NicSide) (apps : List AppSide) (inhand : EntryInHand) : Type 0 where
   pub app : inhand.app < length apps
   pub first : (app : AppSide) → IsApp apps inhand.app app → IsFirst inhand.entry (entries_on_way nic app)
+  pub named : (b : ℕ) → judged_for inhand.judged ≡ Some b → judged nic.view.setting.layout inhand.entry ≡ Some b
   pub owed : (b : ℕ) → inhand.judged ≡ Owed b
       → (b < total nic.view.setting.layout) × ((app : AppSide) → IsApp apps inhand.app app → ended_in b nic app < length (returned_in b app))
   pub lowered : (b : ℕ) → inhand.judged ≡ UserLowered b → b < total nic.view.setting.layout
   pub stray : inhand.judged ≡ Stray → (app : AppSide) → IsApp apps inhand.app app → IsFirstRaw (entries_on_way nic app)
+
+-- the card knows a next slot of each ring
+pub record HasSlots (setting : Setting) (nic : NicSide) : Type 0 where
+  pub notes : length nic.inside.note_slots ≡ apps_of setting
+  pub refills : length nic.inside.refill_slots ≡ apps_of setting
 
 pub record SidesRule (setting : Setting) (nic : NicSide) (apps : List AppSide) : Type 0 where
   pub set : AreOf setting nic apps
@@ -94,6 +111,12 @@ pub record SidesRule (setting : Setting) (nic : NicSide) (apps : List AppSide) :
   pub few : All HasFewPicks apps
   -- what the card dealt with are the first of the entries that were written, in order
   pub dealt : (a : ℕ) (app : AppSide) → IsApp apps a app → IsDealtInOrder nic app
+  -- an entry that was honoured named its buffer
+  pub honoured : All (IsHonouredAsNamed setting.layout) nic.view.dealt
+  -- the card's next slots, and the fields of what is written into slots
+  pub slots : HasSlots setting nic
+  pub entries : All (λ app. All EntryFits app.view.written) apps
+  pub notes : All NoteFits nic.view.sent
   -- returns on their way, the entry in hand, how far a scrub came, and that an application which has scrubbed has no loan and owes
   -- none
   pub returns : (a : ℕ) (app : AppSide) → IsApp apps a app → AreReturns nic app

@@ -1,3 +1,4 @@
 mod Stepping
 mod Dealing
 mod OpenedTable
+mod Scrubs

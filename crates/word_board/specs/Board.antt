@@ -4,6 +4,7 @@ use Rattle.atomic_table.specs.Table.{State}
 use Rattle.atomic_table.specs.Seated.{TableId}
 use Rattle.area_layout.specs.Layout.{shape_of}
 use Rattle.board_face.specs.Opened.{new_nic, new_app}
+use Rattle.board_face.specs.Steps.{side_user_taken, side_owes_lowered}
 use Rattle.board_face.specs.declared.views.parts.Setting.{Setting}
 use Rattle.board_face.specs.declared.views.nic.NicSide.{NicSide}
 use Rattle.board_face.specs.declared.views.app.AppSide.{AppSide}
@@ -40,6 +41,14 @@ card_of v = first_nic v.nics
 
 abbrev pub app_of : View → AppSide
 app_of v = first_app v.apps
+
+-- ---- a scrub
+
+-- Of one buffer a scrub took a user count, and as many references from the pool count. `last` says whether no holder is left by that.
+pub record ScrubbedOne (old new : AppSide) (b : ℕ) (last : Bool) : Type 0 where
+  pub took : ℕ
+  pub event : new ≡ side_owes_lowered (side_user_taken old b took) b last
+  pub none : took ≡ 0 → last ≡ false
 
 -- ---- what callers see
 

@@ -4,10 +4,12 @@ mod app_counts;
 mod card_counts;
 mod returns;
 mod roles;
+mod scrubs;
 mod users;
 
 pub(crate) use app_counts::{cut_piece, lower_scrubbed, release_held, take_picked, take_reserve};
 pub(crate) use card_counts::{begin_piece, lower_returned, shut_own, take_buffer};
 pub(crate) use returns::give_back;
 pub(crate) use roles::{deal_role, join_seats, take_app_role, take_card_role};
+pub(crate) use scrubs::scrub_one;
 pub(crate) use users::{lend_held, lend_spare, look_user, lower_user, scrub_user};
