@@ -80,8 +80,8 @@ judged_for (Owed b) = Some b
 judged_for (UserLowered b) = Some b
 judged_for (BothLowered b) = Some b
 
--- An entry in hand is the first of those on their way, and it names the buffer that it was judged for. Where the user count was seen above 0 for it and isn't lowered yet, a
--- loan is still owed that it gives back. One that was judged a stray came from no loan.
+-- An entry in hand is the first of those on their way, and it names the buffer that it was judged for. Where the user count was
+-- seen above 0 for it and isn't lowered yet, a loan is still owed that it gives back. One that was judged a stray came from no loan.
 pub record IsInHand (nic : NicSide) (apps : List AppSide) (inhand : EntryInHand) : Type 0 where
   pub app : inhand.app < length apps
   pub first : (app : AppSide) → IsApp apps inhand.app app → IsFirst inhand.entry (entries_on_way nic app)

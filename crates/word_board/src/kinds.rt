@@ -11,5 +11,5 @@ pub(crate) use app_counts::{cut_piece, lower_scrubbed, release_held, take_picked
 pub(crate) use card_counts::{begin_piece, lower_returned, shut_own, take_buffer};
 pub(crate) use returns::give_back;
 pub(crate) use roles::{deal_role, join_seats, take_app_role, take_card_role};
-pub(crate) use scrubs::scrub_one;
+pub(crate) use scrubs::{scrub_counts, scrub_one};
 pub(crate) use users::{lend_held, lend_spare, look_user, lower_user, scrub_user};

@@ -1,0 +1,73 @@
+use Rattle.std.proofs.Common.{◌≡◌, refl, ap, ◌∙◌, arith, subst}
+use Rattle.area_layout.specs.Layout.{total}
+use Rattle.board_face.proofs.ListLemmas.{not-eqb}
+use Rattle.word_board.specs.Board.{app_of}
+use Rattle.word_board.proofs.Scrubs.{IsScrubbedBelow, IsScrubbedBelow-none, IsScrubbedBelow-more, IsScrubbedBelow-all}
+use Rattle.word_board.proofs.kinds.scrubs.scrub_counts.Goals as goal
+
+pub loop-buffer-init : goal.loop-buffer-init
+loop-buffer-init c = (
+  refl,
+  c.requires.app,
+  IsScrubbedBelow-none _ _ (omega (arith, c.requires.few)) c.requires.counted c.requires.unbegun c.requires.lists c.requires.clear,
+)
+
+pub scrub_one-requires-clause-table : goal.scrub_one-requires-clause-table
+scrub_one-requires-clause-table c = c.loop-buffer.invariant.0 ∙ c.requires.table
+
+pub scrub_one-requires-clause-app : goal.scrub_one-requires-clause-app
+scrub_one-requires-clause-app c = c.loop-buffer.invariant.1
+
+pub scrub_one-requires-clause-number : goal.scrub_one-requires-clause-number
+scrub_one-requires-clause-number c = ap (λ v. v.app) c.loop-buffer.invariant.2.view ∙ c.requires.number
+
+pub scrub_one-requires-clause-next : goal.scrub_one-requires-clause-next
+scrub_one-requires-clause-next c = c.loop-buffer.invariant.2.mark
+
+pub scrub_one-requires-clause-quiet : goal.scrub_one-requires-clause-quiet
+scrub_one-requires-clause-quiet c = ap (λ v. v.quiet) c.loop-buffer.invariant.2.view ∙ c.requires.quiet
+
+pub scrub_one-requires-clause-lent : goal.scrub_one-requires-clause-lent
+scrub_one-requires-clause-lent c = ap (λ v. v.loans) c.loop-buffer.invariant.2.view ∙ c.requires.lent
+
+pub scrub_one-requires-clause-counted : goal.scrub_one-requires-clause-counted
+scrub_one-requires-clause-counted c = ap (λ v. v.scrubbed) c.loop-buffer.invariant.2.view
+    ∙ not-eqb c.loop-buffer.buffer (total c.args.words.now.map.layout) (λ e. absurd (omega (arith, e, c.loop-buffer-test.true, c.requires.all)))
+
+pub scrub_one-requires-clause-lists : goal.scrub_one-requires-clause-lists
+scrub_one-requires-clause-lists c = let l = c.loop-buffer.invariant.2.lists in record { took = l.took; owes = l.owes }
+
+pub scrub_one-requires-clause-clear : goal.scrub_one-requires-clause-clear
+scrub_one-requires-clause-clear c = c.loop-buffer.invariant.2.clear c.loop-buffer.buffer
+
+pub loop-buffer-preserved : goal.loop-buffer-preserved
+loop-buffer-preserved c = (
+  c.scrub_one.ensures.table ∙ c.loop-buffer.invariant.0,
+  c.scrub_one.ensures.app,
+  IsScrubbedBelow-more _ _ _ _ c.loop-buffer.buffer c.scrub_one.result c.requires.set
+      (omega (arith, c.loop-buffer-test.true, c.requires.all)) c.loop-buffer.invariant.2 c.scrub_one.ensures.event,
+)
+
+pub returns-clause-table : goal.returns-clause-table
+returns-clause-table c = c.loop-buffer.invariant.0
+
+pub returns-clause-app : goal.returns-clause-app
+returns-clause-app c = c.loop-buffer.invariant.1
+
+pub returns-clause-view : goal.returns-clause-view
+returns-clause-view c =
+    let whole : c.loop-buffer.buffer ≡ total c.args.words.now.map.layout = omega (
+      arith,
+      c.loop-buffer-test.false,
+      c.loop-buffer.auto.buffer-end,
+      c.requires.all,
+    ) in
+    IsScrubbedBelow-all c.args.words.now.map _ _
+    (subst (IsScrubbedBelow c.args.words.now.map (app_of c.args.seat.now.me.0) (app_of c.loop-buffer.seat.me.0)) whole c.loop-buffer.invariant.2)
+
+pub returns-clause-all : goal.returns-clause-all
+returns-clause-all c =
+    omega (arith, c.loop-buffer.invariant.2.mark, c.loop-buffer-test.false, c.loop-buffer.auto.buffer-end, c.requires.all)
+
+pub returns-clause-clear : goal.returns-clause-clear
+returns-clause-clear c = c.loop-buffer.invariant.2.clear
