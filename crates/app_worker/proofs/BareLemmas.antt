@@ -58,6 +58,7 @@ module _ (st : State) (old : AppView) (bare : Bare st old) (is_bare : st.bare �
     none = λ live. absurd (bare-live live);
     cause = λ other is. absurd (other is);
     rests = λ _. record { state = refl; view = took.view ∙ held-same; kept_is = refl };
+    looks = λ _ _. inl (t, ap (λ (v : AppView). v.taken) took.view);
   }
     where
       held-same : record old { taken = old.taken ++ t ∷ []; helds = new.helds } ≡ record old {
@@ -109,6 +110,7 @@ module _ (st : State) (old : AppView) (bare : Bare st old) (is_bare : st.bare �
     none = λ live. absurd (bare-live live);
     cause = λ other is. absurd (other is);
     rests = λ _. rw saw.event (record { state = refl; view = refl; kept_is = refl });
+    looks = λ _ _. inr (inl refl);
   }
     where
       bare-live : st.bare ≡ false → ⊥
@@ -116,10 +118,11 @@ module _ (st : State) (old : AppView) (bare : Bare st old) (is_bare : st.bare �
 
   -- ---- leaving
 
-  out-at-once : (kept : ℕ → Option (List ℕ)) → old.left ≡ false → IsOut st st old old kept kept
-  out-at-once kept here = record {
+  out-at-once : (kept : ℕ → Option (List ℕ)) → old.left ≡ false → st.ended ≡ true → IsOut st st old old kept kept
+  out-at-once kept here ended = record {
     bare = bare;
     is_bare = is_bare;
+    ended = ended;
     common = common;
     reaped = reaped;
     goes = goes-none st old kept;
@@ -130,13 +133,13 @@ module _ (st : State) (old : AppView) (bare : Bare st old) (is_bare : st.bare �
     rests = λ _. record { state = refl; view = refl; kept_is = refl };
   }
 
-  pub bare-finished : (new : AppView) (kept : ℕ → Option (List ℕ)) (f : ℕ) → old.left ≡ false → new ≡ left_board (scrubbed (fell_quiet old))
+  pub bare-finished : (new : AppView) (kept : ℕ → Option (List ℕ)) (f : ℕ) → old.left ≡ false → st.ended ≡ true → new ≡ left_board (scrubbed (fell_quiet old))
       → Turns st st old new kept kept f f Finished
-  bare-finished new kept f here is = turns-finished st st old old new kept kept f f (out-at-once kept here) is
+  bare-finished new kept f here ended is = turns-finished st st old old new kept kept f f (out-at-once kept here ended) is
 
-  pub bare-not-quiet : (new : AppView) (kept : ℕ → Option (List ℕ)) (f : ℕ) → AppOnlySaw NotQuiet old new
+  pub bare-not-quiet : (new : AppView) (kept : ℕ → Option (List ℕ)) (f : ℕ) → st.ended ≡ true → AppOnlySaw NotQuiet old new
       → Turns st st old new kept kept f f (Idle not_quiet)
-  bare-not-quiet new kept f saw = record {
+  bare-not-quiet new kept f ended saw = record {
     stands = rw saw.event (stands-bare st _ (bare-saw st old NotQuiet bare) (common-saw st old NotQuiet common) reaped is_bare);
     goes = rw saw.event (goes-saw st old NotQuiet kept);
     answer = (as-before st old new NotQuiet saw, saw.rose);
@@ -146,6 +149,7 @@ module _ (st : State) (old : AppView) (bare : Bare st old) (is_bare : st.bare �
     none = λ live. absurd (bare-live live);
     cause = λ other is. absurd (other is);
     rests = λ _. rw saw.event (record { state = refl; view = refl; kept_is = refl });
+    looks = λ _ more. absurd (let over = ended in cc);
   }
     where
       bare-live : st.bare ≡ false → ⊥
@@ -171,6 +175,7 @@ module _ (st : State) (old : AppView) (bare : Bare st old) (is_bare : st.bare �
         known = bare.known;
       };
       is_bare = is_bare;
+      ended = refl;
       common = record {
         app = common.app;
         ended = refl;

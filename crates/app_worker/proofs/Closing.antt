@@ -1,6 +1,6 @@
 -- The end of an application.
 use Rattle.std.proofs.Common.{◌≡◌, ℕ, ◌<◌, ◌≤◌, ◌-◌, true, false, List, [], ◌∷◌, ◌++◌, Option, length, refl, sym, ap, subst}
-use Rattle.std.proofs.Common.{◌∙◌, arith, inl}
+use Rattle.std.proofs.Common.{◌∙◌, arith, inl, inr}
 use Rattle.std.specs.Prelude.{◌==◌, if◌then◌else◌}
 use Rattle.zr_kinds.specs.CopyingReceiver.{nothing_placed, next_missing, values_from}
 use Rattle.tcp_reorder.proofs.Holding.{next_missing-held}
@@ -154,6 +154,7 @@ goes-gone st v kept = record {
 pub record IsOut (a c : State) (u w : AppView) (k m : ℕ → Option (List ℕ)) : Type 0 where
   pub bare : Bare c w
   pub is_bare : c.bare ≡ true
+  pub ended : c.ended ≡ true
   pub common : Common c w
   pub reaped : c.posted.entries ≡ []
   pub goes : Goes a c u w k m
@@ -179,6 +180,7 @@ turns-finished a c u w x k m f f2 out is = rw is (record {
     view = ap (λ (v : AppView). left_board (scrubbed (fell_quiet v))) r.view;
     kept_is = r.kept_is;
   });
+  looks = λ _ _. inr (inr out.ended);
 })
 
 pub turns-not-quiet : (a c : State) (u w x : AppView) (k m : ℕ → Option (List ℕ)) (f f2 : ℕ) → IsOut a c u w k m → app_steps a u < app_steps c w
@@ -197,6 +199,7 @@ turns-not-quiet a c u w x k m f f2 out steps saw = rw saw.event (record {
     view = ap (λ (v : AppView). app_saw v NotQuiet) r.view;
     kept_is = r.kept_is;
   });
+  looks = λ _ _. inr (inr out.ended);
 })
 
 -- by way of reading all
@@ -205,6 +208,7 @@ pub out-of : (a b c : State) (u v w : AppView) (k m : ℕ → Option (List ℕ))
 out-of a b c u v w k m ended going live here through few gone = record {
   bare = closed-bare b c v w through.working (through.ended ∙ ended) few through.reaped gone;
   is_bare = ap (λ (s : State). s.bare) gone.same;
+  ended = ap (λ (s : State). s.ended) gone.same ∙ through.ended ∙ ended;
   common = gone.common;
   reaped = ap (λ (s : State). s.posted.entries) gone.same ∙ through.reaped;
   goes = goes-then a b c u v w k m m through.goes (record {

@@ -22,7 +22,7 @@ use Rattle.app_worker.specs.Turns.{Turns, MayPoll, Polled, turn_after}
 use Rattle.app_worker.proofs.Moving.{looks-more, same-leaked, moves-none, moves-then, no-write, quit-no-write}
 use Rattle.app_worker.proofs.Seeing.{working-saw, common-saw, goes-saw, working-rested, common-rested, goes-rested}
 use Rattle.app_worker.proofs.Through.{goes-then, through-none, bare-stopped, common-stopped}
-use Rattle.app_worker.proofs.TurnLemmas.{stands-working, stands-bare, no-rest, Begins, turns-later}
+use Rattle.app_worker.proofs.TurnLemmas.{stands-working, stands-bare, no-look, no-rest, Begins, turns-later}
 
 -- a note may be taken at once
 pub polled-now : (was now : State) (old new : AppView) → Working was old → MayPoll was old → Moves was now old new → Polled was now old new
@@ -60,6 +60,7 @@ module _ (a b : State) (u v : AppView) (k m : ℕ → Option (List ℕ)) (f f2 :
         none = λ _ e. absurd (cc);
         cause = λ _ is. absurd (no-write c.stopped through.working.going is);
         rests = no-rest a c u w k m works.live;
+        looks = no-look a c u w Did works.live;
       }
 
   -- or it has written enough
@@ -76,6 +77,7 @@ module _ (a b : State) (u v : AppView) (k m : ℕ → Option (List ℕ)) (f f2 :
         none = λ _ e. absurd (cc);
         cause = λ _ is. absurd (quit-no-write c.stopped quit.stopped is);
         rests = no-rest a c u w k m works.live;
+        looks = no-look a c u w Did works.live;
       }
 
   -- or the shelf failed
@@ -92,6 +94,7 @@ module _ (a b : State) (u v : AppView) (k m : ℕ → Option (List ℕ)) (f f2 :
         none = λ _ e. absurd (cc);
         cause = λ _ _. stopped.rose;
         rests = no-rest a c u w k m works.live;
+        looks = no-look a c u w (Failed fault.Write) works.live;
       }
 
   stuck-through : (c : State) (w : AppView) → b.posted.entries ≡ [] → c ≡ b → m ≡ k → AppOnlySaw RawOnItsWay v w → Through b c v w k m
@@ -275,4 +278,5 @@ module _ (a b c : State) (u v w : AppView) (k : ℕ → Option (List ℕ)) (f : 
     none = λ _ e. absurd (cc);
     cause = λ _ is. absurd (cc);
     rests = no-rest a (record c { stopped = stop.Memory }) u w k k works.live;
+    looks = no-look a (record c { stopped = stop.Memory }) u w (Failed fault.Memory) works.live;
   }

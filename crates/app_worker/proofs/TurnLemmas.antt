@@ -15,7 +15,7 @@ use Rattle.app_worker.specs.State.{State, Working, Common, Bare, AppStands, app_
 use Rattle.app_worker.specs.Steps.{SawNoSpare}
 use Rattle.app_worker.specs.Moves.{Goes, KeptSince, reads_of, reserve_loans}
 use Rattle.zr_io.specs.Moved.{Rose}
-use Rattle.app_worker.specs.Turns.{Answers, IsAsBefore, MayPoll, look_of, Polled, Rests, Turns, TakesFew, turn_after}
+use Rattle.app_worker.specs.Turns.{Answers, IsAsBefore, MayPoll, look_of, LooksForOne, Polled, Rests, Turns, TakesFew, turn_after}
 use Rattle.app_worker.specs.Whole.{GaveBack}
 use Rattle.app_worker.specs.Stages.{Through, HasQuit, WriteStopped, Untouched}
 use Rattle.app_worker.proofs.Moving.{moves-then, no-write, quit-no-write}
@@ -42,6 +42,9 @@ no-poll was now old new same live differs = absurd (differs same)
 pub no-rest : (was now : State) (old new : AppView) (k m : ℕ → Option (List ℕ)) → was.bare ≡ false → was.bare ≡ true → Rests was now old new k m
 no-rest was now old new k m live is = absurd (cc)
 
+pub no-look : (was now : State) (old new : AppView) (turn : Turn) → was.bare ≡ false → was.bare ≡ true → was.ended ≡ false → LooksForOne now old new turn
+no-look was now old new turn live is more = absurd (cc)
+
 -- it did something and took no note
 pub turns-did : (was now : State) (old new : AppView) (k m : ℕ → Option (List ℕ)) (f f2 : ℕ) → was.bare ≡ false
     → Through was now old new k m → app_steps was old < app_steps now new → Turns was now old new k m f f2 Did
@@ -55,6 +58,7 @@ turns-did was now old new k m f f2 live through steps = record {
   none = λ _ e. absurd (cc);
   cause = λ _ is. absurd (no-write now.stopped through.working.going is);
   rests = no-rest was now old new k m live;
+  looks = no-look was now old new Did live;
 }
 
 pub turns-failed : (was now : State) (old new : AppView) (k m : ℕ → Option (List ℕ)) (f f2 : ℕ) → was.stopped ≡ stop.No
@@ -69,6 +73,7 @@ turns-failed was now old new k m f f2 none live stopped = record {
   none = λ _ e. absurd (cc);
   cause = λ _ _. stopped.rose;
   rests = no-rest was now old new k m live;
+  looks = no-look was now old new (Failed fault.Write) live;
 }
 
 -- it has written as much as it is to write
@@ -84,6 +89,7 @@ turns-quit was now old new k m f f2 live quit = record {
   none = λ _ e. absurd (cc);
   cause = λ _ is. absurd (quit-no-write now.stopped quit.stopped is);
   rests = no-rest was now old new k m live;
+  looks = no-look was now old new Did live;
 }
 
 -- it only saw that no spare was to be had
@@ -109,6 +115,7 @@ turns-saw st v new k f f2 why saw works common reaped may =
       none = λ _ is. may (cc);
       cause = λ other is. absurd (other is);
       rests = no-rest st st v new k k works.live;
+      looks = no-look st st v new (Idle why) works.live;
     }
 
 -- or that no spare was to be had
@@ -126,6 +133,7 @@ turns-no-spare st v new k f f2 saw works common reaped =
       none = λ _ is. absurd (cc);
       cause = λ other is. absurd (other is);
       rests = no-rest st st v new k k works.live;
+      looks = no-look st st v new (Idle ReserveHeld) works.live;
     }
 
 -- ---- one part after another
@@ -185,6 +193,7 @@ turns-later was mid now old midv new k l m f f1 f2 turn begin turns = record {
   none = λ _ is. absurd (after-busy turn is);
   cause = cause;
   rests = no-rest was now old new k m begin.live;
+  looks = no-look was now old new (turn_after true turn) begin.live;
 }
   where
     few : TakesFew midv new → TakesFew old new
@@ -229,6 +238,7 @@ turns-earlier was now old new k m f f1 f2 turn later turns = record {
   none = turns.none;
   cause = λ other is. omega (arith, later, turns.cause other is);
   rests = turns.rests;
+  looks = turns.looks;
 }
 
 -- where the first part did nothing
@@ -290,6 +300,7 @@ turns-gave was mid old midv k f works reaped then common goes gave = record {
   none = λ _ e. absurd (cc);
   cause = λ _ is. absurd (no-write mid.stopped then.going is);
   rests = no-rest was mid old midv k k works.live;
+  looks = no-look was mid old midv Did works.live;
 }
 
 -- what it may keep unread it keeps

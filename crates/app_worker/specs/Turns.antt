@@ -66,9 +66,17 @@ Answers was now old new faults faults_now (Failed other) = ⊥
 
 -- ---- a turn
 
+-- one note was taken
+abbrev pub TakesOne : AppView → AppView → Type 0
+TakesOne old new = (t : TakenNote) × (new.taken ≡ old.taken ++ t ∷ [])
+
 -- at most one note was taken
 abbrev pub TakesFew : AppView → AppView → Type 0
-TakesFew old new = (new.taken ≡ old.taken) ⊎ ((t : TakenNote) × (new.taken ≡ old.taken ++ t ∷ []))
+TakesFew old new = (new.taken ≡ old.taken) ⊎ TakesOne old new
+
+-- It looked for a note: one was taken, or none had come, or none comes any more.
+abbrev pub LooksForOne : State → AppView → AppView → Turn → Type 0
+LooksForOne now old new result = TakesOne old new ⊎ ((result ≡ Idle NoNote) ⊎ (now.ended ≡ true))
 
 -- It has nothing out: it lends, reads, writes and appends nothing, and gives up at once what a note brings.
 pub record Rests (was now : State) (old new : AppView) (kept kept_now : ℕ → Option (List ℕ)) : Type 0 where
@@ -98,6 +106,8 @@ pub record Turns (was now : State) (old new : AppView) (kept kept_now : ℕ → 
   pub cause : was.stopped ≢ stop.Write → now.stopped ≡ stop.Write → Rose faults faults_now
   -- once it is stopped, it only takes notes
   pub rests : was.bare ≡ true → Rests was now old new kept kept_now
+  -- one in each turn, until it was told that none comes any more
+  pub looks : was.bare ≡ true → was.ended ≡ false → LooksForOne now old new result
 
 -- the turn, once something was done before: then it isn't idle
 abbrev pub turn_after : Bool → Turn → Turn

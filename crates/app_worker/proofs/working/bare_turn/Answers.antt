@@ -17,9 +17,9 @@ returns-in-Linear-clause-turns g c = λ kept faults. bare-linear (state_of c.arg
 pub returns-then-leave-clause-turns : goal.returns-then-leave-clause-turns
 returns-then-leave-clause-turns g c = λ kept faults. bare-finished (state_of c.args.st.now)
     (g.F.AppFace.seen c.args.face.now) c.requires.bare c.requires.is_bare c.requires.common c.requires.reaped
-    (g.F.AppFace.seen c.leave.new.face) kept faults c.requires.here c.if-leave.ensures.leaves
+    (g.F.AppFace.seen c.leave.new.face) kept faults c.requires.here (search rules) c.if-leave.ensures.leaves
 
 pub returns-else-leave-clause-turns : goal.returns-else-leave-clause-turns
 returns-else-leave-clause-turns g c = λ kept faults. bare-not-quiet (state_of c.args.st.now)
     (g.F.AppFace.seen c.args.face.now) c.requires.bare c.requires.is_bare c.requires.common c.requires.reaped
-    (g.F.AppFace.seen c.leave.new.face) kept faults c.if-leave.ensures.leaves
+    (g.F.AppFace.seen c.leave.new.face) kept faults (search rules) c.if-leave.ensures.leaves
