@@ -42,6 +42,7 @@ module _ (st : State) (old : AppView) (bare : Bare st old) (is_bare : st.bare 鈮
           distinct = bare.distinct;
           index = bare.index;
           whole = 位 going. absurd (over going);
+          appended = 位 going. absurd (over going);
           known = 位 going. absurd (over going);
         })
         (common-noted st old new t took st.notes st.active st.index st.flows refl
@@ -172,6 +173,7 @@ module _ (st : State) (old : AppView) (bare : Bare st old) (is_bare : st.bare 鈮
         distinct = bare.distinct;
         index = bare.index;
         whole = 位 going. (refl, (bare.whole going).1);
+        appended = bare.appended;
         known = bare.known;
       };
       is_bare = is_bare;
@@ -195,6 +197,7 @@ module _ (st : State) (old : AppView) (bare : Bare st old) (is_bare : st.bare 鈮
         strays = common.strays;
         entries = common.entries;
         names = common.names;
+        sound = common.sound;
         bound = common.bound;
       };
       reaped = reaped;

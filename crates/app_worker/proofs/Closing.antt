@@ -11,9 +11,11 @@ use Rattle.board_face.specs.declared.views.app.AppLook.TheVariants.{NotQuiet}
 use Rattle.board_face.specs.declared.views.app.TakenNote.{TakenNote}
 use Rattle.board_face.specs.declared.views.app.AppView.{AppView}
 use Rattle.app_worker.specs.declared.stack.FlowQueue.{FlowQueue}
+use Rattle.app_worker.specs.declared.stack.Lending.{Lending}
+use Rattle.zr_kinds.specs.declared.ring.Completion.{Completion}
 use Rattle.app_worker.specs.declared.turn.Turn.TheVariants.{Did, Finished}
-use Rattle.app_worker.specs.Core.{Each, own_notes, received_notes, placed_of, marks_of_waiting, FlowStands}
-use Rattle.app_worker.specs.State.{State, IsAtRest, Working, Common, Bare, app_steps}
+use Rattle.app_worker.specs.Core.{total, Each, own_notes, received_notes, placed_of, marks_of_waiting, FlowStands}
+use Rattle.app_worker.specs.State.{State, IsAtRest, Working, Common, Bare, lent_len, app_steps}
 use Rattle.app_worker.specs.Moves.{Goes}
 use Rattle.app_worker.specs.Letting.{FlowFacts, facts_of, LetGo}
 use Rattle.app_worker.specs.Stages.{Through}
@@ -75,6 +77,14 @@ closed-bare b c v w works ended few reaped gone =
         subst (λ ts. Each (IsWhole ts) c.flows) (sym gone.taken)
             (each-facts (IsWhole v.taken) (IsWhole v.taken) (whole-facts v.taken) b.flows c.flows gone.facts whole),
       );
+      appended = λ going. omega (
+        arith,
+        gone.back lent_len,
+        works.stands.tokens.loans lent_len,
+        ap (total (λ (p : Completion × Lending). p.1.loan.len)) none,
+        works.appended,
+        total-facts (λ x. x.bytes) b.flows c.flows gone.facts,
+      );
       known = λ going n nothing. ap (own_notes n) gone.taken
           ∙ works.stands.known n (sym (total-facts (λ x. if x.number == n then 1 else 0) b.flows c.flows gone.facts) ∙ nothing);
     }
@@ -93,6 +103,7 @@ bare-saw st v look bare = record {
   distinct = bare.distinct;
   index = bare.index;
   whole = bare.whole;
+  appended = bare.appended;
   known = bare.known;
 }
 
@@ -108,6 +119,7 @@ bare-gone st v bare = record {
   distinct = bare.distinct;
   index = bare.index;
   whole = bare.whole;
+  appended = bare.appended;
   known = bare.known;
 }
 
@@ -131,6 +143,7 @@ common-gone st v common = record {
   strays = common.strays;
   entries = common.entries;
   names = common.names;
+  sound = common.sound;
   bound = common.bound;
 }
 

@@ -13,7 +13,7 @@ use Rattle.app_worker.specs.declared.stack.Lending.{Lending}
 use Rattle.app_worker.specs.declared.stack.FlowQueue.{FlowQueue}
 use Rattle.board_face.specs.AppEvents.{reserve_of}
 use Rattle.app_worker.specs.Core.{total, is_odd, Each, Stands, many, lent_piece, over_waiting, short_len, short_bytes}
-use Rattle.app_worker.specs.State.{State, read_of, TellsOf, LiesOutside, Working, Common, capped, held_len, taken_len, unsplit_len, app_steps, one_if}
+use Rattle.app_worker.specs.State.{State, read_of, TellsOf, LiesOutside, Working, Common, capped, held_len, taken_len, unsplit_len, lent_len, app_steps, one_if}
 use Rattle.app_worker.specs.Shelves.{IsShelved}
 use Rattle.app_worker.specs.Moves.{Moves, KeptSince, reserve_loans, lies_in}
 use Rattle.board_face.specs.declared.views.app.LentPiece.{LentPiece}
@@ -30,6 +30,7 @@ use Rattle.app_worker.proofs.Standing.{At, split-at, each-join, each-right, each
 use Rattle.app_worker.proofs.Moving.{total-one, lies-not, aside-same, leaked-aside, same-leaked, strays-same, entries-same, names-same, most-same}
 use Rattle.app_worker.proofs.Resting.{rest-set, rest-too}
 use Rattle.app_worker.proofs.Indexing.{index-set}
+use Rattle.app_worker.proofs.Accounts.{sound-same}
 use Rattle.app_worker.proofs.Seeing.{Left, left-none, left-saw, left-no-spare}
 
 -- what the shelf has of a flow doesn't look at what its queue keeps
@@ -177,6 +178,7 @@ lent-bundle was own now then old new loans copied flush more count within value 
         live = works.live;
         keeps_first = λ some. works.keeps_first (omega (arith, some, aside-same old new returned setting own_app));
         waits = works.waits;
+        appended = omega (arith, ap (total lent_len) returned, works.appended, written);
       };
       common = record {
         app = own_app ∙ common.app;
@@ -204,6 +206,7 @@ lent-bundle was own now then old new loans copied flush more count within value 
         strays = strays-same was.how.stray was.stray.left old new (ap (λ (v : AppView). v.written) step.view) common.strays;
         entries = entries-same old new (ap (λ (v : AppView). v.written) step.view) returned common.entries;
         names = names-same was.stray old new setting common.names;
+        sound = sound-same old new returned setting common.sound;
         bound = omega (arith, one_more, ap length returned, step.helds held_len, shorts, step.len, some, common.bound, ap (total taken_len) taken);
       };
       moves = record {

@@ -21,6 +21,7 @@ use Rattle.std.proofs.Math.Nat.{mul-le-mul_left}
 use Rattle.std.proofs.Common.{◌*◌}
 use Rattle.board_face.specs.declared.views.app.WrittenEntry.{WrittenEntry}
 use Rattle.app_worker.proofs.Moving.{strays-same, names-same}
+use Rattle.app_worker.proofs.Accounts.{sound-gone}
 use Rattle.app_worker.specs.Whole.{Torn}
 use Rattle.app_worker.specs.Letting.{FlowFacts, facts_of, Abandons, LetGo}
 use Rattle.circular_buffer.specs.Buffer.{buffer}
@@ -191,6 +192,17 @@ gone-all was now old v1 v2 v3 new reaped not_yet pushed torn common first second
     let count : length new.returned ≡ length old.returned + length old.loans =
     omega (arith, ap length returned, first.returned, second.returned, third.returned, all, due_then, kept_then, total-one old.loans) in
     let no_more : length new.loans ≡ 0 = ap length no_loan in
+    let back : (f : LentPiece → ℕ) → total f new.returned ≡ total f old.returned + total f old.loans = λ f. omega (
+      arith,
+      ap (total f) returned,
+      first.back f,
+      second.back f,
+      third.back f,
+      first.loans f,
+      second.loans f,
+      third.loans f,
+      ap (total f) (total-none v3.loans none),
+    ) in
     let bare : one_if was.bare ≡ 0 = ap one_if not_yet in
     let few : due + kept ≤ length old.loans = omega (arith, all, total-one old.loans) in
     let due_few : due ≤ 1 = due-most was.due in
@@ -201,6 +213,7 @@ gone-all was now old v1 v2 v3 new reaped not_yet pushed torn common first second
     record {
       helds = helds;
       loans = no_loan;
+      back = back;
       same = refl;
       facts = facts;
       ends = subst (λ ts. Each (FlowEnds ts) now) (sym taken)
@@ -227,6 +240,7 @@ gone-all was now old v1 v2 v3 new reaped not_yet pushed torn common first second
         entries = subst (λ ws. total (λ (w : WrittenEntry). if w.of_loan then 1 else 0) ws ≤ length new.returned)
             (sym (ap (λ (v : AppView). v.written) view)) (omega (arith, common.entries, count));
         names = names-same was.stray old new (ap (λ (v : AppView). v.setting) view) common.names;
+        sound = sound-gone old new (ap (λ (v : AppView). v.setting) view) torn.tokens.apart back common.sound;
         bound = omega (arith, count, no_more, ap (total held_len) helds, no_bytes, common.bound, ap (total taken_len) taken);
       };
       moves = record {

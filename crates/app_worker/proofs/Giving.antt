@@ -11,7 +11,7 @@ use Rattle.circular_buffer.specs.Buffer.{Buffer}
 use Rattle.board_face.specs.AppEvents.{reserve_of}
 use Rattle.app_worker.specs.Core.{total, Each, Stands, over_read, read_out, lent_piece}
 use Rattle.app_worker.specs.State.{State, returned_aside, raw_entries, loan_entries, TellsOf, LiesOutside, Working, Common, capped, held_len, taken_len}
-use Rattle.app_worker.specs.State.{unsplit_len, due_one, app_steps, one_if}
+use Rattle.app_worker.specs.State.{lent_len, loan_len, unsplit_len, due_one, app_steps, one_if}
 use Rattle.app_worker.specs.Shelves.{IsShelved}
 use Rattle.app_worker.specs.Steps.{Gave, Given, IsToFollow, KeptDue}
 use Rattle.std.proofs.Common.{◌*◌}
@@ -23,6 +23,7 @@ use Rattle.app_worker.specs.declared.stack.Stray.{Stray}
 use Rattle.app_worker.specs.Moves.{Moves}
 use Rattle.app_worker.specs.Whole.{Gives}
 use Rattle.app_worker.proofs.Standing2.{given-stands}
+use Rattle.app_worker.proofs.Accounts.{sound-gave}
 use Rattle.app_worker.proofs.Moving.{total-one, looks-same, kept-same, no-write, reserve-same, leaked-aside, same-leaked}
 use Rattle.app_worker.proofs.Tokens.{total-append}
 use Rattle.app_worker.proofs.Standing.{each-join}
@@ -119,6 +120,13 @@ gave-left was l stray old new due step follow enough works common =
           live = works.live;
           keeps_first = aside-gave was l old new step.returned setting own_app enough common.leaks works.keeps_first;
           waits = λ _. refl;
+          appended = omega (
+            arith,
+            ap (total lent_len) step.returned,
+            total-append lent_len old.returned (lent_piece old.taken l ∷ []),
+            ap (λ d. total loan_len (read_out d was.leaked.items)) due,
+            works.appended,
+          );
         };
         common = record {
           app = own_app ∙ common.app;
@@ -139,6 +147,7 @@ gave-left was l stray old new due step follow enough works common =
           strays = omega (arith, raws, left_is, may, common.strays);
           entries = omega (arith, entries, one_more, common.entries);
           names = λ _. subst (λ (s : Setting). judged s.layout stray.entry ≡ Some stray.buffer) (sym setting) follow.names;
+          sound = sound-gave old new (lent_piece old.taken l) step.returned setting works.stands.tokens.apart step.loans common.sound;
           bound = omega (arith, one_less, one_more, ap (total held_len) helds, common.bound, ap (total taken_len) taken);
         };
         goes = λ kept. record {
@@ -241,6 +250,13 @@ kept-left was rest leaked v step works common =
           live = works.live;
           keeps_first = λ some. absurd (omega (arith, works.keeps_first some, step.few));
           waits = λ _. refl;
+          appended = omega (
+            arith,
+            ap (total loan_len) items,
+            total-append loan_len was.leaked.items (l ∷ []),
+            ap (λ d. total loan_len (read_out d was.leaked.items)) step.due,
+            works.appended,
+          );
         };
         common = record {
           app = common.app;
@@ -262,6 +278,7 @@ kept-left was rest leaked v step works common =
           strays = common.strays;
           entries = common.entries;
           names = common.names;
+          sound = common.sound;
           bound = common.bound;
         };
         goes = λ kept. record {

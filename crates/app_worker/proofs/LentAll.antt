@@ -39,6 +39,7 @@ reaped-working st v works =
       flush = λ on none. works.flush on (sym same ∙ none);
       live = works.live;
       keeps_first = works.keeps_first;
+      appended = works.appended;
       waits = works.waits;
     }
 
@@ -62,6 +63,7 @@ reaped-common st v common = record {
   strays = common.strays;
   entries = common.entries;
   names = common.names;
+  sound = common.sound;
   bound = common.bound;
 }
 

@@ -16,7 +16,7 @@ use Rattle.app_worker.specs.declared.stack.FlowQueue.{FlowQueue}
 use Rattle.app_worker.specs.Core.{total, IsIn, LieApart, Each, lent_piece, held_piece, over_kept}
 use Rattle.app_worker.specs.Steps.{OnlyHelds, IsOut, given_back}
 use Rattle.app_worker.specs.Letting.{FlowFacts, facts_of, OnlyTokens, Abandons}
-use Rattle.app_worker.proofs.Tokens.{is-given, is-released, is_that_loan, that-loan, is-lent-there}
+use Rattle.app_worker.proofs.Tokens.{total-append, is-given, is-released, is_that_loan, that-loan, is-lent-there}
 use Rattle.app_worker.proofs.Lends.{over-first}
 
 -- ---- lists
@@ -91,9 +91,10 @@ pub record AbandonsSome (old new : AppView) (all left : (LentPiece → ℕ) → 
   pub helds : new.helds ≡ old.helds
   pub loans : (f : LentPiece → ℕ) → total f new.loans + all f ≡ total f old.loans + left f
   pub returned : length new.returned + left (λ _. 1) ≡ length old.returned + all (λ _. 1)
+  pub back : (f : LentPiece → ℕ) → total f new.returned + left f ≡ total f old.returned + all f
 
 pub abandons-none : (v : AppView) → LieApart v → (all : (LentPiece → ℕ) → ℕ) → AbandonsSome v v all all
-abandons-none v lie all = record { only = tokens-none v lie; helds = refl; loans = λ f. refl; returned = refl }
+abandons-none v lie all = record { only = tokens-none v lie; helds = refl; loans = λ f. refl; returned = refl; back = λ f. refl }
 
 pub abandons-one : (u v : AppView) (all left : (LentPiece → ℕ) → ℕ) (taken : List TakenNote) (l : Lending) → IsIn (lent_piece taken l) v.loans
     → AbandonsSome u v all (λ f. f (lent_piece taken l) + left f) → AbandonsSome u (abandoned v l.loan) all left
@@ -107,6 +108,7 @@ abandons-one u v all left taken l out some =
       helds = some.helds;
       loans = λ f. omega (arith, some.loans f, step.loans f);
       returned = omega (arith, some.returned, one_more);
+      back = λ f. omega (arith, some.back f, ap (total f) step.returned, total-append f v.returned (lent_piece taken l ∷ []));
     }
 
 -- the first of them is out
@@ -118,7 +120,13 @@ first-lent u v all left taken l out some =
     is-lent-there (lent_piece taken l) v.loans (omega (arith, that-loan (lent_piece taken l), some.loans test, out test))
 
 pub abandons-all : (u v : AppView) (all : (LentPiece → ℕ) → ℕ) → AbandonsSome u v all (λ f. 0) → Abandons u v all
-abandons-all u v all some = record { only = some.only; helds = some.helds; loans = λ f. omega (arith, some.loans f); returned = omega (arith, some.returned) }
+abandons-all u v all some = record {
+  only = some.only;
+  helds = some.helds;
+  loans = λ f. omega (arith, some.loans f);
+  returned = omega (arith, some.returned);
+  back = λ f. omega (arith, some.back f);
+}
 
 -- ---- pieces
 

@@ -14,6 +14,8 @@ pub mod Bridge
 pub mod Shelved
 pub mod WholeFrames
 pub mod StreamLemmas
+pub mod Accounts
+pub mod Counts
 pub mod Moving
 pub mod Resting
 pub mod Delivering

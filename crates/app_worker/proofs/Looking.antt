@@ -158,6 +158,7 @@ ended-working st v mid works rest told = rw told.event (record {
   flush = works.flush;
   live = works.live;
   keeps_first = works.keeps_first;
+  appended = works.appended;
   waits = works.waits;
 })
 
@@ -181,6 +182,7 @@ ended-common st v mid common told = rw told.event (record {
   strays = common.strays;
   entries = common.entries;
   names = common.names;
+  sound = common.sound;
   bound = common.bound;
 })
 

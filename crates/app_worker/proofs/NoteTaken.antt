@@ -16,7 +16,7 @@ use Rattle.app_worker.specs.declared.stack.FlowQueue.{FlowQueue}
 use Rattle.app_worker.specs.Marks.{Mark}
 use Rattle.app_worker.specs.Core.{total, Each, LieApart, Stands, FlowStands, many, over_kept, short_bytes, held_piece, IsOfNote, marks_of_waiting, received_note, own_notes}
 use Rattle.app_worker.proofs.Moving.{aside-same}
-use Rattle.app_worker.specs.State.{State, read_of, TellsOf, LiesOutside, IsAtRest, RestBut, IsIndex, Working, Common, FlowEnds, held_len, unsplit_len}
+use Rattle.app_worker.specs.State.{State, read_of, TellsOf, LiesOutside, IsAtRest, RestBut, IsIndex, Working, Common, FlowEnds, held_len, unsplit_len, lent_len}
 use Rattle.board_face.specs.declared.views.app.HeldPiece.{HeldPiece}
 use Rattle.std.specs.Prelude.{slice_get}
 use Rattle.app_worker.specs.Steps.{OnlyHelds, whole_piece}
@@ -143,6 +143,7 @@ module _ (was : State) (old new : AppView) (t : TakenNote) (works : Working was 
                   (ap (λ (v : AppView). v.app) view),
             ));
             waits = works.waits;
+            appended = omega (arith, ap (total lent_len) (ap (λ (v : AppView). v.returned) view), works.appended, bytes-in);
           };
           common = common-noted was old new t view-in notes i index now bytes-in few-in common;
           moves = moves-noted was old new t view-in notes i index now;

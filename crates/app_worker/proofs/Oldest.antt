@@ -19,7 +19,7 @@ use Rattle.app_worker.specs.Core.{read_out}
 use Rattle.zr_kinds.specs.declared.behaviour.Stopped.{Stopped}
 use Rattle.zr_kinds.specs.declared.behaviour.Stopped.TheVariants as stop
 use Rattle.app_worker.specs.State.{State, read_of, TellsOf, LiesOutside, Working, Common, Quits, FlowEnds, capped, held_len, taken_len, unsplit_len, due_one}
-use Rattle.app_worker.specs.State.{app_steps, one_if}
+use Rattle.app_worker.specs.State.{lent_len, loan_len, app_steps, one_if}
 use Rattle.board_face.specs.AppEvents.{reserve_of}
 use Rattle.app_worker.specs.Shelves.{IsShelved, AreShelved, ReadsFront, IsFrontShelved, AreFronts}
 use Rattle.app_worker.specs.Moves.{Moves, KeptSince, reserve_loans}
@@ -35,6 +35,7 @@ use Rattle.app_worker.proofs.Placing.{values-split, values-length}
 use Rattle.app_worker.proofs.EachBoth.{each-both}
 use Rattle.app_worker.proofs.Moving.{looks-same, no-write, aside-same, leaked-aside, same-leaked, strays-same, entries-same, names-same, most-same}
 use Rattle.app_worker.proofs.Indexing.{index-set}
+use Rattle.app_worker.proofs.Accounts.{sound-same}
 use Rattle.app_worker.proofs.Resting.{rest-same, each-same}
 
 pub front-of : {A : Type 0} (xs : List A) (x : A) → slice_get xs 0 ≡ Some x → xs ≡ x ∷ drop 1 xs
@@ -185,6 +186,7 @@ module _ (was : State) (i : ℕ) (own : FlowQueue) (p : Completion × Lending) (
         strays = strays-same was.how.stray was.stray.left old new (ap (λ (v : AppView). v.written) only.view) common.strays;
         entries = entries-same old new (ap (λ (v : AppView). v.written) only.view) same_returned common.entries;
         names = names-same was.stray old new same_setting common.names;
+        sound = sound-same old new same_returned same_setting common.sound;
         bound = omega (
           arith,
           ap length (ap (λ (v : AppView). v.loans) only.view),
@@ -195,6 +197,13 @@ module _ (was : State) (i : ℕ) (own : FlowQueue) (p : Completion × Lending) (
           common.bound,
         );
       }
+
+  sum-read : (bytes : ℕ) → total (λ o. o.bytes) (set was.flows i (record own { bytes = bytes })) + own.bytes ≡ total (λ o. o.bytes) was.flows + bytes
+  sum-read bytes =
+      let f : FlowQueue → ℕ = λ o. o.bytes in
+      let later : FlowQueue = record own { bytes = bytes } in
+      ap (λ n. n + own.bytes) (ap (total f) (at.set_is later)) ∙ total-changed at.before at.after own later f
+      ∙ ap (λ n. n + bytes) (sym (ap (total f) at.is))
 
   steps-read : (bytes written : ℕ) → app_steps (with_read was i own bytes ps p.1 written flush) new ≡ app_steps was old + 1
   steps-read bytes written = omega (
@@ -277,6 +286,13 @@ module _ (was : State) (i : ℕ) (own : FlowQueue) (p : Completion × Lending) (
           live = works.live;
           keeps_first = λ some. works.keeps_first (omega (arith, some, aside-same old new same_returned same_setting (ap (λ (v : AppView). v.app) only.view)));
           waits = λ some. absurd (omega (arith, some, pushed));
+          appended = omega (
+            arith,
+            ap (total lent_len) same_returned,
+            ap (λ d. total loan_len (read_out d was.leaked.items)) due,
+            works.appended,
+            sum-read (own.bytes + p.1.loan.len),
+          );
         };
         common = common-read (own.bytes + p.1.loan.len) written was.stopped (omega arith) (omega (arith, count)) quits;
         goes = record {

@@ -132,6 +132,7 @@ module _ (old : AppView) (settled quiet : Bool) (written : List WrittenEntry) (l
     flush = works.flush;
     live = works.live;
     keeps_first = works.keeps_first;
+    appended = works.appended;
     waits = waits;
   }
 
@@ -156,6 +157,7 @@ module _ (old : AppView) (settled quiet : Bool) (written : List WrittenEntry) (l
     strays = strays;
     entries = entries;
     names = names;
+    sound = common.sound;
     bound = common.bound;
   }
 

@@ -24,6 +24,7 @@ working-saw st v look works = record {
   flush = works.flush;
   live = works.live;
   keeps_first = works.keeps_first;
+  appended = works.appended;
   waits = works.waits;
 }
 
@@ -47,6 +48,7 @@ common-saw st v look common = record {
   strays = common.strays;
   entries = common.entries;
   names = common.names;
+  sound = common.sound;
   bound = common.bound;
 }
 
@@ -102,6 +104,7 @@ working-rested st v works = record {
   flush = works.flush;
   live = works.live;
   keeps_first = works.keeps_first;
+  appended = works.appended;
   waits = works.waits;
 }
 
@@ -125,6 +128,7 @@ common-rested st v common = record {
   strays = common.strays;
   entries = common.entries;
   names = common.names;
+  sound = common.sound;
   bound = common.bound;
 }
 

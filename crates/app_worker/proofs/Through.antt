@@ -100,6 +100,7 @@ bare-of-gone was st old v other gone = record {
   distinct = gone.distinct;
   index = gone.index;
   whole = λ none. absurd (other none);
+  appended = λ none. absurd (other none);
   known = λ none. absurd (other none);
 }
 
@@ -122,6 +123,7 @@ bare-stopped st v cause other was old gone = record {
   distinct = gone.distinct;
   index = gone.index;
   whole = λ none. absurd (other none);
+  appended = λ none. absurd (other none);
   known = λ none. absurd (other none);
 }
 
@@ -151,6 +153,7 @@ common-stopped st v cause none other common = record {
   strays = common.strays;
   entries = common.entries;
   names = common.names;
+  sound = common.sound;
   bound = common.bound;
 }
 

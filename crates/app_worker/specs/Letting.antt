@@ -30,11 +30,13 @@ pub record Abandons (old new : AppView) (gone : (LentPiece → ℕ) → ℕ) : T
   pub helds : new.helds ≡ old.helds
   pub loans : (f : LentPiece → ℕ) → total f new.loans + gone f ≡ total f old.loans
   pub returned : length new.returned ≡ length old.returned + gone (λ _. 1)
+  pub back : (f : LentPiece → ℕ) → total f new.returned ≡ total f old.returned + gone f
 
 -- all is given up, and nothing else changed
 pub record LetGo (was now : State) (old new : AppView) : Type 0 where
   pub helds : new.helds ≡ []
   pub loans : new.loans ≡ []
+  pub back : (f : LentPiece → ℕ) → total f new.returned ≡ total f old.returned + total f old.loans
   pub same : now ≡ record was { flows = now.flows; unread = []; due = None; leaked = buffer [] was.leaked.capacity; bare = true }
   pub facts : map facts_of now.flows ≡ map facts_of was.flows
   pub ends : Each (FlowEnds new.taken) now.flows

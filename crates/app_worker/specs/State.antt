@@ -16,12 +16,13 @@ use Rattle.completion_ring.specs.Ring.{Ring}
 use Rattle.tcp_reorder.specs.Queue.{next_of}
 use Rattle.board_face.specs.AppEvents.{reserve_of}
 use Rattle.board_face.specs.declared.views.app.HeldPiece.{HeldPiece}
+use Rattle.board_face.specs.declared.views.app.LentPiece.{LentPiece}
 use Rattle.board_face.specs.declared.views.app.TakenNote.{TakenNote}
 use Rattle.board_face.specs.declared.views.app.AppView.{AppView}
 use Rattle.app_worker.specs.declared.stack.Lending.{Lending}
 use Rattle.app_worker.specs.declared.stack.Stray.{Stray}
 use Rattle.app_worker.specs.declared.stack.FlowQueue.{FlowQueue}
-use Rattle.app_worker.specs.Core.{total, Each, many, read_out, own_notes, BeginAt, placed_of, short_bytes, Stands}
+use Rattle.app_worker.specs.Core.{total, is_odd, Each, many, read_out, own_notes, BeginAt, placed_of, short_bytes, Stands}
 
 pub record State : Type 0 where
   pub app : ℕ
@@ -90,6 +91,17 @@ read_of st = read_out st.due st.leaked.items
 abbrev pub returned_aside : AppView → ℕ
 returned_aside v = total (λ l. if l.place.buffer == reserve_of v then 0 else 1) v.returned
 
+-- how many bytes these have
+abbrev pub lent_len : LentPiece → ℕ
+lent_len l = l.place.len
+
+abbrev pub loan_len : Lending → ℕ
+loan_len l = l.loan.len
+
+-- how many of these don't have 1 to 65,515 bytes in one buffer
+abbrev pub odd_loans : Shape → List LentPiece → ℕ
+odd_loans layout loans = total (λ l. is_odd layout l.place) loans
+
 -- its loan lies in another buffer
 abbrev pub LiesOutside : ℕ → Completion × Lending → Type 0
 LiesOutside buffer p = p.1.loan.buffer ≢ buffer
@@ -111,6 +123,8 @@ pub record Working (st : State) (v : AppView) : Type 0 where
   pub keeps_first : 0 < returned_aside v → length st.leaked.items ≡ st.how.leak
   -- no other loan is due before the entries that follow one are written
   pub waits : 0 < st.stray.left → st.due ≡ None
+  -- each loan that it doesn't have any more was appended whole, as each that was read, and nothing else was
+  pub appended : total lent_len v.returned + total loan_len (read_of st) ≡ total (λ f. f.bytes) st.flows
 
 -- ---- once it has stopped, or has read all
 
@@ -132,6 +146,8 @@ pub record Bare (st : State) (v : AppView) : Type 0 where
   pub index : IsIndex st.index st.flows
   -- and where nothing stopped it, all of its flows was appended
   pub whole : st.stopped ≡ No → (st.ended ≡ true) × Each (λ f. f.bytes ≡ next_missing (placed_of f v.taken)) st.flows
+  -- each loan that it had was then appended whole
+  pub appended : st.stopped ≡ No → total lent_len v.returned ≡ total (λ f. f.bytes) st.flows
   pub known : st.stopped ≡ No → (number : ℕ) → many number st.flows ≡ 0 → own_notes number v.taken ≡ []
 
 -- ---- always
@@ -188,6 +204,8 @@ pub record Common (st : State) (v : AppView) : Type 0 where
   -- at most so many raw entries are written as may follow the loans that were given back
   pub strays : raw_entries v + st.stray.left ≤ st.how.stray * loan_entries v
   pub entries : loan_entries v ≤ length v.returned
+  -- each loan that it doesn't have any more had a byte
+  pub sound : odd_loans v.setting.layout v.returned ≡ 0
   pub names : 0 < st.stray.left → judged v.setting.layout st.stray.entry ≡ Some st.stray.buffer
   -- each loan was of a byte that was taken, and is of one that it doesn't keep any more
   pub bound : length v.loans + length v.returned + total held_len v.helds + total (λ f. short_bytes f.queue) st.flows ≤ total taken_len v.taken

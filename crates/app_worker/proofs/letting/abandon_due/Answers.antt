@@ -30,4 +30,5 @@ returns-in-Some-clause-abandons g c =
       helds = all.helds;
       loans = λ f. omega (arith, all.loans f);
       returned = omega (arith, all.returned);
+      back = λ f. omega (arith, all.back f);
     })
