@@ -48,9 +48,9 @@ module _ (st : State) (old : AppView) (bare : Bare st old) (is_bare : st.bare 鈮
         (common-noted st old new t took st.notes st.active st.index st.flows refl
         (record { kept = omega (arith, ap (total held_len) none); short = omega arith }) common) reaped is_bare;
     goes = record {
-      moves = moves-noted st old new t took st.notes st.active st.index st.flows;
+      moves = moves-noted st old new t took st.notes st.active st.index st.flows (位 n. omega arith);
       shelved = 位 _ begin. shelves-kept st.flows old new t took bare.flows begin kept;
-      failed = 位 is begin exact front. fronts-kept st.flows old new t took begin kept (front is);
+      failed = 位 is begin exact front. fronts-kept st.flows old new t took bare.flows begin kept (front is);
     };
     answer = omega (arith, steps-noted st old new t took st.notes st.active st.index st.flows);
     few = inr (t, ap (位 (v : AppView). v.taken) took.view);
@@ -211,9 +211,10 @@ module _ (st : State) (old : AppView) (bare : Bare st old) (is_bare : st.bare 鈮
           keeps = 位 n r before live. record { lent = (before live).lent; kept = 位 notes. absurd (cc) };
           stays = 位 _. refl;
           leaked = same-leaked st (record st { ended = true }) refl refl;
+          bytes = 位 n. omega arith;
         };
         shelved = 位 _ begin shelved. record { flows = shelved.flows; others = shelved.others };
-        failed = 位 is begin exact front. (let f = front is in record { flows = f.flows; others = f.others });
+        failed = 位 is begin exact front. (let f = front is in record { flows = f.flows; others = f.others; torn = f.torn; exact = f.exact });
       };
       taken = refl;
       left = refl;

@@ -158,9 +158,10 @@ goes-gone st v kept = record {
     keeps = λ n r before live. (let k = before live in record { lent = k.lent; kept = k.kept });
     stays = λ _. refl;
     leaked = same-leaked st st refl refl;
+    bytes = λ n. omega arith;
   };
   shelved = λ _ begin shelved. record { flows = shelved.flows; others = shelved.others };
-  failed = λ is begin exact front. (let f = front is in record { flows = f.flows; others = f.others });
+  failed = λ is begin exact front. (let f = front is in record { flows = f.flows; others = f.others; torn = f.torn; exact = f.exact });
 }
 
 -- what is known once it has nothing out

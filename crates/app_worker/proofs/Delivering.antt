@@ -13,7 +13,7 @@ use Rattle.app_worker.specs.declared.stack.Lending.{Lending}
 use Rattle.app_worker.specs.declared.stack.FlowQueue.{FlowQueue}
 use Rattle.board_face.specs.AppEvents.{reserve_of}
 use Rattle.app_worker.specs.Core.{total, is_odd, Each, Stands, many, lent_piece, over_waiting, short_len, short_bytes}
-use Rattle.app_worker.specs.State.{State, read_of, TellsOf, LiesOutside, Working, Common, capped, held_len, taken_len, unsplit_len, lent_len, app_steps, one_if}
+use Rattle.app_worker.specs.State.{State, read_of, TellsOf, LiesOutside, Working, Common, capped, held_len, taken_len, unsplit_len, lent_len, bytes_if, bytes_of, app_steps, one_if}
 use Rattle.app_worker.specs.Shelves.{IsShelved}
 use Rattle.app_worker.specs.Moves.{Moves, KeptSince, reserve_loans, lies_in}
 use Rattle.board_face.specs.declared.views.app.LentPiece.{LentPiece}
@@ -229,6 +229,13 @@ lent-bundle was own now then old new loans copied flush more count within value 
             };
         stays = λ _. refl;
         leaked = same-leaked was (with_lent was now then loans copied flush) refl refl;
+        bytes = λ n. omega (
+          arith,
+          ap (bytes_of n) (at.set_is now),
+          total-changed at.before at.after own now (bytes_if n),
+          ap (bytes_of n) at.is,
+          ap (bytes_if n) step.flow,
+        );
       };
       shelved = λ first kept was_shelved. record {
         flows = subst (Each (IsShelved first kept new.taken new.reads)) (sym (at.set_is now))

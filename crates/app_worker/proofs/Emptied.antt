@@ -1,6 +1,6 @@
 -- All that an application has out is given up: what is left.
-use Rattle.std.proofs.Common.{zero, suc, get_or, ◌∷◌}
-use Rattle.std.proofs.Common.{◌≡◌, ℕ, ◌+◌, ◌<◌, ◌≤◌, true, false, List, [], Option, None, IsSome, map, length, refl, sym, ap, subst}
+use Rattle.std.proofs.Common.{zero, suc, get_or, ◌∷◌, ◌≡◌, ℕ, ◌+◌, ◌<◌, ◌≤◌, true, false, List, [], Option, None, IsSome}
+use Rattle.std.proofs.Common.{map, length, refl, sym, ap, subst, ◌≢◌}
 use Rattle.std.proofs.Common.{◌∙◌, arith}
 use Rattle.std.specs.Prelude.{◌==◌, if◌then◌else◌}
 use Rattle.zr_kinds.specs.declared.ring.Completion.{Completion}
@@ -13,7 +13,8 @@ use Rattle.board_face.specs.declared.views.app.LentPiece.{LentPiece}
 use Rattle.board_face.specs.declared.views.app.AppView.{AppView}
 use Rattle.app_worker.specs.declared.stack.Lending.{Lending}
 use Rattle.app_worker.specs.declared.stack.FlowQueue.{FlowQueue}
-use Rattle.app_worker.specs.Core.{total, many, Each, over_due, over_read, read_out, short_bytes, lent_piece, own_notes, BeginAt, received_notes, AreReadAt}
+use Rattle.app_worker.specs.Core.{total, many, Each, over_due, over_read, read_out, short_bytes, lent_piece, own_notes, BeginAt, received_notes}
+use Rattle.app_worker.specs.Core.{AreReadAt, most_at_once}
 use Rattle.app_worker.proofs.Indexing.{by-place}
 use Rattle.app_worker.specs.State.{State, IsIndex, place_in, Common, FlowEnds, capped, held_len, taken_len, unsplit_len, due_one, app_steps, one_if}
 use Rattle.app_worker.specs.Shelves.{IsShelved, AreShelved, ReadsFront, IsFrontShelved, AreFronts}
@@ -89,10 +90,11 @@ front-facts : (taken : List TakenNote) (reads : List Reading) (f g : FlowQueue) 
     → ReadsFront taken reads f bytes → ReadsFront taken reads g bytes
 front-facts taken reads f g same bytes front =
     let P : FlowFacts → Type 0 = λ x. (x.bytes ≤ front.count)
+    × (front.count ≤ x.bytes + most_at_once)
     × ((p : ℕ) → p < front.count → IsSome ((received_notes x.base nothing_placed (own_notes x.number taken)).at p))
     × AreReadAt taken reads (values_from (received_notes x.base nothing_placed (own_notes x.number taken)).at front.count 0) bytes in
-    let moved : P (facts_of g) = subst P (sym same) (front.at_least, front.below, front.are) in
-    record { count = front.count; at_least = moved.0; below = moved.1; are = moved.2 }
+    let moved : P (facts_of g) = subst P (sym same) (front.at_least, front.at_once, front.below, front.are) in
+    record { count = front.count; at_least = moved.0; at_once = moved.1; below = moved.2; are = moved.3 }
 
 fronts-facts : (first kept : ℕ → Option (List ℕ)) (taken : List TakenNote) (reads : List Reading) (f g : FlowQueue) → facts_of g ≡ facts_of f
     → IsFrontShelved first kept taken reads f → IsFrontShelved first kept taken reads g
@@ -111,8 +113,16 @@ all-fronts-facts first kept flows now old new facts taken reads shelved = record
       (subst (λ rs. Each (IsFrontShelved first kept old.taken rs) now) (sym reads)
       (each-facts (IsFrontShelved first kept old.taken old.reads) (IsFrontShelved first kept old.taken old.reads)
       (fronts-facts first kept old.taken old.reads) flows now facts shelved.flows));
+  torn = shelved.torn;
+  exact = subst (λ ts. Each (IsExact ts new.reads) now) (sym taken) (subst (λ rs. Each (IsExact old.taken rs) now) (sym reads)
+      (each-facts (IsExact old.taken old.reads) (IsExact old.taken old.reads)
+      (λ f g same exact other. shelved-facts first kept old.taken old.reads f g same (exact (λ is. other (ap (λ (x : FlowFacts). x.number) same ∙ is))))
+      flows now facts shelved.exact));
   others = λ n none. shelved.others n (sym (total-facts (λ x. if x.number == n then 1 else 0) flows now facts) ∙ none);
 }
+  where
+    IsExact : List TakenNote → List Reading → FlowQueue → Type 0
+    IsExact taken reads f = f.number ≢ shelved.torn → IsShelved first kept taken reads f
 
 -- what is unread is out
 pub unread-out : (was : State) (old : AppView) → Torn was old → (f : LentPiece → ℕ)
@@ -257,6 +267,7 @@ gone-all was now old v1 v2 v3 new reaped not_yet pushed torn common first second
         keeps = λ n r before live. absurd (cc);
         stays = λ _. refl;
         leaked = λ live. absurd (cc);
+        bytes = λ n. omega (arith, total-facts (λ x. if x.number == n then x.bytes else 0) was.flows now facts);
       };
       steps = steps;
       shelved = λ begin kept shelved. shelves-facts begin kept was.flows now old new facts taken reads shelved;

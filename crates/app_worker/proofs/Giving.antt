@@ -160,6 +160,7 @@ gave-left was l stray old new due step follow enough works common =
             keeps = kept-same was (with_due was None stray) old new refl refl refl refl read_count lent (omega arith);
             stays = λ _. refl;
             leaked = same-leaked was (with_due was None stray) refl refl;
+            bytes = λ n. omega arith;
           };
           shelved = λ _ first shelved. record {
             flows = subst (λ ts. Each (IsShelved first kept ts new.reads) was.flows) (sym taken)
@@ -220,6 +221,7 @@ kept-left was rest leaked v step works common =
       keeps = kept-same was now v v refl refl refl refl (omega (arith, one_due, longer)) refl (omega arith);
       stays = λ _. refl;
       leaked = λ live. (live, (l ∷ [], items));
+      bytes = λ n. omega arith;
     } in
     rw step.none (
       record {

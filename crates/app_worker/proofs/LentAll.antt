@@ -92,6 +92,7 @@ through-reaped b c v w did end_by kept lent =
               };
           stays = goes.moves.stays;
           leaked = goes.moves.leaked;
+          bytes = goes.moves.bytes;
         };
         shelved = goes.shelved;
         failed = goes.failed;

@@ -206,6 +206,7 @@ ended-begins st v mid kept f works common here more told =
           keeps = λ n r before live. record { lent = (before live).lent; kept = λ notes. absurd (cc) };
           stays = λ _. refl;
           leaked = same-leaked st (record st { ended = true }) refl refl;
+          bytes = λ n. omega arith;
         };
         shelved = λ _ begin shelved. record { flows = shelved.flows; others = shelved.others };
         failed = λ is. absurd (no-write st.stopped works.going is);
@@ -259,6 +260,7 @@ module _ (a b c : State) (u v w : AppView) (k : ℕ → Option (List ℕ)) (f : 
         keeps = λ n r before live. (let k = moves-both.keeps n r before live in record { lent = k.lent; kept = k.kept });
         stays = λ other. absurd (other works.going);
         leaked = moves-both.leaked;
+        bytes = moves-both.bytes;
       };
       shelved = λ _ begin shelved. gone.shelved begin k (took.shelved begin k shelved);
       failed = λ is. absurd (cc);
@@ -276,6 +278,7 @@ module _ (a b c : State) (u v w : AppView) (k : ℕ → Option (List ℕ)) (f : 
           keeps = λ n r before live. (let k = moves-both.keeps n r before live in record { lent = k.lent; kept = k.kept });
           stays = λ other. absurd (other works.going);
           leaked = moves-both.leaked;
+          bytes = moves-both.bytes;
         });
     none = λ _ e. absurd (cc);
     cause = λ _ is. absurd (cc);

@@ -124,6 +124,7 @@ moves-none st v = record {
   keeps = λ n r before. before;
   stays = λ _. refl;
   leaked = same-leaked st st refl refl;
+  bytes = λ n. omega arith;
 }
 
 pub moves-then : (a b c : State) (u v w : AppView) → Moves a b u v → Moves b c v w → Moves a c u w
@@ -136,6 +137,7 @@ moves-then a b c u v w first second = record {
   keeps = λ n r before. second.keeps n r (first.keeps n r before);
   stays = λ other. (let e : b.stopped ≡ a.stopped = first.stays other in second.stays (λ is. other (sym e ∙ is)) ∙ e);
   leaked = λ live. (let later = second.leaked live in leaked-then a b c (first.leaked later.0) later);
+  bytes = λ n. omega (arith, first.bytes n, second.bytes n);
 }
 
 -- what quit wasn't stopped by its shelf

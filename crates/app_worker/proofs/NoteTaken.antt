@@ -28,7 +28,7 @@ use Rattle.app_worker.proofs.Standing2.{taken-last}
 use Rattle.app_worker.proofs.Oldest.{ends-of}
 use Rattle.app_worker.proofs.Indexing.{index-set}
 use Rattle.app_worker.proofs.Resting.{rest-all, rest-set, rest-push}
-use Rattle.app_worker.proofs.Noting.{Chosen, is-chosen, TookView, TookBytes, with_note, bytes-noted, total-noted, many-noted, common-noted, steps-noted, moves-noted, ends-kept}
+use Rattle.app_worker.proofs.Noting.{Chosen, is-chosen, TookView, TookBytes, with_note, bytes-noted, grow-noted, total-noted, many-noted, common-noted, steps-noted, moves-noted, ends-kept}
 use Rattle.app_worker.proofs.Noting.{shelves-kept, ends-noted, shelves-noted}
 
 -- what was appended of each flow has its place
@@ -59,7 +59,7 @@ module _ (was : State) (old new : AppView) (t : TakenNote) (works : Working was 
     };
     common = common-noted was old new t view-in was.notes was.active was.index was.flows refl
         (record { kept = omega (arith, helds held_len); short = omega arith }) common;
-    moves = moves-noted was old new t view-in was.notes was.active was.index was.flows;
+    moves = moves-noted was old new t view-in was.notes was.active was.index was.flows (λ n. omega arith);
     shelved = shelves-kept was.flows old new t view-in (all-end was old works);
     note = t;
     taken = ap (λ (v : AppView). v.taken) view;
@@ -100,7 +100,7 @@ module _ (was : State) (old new : AppView) (t : TakenNote) (works : Working was 
             index = index-set index flows i own (record own { queue = q }) within value refl is_index;
           };
           common = common-noted was old new t view-in notes i index now bytes-in few-in common;
-          moves = moves-noted was old new t view-in notes i index now;
+          moves = moves-noted was old new t view-in notes i index now (grow-noted was.flows t.note own (λ x. set flows i x) q base put-in);
           shelved = shelves-noted was.flows old new t view-in (all-end was old works) known-in own (λ x. set flows i x) put-in q base;
           note = t;
           taken = ap (λ (v : AppView). v.taken) view;
@@ -146,7 +146,7 @@ module _ (was : State) (old new : AppView) (t : TakenNote) (works : Working was 
             appended = omega (arith, ap (total lent_len) (ap (λ (v : AppView). v.returned) view), works.appended, bytes-in);
           };
           common = common-noted was old new t view-in notes i index now bytes-in few-in common;
-          moves = moves-noted was old new t view-in notes i index now;
+          moves = moves-noted was old new t view-in notes i index now (grow-noted was.flows t.note own (λ x. set flows i x) q base put-in);
           shelved = shelves-noted was.flows old new t view-in (all-end was old works) known-in own (λ x. set flows i x) put-in q base;
           steps = omega (arith, steps-noted was old new t view-in notes i index now);
           note = t;

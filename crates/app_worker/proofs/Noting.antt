@@ -1,7 +1,7 @@
 -- A note is taken: what that does to the flows, and to all that is kept.
 use Rattle.std.proofs.Common.{◌≡◌, ◌≢◌, ℕ, ◌+◌, ◌<◌, ◌≤◌, false, List, [], ◌∷◌, ◌++◌, Option, Some, None, IsSome, length}
 use Rattle.std.proofs.Common.{set, get_or, refl, sym, ap, subst, ◌∙◌, arith, ⊎_elim, inl, inr, length-append, append-nil}
-use Rattle.std.specs.Prelude.{◌==◌}
+use Rattle.std.specs.Prelude.{◌==◌, Bool, true, if◌then◌else◌}
 use Rattle.std.specs.Io.KnownBytes.{Keeps}
 use Rattle.std.proofs.lemmas.Bool.{cases_eq}
 use Rattle.std.proofs.lemmas.Bool.Decides.{nat_tests}
@@ -17,7 +17,7 @@ use Rattle.app_worker.specs.declared.stack.Waiting.{Waiting}
 use Rattle.app_worker.specs.declared.stack.FlowQueue.{FlowQueue}
 use Rattle.app_worker.specs.Marks.{Mark, Numbered}
 use Rattle.app_worker.specs.Core.{total, Each, many, short_bytes, own_notes, BeginAt, placed_of, received_note, received_notes, AreReadAt}
-use Rattle.app_worker.specs.State.{State, Common, FlowEnds, capped, held_len, taken_len, unsplit_len, due_one, app_steps, one_if}
+use Rattle.app_worker.specs.State.{State, Common, FlowEnds, capped, held_len, taken_len, unsplit_len, bytes_if, bytes_of, due_one, app_steps, one_if}
 use Rattle.app_worker.specs.Shelves.{IsShelved, AreShelved, ReadsFront, IsFrontShelved, AreFronts}
 use Rattle.app_worker.specs.Moves.{Moves}
 use Rattle.app_worker.specs.Whole.{fresh_flow, IsChosen}
@@ -95,6 +95,7 @@ module _ (taken : List TakenNote) (t : TakenNote) (f : FlowQueue) (q : Queue Wai
       record {
         count = front.count;
         at_least = front.at_least;
+        at_once = front.at_once;
         below = λ p below. ⊎_elim
             (λ (is : t.note.flow ≡ f.number). let (value, here) = some_of ((placed_of f taken).at p) (front.below p below) in
             subst (λ (pl : Placed Mark). IsSome (pl.at p)) (sym (placed-here is))
@@ -193,6 +194,14 @@ module _ (was : List FlowQueue) (note : Note) (own : FlowQueue) (put : FlowQueue
         ap h own_is,
         none,
       )
+
+  -- and no count of bytes falls
+  pub grow-noted : Chosen was note own put → (n : ℕ) → bytes_of n was ≤ bytes_of n (put (record own { queue = q }))
+  grow-noted chosen n = omega (arith, total-noted (bytes_if n) chosen (none-yet (note.flow == n) 0))
+    where
+      none-yet : (b : Bool) (z : ℕ) → (if b then z else z) ≡ z
+      none-yet true z = refl
+      none-yet false z = refl
 
   -- its number may be new, and no other's
   pub many-noted : Chosen was note own put → (n : ℕ) → (many n was ≤ many n (put (record own { queue = q })))
@@ -300,8 +309,8 @@ module _ (was : State) (old new : AppView) (t : TakenNote) (took : TookView old 
         ap one_if (ap (λ (v : AppView). v.left) took.view),
       )
 
-  pub moves-noted : Moves was (with_note was notes flows index active) old new
-  moves-noted = record {
+  pub moves-noted : ((n : ℕ) → bytes_of n was.flows ≤ bytes_of n flows) → Moves was (with_note was notes flows index active) old new
+  moves-noted grow = record {
     same = (
       ap (λ (v : AppView). v.setting) took.view,
       ap (λ (v : AppView). v.app) took.view,
@@ -316,6 +325,7 @@ module _ (was : State) (old new : AppView) (t : TakenNote) (took : TookView old 
         (ap (λ (v : AppView). length v.returned + due_one was.due + length was.leaked.items) took.view) (rw took.view refl) (omega arith);
     stays = λ _. refl;
     leaked = same-leaked was (with_note was notes flows index active) refl refl;
+    bytes = grow;
   }
 
 -- what the flows were, and what the shelf had of them
@@ -363,9 +373,9 @@ module _ (was : List FlowQueue) (old new : AppView) (t : TakenNote) (took : Took
     }
 
 -- a shelf that failed has what it had
-pub fronts-kept : (was : List FlowQueue) (old new : AppView) (t : TakenNote) → TookView old new t → (first kept : ℕ → Option (List ℕ))
+pub fronts-kept : (was : List FlowQueue) (old new : AppView) (t : TakenNote) → TookView old new t → Each (FlowEnds old.taken) was → (first kept : ℕ → Option (List ℕ))
     → AreFronts first kept was old → AreFronts first kept was new
-fronts-kept was old new t took first kept shelved =
+fronts-kept was old new t took ends first kept shelved =
     let reads : new.reads ≡ old.reads = ap (λ (v : AppView). v.reads) took.view in
     let later : new.taken ≡ old.taken ++ t ∷ [] = ap (λ (v : AppView). v.taken) took.view in
     record {
@@ -373,5 +383,13 @@ fronts-kept was old new t took first kept shelved =
           (subst (λ rs. Each (IsFrontShelved first kept (old.taken ++ t ∷ []) rs) was) (sym reads)
           (each-map (IsFrontShelved first kept old.taken old.reads) (IsFrontShelved first kept (old.taken ++ t ∷ []) old.reads) was
           (λ f _ e. fronts-note old.taken t f f.queue refl first kept old.reads e) shelved.flows));
+      torn = shelved.torn;
+      exact = subst (λ ts. Each (IsExact ts new.reads) was) (sym later) (subst (λ rs. Each (IsExact (old.taken ++ t ∷ []) rs) was) (sym reads)
+          (each-map (λ f. FlowEnds old.taken f × IsExact old.taken old.reads f) (IsExact (old.taken ++ t ∷ []) old.reads) was
+          (λ f _ e other. shelved-note old.taken t f f.queue refl first kept old.reads e.0 (e.1 other))
+          (each-both (FlowEnds old.taken) (IsExact old.taken old.reads) was ends shelved.exact)));
       others = shelved.others;
     }
+  where
+    IsExact : List TakenNote → List Reading → FlowQueue → Type 0
+    IsExact taken reads f = f.number ≢ shelved.torn → IsShelved first kept taken reads f

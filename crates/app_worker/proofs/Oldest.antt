@@ -1,7 +1,7 @@
 -- The oldest loan is read: all that is kept then.
 use Rattle.std.proofs.Common.{◌≡◌, ◌≢◌, ℕ, ◌+◌, ◌-◌, ◌^◌, ◌<◌, ◌≤◌, min, Bool, true, false, List, [], ◌∷◌, ◌++◌, Option, Some, None}
 use Rattle.std.proofs.Common.{IsSome, length, drop, set, get_or, refl, sym, ap, subst, ◌∙◌, arith, ◌⊎◌, ⊎_elim, append-nil, length-append}
-use Rattle.std.specs.Prelude.{slice_get}
+use Rattle.std.specs.Prelude.{slice_get, ◌==◌, if◌then◌else◌}
 use Rattle.std.specs.Io.KnownBytes.{Keeps}
 use Rattle.zr_kinds.specs.declared.ring.Completion.{Completion}
 use Rattle.std.proofs.KnownBytes.{Keeps-trans}
@@ -19,7 +19,7 @@ use Rattle.app_worker.specs.Core.{read_out}
 use Rattle.zr_kinds.specs.declared.behaviour.Stopped.{Stopped}
 use Rattle.zr_kinds.specs.declared.behaviour.Stopped.TheVariants as stop
 use Rattle.app_worker.specs.State.{State, read_of, TellsOf, LiesOutside, Working, Common, Quits, FlowEnds, capped, held_len, taken_len, unsplit_len, due_one}
-use Rattle.app_worker.specs.State.{lent_len, loan_len, app_steps, one_if}
+use Rattle.app_worker.specs.State.{lent_len, loan_len, bytes_if, bytes_of, app_steps, one_if}
 use Rattle.board_face.specs.AppEvents.{reserve_of}
 use Rattle.app_worker.specs.Shelves.{IsShelved, AreShelved, ReadsFront, IsFrontShelved, AreFronts}
 use Rattle.app_worker.specs.Moves.{Moves, KeptSince, reserve_loans}
@@ -61,6 +61,7 @@ front-other first kept now taken posted old new f only keeps stands shelved =
           (λ bytes are. record {
             count = f.bytes;
             at_least = omega arith;
+            at_once = omega arith;
             below = λ p below. stands.holds.popped p (omega (arith, below, stands.counted));
             are = are;
           }) still.gained;
@@ -100,6 +101,7 @@ front-own first kept now taken old new own l bytes most ps only more part there 
           record {
             count = own.bytes + k;
             at_least = omega (arith, is.at_least, more);
+            at_once = omega (arith, is.at_once, more);
             below = λ q below. there q (omega (arith, next.within, is.at_most, part));
             are = subst (λ ms. AreReadAt taken new.reads ms (xs ++ ys)) (sym all)
                 (read-append taken new.reads (values_from at own.bytes 0) (values_from at k own.bytes) xs ys grow
@@ -224,8 +226,8 @@ module _ (was : State) (i : ℕ) (own : FlowQueue) (p : Completion × Lending) (
   no-flush : was.flush ≡ false → flush ≡ false
   no-flush off = ⊎_elim (λ (on : flush ≡ true). absurd (let e = (flush_on on).0 in cc)) (λ (not : flush ≡ false). not) (cases_Bool flush)
 
-  moves-read : (bytes written : ℕ) → Moves was (with_read was i own bytes ps p.1 written flush) old new
-  moves-read bytes written = record {
+  moves-read : (bytes written : ℕ) → own.bytes ≤ bytes → Moves was (with_read was i own bytes ps p.1 written flush) old new
+  moves-read bytes written more = record {
     same = (
       same_setting,
       ap (λ (v : AppView). v.app) only.view,
@@ -248,7 +250,18 @@ module _ (was : State) (i : ℕ) (own : FlowQueue) (p : Completion × Lending) (
         };
     stays = λ _. refl;
     leaked = same-leaked was (with_read was i own bytes ps p.1 written flush) refl refl;
+    bytes = λ n. (let later : FlowQueue = record own { bytes = bytes } in omega (
+      arith,
+      ap (bytes_of n) (at.set_is later),
+      total-changed at.before at.after own later (bytes_if n),
+      ap (bytes_of n) at.is,
+      still-more (own.number == n),
+    ));
   }
+    where
+      still-more : (b : Bool) → (if b then own.bytes else 0) ≤ (if b then bytes else 0)
+      still-more true = more
+      still-more false = omega arith
 
   -- what lies in the reserve
   rest_all : (ps ++ was.posted.entries ≡ []) → ps ≡ []
@@ -296,7 +309,7 @@ module _ (was : State) (i : ℕ) (own : FlowQueue) (p : Completion × Lending) (
         };
         common = common-read (own.bytes + p.1.loan.len) written was.stopped (omega arith) (omega (arith, count)) quits;
         goes = record {
-          moves = moves-read (own.bytes + p.1.loan.len) written;
+          moves = moves-read (own.bytes + p.1.loan.len) written (omega arith);
           shelved = λ _ first shelved. subst (λ (fs : List FlowQueue). AreShelved first kept_now fs new) (sym (at.set_is later))
               (shelved-reaped first kept kept_now was.notes at.before at.after own p (ps ++ was.posted.entries) p.1.loan.len was.leaked.items old new number only stood
               (omega arith) added
@@ -336,7 +349,14 @@ module _ (was : State) (i : ℕ) (own : FlowQueue) (p : Completion × Lending) (
       (IsFrontShelved first kept_now old.taken new.reads) at.before at.after own later (stood.distinct own.number) both
       (λ f other e. front-other first kept kept_now old.taken (p ∷ (ps ++ was.posted.entries)) old new f only (others f.number other) e.0 e.1)
       (front-own first kept kept_now old.taken old new own p.1 bytes most (ps ++ was.posted.entries) only more part own_stands.holds.popped next own_shelved gained) in
+      let exact : Each (λ f. f.number ≢ own.number → IsShelved first kept_now old.taken new.reads f) (at.before ++ later ∷ at.after) =
+      each-changed (IsShelved first kept old.taken old.reads) (λ f. f.number ≢ own.number → IsShelved first kept_now old.taken new.reads f)
+      at.before at.after own later (stood.distinct own.number) before
+      (λ f other e _. shelved-other first kept kept_now old.taken old new f only (others f.number other) e) (λ other. absurd (other refl)) in
       record {
+        torn = own.number;
+        exact = subst (λ ts. Each (λ f. f.number ≢ own.number → IsShelved first kept_now ts new.reads f) (set was.flows i later)) (sym same_taken)
+            (subst (Each (λ f. f.number ≢ own.number → IsShelved first kept_now old.taken new.reads f)) (sym (at.set_is later)) exact);
         flows = subst (λ ts. Each (IsFrontShelved first kept_now ts new.reads) (set was.flows i later)) (sym same_taken)
             (subst (Each (IsFrontShelved first kept_now old.taken new.reads)) (sym (at.set_is later)) flows);
         others = λ n none.
@@ -375,7 +395,7 @@ module _ (was : State) (i : ℕ) (own : FlowQueue) (p : Completion × Lending) (
   oldest-failed bytes written most faults faults_now kept kept_now more part few count quits rose gained others = record {
     torn = torn-read bytes written was.stopped (omega (arith, part, few));
     common = common-read bytes written was.stopped more count quits;
-    moves = moves-read bytes written;
+    moves = moves-read bytes written more;
     rose = rose;
     fronts = fronts-failed bytes most kept kept_now more part gained others;
     same = refl;
@@ -397,14 +417,15 @@ module _ (was : State) (i : ℕ) (own : FlowQueue) (p : Completion × Lending) (
         torn = torn-read (own.bytes + most) written stop.Quit (omega (arith, part));
         common = common-read (own.bytes + most) written stop.Quit (omega arith) (omega (arith, count)) quits;
         moves = record {
-          same = (moves-read (own.bytes + most) written).same;
+          same = (moves-read (own.bytes + most) written (omega arith)).same;
           how = (refl, refl);
           places = refl;
-          steps = (moves-read (own.bytes + most) written).steps;
-          looks = (moves-read (own.bytes + most) written).looks;
-          keeps = λ n r before live. (let k = (moves-read (own.bytes + most) written).keeps n r before live in record { lent = k.lent; kept = k.kept });
+          steps = (moves-read (own.bytes + most) written (omega arith)).steps;
+          looks = (moves-read (own.bytes + most) written (omega arith)).looks;
+          keeps = λ n r before live. (let k = (moves-read (own.bytes + most) written (omega arith)).keeps n r before live in record { lent = k.lent; kept = k.kept });
           stays = λ other. absurd (other works.going);
-          leaked = (moves-read (own.bytes + most) written).leaked;
+          leaked = (moves-read (own.bytes + most) written (omega arith)).leaked;
+          bytes = (moves-read (own.bytes + most) written (omega arith)).bytes;
         };
         shelved = λ first shelved. subst (λ (fs : List FlowQueue). AreShelved first kept_now fs new) (sym (at.set_is later))
             (shelved-reaped first kept kept_now was.notes at.before at.after own p (ps ++ was.posted.entries) most was.leaked.items old new number only stood part

@@ -214,6 +214,7 @@ pushed-left was now old new some fewer works common =
                 (ap (λ (v : AppView). reads_of was v) some.view) (ap reserve_loans some.view) (omega arith);
             stays = λ _. refl;
             leaked = same-leaked was (with_stray was now) refl refl;
+            bytes = λ n. omega arith;
           };
           shelved = λ _ first shelved. subst (λ v. AreShelved first kept was.flows v) (sym some.view)
               (shelves-view old new.settled new.quiet new.written new.looks was.flows first kept shelved);

@@ -18,7 +18,7 @@ use Rattle.board_face.specs.declared.views.app.LentPiece.{LentPiece}
 use Rattle.board_face.specs.declared.views.app.AppView.{AppView}
 use Rattle.app_worker.specs.declared.stack.Lending.{Lending}
 use Rattle.app_worker.specs.Marks.{Mark, marks_from}
-use Rattle.app_worker.specs.Core.{IsIn, LieApart, lent_piece, origin_in, IsReadAt, IsByteAt, AreReadAt, OnlyReads, IsReadOf}
+use Rattle.app_worker.specs.Core.{IsIn, LieApart, lent_piece, origin_in, IsReadAt, IsByteAt, AreReadAt, OnlyReads, IsReadOf, most_at_once}
 use Rattle.app_worker.proofs.Tokens.{in-left, in-right, loan-origin}
 
 read-grows : (reads more : List Reading) (mark : Mark) (byte : ℕ) → IsReadAt reads mark byte → IsReadAt (reads ++ more) mark byte
@@ -251,9 +251,9 @@ one-more taken a b c v lie l done text piece out known shows fits same before ad
 -- the shelf failed, and took a front of it
 pub some-more : (taken : List TakenNote) (a b c : Option (List ℕ)) (v : AppView) (lie : LieApart v) (l : Lending) (done most n : ℕ)
     (text piece : List ℕ) → IsIn (lent_piece taken l) v.loans → l.note < length taken → ShowsCopy (loan_origin v l.loan) done text
-    → most ≤ l.loan.len → done + length text ≤ most → piece ≡ text
+    → most ≤ l.loan.len → done + length text ≤ most → length text ≤ most_at_once → piece ≡ text
     → Gained a b (IsReadTo taken v.reads l done) → Appends b c (take n piece) → Gained a c (IsReadOf taken (has_read v l.loan done text).reads l done most)
-some-more taken a b c v lie l done most n text piece out known shows part fits same before added =
+some-more taken a b c v lie l done most n text piece out known shows part fits once same before added =
     let w : AppView = has_read v l.loan done text in
     let only = only-read v l done text in
     Gained-then a b c (IsReadTo taken v.reads l done) (λ bytes. bytes ≡ take n text) (IsReadOf taken w.reads l done most)
@@ -276,6 +276,7 @@ some-more taken a b c v lie l done most n text piece out known shows part fits s
           (subst (λ ms. AreReadAt taken w.reads ms (xs ++ ys)) (sym (marks-split l.note l.at done (length ys))) both);
       at_least = omega (arith, size);
       at_most = omega (arith, size, few, fits);
+      at_once = omega (arith, size, few, once);
     })
     before (Gained-added b c (take n piece) (λ bytes. bytes ≡ take n text) added (ap (take n) same))
   where
@@ -291,4 +292,5 @@ read-of taken reads l done most bytes within to = record {
   are = subst (λ k. AreReadAt taken reads (marks_from l.note l.at k) bytes) (sym to.size) to.are;
   at_least = omega (arith, to.size);
   at_most = omega (arith, to.size, within);
+  at_once = omega (arith, to.size);
 }

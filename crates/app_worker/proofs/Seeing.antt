@@ -62,6 +62,7 @@ moves-saw st v look = record {
   keeps = λ n r before live. (let k = before live in record { lent = k.lent; kept = k.kept });
   stays = λ _. refl;
   leaked = same-leaked st st refl refl;
+  bytes = λ n. omega arith;
 }
 
 pub shelves-saw : (st : State) (v : AppView) (look : AppLook) → KeepsShelves st st v (app_saw v look)
@@ -71,7 +72,7 @@ pub goes-saw : (st : State) (v : AppView) (look : AppLook) (kept : ℕ → Optio
 goes-saw st v look kept = record {
   moves = moves-saw st v look;
   shelved = λ _ first. shelves-saw st v look first kept;
-  failed = λ is first exact front. (let f = front is in record { flows = f.flows; others = f.others });
+  failed = λ is first exact front. (let f = front is in record { flows = f.flows; others = f.others; torn = f.torn; exact = f.exact });
 }
 
 pub goes-none : (st : State) (v : AppView) (kept : ℕ → Option (List ℕ)) → Goes st st v v kept kept
@@ -143,9 +144,10 @@ goes-rested st v look kept = record {
     keeps = λ n r before live. (let k = before live in record { lent = k.lent; kept = k.kept });
     stays = λ _. refl;
     leaked = same-leaked st st refl refl;
+    bytes = λ n. omega arith;
   };
   shelved = λ _ first shelved. record { flows = shelved.flows; others = shelved.others };
-  failed = λ is first exact front. (let f = front is in record { flows = f.flows; others = f.others });
+  failed = λ is first exact front. (let f = front is in record { flows = f.flows; others = f.others; torn = f.torn; exact = f.exact });
 }
 
 -- all that a step that changed nothing leaves

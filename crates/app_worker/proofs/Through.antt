@@ -168,6 +168,7 @@ moves-stopped was st old v cause none moves = record {
   keeps = λ n r before live. (let k = moves.keeps n r before live in record { lent = k.lent; kept = k.kept });
   stays = λ other. absurd (other none);
   leaked = moves.leaked;
+  bytes = moves.bytes;
 }
 
 pub write-stopped : (was mid now : State) (old midv new : AppView) (kept kept_now : ℕ → Option (List ℕ)) (faults faults_now : ℕ)

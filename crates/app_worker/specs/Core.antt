@@ -226,8 +226,13 @@ pub record OnlyReads (old new : AppView) : Type 0 where
   pub more : List Reading
   pub are : new.reads ≡ old.reads ++ more
 
+-- how many bytes are read and appended at once, at most
+abbrev pub most_at_once : ℕ
+most_at_once = 4096
+
 -- the first bytes of a loan were read, from so many on and at most so many
 pub record IsReadOf (taken : List TakenNote) (reads : List Reading) (lending : Lending) (done most : ℕ) (bytes : List ℕ) : Type 0 where
   pub are : AreReadAt taken reads (marks_from lending.note lending.at (length bytes)) bytes
   pub at_least : done ≤ length bytes
   pub at_most : length bytes ≤ most
+  pub at_once : length bytes ≤ done + most_at_once

@@ -7,7 +7,7 @@ use Rattle.board_face.specs.AppEvents.{reserve_of}
 use Rattle.board_face.specs.declared.views.app.LentPiece.{LentPiece}
 use Rattle.app_worker.specs.declared.stack.Lending.{Lending}
 use Rattle.app_worker.specs.Core.{total}
-use Rattle.app_worker.specs.State.{State, due_one, app_steps}
+use Rattle.app_worker.specs.State.{State, bytes_of, due_one, app_steps}
 use Rattle.app_worker.specs.Shelves.{AreShelved, AreFronts}
 
 -- Until all is given up, what is kept to the end stays.
@@ -46,6 +46,8 @@ pub record Moves (was now : State) (old new : AppView) : Type 0 where
   -- what stopped it first stays
   pub stays : was.stopped ≢ stop.No → now.stopped ≡ was.stopped
   pub leaked : now.bare ≡ false → KeepsLeaked was now
+  -- no flow's count of bytes falls
+  pub bytes : (number : ℕ) → bytes_of number was.flows ≤ bytes_of number now.flows
 
 -- And what the shelf has went on by what was read; where it failed, by perhaps some bytes more than are counted.
 pub record Goes (was now : State) (old new : AppView) (kept kept_now : ℕ → Option (List ℕ)) : Type 0 where

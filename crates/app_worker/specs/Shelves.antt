@@ -1,5 +1,5 @@
 -- What the shelf has, over any number of steps.
-use Rattle.std.specs.Prelude.{◌≡◌, ℕ, ◌<◌, ◌≤◌, List, Option, IsSome}
+use Rattle.std.specs.Prelude.{◌≡◌, ◌≢◌, ℕ, ◌+◌, ◌<◌, ◌≤◌, List, Option, IsSome}
 use Rattle.std.specs.Io.KnownBytes.{Keeps}
 use Rattle.zr_kinds.specs.CopyingReceiver.{values_from}
 use Rattle.zr_io.specs.Moved.{Gained}
@@ -7,25 +7,29 @@ use Rattle.board_face.specs.declared.views.app.Reading.{Reading}
 use Rattle.board_face.specs.declared.views.app.TakenNote.{TakenNote}
 use Rattle.board_face.specs.declared.views.app.AppView.{AppView}
 use Rattle.app_worker.specs.declared.stack.FlowQueue.{FlowQueue}
-use Rattle.app_worker.specs.Core.{Each, many, AreReadAt, placed_of}
+use Rattle.app_worker.specs.Core.{Each, many, AreReadAt, placed_of, most_at_once}
 
 -- since `first`, a flow's shelf gained the bytes at its first marks, as many as are counted
 pub record IsShelved (first kept : ℕ → Option (List ℕ)) (taken : List TakenNote) (reads : List Reading) (flow : FlowQueue) : Type 0 where
   pub gained : Gained (first flow.number) (kept flow.number) (λ bytes. AreReadAt taken reads (values_from (placed_of flow taken).at flow.bytes 0) bytes)
 
--- the bytes at a flow's first marks, at least as many as are counted
+-- the bytes at a flow's first marks, at least as many as are counted, and at most those of one append more
 pub record ReadsFront (taken : List TakenNote) (reads : List Reading) (flow : FlowQueue) (bytes : List ℕ) : Type 0 where
   pub count : ℕ
   pub at_least : flow.bytes ≤ count
+  pub at_once : count ≤ flow.bytes + most_at_once
   pub below : (p : ℕ) → p < count → IsSome ((placed_of flow taken).at p)
   pub are : AreReadAt taken reads (values_from (placed_of flow taken).at count 0) bytes
 
--- once the shelf has failed, it may have some bytes more
+-- once the shelf has failed, it may have some bytes of a flow more
 pub record IsFrontShelved (first kept : ℕ → Option (List ℕ)) (taken : List TakenNote) (reads : List Reading) (flow : FlowQueue) : Type 0 where
   pub gained : Gained (first flow.number) (kept flow.number) (ReadsFront taken reads flow)
 
 pub record AreFronts (first kept : ℕ → Option (List ℕ)) (own : List FlowQueue) (v : AppView) : Type 0 where
   pub flows : Each (IsFrontShelved first kept v.taken v.reads) own
+  -- of no flow but this one
+  pub torn : ℕ
+  pub exact : Each (λ f. f.number ≢ torn → IsShelved first kept v.taken v.reads f) own
   pub others : (number : ℕ) → many number own ≡ 0 → Keeps (first number) (kept number)
 
 pub record AreShelved (first kept : ℕ → Option (List ℕ)) (own : List FlowQueue) (v : AppView) : Type 0 where

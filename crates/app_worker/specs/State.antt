@@ -102,6 +102,13 @@ loan_len l = l.loan.len
 abbrev pub odd_loans : Shape → List LentPiece → ℕ
 odd_loans layout loans = total (λ l. is_odd layout l.place) loans
 
+-- how many bytes of a flow were appended
+abbrev pub bytes_if : ℕ → FlowQueue → ℕ
+bytes_if number f = if f.number == number then f.bytes else 0
+
+abbrev pub bytes_of : ℕ → List FlowQueue → ℕ
+bytes_of number flows = total (bytes_if number) flows
+
 -- its loan lies in another buffer
 abbrev pub LiesOutside : ℕ → Completion × Lending → Type 0
 LiesOutside buffer p = p.1.loan.buffer ≢ buffer

@@ -45,7 +45,7 @@ returns-in_err-append-clause-gained g c =
     let added : (n : ℕ) × Appends before after (take n c.read.new.into) = c.in_err-append.ensures.bytes in
     let done : c.loop-done.bytes - c.args.bytes.now ≡ c.loop-done.done = omega (arith, inv.2) in
     rw (c.read.ensures.view, done) (some-more taken first before after v lie l c.loop-done.done c.args.most added.0 c.read.new.into c.read.new.into out
-    c.requires.note c.read.ensures.copied c.requires.part fits refl inv.5 added.1)
+    c.requires.note c.read.ensures.copied c.requires.part fits (omega (arith, size, n)) refl inv.5 added.1)
 
 pub loop-done-preserved : goal.loop-done-preserved
 loop-done-preserved g c =
