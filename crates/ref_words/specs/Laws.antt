@@ -3,7 +3,7 @@
 -- itself; it knows no seat but for those of roles, and no table.
 use Rattle.std.specs.Prelude.{◌≡◌, ◌≢◌, ◌≤◌, ◌<◌, ◌+◌, ◌-◌, ◌^◌, ◌∷◌, ◌++◌, [], ℕ, true, List}
 use Rattle.std.specs.Prelude.{None, Some}
-use Rattle.std.specs.Prelude.{false, slice_set, slice_index, ◌==◌, Contains}
+use Rattle.std.specs.Prelude.{false, length, slice_set, slice_index, ◌==◌, Contains}
 use mathlib.Core.Option.{some}
 use lib.ListN.{get_elem?}
 use Rattle.zr_kinds.specs.declared.place.Place.{Place}
@@ -53,6 +53,16 @@ JoinLaw =
     → Seated setting roles views nic apps → get_elem? views id ≡ some v → other ≢ id → get_elem? views other ≡ some w
     → w.due ≡ [] → w.dealt ≡ []
     → Seated setting roles (slice_set (slice_set views id (both_sides v w)) other no_role) nic apps
+
+-- A seat has the side of its role, and does something by which that side changes. No word of the roles changes.
+pub record MoveLaw : Type 0 where
+  pub card : (setting : Setting) (roles : List ℕ) (views : List View) (nic : NicSide) (apps : List AppSide) (id : ℕ) (mine now : NicSide)
+      → Seated setting roles views nic apps → get_elem? views id ≡ some (card_view mine)
+      → (mine ≡ nic) × Seated setting roles (slice_set views id (card_view now)) now apps
+  pub app : (setting : Setting) (roles : List ℕ) (views : List View) (nic : NicSide) (apps : List AppSide) (id : ℕ) (mine now : AppSide)
+      → Seated setting roles views nic apps → length apps ≡ apps_of setting → get_elem? views id ≡ some (app_view mine)
+      → now.view.app ≡ mine.view.app
+      → IsApp apps mine.view.app mine × Seated setting roles (slice_set views id (app_view now)) nic (slice_set apps mine.view.app now)
 
 -- what a swap of a role's word finds and makes
 pub record TakesRole (setting : Setting) (words : Words) (views : List View) (nic : NicSide) (apps : List AppSide) (r : ℕ) : Type 0 where

@@ -7,6 +7,6 @@ mod users;
 mod words;
 
 pub use pool::{k4, k5, k6};
-pub use roles::{k1, k2, k3, opened};
+pub use roles::{k1, k2, k3, opened, side_moves};
 pub use users::{k7, k8, k9, k10};
 pub use words::groups_are_apart;
