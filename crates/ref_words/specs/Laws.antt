@@ -3,7 +3,7 @@
 -- itself; it knows no seat but for those of roles, and no table.
 use Rattle.std.specs.Prelude.{◌≡◌, ◌≢◌, ◌≤◌, ◌<◌, ◌+◌, ◌-◌, ◌^◌, ◌∷◌, ◌++◌, [], ℕ, true, List}
 use Rattle.std.specs.Prelude.{None, Some}
-use Rattle.std.specs.Prelude.{false, length, slice_set, slice_index, ◌==◌, Contains}
+use Rattle.std.specs.Prelude.{false, length, slice_index_or, slice_set, slice_index, ◌==◌, Contains}
 use mathlib.Core.Option.{some}
 use lib.ListN.{get_elem?}
 use Rattle.zr_kinds.specs.declared.place.Place.{Place}
@@ -14,17 +14,20 @@ use Rattle.board_face.specs.AppEvents.{cut, lent, lent_own, reserve_of}
 use Rattle.board_face.specs.NicCalls.{HasNothingIn, HasOwn, apps_of}
 use Rattle.board_face.specs.AppCalls.{HasHeld, HasSpare, HasNoneIn, IsFilled, CanLend, MaySpare}
 use Rattle.board_face.specs.Opened.{new_nic, new_app, new_apps}
+use Rattle.board_face.specs.Relay.{dealt_entries}
 use Rattle.board_face.specs.Sides.{nic_at, app_at, IsApp}
 use Rattle.board_face.specs.Steps.{side_begun, side_shut, side_judged, side_user_lowered, side_both_lowered}
 use Rattle.board_face.specs.Steps.{HasSearched, side_released, side_spare_begun, side_user_taken, side_owes_lowered}
 use Rattle.board_face.specs.declared.views.parts.Setting.{Setting}
 use Rattle.board_face.specs.declared.views.parts.Filling.{Filling}
 use Rattle.board_face.specs.declared.views.nic.Judged.TheVariants.{Not, Owed, UserLowered}
+use Rattle.board_face.specs.declared.views.nic.EntryInHand.{EntryInHand}
 use Rattle.board_face.specs.declared.views.nic.NicSide.{NicSide}
 use Rattle.board_face.specs.declared.views.app.AppSide.{AppSide}
 use Rattle.ref_words.specs.declared.view.View.{View}
 use Rattle.ref_words.specs.Words.{Words, opened_words, with_role, with_pool, pool_of, with_user, user_of}
 use Rattle.ref_words.specs.Seated.{Seated, times_in, due_view, card_view, app_view, dealt_out, both_sides, no_role}
+use Rattle.ref_words.specs.Rings.{slot_of}
 use Rattle.ref_words.specs.Rule.{RefRule}
 
 -- ---- the beginning
@@ -188,3 +191,13 @@ ScrubLaw =
     → RefRule setting words nic apps → IsApp apps a app → b < total setting.layout → app.inside.scrub_mark ≡ b
     → app.view.quiet ≡ true → app.view.loans ≡ [] → app.view.scrubbed ≡ false
     → RefRule setting (with_user words a b 0) nic (slice_set apps a (side_user_taken app b (user_of words a b)))
+
+-- ---- the entry in hand
+
+-- The flag of the slot is 1 in which the entry in hand lies: that of the first entry which the card hasn't dealt with. So its
+-- application finds that slot in use.
+abbrev pub InHandLaw : Type 0
+InHandLaw =
+    (setting : Setting) (words : Words) (nic : NicSide) (apps : List AppSide) (inhand : EntryInHand) (app : AppSide)
+    → RefRule setting words nic apps → nic.inside.entry ≡ Some inhand → IsApp apps inhand.app app
+    → slice_index (slot_of setting.places (slice_index_or words.refills inhand.app []) (length (dealt_entries inhand.app nic))) 0 ≡ 1

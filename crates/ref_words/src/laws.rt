@@ -8,5 +8,5 @@ mod words;
 
 pub use pool::{k4, k5, k6};
 pub use roles::{k1, k2, k3, opened, side_moves};
-pub use users::{k7, k8, k9, k10};
+pub use users::{in_hand_is_in_use, k7, k8, k9, k10};
 pub use words::groups_are_apart;
