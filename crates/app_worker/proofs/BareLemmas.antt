@@ -21,6 +21,7 @@ use Rattle.app_worker.proofs.Moving.{looks-more, same-leaked}
 use Rattle.app_worker.proofs.Seeing.{goes-none, goes-saw, common-saw}
 use Rattle.app_worker.proofs.Noting.{TookView, common-noted, steps-noted, moves-noted, ends-kept, shelves-kept, fronts-kept}
 use Rattle.app_worker.proofs.TurnLemmas.{stands-bare, as-before}
+use Rattle.app_worker.proofs.Written.{front-same}
 use Rattle.app_worker.proofs.Closing.{IsOut, bare-saw, turns-finished}
 
 module _ (st : State) (old : AppView) (bare : Bare st old) (is_bare : st.bare ≡ true) (common : Common st old) (reaped : st.posted.entries ≡ []) where
@@ -37,6 +38,9 @@ module _ (st : State) (old : AppView) (bare : Bare st old) (is_bare : st.bare �
           due = bare.due;
           leaked = bare.leaked;
           none_left = bare.none_left;
+          given = front-same old new (ap (λ (v : AppView). v.written) took.view) (ap (λ (v : AppView). v.setting) took.view)
+              (ap (λ (v : AppView). v.returned) took.view) bare.given;
+          abandoned = λ going. absurd (over going);
           unread = bare.unread;
           flows = ends-kept st.flows old new t took bare.flows;
           distinct = bare.distinct;
@@ -168,6 +172,8 @@ module _ (st : State) (old : AppView) (bare : Bare st old) (is_bare : st.bare �
         due = bare.due;
         leaked = bare.leaked;
         none_left = bare.none_left;
+        given = bare.given;
+        abandoned = bare.abandoned;
         unread = bare.unread;
         flows = bare.flows;
         distinct = bare.distinct;
@@ -198,6 +204,7 @@ module _ (st : State) (old : AppView) (bare : Bare st old) (is_bare : st.bare �
         entries = common.entries;
         names = common.names;
         sound = common.sound;
+        blocks = common.blocks;
         bound = common.bound;
       };
       reaped = reaped;

@@ -1,5 +1,5 @@
 -- The end of an application.
-use Rattle.std.proofs.Common.{◌≡◌, ℕ, ◌<◌, ◌≤◌, ◌-◌, true, false, List, [], ◌∷◌, ◌++◌, Option, length, refl, sym, ap, subst}
+use Rattle.std.proofs.Common.{◌≡◌, ℕ, ◌<◌, ◌≤◌, ◌-◌, true, false, List, [], ◌∷◌, ◌++◌, Option, None, length, refl, sym, ap, subst}
 use Rattle.std.proofs.Common.{◌∙◌, arith, inl, inr}
 use Rattle.std.specs.Prelude.{◌==◌, if◌then◌else◌}
 use Rattle.zr_kinds.specs.CopyingReceiver.{nothing_placed, next_missing, values_from}
@@ -15,7 +15,7 @@ use Rattle.app_worker.specs.declared.stack.Lending.{Lending}
 use Rattle.zr_kinds.specs.declared.ring.Completion.{Completion}
 use Rattle.app_worker.specs.declared.turn.Turn.TheVariants.{Did, Finished}
 use Rattle.app_worker.specs.Core.{total, Each, own_notes, received_notes, placed_of, marks_of_waiting, FlowStands}
-use Rattle.app_worker.specs.State.{State, IsAtRest, Working, Common, Bare, lent_len, app_steps}
+use Rattle.app_worker.specs.State.{State, IsAtRest, Working, Common, Bare, lent_len, due_one, app_steps}
 use Rattle.app_worker.specs.Moves.{Goes}
 use Rattle.app_worker.specs.Letting.{FlowFacts, facts_of, LetGo}
 use Rattle.app_worker.specs.Stages.{Through}
@@ -25,9 +25,9 @@ use Rattle.app_worker.proofs.Placing.{values-length}
 use Rattle.app_worker.proofs.Standing.{each-map}
 use Rattle.app_worker.proofs.EachBoth.{each-both}
 use Rattle.app_worker.proofs.LetGone.{each-facts, total-facts}
-use Rattle.app_worker.proofs.Moving.{looks-same, same-leaked, no-write}
+use Rattle.app_worker.proofs.Moving.{total-one, looks-same, same-leaked, no-write}
 use Rattle.app_worker.proofs.Seeing.{common-saw, goes-saw}
-use Rattle.app_worker.proofs.Measure.{one-most}
+use Rattle.app_worker.proofs.Measure.{one-most, read-one}
 use Rattle.app_worker.proofs.Through.{goes-then}
 use Rattle.app_worker.proofs.TurnLemmas.{stands-bare, no-poll, no-rest}
 
@@ -54,9 +54,9 @@ empty-list [] few = refl
 empty-list (x ∷ xs) few = absurd (omega arith)
 
 -- all is given up once all is read
-pub closed-bare : (b c : State) (v w : AppView) → Working b v → b.ended ≡ true → length b.unread ≤ 0 → b.posted.entries ≡ [] → LetGo b c v w
-    → Bare c w
-closed-bare b c v w works ended few reaped gone =
+pub closed-bare : (b c : State) (v w : AppView) → Working b v → b.ended ≡ true → length b.unread ≤ 0 → b.posted.entries ≡ [] → b.due ≡ None
+    → Common b v → LetGo b c v w → Bare c w
+closed-bare b c v w works ended few reaped due common gone =
     let none : b.unread ++ b.posted.entries ≡ [] = ap (λ es. es ++ b.posted.entries) (empty-list b.unread few) ∙ reaped in
     let flows : Each (FlowStands v.taken []) b.flows = subst (λ es. Each (FlowStands v.taken es) b.flows) none works.stands.flows in
     let whole : Each (IsWhole v.taken) b.flows =
@@ -68,6 +68,21 @@ closed-bare b c v w works ended few reaped gone =
       due = ap (λ (s : State). s.due) gone.same;
       leaked = ap (λ (s : State). s.leaked.items) gone.same;
       none_left = gone.none_left;
+      given = gone.given;
+      abandoned = λ going. omega (
+        arith,
+        gone.entries,
+        gone.back (λ _. 1),
+        total-one w.returned,
+        total-one v.returned,
+        works.stands.tokens.loans (λ _. 1),
+        ap (total (λ (p : Completion × Lending). 1)) none,
+        read-one v.taken b.due b.leaked.items,
+        ap due_one due,
+        gone.common.leaks,
+        common.leaks,
+        ap (λ (s : State). s.how.leak) gone.same,
+      );
       unread = ap (λ (s : State). s.unread) gone.same;
       flows = gone.ends;
       distinct = gone.distinct;
@@ -98,6 +113,8 @@ bare-saw st v look bare = record {
   due = bare.due;
   leaked = bare.leaked;
   none_left = bare.none_left;
+  given = bare.given;
+  abandoned = bare.abandoned;
   unread = bare.unread;
   flows = bare.flows;
   distinct = bare.distinct;
@@ -114,6 +131,8 @@ bare-gone st v bare = record {
   due = bare.due;
   leaked = bare.leaked;
   none_left = bare.none_left;
+  given = bare.given;
+  abandoned = bare.abandoned;
   unread = bare.unread;
   flows = bare.flows;
   distinct = bare.distinct;
@@ -144,6 +163,7 @@ common-gone st v common = record {
   entries = common.entries;
   names = common.names;
   sound = common.sound;
+  blocks = common.blocks;
   bound = common.bound;
 }
 
@@ -218,9 +238,9 @@ turns-not-quiet a c u w x k m f f2 out steps saw = rw saw.event (record {
 
 -- by way of reading all
 pub out-of : (a b c : State) (u v w : AppView) (k m : ℕ → Option (List ℕ)) → a.ended ≡ true → a.stopped ≡ stop.No
-    → a.bare ≡ false → u.left ≡ false → Through a b u v k m → length b.unread ≤ 0 → LetGo b c v w → IsOut a c u w k m
-out-of a b c u v w k m ended going live here through few gone = record {
-  bare = closed-bare b c v w through.working (through.ended ∙ ended) few through.reaped gone;
+    → a.bare ≡ false → u.left ≡ false → Through a b u v k m → length b.unread ≤ 0 → b.due ≡ None → LetGo b c v w → IsOut a c u w k m
+out-of a b c u v w k m ended going live here through few due gone = record {
+  bare = closed-bare b c v w through.working (through.ended ∙ ended) few through.reaped due through.common gone;
   is_bare = ap (λ (s : State). s.bare) gone.same;
   ended = ap (λ (s : State). s.ended) gone.same ∙ through.ended ∙ ended;
   common = gone.common;

@@ -31,6 +31,8 @@ use Rattle.app_worker.proofs.Moving.{total-one, lies-not, aside-same, leaked-asi
 use Rattle.app_worker.proofs.Resting.{rest-set, rest-too}
 use Rattle.app_worker.proofs.Indexing.{index-set}
 use Rattle.app_worker.proofs.Accounts.{sound-same}
+use Rattle.app_worker.specs.Entries.{Gives}
+use Rattle.app_worker.proofs.Written.{gives-same, blocks-same}
 use Rattle.app_worker.proofs.Seeing.{Left, left-none, left-saw, left-no-spare}
 
 -- what the shelf has of a flow doesn't look at what its queue keeps
@@ -178,6 +180,7 @@ lent-bundle was own now then old new loans copied flush more count within value 
         live = works.live;
         keeps_first = λ some. works.keeps_first (omega (arith, some, aside-same old new returned setting own_app));
         waits = works.waits;
+        given = subst (Gives new) (sym returned) (gives-same old new old.returned (ap (λ (v : AppView). v.written) step.view) setting works.given);
         appended = omega (arith, ap (total lent_len) returned, works.appended, written);
       };
       common = record {
@@ -207,6 +210,7 @@ lent-bundle was own now then old new loans copied flush more count within value 
         entries = entries-same old new (ap (λ (v : AppView). v.written) step.view) returned common.entries;
         names = names-same was.stray old new setting common.names;
         sound = sound-same old new returned setting common.sound;
+        blocks = blocks-same was.how.stray old new was.stray (ap (λ (v : AppView). v.written) step.view) common.blocks;
         bound = omega (arith, one_more, ap length returned, step.helds held_len, shorts, step.len, some, common.bound, ap (total taken_len) taken);
       };
       moves = record {

@@ -1,7 +1,5 @@
 -- All that an application has out is given up: what is left.
-use Rattle.std.proofs.Common.{zero, suc, get_or, ◌∷◌, ◌≡◌, ℕ, ◌+◌, ◌<◌, ◌≤◌, true, false, List, [], Option, None, IsSome}
-use Rattle.std.proofs.Common.{map, length, refl, sym, ap, subst, ◌≢◌}
-use Rattle.std.proofs.Common.{◌∙◌, arith}
+use Rattle.std.proofs.Common.{zero, suc, get_or, ◌∷◌, ◌≡◌, ℕ, ◌+◌, ◌<◌, ◌≤◌, true, false, List, [], Option, None, IsSome, map, length, refl, sym, ap, subst, ◌≢◌, ◌∙◌, arith, ◌++◌, append_assoc}
 use Rattle.std.specs.Prelude.{◌==◌, if◌then◌else◌}
 use Rattle.zr_kinds.specs.declared.ring.Completion.{Completion}
 use Rattle.zr_kinds.specs.CopyingReceiver.{nothing_placed, values_from}
@@ -23,6 +21,7 @@ use Rattle.std.proofs.Common.{◌*◌}
 use Rattle.board_face.specs.declared.views.app.WrittenEntry.{WrittenEntry}
 use Rattle.app_worker.proofs.Moving.{strays-same, names-same}
 use Rattle.app_worker.proofs.Accounts.{sound-gone}
+use Rattle.app_worker.proofs.Written.{gives-gone, gives-same, gives-count, blocks-same}
 use Rattle.app_worker.specs.Whole.{Torn}
 use Rattle.app_worker.specs.Letting.{FlowFacts, facts_of, Abandons, LetGo}
 use Rattle.circular_buffer.specs.Buffer.{buffer}
@@ -202,6 +201,12 @@ gone-all was now old v1 v2 v3 new reaped not_yet pushed torn common first second
     let count : length new.returned ≡ length old.returned + length old.loans =
     omega (arith, ap length returned, first.returned, second.returned, third.returned, all, due_then, kept_then, total-one old.loans) in
     let no_more : length new.loans ≡ 0 = ap length no_loan in
+    let written : new.written ≡ old.written = ap (λ (v : AppView). v.written) view in
+    let setting : new.setting ≡ old.setting = ap (λ (v : AppView). v.setting) view in
+    let behind : new.returned ≡ old.returned ++ (first.behind.0 ++ second.behind.0 ++ third.behind.0) = returned ∙ third.behind.1
+    ∙ ap (λ ls. ls ++ third.behind.0) (second.behind.1 ∙ ap (λ ls. ls ++ second.behind.0) first.behind.1
+    ∙ append_assoc old.returned first.behind.0 second.behind.0)
+    ∙ append_assoc old.returned (first.behind.0 ++ second.behind.0) third.behind.0 in
     let back : (f : LentPiece → ℕ) → total f new.returned ≡ total f old.returned + total f old.loans = λ f. omega (
       arith,
       ap (total f) returned,
@@ -224,6 +229,8 @@ gone-all was now old v1 v2 v3 new reaped not_yet pushed torn common first second
       helds = helds;
       loans = no_loan;
       back = back;
+      given = gives-gone old new (first.behind.0 ++ second.behind.0 ++ third.behind.0) written setting behind torn.given;
+      entries = gives-count new old.returned (gives-same old new old.returned written setting torn.given);
       same = refl;
       facts = facts;
       ends = subst (λ ts. Each (FlowEnds ts) now) (sym taken)
@@ -251,6 +258,7 @@ gone-all was now old v1 v2 v3 new reaped not_yet pushed torn common first second
             (sym (ap (λ (v : AppView). v.written) view)) (omega (arith, common.entries, count));
         names = names-same was.stray old new (ap (λ (v : AppView). v.setting) view) common.names;
         sound = sound-gone old new (ap (λ (v : AppView). v.setting) view) torn.tokens.apart back common.sound;
+        blocks = blocks-same was.how.stray old new was.stray (ap (λ (v : AppView). v.written) view) common.blocks;
         bound = omega (arith, count, no_more, ap (total held_len) helds, no_bytes, common.bound, ap (total taken_len) taken);
       };
       moves = record {

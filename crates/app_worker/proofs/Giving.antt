@@ -24,6 +24,7 @@ use Rattle.app_worker.specs.Moves.{Moves}
 use Rattle.app_worker.specs.Whole.{Gives}
 use Rattle.app_worker.proofs.Standing2.{given-stands}
 use Rattle.app_worker.proofs.Accounts.{sound-gave}
+use Rattle.app_worker.proofs.Written.{gives-gave, blocks-loan}
 use Rattle.app_worker.proofs.Moving.{total-one, looks-same, kept-same, no-write, reserve-same, leaked-aside, same-leaked}
 use Rattle.app_worker.proofs.Tokens.{total-append}
 use Rattle.app_worker.proofs.Standing.{each-join}
@@ -120,6 +121,7 @@ gave-left was l stray old new due step follow enough works common =
           live = works.live;
           keeps_first = aside-gave was l old new step.returned setting own_app enough common.leaks works.keeps_first;
           waits = λ _. refl;
+          given = gives-gave old new (lent_piece old.taken l) written step.returned setting works.given;
           appended = omega (
             arith,
             ap (total lent_len) step.returned,
@@ -148,6 +150,8 @@ gave-left was l stray old new due step follow enough works common =
           entries = omega (arith, entries, one_more, common.entries);
           names = λ _. subst (λ (s : Setting). judged s.layout stray.entry ≡ Some stray.buffer) (sym setting) follow.names;
           sound = sound-gave old new (lent_piece old.taken l) step.returned setting works.stands.tokens.apart step.loans common.sound;
+          blocks = blocks-loan was.how.stray old new was.stray.entry was.stray.left (entry_of old.setting.layout l.loan) stray written
+              (ap (λ (s : Stray). s.entry) follow.is) left_is common.blocks;
           bound = omega (arith, one_less, one_more, ap (total held_len) helds, common.bound, ap (total taken_len) taken);
         };
         goes = λ kept. record {
@@ -252,6 +256,7 @@ kept-left was rest leaked v step works common =
           live = works.live;
           keeps_first = λ some. absurd (omega (arith, works.keeps_first some, step.few));
           waits = λ _. refl;
+          given = works.given;
           appended = omega (
             arith,
             ap (total loan_len) items,
@@ -281,6 +286,7 @@ kept-left was rest leaked v step works common =
           entries = common.entries;
           names = common.names;
           sound = common.sound;
+          blocks = common.blocks;
           bound = common.bound;
         };
         goes = λ kept. record {

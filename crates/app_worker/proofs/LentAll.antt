@@ -40,6 +40,7 @@ reaped-working st v works =
       live = works.live;
       keeps_first = works.keeps_first;
       appended = works.appended;
+      given = works.given;
       waits = works.waits;
     }
 
@@ -64,6 +65,7 @@ reaped-common st v common = record {
   entries = common.entries;
   names = common.names;
   sound = common.sound;
+  blocks = common.blocks;
   bound = common.bound;
 }
 

@@ -1,5 +1,5 @@
 -- Loans are abandoned, and pieces given up, one by one.
-use Rattle.std.proofs.Common.{◌≡◌, ℕ, zero, suc, ◌+◌, ◌<◌, ◌≤◌, List, [], ◌∷◌, map, take, length, set, get_or, refl, ap, ◌∙◌}
+use Rattle.std.proofs.Common.{◌++◌, sym, append-nil, append_assoc, ◌≡◌, ℕ, zero, suc, ◌+◌, ◌<◌, ◌≤◌, List, [], ◌∷◌, map, take, length, set, get_or, refl, ap, ◌∙◌}
 use Rattle.std.proofs.Common.{arith, length-append}
 use Rattle.tcp_reorder.specs.declared.places.Span.{Span}
 use Rattle.tcp_reorder.specs.Queue.{Queue}
@@ -92,9 +92,10 @@ pub record AbandonsSome (old new : AppView) (all left : (LentPiece → ℕ) → 
   pub loans : (f : LentPiece → ℕ) → total f new.loans + all f ≡ total f old.loans + left f
   pub returned : length new.returned + left (λ _. 1) ≡ length old.returned + all (λ _. 1)
   pub back : (f : LentPiece → ℕ) → total f new.returned + left f ≡ total f old.returned + all f
+  pub behind : (more : List LentPiece) × (new.returned ≡ old.returned ++ more)
 
 pub abandons-none : (v : AppView) → LieApart v → (all : (LentPiece → ℕ) → ℕ) → AbandonsSome v v all all
-abandons-none v lie all = record { only = tokens-none v lie; helds = refl; loans = λ f. refl; returned = refl; back = λ f. refl }
+abandons-none v lie all = record { only = tokens-none v lie; helds = refl; loans = λ f. refl; returned = refl; back = λ f. refl; behind = ([], sym (append-nil v.returned)) }
 
 pub abandons-one : (u v : AppView) (all left : (LentPiece → ℕ) → ℕ) (taken : List TakenNote) (l : Lending) → IsIn (lent_piece taken l) v.loans
     → AbandonsSome u v all (λ f. f (lent_piece taken l) + left f) → AbandonsSome u (abandoned v l.loan) all left
@@ -108,6 +109,11 @@ abandons-one u v all left taken l out some =
       helds = some.helds;
       loans = λ f. omega (arith, some.loans f, step.loans f);
       returned = omega (arith, some.returned, one_more);
+      behind = (
+        some.behind.0 ++ lent_piece taken l ∷ [],
+        step.returned ∙ ap (λ ls. ls ++ lent_piece taken l ∷ []) some.behind.1
+            ∙ append_assoc u.returned some.behind.0 (lent_piece taken l ∷ []),
+      );
       back = λ f. omega (arith, some.back f, ap (total f) step.returned, total-append f v.returned (lent_piece taken l ∷ []));
     }
 
@@ -126,6 +132,7 @@ abandons-all u v all some = record {
   loans = λ f. omega (arith, some.loans f);
   returned = omega (arith, some.returned);
   back = λ f. omega (arith, some.back f);
+  behind = some.behind;
 }
 
 -- ---- pieces

@@ -15,6 +15,7 @@ pub mod Shelved
 pub mod WholeFrames
 pub mod StreamLemmas
 pub mod Accounts
+pub mod Written
 pub mod Counts
 pub mod Moving
 pub mod Resting

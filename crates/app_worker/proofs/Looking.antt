@@ -159,6 +159,7 @@ ended-working st v mid works rest told = rw told.event (record {
   live = works.live;
   keeps_first = works.keeps_first;
   appended = works.appended;
+  given = works.given;
   waits = works.waits;
 })
 
@@ -183,6 +184,7 @@ ended-common st v mid common told = rw told.event (record {
   entries = common.entries;
   names = common.names;
   sound = common.sound;
+  blocks = common.blocks;
   bound = common.bound;
 })
 

@@ -21,6 +21,8 @@ use Rattle.board_face.specs.declared.views.app.HeldPiece.{HeldPiece}
 use Rattle.std.specs.Prelude.{slice_get}
 use Rattle.app_worker.specs.Steps.{OnlyHelds, whole_piece}
 use Rattle.app_worker.specs.Whole.{fresh_flow, IsChosen, TookOne, TookNone, Torn}
+use Rattle.app_worker.specs.Entries.{Gives}
+use Rattle.app_worker.proofs.Written.{gives-same}
 use Rattle.app_worker.proofs.Tokens.{is-released}
 use Rattle.app_worker.proofs.Standing.{each-map}
 use Rattle.app_worker.proofs.Took.{Took, is-took, taken_note, entered-tokens, entered-stands, kept-tokens, set-last}
@@ -38,7 +40,7 @@ all-end st v works = each-map (FlowStands v.taken (st.unread ++ st.posted.entrie
 
 -- it can be given up as it is
 pub torn-of : (st : State) (v : AppView) → Working st v → Torn st v
-torn-of st v works = record { tokens = works.stands.tokens; flows = all-end st v works; distinct = works.stands.distinct; index = works.index }
+torn-of st v works = record { tokens = works.stands.tokens; flows = all-end st v works; distinct = works.stands.distinct; index = works.index; given = works.given }
 
 -- ---- a note
 
@@ -46,6 +48,10 @@ module _ (was : State) (old new : AppView) (t : TakenNote) (works : Working was 
     (view : new ≡ record old { taken = old.taken ++ t ∷ []; helds = new.helds }) (lie : LieApart new) where
   view-in : TookView old new t
   view-in = record { view = view }
+
+  gives-taken : Gives new new.returned
+  gives-taken = subst (Gives new) (sym (ap (λ (v : AppView). v.returned) view)) (gives-same old new old.returned
+      (ap (λ (v : AppView). v.written) view) (ap (λ (v : AppView). v.setting) view) works.given)
 
   -- nothing of it is kept
   pub none-taken : ((f : HeldPiece → ℕ) → total f new.helds ≡ total f old.helds) → TookNone was was old new
@@ -56,6 +62,7 @@ module _ (was : State) (old new : AppView) (t : TakenNote) (works : Working was 
       flows = ends-kept was.flows old new t view-in (all-end was old works);
       distinct = works.stands.distinct;
       index = works.index;
+      given = gives-taken;
     };
     common = common-noted was old new t view-in was.notes was.active was.index was.flows refl
         (record { kept = omega (arith, helds held_len); short = omega arith }) common;
@@ -98,6 +105,7 @@ module _ (was : State) (old new : AppView) (t : TakenNote) (works : Working was 
             flows = ends-noted was.flows old new t view-in (all-end was old works) known-in own (λ x. set flows i x) put-in q base;
             distinct = λ n. (many-noted was.flows t.note own (λ x. set flows i x) q base put-in n).1 (works.stands.distinct n);
             index = index-set index flows i own (record own { queue = q }) within value refl is_index;
+            given = gives-taken;
           };
           common = common-noted was old new t view-in notes i index now bytes-in few-in common;
           moves = moves-noted was old new t view-in notes i index now (grow-noted was.flows t.note own (λ x. set flows i x) q base put-in);
@@ -143,6 +151,7 @@ module _ (was : State) (old new : AppView) (t : TakenNote) (works : Working was 
                   (ap (λ (v : AppView). v.app) view),
             ));
             waits = works.waits;
+            given = gives-taken;
             appended = omega (arith, ap (total lent_len) (ap (λ (v : AppView). v.returned) view), works.appended, bytes-in);
           };
           common = common-noted was old new t view-in notes i index now bytes-in few-in common;

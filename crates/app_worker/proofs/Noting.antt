@@ -28,6 +28,7 @@ use Rattle.app_worker.proofs.Took.{get-last, set-last}
 use Rattle.app_worker.proofs.ReadLemmas.{all-noted}
 use Rattle.app_worker.proofs.EachBoth.{each-both}
 use Rattle.app_worker.proofs.Accounts.{sound-same}
+use Rattle.app_worker.proofs.Written.{blocks-same}
 use Rattle.app_worker.proofs.Moving.{looks-same, kept-same, leaked-aside, same-leaked, strays-same, entries-same, names-same, most-same}
 
 -- ---- one flow
@@ -286,6 +287,7 @@ module _ (was : State) (old new : AppView) (t : TakenNote) (took : TookView old 
         entries = entries-same old new (ap (λ (v : AppView). v.written) took.view) (ap (λ (v : AppView). v.returned) took.view) common.entries;
         names = names-same was.stray old new (ap (λ (v : AppView). v.setting) took.view) common.names;
         sound = sound-same old new (ap (λ (v : AppView). v.returned) took.view) (ap (λ (v : AppView). v.setting) took.view) common.sound;
+        blocks = blocks-same was.how.stray old new was.stray (ap (λ (v : AppView). v.written) took.view) common.blocks;
         bound = omega (
           arith,
           ap length (ap (λ (v : AppView). v.loans) took.view),

@@ -36,6 +36,8 @@ use Rattle.app_worker.proofs.EachBoth.{each-both}
 use Rattle.app_worker.proofs.Moving.{looks-same, no-write, aside-same, leaked-aside, same-leaked, strays-same, entries-same, names-same, most-same}
 use Rattle.app_worker.proofs.Indexing.{index-set}
 use Rattle.app_worker.proofs.Accounts.{sound-same}
+use Rattle.app_worker.specs.Entries.{Gives}
+use Rattle.app_worker.proofs.Written.{gives-same, blocks-same}
 use Rattle.app_worker.proofs.Resting.{rest-same, each-same}
 
 pub front-of : {A : Type 0} (xs : List A) (x : A) → slice_get xs 0 ≡ Some x → xs ≡ x ∷ drop 1 xs
@@ -189,6 +191,7 @@ module _ (was : State) (i : ℕ) (own : FlowQueue) (p : Completion × Lending) (
         entries = entries-same old new (ap (λ (v : AppView). v.written) only.view) same_returned common.entries;
         names = names-same was.stray old new same_setting common.names;
         sound = sound-same old new same_returned same_setting common.sound;
+        blocks = blocks-same was.how.stray old new was.stray (ap (λ (v : AppView). v.written) only.view) common.blocks;
         bound = omega (
           arith,
           ap length (ap (λ (v : AppView). v.loans) only.view),
@@ -206,6 +209,10 @@ module _ (was : State) (i : ℕ) (own : FlowQueue) (p : Completion × Lending) (
       let later : FlowQueue = record own { bytes = bytes } in
       ap (λ n. n + own.bytes) (ap (total f) (at.set_is later)) ∙ total-changed at.before at.after own later f
       ∙ ap (λ n. n + bytes) (sym (ap (total f) at.is))
+
+  gives-read : Gives new new.returned
+  gives-read = subst (Gives new) (sym same_returned)
+      (gives-same old new old.returned (ap (λ (v : AppView). v.written) only.view) same_setting works.given)
 
   steps-read : (bytes written : ℕ) → app_steps (with_read was i own bytes ps p.1 written flush) new ≡ app_steps was old + 1
   steps-read bytes written = omega (
@@ -299,6 +306,7 @@ module _ (was : State) (i : ℕ) (own : FlowQueue) (p : Completion × Lending) (
           live = works.live;
           keeps_first = λ some. works.keeps_first (omega (arith, some, aside-same old new same_returned same_setting (ap (λ (v : AppView). v.app) only.view)));
           waits = λ some. absurd (omega (arith, some, pushed));
+          given = gives-read;
           appended = omega (
             arith,
             ap (total lent_len) same_returned,
@@ -384,6 +392,7 @@ module _ (was : State) (i : ℕ) (own : FlowQueue) (p : Completion × Lending) (
         flows = subst (λ ts. Each (FlowEnds ts) (set was.flows i later)) (sym same_taken) (subst (Each (FlowEnds old.taken)) (sym (at.set_is later)) flows);
         distinct = λ n. omega (arith, ap (many n) (at.set_is later), many-same at.before at.after own later refl n, stood.distinct n);
         index = index-set was.index was.flows i own later within value refl works.index;
+        given = gives-read;
       }
 
   pub oldest-failed : (bytes written most faults faults_now : ℕ) (kept kept_now : ℕ → Option (List ℕ)) → own.bytes ≤ bytes

@@ -25,6 +25,8 @@ use Rattle.app_worker.specs.Steps.{PushedSome, Pushes, raw_copies}
 use Rattle.app_worker.specs.declared.straying.Gave.{Gave}
 use Rattle.app_worker.specs.declared.straying.Gave.TheVariants as gave
 use Rattle.app_worker.specs.Whole.{GaveOne, GaveBack, GivesBack, PushesLeft}
+use Rattle.app_worker.specs.Entries.{Gives, AreBlocks}
+use Rattle.app_worker.proofs.Written.{gives-raw, blocks-raw}
 use Rattle.app_worker.proofs.Tokens.{total-append}
 use Rattle.app_worker.proofs.Moving.{looks-same, looks-more, looks-trans, kept-same, same-leaked, no-write}
 use Rattle.app_worker.proofs.Seeing.{Left, left-none, left-saw}
@@ -120,8 +122,8 @@ module _ (old : AppView) (settled quiet : Bool) (written : List WrittenEntry) (l
     counted = stands.counted;
   }
 
-  working-view : (was : State) (now : Stray) → (0 < now.left → was.due ≡ None) → Working was old → Working (with_stray was now) seen
-  working-view was now waits works = record {
+  working-view : (was : State) (now : Stray) → (0 < now.left → was.due ≡ None) → Gives seen old.returned → Working was old → Working (with_stray was now) seen
+  working-view was now waits given works = record {
     stands = stands-view was.notes was.flows (was.unread ++ was.posted.entries) (read_of was) works.stands;
     completions = works.completions;
     rest = works.rest;
@@ -133,12 +135,14 @@ module _ (old : AppView) (settled quiet : Bool) (written : List WrittenEntry) (l
     live = works.live;
     keeps_first = works.keeps_first;
     appended = works.appended;
+    given = given;
     waits = waits;
   }
 
   common-view : (was : State) (now : Stray) → raw_entries seen + now.left ≤ was.how.stray * loan_entries seen → loan_entries seen ≤ length old.returned
-      → (0 < now.left → judged old.setting.layout now.entry ≡ Some now.buffer) → Common was old → Common (with_stray was now) seen
-  common-view was now strays entries names common = record {
+      → (0 < now.left → judged old.setting.layout now.entry ≡ Some now.buffer) → AreBlocks was.how.stray written now.entry now.left → Common was old
+      → Common (with_stray was now) seen
+  common-view was now strays entries names blocks common = record {
     app = common.app;
     ended = common.ended;
     counted = common.counted;
@@ -158,6 +162,7 @@ module _ (old : AppView) (settled quiet : Bool) (written : List WrittenEntry) (l
     entries = entries;
     names = names;
     sound = common.sound;
+    blocks = blocks;
     bound = common.bound;
   }
 
@@ -194,10 +199,13 @@ pushed-left was now old new some fewer works common =
     ∙ common.names (before left) ∙ ap Some (sym buffer) in (
       record {
         working = subst (Working (with_stray was now)) (sym some.view)
-            (working-view old new.settled new.quiet new.written new.looks was now (λ left. works.waits (before left)) works);
+            (working-view old new.settled new.quiet new.written new.looks was now (λ left. works.waits (before left))
+            (gives-raw old.setting.layout old.written new.written some.count was.stray.entry old.returned some.written works.given) works);
         common = subst (Common (with_stray was now)) (sym some.view)
             (common-view old new.settled new.quiet new.written new.looks was now (omega (arith, raws, may, some.fits, common.strays))
-            (omega (arith, loans, common.entries)) names common);
+            (omega (arith, loans, common.entries)) names
+            (subst (λ e. AreBlocks was.how.stray new.written e now.left) (sym entry) (subst (λ ws. AreBlocks was.how.stray ws was.stray.entry now.left)
+            (sym some.written) (blocks-raw was.how.stray was.stray.left now.left some.count old.written was.stray.entry some.fits common.blocks))) common);
         goes = λ kept. record {
           moves = record {
             same = (

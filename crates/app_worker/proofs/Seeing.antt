@@ -25,6 +25,7 @@ working-saw st v look works = record {
   live = works.live;
   keeps_first = works.keeps_first;
   appended = works.appended;
+  given = works.given;
   waits = works.waits;
 }
 
@@ -49,6 +50,7 @@ common-saw st v look common = record {
   entries = common.entries;
   names = common.names;
   sound = common.sound;
+  blocks = common.blocks;
   bound = common.bound;
 }
 
@@ -106,6 +108,7 @@ working-rested st v works = record {
   live = works.live;
   keeps_first = works.keeps_first;
   appended = works.appended;
+  given = works.given;
   waits = works.waits;
 }
 
@@ -130,6 +133,7 @@ common-rested st v common = record {
   entries = common.entries;
   names = common.names;
   sound = common.sound;
+  blocks = common.blocks;
   bound = common.bound;
 }
 

@@ -95,6 +95,8 @@ bare-of-gone was st old v other gone = record {
   due = ap (λ (s : State). s.due) gone.same;
   leaked = ap (λ (s : State). s.leaked.items) gone.same;
   none_left = gone.none_left;
+  given = gone.given;
+  abandoned = λ none. absurd (other none);
   unread = ap (λ (s : State). s.unread) gone.same;
   flows = gone.ends;
   distinct = gone.distinct;
@@ -118,6 +120,8 @@ bare-stopped st v cause other was old gone = record {
   due = ap (λ (s : State). s.due) gone.same;
   leaked = ap (λ (s : State). s.leaked.items) gone.same;
   none_left = gone.none_left;
+  given = gone.given;
+  abandoned = λ none. absurd (other none);
   unread = ap (λ (s : State). s.unread) gone.same;
   flows = gone.ends;
   distinct = gone.distinct;
@@ -154,6 +158,7 @@ common-stopped st v cause none other common = record {
   entries = common.entries;
   names = common.names;
   sound = common.sound;
+  blocks = common.blocks;
   bound = common.bound;
 }
 

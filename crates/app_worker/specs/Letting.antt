@@ -1,11 +1,12 @@
 -- All that an application has out is given up.
-use Rattle.std.specs.Prelude.{◌≡◌, ℕ, ◌+◌, ◌<◌, ◌≤◌, true, List, [], map, length, Option, None}
+use Rattle.std.specs.Prelude.{◌≡◌, ℕ, ◌+◌, ◌<◌, ◌≤◌, true, List, [], ◌++◌, map, length, take, Option, None}
 use Rattle.circular_buffer.specs.Buffer.{buffer}
 use Rattle.board_face.specs.declared.views.app.LentPiece.{LentPiece}
 use Rattle.board_face.specs.declared.views.app.AppView.{AppView}
 use Rattle.app_worker.specs.declared.stack.FlowQueue.{FlowQueue}
+use Rattle.app_worker.specs.Entries.{Gives}
 use Rattle.app_worker.specs.Core.{total, LieApart, Each, many}
-use Rattle.app_worker.specs.State.{IsIndex, State, Common, FlowEnds, app_steps}
+use Rattle.app_worker.specs.State.{IsIndex, State, Common, FlowEnds, app_steps, loan_entries}
 use Rattle.app_worker.specs.Shelves.{AreFronts}
 use Rattle.app_worker.specs.Moves.{Moves}
 use Rattle.app_worker.specs.Whole.{KeepsShelves}
@@ -31,12 +32,15 @@ pub record Abandons (old new : AppView) (gone : (LentPiece → ℕ) → ℕ) : T
   pub loans : (f : LentPiece → ℕ) → total f new.loans + gone f ≡ total f old.loans
   pub returned : length new.returned ≡ length old.returned + gone (λ _. 1)
   pub back : (f : LentPiece → ℕ) → total f new.returned ≡ total f old.returned + gone f
+  pub behind : (more : List LentPiece) × (new.returned ≡ old.returned ++ more)
 
 -- all is given up, and nothing else changed
 pub record LetGo (was now : State) (old new : AppView) : Type 0 where
   pub helds : new.helds ≡ []
   pub loans : new.loans ≡ []
   pub back : (f : LentPiece → ℕ) → total f new.returned ≡ total f old.returned + total f old.loans
+  pub given : Gives new (take (loan_entries new) new.returned)
+  pub entries : loan_entries new ≡ length old.returned
   pub same : now ≡ record was { flows = now.flows; unread = []; due = None; leaked = buffer [] was.leaked.capacity; bare = true }
   pub facts : map facts_of now.flows ≡ map facts_of was.flows
   pub ends : Each (FlowEnds new.taken) now.flows

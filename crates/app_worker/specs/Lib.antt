@@ -1,6 +1,7 @@
 pub mod Marks
 pub mod Core
 pub mod Steps
+pub mod Entries
 pub mod State
 pub mod StateOf
 pub mod Shelves

@@ -2,7 +2,7 @@
 use mir.Syntax.{w32}
 use Rattle.std.specs.Int.{cast_signed}
 use Rattle.std.specs.Prelude.{◌≡◌, ◌≢◌, ◌↔◌, ℕ, zero, suc, ◌+◌, ◌-◌, ◌*◌, ◌^◌, ◌<◌, ◌≤◌, ◌==◌, min, Bool, true, false, if◌then◌else◌}
-use Rattle.std.specs.Prelude.{List, [], ◌∷◌, ◌++◌, length, Option, Some, None, MatchBool, MatchOption, IsSome, slice_index_or}
+use Rattle.std.specs.Prelude.{List, [], ◌∷◌, ◌++◌, length, take, Option, Some, None, MatchBool, MatchOption, IsSome, slice_index_or}
 use Rattle.std.specs.Map.{lookup}
 use Rattle.std.specs.Ordering.{is_eq, nat_cmp}
 use Rattle.zr_kinds.specs.declared.behaviour.Behaviour.{Behaviour}
@@ -22,6 +22,7 @@ use Rattle.board_face.specs.declared.views.app.AppView.{AppView}
 use Rattle.app_worker.specs.declared.stack.Lending.{Lending}
 use Rattle.app_worker.specs.declared.stack.Stray.{Stray}
 use Rattle.app_worker.specs.declared.stack.FlowQueue.{FlowQueue}
+use Rattle.app_worker.specs.Entries.{Gives, AreBlocks}
 use Rattle.app_worker.specs.Core.{total, is_odd, Each, many, read_out, own_notes, BeginAt, placed_of, short_bytes, Stands}
 
 pub record State : Type 0 where
@@ -126,12 +127,21 @@ pub record Working (st : State) (v : AppView) : Type 0 where
   pub outside : st.flush ≡ false → Each (LiesOutside (reserve_of v)) (st.unread ++ st.posted.entries)
   pub flush : st.flush ≡ true → st.unread ++ st.posted.entries ≢ []
   pub live : st.bare ≡ false
+  -- each loan that it doesn't have any more was given back by an entry of its own, in order
+  pub given : Gives v v.returned
   -- a loan is given back only once as many are kept as are to be, those in the reserve aside
   pub keeps_first : 0 < returned_aside v → length st.leaked.items ≡ st.how.leak
   -- no other loan is due before the entries that follow one are written
   pub waits : 0 < st.stray.left → st.due ≡ None
   -- each loan that it doesn't have any more was appended whole, as each that was read, and nothing else was
   pub appended : total lent_len v.returned + total loan_len (read_of st) ≡ total (λ f. f.bytes) st.flows
+
+-- the refill entries that were written: raw, and of loans
+abbrev pub raw_entries : AppView → ℕ
+raw_entries v = total (λ w. if w.of_loan then 0 else 1) v.written
+
+abbrev pub loan_entries : AppView → ℕ
+loan_entries v = total (λ w. if w.of_loan then 1 else 0) v.written
 
 -- ---- once it has stopped, or has read all
 
@@ -147,6 +157,10 @@ pub record Bare (st : State) (v : AppView) : Type 0 where
   pub due : st.due ≡ None
   pub leaked : st.leaked.items ≡ []
   pub none_left : st.stray.left ≡ 0
+  -- the first loans were given back by entries of their own, in order, and then the others abandoned: where nothing stopped
+  -- it, no more than were kept to the end
+  pub given : Gives v (take (loan_entries v) v.returned)
+  pub abandoned : st.stopped ≡ No → length v.returned ≤ loan_entries v + st.how.leak
   pub unread : st.unread ≡ []
   pub flows : Each (FlowEnds v.taken) st.flows
   pub distinct : (number : ℕ) → many number st.flows ≤ 1
@@ -183,13 +197,6 @@ abbrev pub wanted_of : Option ℕ → ℕ → ℕ → ℕ
 wanted_of None written len = len
 wanted_of (Some bytes) written len = min len (bytes - written)
 
--- the refill entries that were written: raw, and of loans
-abbrev pub raw_entries : AppView → ℕ
-raw_entries v = total (λ w. if w.of_loan then 0 else 1) v.written
-
-abbrev pub loan_entries : AppView → ℕ
-loan_entries v = total (λ w. if w.of_loan then 1 else 0) v.written
-
 pub record Common (st : State) (v : AppView) : Type 0 where
   pub app : v.app ≡ st.app
   pub ended : v.ended ≡ st.ended
@@ -213,6 +220,8 @@ pub record Common (st : State) (v : AppView) : Type 0 where
   pub entries : loan_entries v ≤ length v.returned
   -- each loan that it doesn't have any more had a byte
   pub sound : odd_loans v.setting.layout v.returned ≡ 0
+  -- each of these is the same as the entry of the loan that was given back last before it
+  pub blocks : AreBlocks st.how.stray v.written st.stray.entry st.stray.left
   pub names : 0 < st.stray.left → judged v.setting.layout st.stray.entry ≡ Some st.stray.buffer
   -- each loan was of a byte that was taken, and is of one that it doesn't keep any more
   pub bound : length v.loans + length v.returned + total held_len v.helds + total (λ f. short_bytes f.queue) st.flows ≤ total taken_len v.taken

@@ -22,6 +22,7 @@ use Rattle.app_worker.specs.declared.straying.Gave.{Gave}
 use Rattle.app_worker.specs.declared.straying.Gave.TheVariants.{Nothing as nothing_given, Did as given, Part as given_in_part, InUse as given_none}
 use Rattle.app_worker.specs.declared.turning.Taken.{Taken}
 use Rattle.app_worker.specs.declared.turning.Taken.TheVariants.{Did as took, NoNote, Ended, Memory}
+use Rattle.app_worker.specs.Entries.{Gives as GivesAll}
 use Rattle.app_worker.specs.Core.{HasTokens, Each, many, AreReadAt, placed_of}
 use Rattle.app_worker.specs.State.{IsIndex, State, read_of, IsAtRest, Working, Common, FlowEnds, app_steps}
 use Rattle.app_worker.specs.Shelves.{AreShelved, AreFronts}
@@ -117,6 +118,7 @@ pub record Torn (st : State) (v : AppView) : Type 0 where
   pub flows : Each (FlowEnds v.taken) st.flows
   pub distinct : (number : ℕ) → many number st.flows ≤ 1
   pub index : IsIndex st.index st.flows
+  pub given : GivesAll v v.returned
 
 -- The oldest loan was appended up to the byte at which the application quits, and is due.
 pub record ReadQuit (was now : State) (old new : AppView) (kept kept_now : ℕ → Option (List ℕ)) : Type 0 where

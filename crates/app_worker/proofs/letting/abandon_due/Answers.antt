@@ -31,4 +31,5 @@ returns-in-Some-clause-abandons g c =
       loans = λ f. omega (arith, all.loans f);
       returned = omega (arith, all.returned);
       back = λ f. omega (arith, all.back f);
+      behind = all.behind;
     })

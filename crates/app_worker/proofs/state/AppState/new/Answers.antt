@@ -1,0 +1,6 @@
+use Rattle.std.proofs.Common.{rules}
+use Rattle.app_worker.proofs.Written.{fresh_blocks, fresh_given, fresh_front}
+use Rattle.app_worker.proofs.state.AppState.new.Goals as goal
+
+pub returns-clause-stands : goal.returns-clause-stands
+returns-clause-stands g c = search (rules, fresh_blocks, fresh_given, fresh_front)
