@@ -1,5 +1,6 @@
 -- Turns of an application that has nothing out.
-use Rattle.std.proofs.Common.{◌≡◌, ℕ, ◌<◌, true, false, List, [], ◌∷◌, ◌++◌, Option, length, take, refl, sym, ap, ◌∙◌, arith, inl, inr}
+use Rattle.std.proofs.Common.{◌≡◌, ℕ, ◌<◌, true, false, List, [], ◌∷◌, ◌++◌, Option, length, take, refl, sym, ap, ◌∙◌}
+use Rattle.std.proofs.Common.{arith, inl, inr}
 use Rattle.zr_kinds.specs.declared.behaviour.Stopped.TheVariants as stop
 use Rattle.zr_kinds.specs.declared.place.Place.{Place}
 use Rattle.zr_kinds.specs.declared.place.Note.{Note}
@@ -138,7 +139,8 @@ module _ (st : State) (old : AppView) (bare : Bare st old) (is_bare : st.bare �
     rests = λ _. record { state = refl; view = refl; kept_is = refl };
   }
 
-  pub bare-finished : (new : AppView) (kept : ℕ → Option (List ℕ)) (f : ℕ) → old.left ≡ false → st.ended ≡ true → new ≡ left_board (scrubbed (fell_quiet old))
+  pub bare-finished : (new : AppView) (kept : ℕ → Option (List ℕ)) (f : ℕ) → old.left ≡ false → st.ended ≡ true
+      → new ≡ left_board (scrubbed (fell_quiet old))
       → Turns st st old new kept kept f f Finished
   bare-finished new kept f here ended is = turns-finished st st old old new kept kept f f (out-at-once kept here ended) is
 
@@ -190,6 +192,7 @@ module _ (st : State) (old : AppView) (bare : Bare st old) (is_bare : st.bare �
         counted = common.counted;
         owns = common.owns;
         copied = common.copied;
+        copies = common.copies;
         spares = common.spares;
         some_places = common.some_places;
         within = common.within;

@@ -1,5 +1,6 @@
 -- The end of an application.
-use Rattle.std.proofs.Common.{◌≡◌, ℕ, ◌<◌, ◌≤◌, ◌-◌, true, false, List, [], ◌∷◌, ◌++◌, Option, None, length, refl, sym, ap, subst}
+use Rattle.std.proofs.Common.{◌≡◌, ℕ, ◌<◌, ◌≤◌, ◌-◌, true, false, List, [], ◌∷◌, ◌++◌, Option, None, length, refl}
+use Rattle.std.proofs.Common.{sym, ap, subst}
 use Rattle.std.proofs.Common.{◌∙◌, arith, inl, inr}
 use Rattle.std.specs.Prelude.{◌==◌, if◌then◌else◌}
 use Rattle.zr_kinds.specs.CopyingReceiver.{nothing_placed, next_missing, values_from}
@@ -149,6 +150,7 @@ common-gone st v common = record {
   counted = λ here. absurd (cc);
   owns = common.owns;
   copied = common.copied;
+  copies = common.copies;
   spares = common.spares;
   some_places = common.some_places;
   within = common.within;

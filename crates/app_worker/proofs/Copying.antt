@@ -1,5 +1,6 @@
 -- Bytes that came with their note are copied into a spare, which is lent.
-use Rattle.std.proofs.Common.{◌≡◌, ◌≢◌, ℕ, ◌+◌, ◌-◌, ◌<◌, ◌≤◌, Bool, true, false, List, [], ◌∷◌, ◌++◌, Some, None, length}
+use Rattle.std.proofs.Common.{◌≡◌, ◌≢◌, ℕ, ◌+◌, ◌-◌, ◌<◌, ◌≤◌, Bool, true, false, List, [], ◌∷◌, ◌++◌, Some}
+use Rattle.std.proofs.Common.{None, length}
 use Rattle.std.proofs.Common.{map, take, drop, refl, sym, ap, subst, ◌∙◌, arith, ⊎_elim, ◌⊎◌, inl, inr, ◌^◌, min}
 use Rattle.std.specs.Prelude.{◌==◌, ◌||◌, All, Contains, if◌then◌else◌, slice_get, nat_lt}
 use Rattle.std.proofs.lemmas.Bool.{cases_Bool, cases_lt}
@@ -41,7 +42,8 @@ use Rattle.app_worker.specs.declared.stack.Waiting.{Waiting}
 use Rattle.app_worker.specs.declared.stack.Waiting.TheVariants.{InArea, Copied}
 use Rattle.area_layout.specs.Layout.{IsLayout, LiesIn, total as buffers_of}
 use Rattle.board_face.specs.OwnBuffers.{IsOwnBuffer}
-use Rattle.app_worker.specs.Core.{total, IsIn, held_piece, LieApart, has_at, is_odd, lent_piece, origin_in, IsInArea, IsShort, short_len, short_bytes, marks_of_waiting}
+use Rattle.app_worker.specs.Core.{is_copy, total, IsIn, held_piece, LieApart, has_at, is_odd, lent_piece, origin_in, IsInArea, IsShort, short_len}
+use Rattle.app_worker.specs.Core.{short_bytes, marks_of_waiting}
 use Rattle.app_worker.specs.State.{unsplit_len}
 use Rattle.app_worker.specs.Steps.{IsNext, is_short, completion_of, Delivers, Delivered}
 use Rattle.app_worker.proofs.Tokens.{total-append, not-odd, Lent, is-lent, as_loan, in-contains, in-right}
@@ -133,7 +135,8 @@ copy-origin taken s b of =
 -- ---- the spare is had, filled and lent
 
 -- nothing of these places lies in a buffer
-none-in : {A : Type 0} (place : A → Place) (b x c : ℕ) (n : ℕ) (xs : List A) → All (λ y. (place y).buffer ≢ b) xs → has_at c x (begin_place b n) ≡ 1
+none-in : {A : Type 0} (place : A → Place) (b x c : ℕ) (n : ℕ) (xs : List A) → All (λ y. (place y).buffer ≢ b) xs
+    → has_at c x (begin_place b n) ≡ 1
     → total (λ y. has_at c x (place y)) xs ≡ 0
 none-in place b x c n [] all has = refl
 none-in place b x c n (y ∷ ys) all has =
@@ -252,7 +255,8 @@ module _ (v w : AppView) (was : FlowQueue) (q : Queue Waiting) (span : Span) (po
     (begins : span.position ≡ was.queue.popped) (settled : v.settled ≡ true) (lie : LieApart v) (within : length posted.entries < posted.places)
     (place : Place) where
   pub copy-delivers : (s : Short) (b copied copied_now : ℕ) (owns : v.owns ≡ []) → LosesFirst was.queue q (Copied s) span → IsShort v.taken s
-      → HasNoneIn v b → LiesIn v.setting.layout (begin_place b (length s.bytes.items)) → 0 < length s.bytes.items → w ≡ copy_lent v b s.bytes.items owns → place ≡ begin_place b (length s.bytes.items)
+      → HasNoneIn v b → LiesIn v.setting.layout (begin_place b (length s.bytes.items)) → 0 < length s.bytes.items
+          → w ≡ copy_lent v b s.bytes.items owns → place ≡ begin_place b (length s.bytes.items)
       → after_it ≡ with_posted posted w.setting.layout was.number (short_at s place) → copied_now ≡ min (copied + 1) (2 ^ 64 - 1)
       → flush_now ≡ flush || (place.buffer == reserve_of w)
       → Delivers v w was (record was { queue = q }) posted after_it copied copied_now flush flush_now
@@ -287,6 +291,7 @@ module _ (v w : AppView) (was : FlowQueue) (q : Queue Waiting) (span : Span) (po
         helds = λ f. omega arith;
         loans = λ f. omega (arith, lent-sums v b s.bytes.items owns f, ap f (copy-origin v.taken s b of));
         spares = refl;
+        copy = ap is_copy (copy-origin v.taken s b of);
         copies = copies;
         flushes = flushes ∙ ap (λ (x : AppView). flush || (place.buffer == reserve_of x)) is
             ∙ ap (λ (p : Place). flush || (p.buffer == reserve_of v)) place_is;
@@ -321,6 +326,7 @@ module _ (v w : AppView) (was : FlowQueue) (q : Queue Waiting) (span : Span) (po
         helds = step.helds;
         loans = λ f. omega (arith, step.loans f, ap f (area-origin v.taken p of));
         spares = omega arith;
+        copy = ap is_copy (area-origin v.taken p of);
         copies = refl;
         flushes = flushes ∙ ap (λ (x : AppView). flush || (place.buffer == reserve_of x)) is
             ∙ ap (λ (r : Place). flush || (r.buffer == reserve_of v)) place_is;
@@ -368,6 +374,7 @@ from-rest v w was now posted after_it copied copied_now flush flush_now step = r
   helds = step.helds;
   loans = step.loans;
   spares = step.spares;
+  copy = step.copy;
   copies = step.copies;
   flushes = step.flushes;
 }

@@ -1,7 +1,11 @@
 -- What the counts of an application say at its end.
-use Rattle.std.proofs.Common.{◌≡◌, ◌≤◌, true, length, ap, arith}
+use Rattle.std.proofs.Common.{◌≡◌, ◌≤◌, true, List, [], ◌∷◌, length, ap, arith}
 use Rattle.zr_kinds.specs.declared.behaviour.Stopped.TheVariants as stop
+use Rattle.board_face.specs.declared.views.app.Origin.{Origin}
+use Rattle.board_face.specs.declared.views.app.Origin.TheVariants.{Note as of_note, Copied as of_copy}
+use Rattle.board_face.specs.declared.views.app.LentPiece.{LentPiece}
 use Rattle.board_face.specs.declared.views.app.AppView.{AppView}
+use Rattle.app_worker.specs.Core.{total, is_copy, one_copy}
 use Rattle.app_worker.specs.State.{State, Working, Bare, AppStands}
 use Rattle.app_worker.proofs.StreamLemmas.{by-mode}
 use Rattle.app_worker.proofs.Accounts.{few-loans}
@@ -18,3 +22,17 @@ loans-few st v stands is going = by-mode st.bare (Bare st v) (Working st v) (st.
       few-loans v.setting.layout v.returned stands.common.sound,
     ))
     (λ not _. absurd (cc))
+
+-- at most as many loans were copies as were lent
+pub copies-few : (st : State) (v : AppView) → AppStands st v → st.copied ≤ st.loans
+copies-few st v stands =
+    let few : (ls : List LentPiece) → total is_copy ls ≤ length ls = few-copies in
+    omega (arith, stands.common.copied, stands.common.loans, stands.common.copies, few v.loans, few v.returned)
+  where
+    one-most : (o : Origin) → one_copy o ≤ 1
+    one-most (of_note note at) = omega arith
+    one-most (of_copy bytes) = omega arith
+
+    few-copies : (ls : List LentPiece) → total is_copy ls ≤ length ls
+    few-copies [] = omega arith
+    few-copies (l ∷ ls) = omega (arith, one-most l.origin, few-copies ls)

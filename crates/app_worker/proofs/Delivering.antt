@@ -1,5 +1,6 @@
 -- A piece is lent: all that is kept then.
-use Rattle.std.proofs.Common.{◌≡◌, ◌≢◌, ℕ, suc, ◌+◌, ◌-◌, ◌^◌, ◌<◌, ◌≤◌, min, Bool, true, false, List, [], ◌∷◌, ◌++◌, Option, length}
+use Rattle.std.proofs.Common.{◌≡◌, ◌≢◌, ℕ, suc, ◌+◌, ◌-◌, ◌^◌, ◌<◌, ◌≤◌, min, Bool, true, false, List, []}
+use Rattle.std.proofs.Common.{◌∷◌, ◌++◌, Option, length}
 use Rattle.std.proofs.Common.{set, get_or, refl, sym, ap, subst, ◌∙◌, arith, append_assoc, length-append}
 use Rattle.zr_kinds.specs.declared.ring.Completion.{Completion}
 use Rattle.completion_ring.specs.Ring.{Ring, ring}
@@ -12,8 +13,9 @@ use Rattle.app_worker.specs.declared.stack.Waiting.TheVariants.{InArea, Copied}
 use Rattle.app_worker.specs.declared.stack.Lending.{Lending}
 use Rattle.app_worker.specs.declared.stack.FlowQueue.{FlowQueue}
 use Rattle.board_face.specs.AppEvents.{reserve_of}
-use Rattle.app_worker.specs.Core.{total, is_odd, Each, Stands, many, lent_piece, over_waiting, short_len, short_bytes}
-use Rattle.app_worker.specs.State.{State, read_of, TellsOf, LiesOutside, Working, Common, capped, held_len, taken_len, unsplit_len, lent_len, bytes_if, bytes_of, app_steps, one_if}
+use Rattle.app_worker.specs.Core.{total, is_odd, is_copy, Each, Stands, many, lent_piece, over_waiting, short_len, short_bytes}
+use Rattle.app_worker.specs.State.{State, read_of, TellsOf, LiesOutside, Working, Common, capped, held_len, taken_len, unsplit_len, lent_len}
+use Rattle.app_worker.specs.State.{bytes_if, bytes_of, app_steps, one_if}
 use Rattle.app_worker.specs.Shelves.{IsShelved}
 use Rattle.app_worker.specs.Moves.{Moves, KeptSince, reserve_loans, lies_in}
 use Rattle.board_face.specs.declared.views.app.LentPiece.{LentPiece}
@@ -81,7 +83,8 @@ with_lent was now then loans copied flush = record was {
   flush = flush;
 }
 
-pub lent-bundle : (was : State) (own now : FlowQueue) (then : Ring (Completion × Lending)) (old new : AppView) (loans copied : ℕ) (flush : Bool) → was.ended ≡ false
+pub lent-bundle : (was : State) (own now : FlowQueue) (then : Ring (Completion × Lending)) (old new : AppView) (loans copied : ℕ) (flush : Bool)
+    → was.ended ≡ false
     → loans ≡ min (was.loans + 1) (2 ^ 64 - 1) → was.active < length was.flows
     → own ≡ get_or was.flows was.active own → Delivers old new own now was.posted then was.copied copied was.flush flush
     → Working was old → Common was old → Bundle was (with_lent was now then loans copied flush) old new
@@ -115,6 +118,7 @@ lent-bundle was own now then old new loans copied flush more count within value 
       helds = step.helds;
       loans = step.loans;
       spares = step.spares;
+      copy = step.copy;
       copies = step.copies;
       flushes = step.flushes;
     } in
@@ -197,6 +201,7 @@ lent-bundle was own now then old new loans copied flush more count within value 
           ap (total unsplit_len) taken,
           common.spares,
         );
+        copies = omega (arith, step.spares, step.copy, step.loans is_copy, ap (total is_copy) returned, common.copies);
         some_places = omega (arith, places, common.some_places);
         within = omega (arith, longer, places, step.room);
         room = omega (arith, places, common.room);

@@ -1,5 +1,6 @@
 -- All that an application has out is given up: what is left.
-use Rattle.std.proofs.Common.{zero, suc, get_or, ◌∷◌, ◌≡◌, ℕ, ◌+◌, ◌<◌, ◌≤◌, true, false, List, [], Option, None, IsSome, map, length, refl, sym, ap, subst, ◌≢◌, ◌∙◌, arith, ◌++◌, append_assoc}
+use Rattle.std.proofs.Common.{zero, suc, get_or, ◌∷◌, ◌≡◌, ℕ, ◌+◌, ◌<◌, ◌≤◌, true, false, List, [], Option, None, IsSome}
+use Rattle.std.proofs.Common.{map, length, refl, sym, ap, subst, ◌≢◌, ◌∙◌, arith, ◌++◌, append_assoc}
 use Rattle.std.specs.Prelude.{◌==◌, if◌then◌else◌}
 use Rattle.zr_kinds.specs.declared.ring.Completion.{Completion}
 use Rattle.zr_kinds.specs.CopyingReceiver.{nothing_placed, values_from}
@@ -12,7 +13,7 @@ use Rattle.board_face.specs.declared.views.app.AppView.{AppView}
 use Rattle.app_worker.specs.declared.stack.Lending.{Lending}
 use Rattle.app_worker.specs.declared.stack.FlowQueue.{FlowQueue}
 use Rattle.app_worker.specs.Core.{total, many, Each, over_due, over_read, read_out, short_bytes, lent_piece, own_notes, BeginAt, received_notes}
-use Rattle.app_worker.specs.Core.{AreReadAt, most_at_once}
+use Rattle.app_worker.specs.Core.{AreReadAt, most_at_once, is_copy}
 use Rattle.app_worker.proofs.Indexing.{by-place}
 use Rattle.app_worker.specs.State.{State, IsIndex, place_in, Common, FlowEnds, capped, held_len, taken_len, unsplit_len, due_one, app_steps, one_if}
 use Rattle.app_worker.specs.Shelves.{IsShelved, AreShelved, ReadsFront, IsFrontShelved, AreFronts}
@@ -243,6 +244,7 @@ gone-all was now old v1 v2 v3 new reaped not_yet pushed torn common first second
         counted = λ here. scrubbed ∙ common.counted (sym left ∙ here);
         owns = ap (λ (v : AppView). v.owns) view ∙ common.owns;
         copied = common.copied ∙ ap capped (sym (ap (λ (v : AppView). v.spares) view));
+        copies = omega (arith, ap (λ (v : AppView). v.spares) view, back is_copy, ap (total is_copy) no_loan, common.copies);
         spares = omega (arith, ap (λ (v : AppView). v.spares) view, no_bytes, common.spares, ap (total unsplit_len) taken);
         some_places = common.some_places;
         within = common.within;

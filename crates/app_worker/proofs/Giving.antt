@@ -1,5 +1,6 @@
 -- A loan is given back: all that is kept then.
-use Rattle.std.proofs.Common.{◌≡◌, ◌≢◌, ℕ, ◌+◌, ◌<◌, ◌≤◌, ⊎_elim, true, false, Bool, [], ◌∷◌, ◌++◌, Option, Some, None, length, refl, sym, ap, subst}
+use Rattle.std.proofs.Common.{◌≡◌, ◌≢◌, ℕ, ◌+◌, ◌<◌, ◌≤◌, ⊎_elim, true, false, Bool, [], ◌∷◌, ◌++◌, Option}
+use Rattle.std.proofs.Common.{Some, None, length, refl, sym, ap, subst}
 use Rattle.std.proofs.Common.{◌∙◌, arith, length-append}
 use Rattle.std.specs.Prelude.{◌==◌, if◌then◌else◌}
 use Rattle.std.proofs.lemmas.Bool.{cases_eq, eq-eqb}
@@ -9,7 +10,7 @@ use Rattle.board_face.specs.declared.views.app.AppLook.TheVariants.{RefillInUse}
 use Rattle.app_worker.specs.declared.stack.Lending.{Lending}
 use Rattle.circular_buffer.specs.Buffer.{Buffer}
 use Rattle.board_face.specs.AppEvents.{reserve_of}
-use Rattle.app_worker.specs.Core.{total, Each, Stands, over_read, read_out, lent_piece}
+use Rattle.app_worker.specs.Core.{total, is_copy, Each, Stands, over_read, read_out, lent_piece}
 use Rattle.app_worker.specs.State.{State, returned_aside, raw_entries, loan_entries, TellsOf, LiesOutside, Working, Common, capped, held_len, taken_len}
 use Rattle.app_worker.specs.State.{lent_len, loan_len, unsplit_len, due_one, app_steps, one_if}
 use Rattle.app_worker.specs.Shelves.{IsShelved}
@@ -52,7 +53,8 @@ aside-gave was l old new returned setting app enough few first some =
     let one : LentPiece → ℕ = λ (x : LentPiece). if x.place.buffer == reserve_of old then 0 else 1 in
     let sum : returned_aside new ≡ total one old.returned + one (lent_piece old.taken l) =
     ap (λ xs. total (λ (x : LentPiece). if x.place.buffer == reserve_of new then 0 else 1) xs) returned
-    ∙ ap (λ n. total (λ (x : LentPiece). if x.place.buffer == n then 0 else 1) (old.returned ++ lent_piece old.taken l ∷ [])) (reserve-same old new setting app)
+    ∙ ap (λ n. total (λ (x : LentPiece). if x.place.buffer == n then 0 else 1) (old.returned ++ lent_piece old.taken l ∷ []))
+        (reserve-same old new setting app)
     ∙ omega (arith, total-append one old.returned (lent_piece old.taken l ∷ [])) in
     ⊎_elim
     (λ (same : l.loan.buffer ≡ reserve_of old). let none : one (lent_piece old.taken l)
@@ -62,7 +64,8 @@ aside-gave was l old new returned setting app enough few first some =
     (cases_eq l.loan.buffer (reserve_of old))
 
 gave-left : (was : State) (l : Lending) (stray : Stray) (old new : AppView) → was.due ≡ Some l → Gave old new l
-    → IsToFollow old.setting.layout l was.how.stray stray → (l.loan.buffer ≢ reserve_of old → was.how.leak ≤ length was.leaked.items) → Working was old
+    → IsToFollow old.setting.layout l was.how.stray stray → (l.loan.buffer ≢ reserve_of old → was.how.leak ≤ length was.leaked.items)
+        → Working was old
     → Common was old → Left was (with_due was None stray) old new × (app_steps was old < app_steps (with_due was None stray) new)
     × (new.taken ≡ old.taken) × (new.left ≡ old.left)
 gave-left was l stray old new due step follow enough works common =
@@ -109,7 +112,8 @@ gave-left was l stray old new due step follow enough works common =
     (λ d. Stands was.notes was.flows (was.unread ++ was.posted.entries) (read_out d was.leaked.items) old) due works.stands in (
       record {
         working = record {
-          stands = given-stands was.notes was.flows (was.unread ++ was.posted.entries) (Some l) None was.leaked.items was.how.stray was.stray stray old new true stood
+          stands = given-stands was.notes was.flows (was.unread ++ was.posted.entries)
+              (Some l) None was.leaked.items was.how.stray was.stray stray old new true stood
               (step, refl, follow);
           completions = subst (λ (s : Setting). Each (TellsOf s.layout) (was.unread ++ was.posted.entries)) (sym setting) works.completions;
           rest = works.rest;
@@ -136,6 +140,14 @@ gave-left was l stray old new due step follow enough works common =
           counted = λ here. scrubbed ∙ common.counted (sym left ∙ here);
           owns = owns ∙ common.owns;
           copied = common.copied ∙ ap capped (sym spares);
+          copies = omega (
+            arith,
+            spares,
+            step.loans is_copy,
+            ap (total is_copy) step.returned,
+            total-append is_copy old.returned (lent_piece old.taken l ∷ []),
+            common.copies,
+          );
           spares = omega (arith, spares, ap (total unsplit_len) taken, common.spares);
           some_places = common.some_places;
           within = common.within;
@@ -181,7 +193,8 @@ gave-left was l stray old new due step follow enough works common =
 
 pub given-left : (was : State) (due now : Option Lending) (stray : Stray) (old new : AppView) (result : Bool) → was.due ≡ due
     → Given was.how.stray old new due now was.stray stray result
-    → ((l : Lending) → due ≡ Some l → l.loan.buffer ≢ reserve_of old → was.how.leak ≤ length was.leaked.items) → Working was old → Common was old
+    → ((l : Lending) → due ≡ Some l → l.loan.buffer ≢ reserve_of old → was.how.leak ≤ length was.leaked.items) → Working was old
+        → Common was old
     → Left was (with_due was now stray) old new × Gives was (with_due was now stray) old new result
 given-left was None now stray old new true is step enough works common =
     let same : with_due was None was.stray ≡ was = ap (λ d. with_due was d was.stray) (sym is) in
@@ -271,6 +284,7 @@ kept-left was rest leaked v step works common =
           counted = common.counted;
           owns = common.owns;
           copied = common.copied;
+          copies = common.copies;
           spares = common.spares;
           some_places = common.some_places;
           within = common.within;

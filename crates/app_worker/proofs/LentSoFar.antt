@@ -1,5 +1,6 @@
 -- Pieces are lent one after another.
-use Rattle.std.proofs.Common.{◌≡◌, ◌≢◌, ℕ, ◌+◌, ◌-◌, ◌*◌, ◌<◌, ◌≤◌, length, Bool, true, false, List, Option, None, refl, sym, ap, subst, ◌∙◌, arith}
+use Rattle.std.proofs.Common.{◌≡◌, ◌≢◌, ℕ, ◌+◌, ◌-◌, ◌*◌, ◌<◌, ◌≤◌, length, Bool, true, false, List, Option, None}
+use Rattle.std.proofs.Common.{refl, sym, ap, subst, ◌∙◌, arith}
 use Rattle.board_face.specs.declared.views.app.AppView.{AppView}
 use Rattle.app_worker.specs.declared.stack.Delivery.{Delivery}
 use Rattle.app_worker.specs.declared.stack.Delivery.TheVariants.{Did, NoneInOrder, Full, Unsettled, ReserveHeld}
@@ -64,7 +65,8 @@ lent-end a b c u v w did end_by so other working common goes lends =
       working = working;
       common = common;
       goes = λ kept. goes-then a b c u v w kept kept kept (so.goes kept) (goes kept);
-      same = same ∙ so.same ∙ ap (λ (s : State). record a { flows = s.flows; posted = s.posted; loans = s.loans; copied = s.copied; flush = s.flush }) (sym same);
+      same = same ∙ so.same
+          ∙ ap (λ (s : State). record a { flows = s.flows; posted = s.posted; loans = s.loans; copied = s.copied; flush = s.flush }) (sym same);
       taken = taken ∙ so.taken;
       left = left ∙ so.left;
       steps = λ yes. omega (arith, so.steps yes, (goes (λ _. None)).moves.steps);

@@ -1,5 +1,6 @@
 -- Loans are abandoned, and pieces given up, one by one.
-use Rattle.std.proofs.Common.{◌++◌, sym, append-nil, append_assoc, ◌≡◌, ℕ, zero, suc, ◌+◌, ◌<◌, ◌≤◌, List, [], ◌∷◌, map, take, length, set, get_or, refl, ap, ◌∙◌}
+use Rattle.std.proofs.Common.{◌++◌, sym, append-nil, append_assoc, ◌≡◌, ℕ, zero, suc, ◌+◌, ◌<◌, ◌≤◌, List, [], ◌∷◌}
+use Rattle.std.proofs.Common.{map, take, length, set, get_or, refl, ap, ◌∙◌}
 use Rattle.std.proofs.Common.{arith, length-append}
 use Rattle.tcp_reorder.specs.declared.places.Span.{Span}
 use Rattle.tcp_reorder.specs.Queue.{Queue}
@@ -95,7 +96,8 @@ pub record AbandonsSome (old new : AppView) (all left : (LentPiece → ℕ) → 
   pub behind : (more : List LentPiece) × (new.returned ≡ old.returned ++ more)
 
 pub abandons-none : (v : AppView) → LieApart v → (all : (LentPiece → ℕ) → ℕ) → AbandonsSome v v all all
-abandons-none v lie all = record { only = tokens-none v lie; helds = refl; loans = λ f. refl; returned = refl; back = λ f. refl; behind = ([], sym (append-nil v.returned)) }
+abandons-none v lie all = record
+    { only = tokens-none v lie; helds = refl; loans = λ f. refl; returned = refl; back = λ f. refl; behind = ([], sym (append-nil v.returned)) }
 
 pub abandons-one : (u v : AppView) (all left : (LentPiece → ℕ) → ℕ) (taken : List TakenNote) (l : Lending) → IsIn (lent_piece taken l) v.loans
     → AbandonsSome u v all (λ f. f (lent_piece taken l) + left f) → AbandonsSome u (abandoned v l.loan) all left

@@ -1,5 +1,6 @@
 -- From one moment to a later one.
-use Rattle.std.proofs.Common.{◌≡◌, ◌≢◌, ℕ, ◌*◌, ◌<◌, ◌≤◌, ◌+◌, true, false, ⊎_elim, Option, Some, None, List, [], ◌∷◌, ◌++◌, length, refl, sym, ap, subst}
+use Rattle.std.proofs.Common.{◌≡◌, ◌≢◌, ℕ, ◌*◌, ◌<◌, ◌≤◌, ◌+◌, true, false, ⊎_elim, Option, Some, None, List, []}
+use Rattle.std.proofs.Common.{◌∷◌, ◌++◌, length, refl, sym, ap, subst}
 use Rattle.std.proofs.Common.{◌∙◌, arith, append-nil, append_assoc}
 use Rattle.std.specs.Prelude.{◌==◌, if◌then◌else◌}
 use Rattle.area_layout.specs.Layout.{pool_buffers, judged}
@@ -84,7 +85,8 @@ entries-same old new written returned few = subst (λ ws. total (λ (w : Written
     (omega (arith, few, ap length returned))
 
 pub names-same : (stray : Stray) (old new : AppView) → new.setting ≡ old.setting
-    → (0 < stray.left → judged old.setting.layout stray.entry ≡ Some stray.buffer) → 0 < stray.left → judged new.setting.layout stray.entry ≡ Some stray.buffer
+    → (0 < stray.left → judged old.setting.layout stray.entry ≡ Some stray.buffer) → 0 < stray.left
+        → judged new.setting.layout stray.entry ≡ Some stray.buffer
 names-same stray old new setting names some = subst (λ (s : Setting). judged s.layout stray.entry ≡ Some stray.buffer) (sym setting) (names some)
 
 pub most-same : (most : ℕ) (old new : AppView) → new.returned ≡ old.returned → most * length new.returned ≡ most * length old.returned

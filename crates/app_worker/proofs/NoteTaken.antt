@@ -1,5 +1,6 @@
 -- A note is taken: by each way that it goes.
-use Rattle.std.proofs.Common.{◌≡◌, ℕ, ◌+◌, ◌<◌, ◌≤◌, true, false, List, [], ◌∷◌, ◌++◌, Some, length, set, get_or, refl, sym, ap, subst}
+use Rattle.std.proofs.Common.{◌≡◌, ℕ, ◌+◌, ◌<◌, ◌≤◌, true, false, List, [], ◌∷◌, ◌++◌, Some, length, set, get_or}
+use Rattle.std.proofs.Common.{refl, sym, ap, subst}
 use Rattle.std.proofs.Common.{◌∙◌, arith, inl, inr, take}
 use Rattle.zr_kinds.specs.declared.place.Place.{Place}
 use Rattle.zr_kinds.specs.declared.place.Note.{Note}
@@ -14,7 +15,8 @@ use Rattle.board_face.specs.declared.views.app.AppView.{AppView}
 use Rattle.app_worker.specs.declared.stack.Waiting.{Waiting}
 use Rattle.app_worker.specs.declared.stack.FlowQueue.{FlowQueue}
 use Rattle.app_worker.specs.Marks.{Mark}
-use Rattle.app_worker.specs.Core.{total, Each, LieApart, Stands, FlowStands, many, over_kept, short_bytes, held_piece, IsOfNote, marks_of_waiting, received_note, own_notes}
+use Rattle.app_worker.specs.Core.{total, Each, LieApart, Stands, FlowStands, many, over_kept, short_bytes, held_piece, IsOfNote, marks_of_waiting}
+use Rattle.app_worker.specs.Core.{received_note, own_notes}
 use Rattle.app_worker.proofs.Moving.{aside-same}
 use Rattle.app_worker.specs.State.{State, read_of, TellsOf, LiesOutside, IsAtRest, RestBut, IsIndex, Working, Common, FlowEnds, held_len, unsplit_len, lent_len}
 use Rattle.board_face.specs.declared.views.app.HeldPiece.{HeldPiece}
@@ -30,7 +32,8 @@ use Rattle.app_worker.proofs.Standing2.{taken-last}
 use Rattle.app_worker.proofs.Oldest.{ends-of}
 use Rattle.app_worker.proofs.Indexing.{index-set}
 use Rattle.app_worker.proofs.Resting.{rest-all, rest-set, rest-push}
-use Rattle.app_worker.proofs.Noting.{Chosen, is-chosen, TookView, TookBytes, with_note, bytes-noted, grow-noted, total-noted, many-noted, common-noted, steps-noted, moves-noted, ends-kept}
+use Rattle.app_worker.proofs.Noting.{Chosen, is-chosen, TookView, TookBytes, with_note, bytes-noted, grow-noted, total-noted, many-noted}
+use Rattle.app_worker.proofs.Noting.{common-noted, steps-noted, moves-noted, ends-kept}
 use Rattle.app_worker.proofs.Noting.{shelves-kept, ends-noted, shelves-noted}
 
 -- what was appended of each flow has its place
@@ -40,7 +43,8 @@ all-end st v works = each-map (FlowStands v.taken (st.unread ++ st.posted.entrie
 
 -- it can be given up as it is
 pub torn-of : (st : State) (v : AppView) → Working st v → Torn st v
-torn-of st v works = record { tokens = works.stands.tokens; flows = all-end st v works; distinct = works.stands.distinct; index = works.index; given = works.given }
+torn-of st v works = record
+    { tokens = works.stands.tokens; flows = all-end st v works; distinct = works.stands.distinct; index = works.index; given = works.given }
 
 -- ---- a note
 
@@ -205,7 +209,8 @@ module _ (was : State) (old new : AppView) (linear : List ℕ) (note : Note) (to
 
     pub short-torn : (notes : ℕ) → IsIndex index flows
         → TookNone was (with_note was notes (set flows i (record own { queue = q })) index i) old new
-    short-torn notes is_index = torn-taken was old new short_note works common short-view short-apart flows i own q chosen within value base short-moved short-few
+    short-torn notes is_index = torn-taken was old new short_note works common short-view short-apart flows i own q chosen within value base short-moved
+        short-few
         short-short index notes is_index
 
     pub short-entered : (notes : ℕ) → IsIndex index flows → notes ≡ was.notes + 1 → Each IsAtRest was.flows → was.ended ≡ false

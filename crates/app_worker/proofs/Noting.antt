@@ -16,7 +16,7 @@ use Rattle.board_face.specs.declared.views.app.AppView.{AppView}
 use Rattle.app_worker.specs.declared.stack.Waiting.{Waiting}
 use Rattle.app_worker.specs.declared.stack.FlowQueue.{FlowQueue}
 use Rattle.app_worker.specs.Marks.{Mark, Numbered}
-use Rattle.app_worker.specs.Core.{total, Each, many, short_bytes, own_notes, BeginAt, placed_of, received_note, received_notes, AreReadAt}
+use Rattle.app_worker.specs.Core.{total, is_copy, Each, many, short_bytes, own_notes, BeginAt, placed_of, received_note, received_notes, AreReadAt}
 use Rattle.app_worker.specs.State.{State, Common, FlowEnds, capped, held_len, taken_len, unsplit_len, bytes_if, bytes_of, due_one, app_steps, one_if}
 use Rattle.app_worker.specs.Shelves.{IsShelved, AreShelved, ReadsFront, IsFrontShelved, AreFronts}
 use Rattle.app_worker.specs.Moves.{Moves}
@@ -150,7 +150,8 @@ is-chosen was flows note i own (inr new) within value =
     begun new.0 own_is (λ x. ap (λ (fs : List FlowQueue). set fs i x) new.1 ∙ ap (λ k. set (was ++ fresh_flow note ∷ []) k x) new.2
     ∙ set-last was (fresh_flow note) x)
 
-module _ (was : List FlowQueue) (note : Note) (own : FlowQueue) (put : FlowQueue → List FlowQueue) (q : Queue Waiting) (base : q.base ≡ own.queue.base) where
+module _ (was : List FlowQueue) (note : Note) (own : FlowQueue) (put : FlowQueue → List FlowQueue) (q : Queue Waiting)
+    (base : q.base ≡ own.queue.base) where
   pub each-noted : (P Q : FlowQueue → Type 0) → Chosen was note own put → Each P was
       → ((f : FlowQueue) (r : Queue Waiting) → r.base ≡ f.queue.base → P f → Q (record f { queue = r }))
       → (many note.flow was ≡ 0 → (r : Queue Waiting) → r.base ≡ note.base → Q (record (fresh_flow note) { queue = r }))
@@ -262,6 +263,13 @@ module _ (was : State) (old new : AppView) (t : TakenNote) (took : TookView old 
         counted = λ here. scrubbed ∙ common.counted (sym left ∙ here);
         owns = ap (λ (v : AppView). v.owns) took.view ∙ common.owns;
         copied = common.copied ∙ ap capped (sym (ap (λ (v : AppView). v.spares) took.view));
+        copies = omega (
+          arith,
+          ap (λ (v : AppView). v.spares) took.view,
+          ap (total is_copy) (ap (λ (v : AppView). v.loans) took.view),
+          ap (total is_copy) (ap (λ (v : AppView). v.returned) took.view),
+          common.copies,
+        );
         spares = omega (
           arith,
           ap (λ (v : AppView). v.spares) took.view,
@@ -282,7 +290,8 @@ module _ (was : State) (old new : AppView) (t : TakenNote) (took : TookView old 
         quits = common.quits;
         leaks = common.leaks;
         leak_room = common.leak_room;
-        leak_aside = leaked-aside was.leaked.items old new (ap (λ (v : AppView). v.setting) took.view) (ap (λ (v : AppView). v.app) took.view) common.leak_aside;
+        leak_aside = leaked-aside was.leaked.items old new (ap (λ (v : AppView). v.setting) took.view)
+            (ap (λ (v : AppView). v.app) took.view) common.leak_aside;
         strays = strays-same was.how.stray was.stray.left old new (ap (λ (v : AppView). v.written) took.view) common.strays;
         entries = entries-same old new (ap (λ (v : AppView). v.written) took.view) (ap (λ (v : AppView). v.returned) took.view) common.entries;
         names = names-same was.stray old new (ap (λ (v : AppView). v.setting) took.view) common.names;
@@ -375,7 +384,8 @@ module _ (was : List FlowQueue) (old new : AppView) (t : TakenNote) (took : Took
     }
 
 -- a shelf that failed has what it had
-pub fronts-kept : (was : List FlowQueue) (old new : AppView) (t : TakenNote) → TookView old new t → Each (FlowEnds old.taken) was → (first kept : ℕ → Option (List ℕ))
+pub fronts-kept : (was : List FlowQueue) (old new : AppView) (t : TakenNote) → TookView old new t → Each (FlowEnds old.taken) was
+    → (first kept : ℕ → Option (List ℕ))
     → AreFronts first kept was old → AreFronts first kept was new
 fronts-kept was old new t took ends first kept shelved =
     let reads : new.reads ≡ old.reads = ap (λ (v : AppView). v.reads) took.view in

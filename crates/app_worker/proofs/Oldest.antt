@@ -1,5 +1,6 @@
 -- The oldest loan is read: all that is kept then.
-use Rattle.std.proofs.Common.{◌≡◌, ◌≢◌, ℕ, ◌+◌, ◌-◌, ◌^◌, ◌<◌, ◌≤◌, min, Bool, true, false, List, [], ◌∷◌, ◌++◌, Option, Some, None}
+use Rattle.std.proofs.Common.{◌≡◌, ◌≢◌, ℕ, ◌+◌, ◌-◌, ◌^◌, ◌<◌, ◌≤◌, min, Bool, true, false, List, [], ◌∷◌}
+use Rattle.std.proofs.Common.{◌++◌, Option, Some, None}
 use Rattle.std.proofs.Common.{IsSome, length, drop, set, get_or, refl, sym, ap, subst, ◌∙◌, arith, ◌⊎◌, ⊎_elim, append-nil, length-append}
 use Rattle.std.specs.Prelude.{slice_get, ◌==◌, if◌then◌else◌}
 use Rattle.std.specs.Io.KnownBytes.{Keeps}
@@ -14,7 +15,8 @@ use Rattle.board_face.specs.declared.views.app.TakenNote.{TakenNote}
 use Rattle.board_face.specs.declared.views.app.AppView.{AppView}
 use Rattle.app_worker.specs.declared.stack.Lending.{Lending}
 use Rattle.app_worker.specs.declared.stack.FlowQueue.{FlowQueue}
-use Rattle.app_worker.specs.Core.{total, Each, Stands, FlowStands, HasTokens, OnlyReads, IsReadOf, AreReadAt, placed_of, marks_of_loan, many, short_bytes}
+use Rattle.app_worker.specs.Core.{total, is_copy, Each, Stands, FlowStands, HasTokens, OnlyReads, IsReadOf, AreReadAt, placed_of, marks_of_loan, many}
+use Rattle.app_worker.specs.Core.{short_bytes}
 use Rattle.app_worker.specs.Core.{read_out}
 use Rattle.zr_kinds.specs.declared.behaviour.Stopped.{Stopped}
 use Rattle.zr_kinds.specs.declared.behaviour.Stopped.TheVariants as stop
@@ -85,7 +87,8 @@ front-own first kept now taken old new own l bytes most ps only more part there 
           let k : ℕ = length ys in
           let r : ℕ = l.loan.len - k in
           let len : l.loan.len ≡ k + r = omega (arith, is.at_most, part) in
-          let grow : AreReadAt taken new.reads (values_from at own.bytes 0) xs = subst (λ rs. AreReadAt taken rs (values_from at own.bytes 0) xs) (sym only.are)
+          let grow : AreReadAt taken new.reads (values_from at own.bytes 0) xs = subst (λ rs. AreReadAt taken rs (values_from at own.bytes 0) xs)
+              (sym only.are)
           (all-grow taken old.reads only.more (values_from at own.bytes 0) xs was) in
           let split_marks : marks_of_loan l ≡ marks_from l.note l.at k ++ marks_from l.note (l.at + k) r = ap (marks_from l.note l.at) len
           ∙ marks-split l.note l.at k r in
@@ -126,10 +129,12 @@ with_read was i own bytes unread l written flush = record was {
 }
 
 module _ (was : State) (i : ℕ) (own : FlowQueue) (p : Completion × Lending) (ps : List (Completion × Lending)) (old new : AppView)
-    (unread : was.unread ≡ p ∷ ps) (due : was.due ≡ None) (pushed : was.stray.left ≡ 0) (within : i < length was.flows) (value : own ≡ get_or was.flows i own)
+    (unread : was.unread ≡ p ∷ ps) (due : was.due ≡ None) (pushed : was.stray.left ≡ 0) (within : i < length was.flows)
+        (value : own ≡ get_or was.flows i own)
     (number : p.0.user_data ≡ own.number) (only : OnlyReads old new) (works : Working was old) (common : Common was old)
     (reaped : was.posted.entries ≡ []) (flush : Bool) (flush_on : flush ≡ true → (was.flush ≡ true) × (ps ≢ []))
-    (flush_off : flush ≡ false → (was.flush ≡ false) ⊎ (ps ≡ [])) (more_kept : was.ended ≡ false → was.flush ≡ false → was.how.hold < length was.unread) where
+    (flush_off : flush ≡ false → (was.flush ≡ false) ⊎ (ps ≡ []))
+        (more_kept : was.ended ≡ false → was.flush ≡ false → was.how.hold < length was.unread) where
   at : At was.flows i own
   at = split-at was.flows i own within value
 
@@ -173,6 +178,13 @@ module _ (was : State) (i : ℕ) (own : FlowQueue) (p : Completion × Lending) (
         counted = λ here. scrubbed ∙ common.counted (sym left ∙ here);
         owns = ap (λ (v : AppView). v.owns) only.view ∙ common.owns;
         copied = common.copied ∙ ap capped (sym (ap (λ (v : AppView). v.spares) only.view));
+        copies = omega (
+          arith,
+          ap (λ (v : AppView). v.spares) only.view,
+          ap (total is_copy) (ap (λ (v : AppView). v.loans) only.view),
+          ap (total is_copy) (ap (λ (v : AppView). v.returned) only.view),
+          common.copies,
+        );
         spares = omega (arith, ap (λ (v : AppView). v.spares) only.view, shorts, ap (total unsplit_len) same_taken, common.spares);
         some_places = common.some_places;
         within = common.within;
@@ -288,14 +300,16 @@ module _ (was : State) (i : ℕ) (own : FlowQueue) (p : Completion × Lending) (
       → ReadOne was (with_read was i own bytes ps p.1 written flush) old new kept kept_now
   oldest-read bytes written kept kept_now is count quits gained others =
       let later : FlowQueue = record own { bytes = own.bytes + p.1.loan.len } in
-      let stands : Stands was.notes (at.before ++ later ∷ at.after) (ps ++ was.posted.entries) (p.1 ∷ was.leaked.items) new = stands-read was.notes at.before at.after own p
+      let stands : Stands was.notes (at.before ++ later ∷ at.after) (ps ++ was.posted.entries)
+          (p.1 ∷ was.leaked.items) new = stands-read was.notes at.before at.after own p
       (ps ++ was.posted.entries) was.leaked.items old new number only stood in
       let told : Each (TellsOf old.setting.layout) (p ∷ (ps ++ was.posted.entries)) = subst (Each (TellsOf old.setting.layout)) all works.completions in
       let added : Appended own old.taken new p.1.loan.len kept kept_now = appended old.taken p (ps ++ was.posted.entries) own p.1.loan.len new kept
       kept_now number (own-stands was.notes at.before at.after own (p ∷ (ps ++ was.posted.entries)) was.leaked.items old stood) (omega arith) gained others in
       rw is (record {
         working = record {
-          stands = subst (λ (fs : List FlowQueue). Stands was.notes fs (ps ++ was.posted.entries) (p.1 ∷ was.leaked.items) new) (sym (at.set_is later)) stands;
+          stands = subst (λ (fs : List FlowQueue). Stands was.notes fs (ps ++ was.posted.entries) (p.1 ∷ was.leaked.items) new)
+              (sym (at.set_is later)) stands;
           completions = subst (λ (s : Setting). Each (TellsOf s.layout) (ps ++ was.posted.entries)) (sym same_setting) told.1;
           rest = rest-same was.active i was.flows own later within (sym value) refl works.rest;
           index = index-set was.index was.flows i own later within value refl works.index;
@@ -304,7 +318,8 @@ module _ (was : State) (i : ℕ) (own : FlowQueue) (p : Completion × Lending) (
           outside = still-outside;
           flush = λ on none. (flush_on on).1 (rest_all none);
           live = works.live;
-          keeps_first = λ some. works.keeps_first (omega (arith, some, aside-same old new same_returned same_setting (ap (λ (v : AppView). v.app) only.view)));
+          keeps_first = λ some. works.keeps_first
+              (omega (arith, some, aside-same old new same_returned same_setting (ap (λ (v : AppView). v.app) only.view)));
           waits = λ some. absurd (omega (arith, some, pushed));
           given = gives-read;
           appended = omega (
@@ -319,7 +334,8 @@ module _ (was : State) (i : ℕ) (own : FlowQueue) (p : Completion × Lending) (
         goes = record {
           moves = moves-read (own.bytes + p.1.loan.len) written (omega arith);
           shelved = λ _ first shelved. subst (λ (fs : List FlowQueue). AreShelved first kept_now fs new) (sym (at.set_is later))
-              (shelved-reaped first kept kept_now was.notes at.before at.after own p (ps ++ was.posted.entries) p.1.loan.len was.leaked.items old new number only stood
+              (shelved-reaped first kept kept_now was.notes at.before at.after own p (ps ++ was.posted.entries) p.1.loan.len was.leaked.items old new number
+                  only stood
               (omega arith) added
               (subst (λ (fs : List FlowQueue). AreShelved first kept fs old) at.is shelved));
           failed = λ is. absurd (no-write was.stopped works.going is);
@@ -356,7 +372,8 @@ module _ (was : State) (i : ℕ) (own : FlowQueue) (p : Completion × Lending) (
       each-changed (λ f. FlowStands old.taken (p ∷ (ps ++ was.posted.entries)) f × IsShelved first kept old.taken old.reads f)
       (IsFrontShelved first kept_now old.taken new.reads) at.before at.after own later (stood.distinct own.number) both
       (λ f other e. front-other first kept kept_now old.taken (p ∷ (ps ++ was.posted.entries)) old new f only (others f.number other) e.0 e.1)
-      (front-own first kept kept_now old.taken old new own p.1 bytes most (ps ++ was.posted.entries) only more part own_stands.holds.popped next own_shelved gained) in
+      (front-own first kept kept_now old.taken old new own p.1 bytes most (ps ++ was.posted.entries) only more part own_stands.holds.popped next own_shelved
+          gained) in
       let exact : Each (λ f. f.number ≢ own.number → IsShelved first kept_now old.taken new.reads f) (at.before ++ later ∷ at.after) =
       each-changed (IsShelved first kept old.taken old.reads) (λ f. f.number ≢ own.number → IsShelved first kept_now old.taken new.reads f)
       at.before at.after own later (stood.distinct own.number) before
@@ -431,13 +448,15 @@ module _ (was : State) (i : ℕ) (own : FlowQueue) (p : Completion × Lending) (
           places = refl;
           steps = (moves-read (own.bytes + most) written (omega arith)).steps;
           looks = (moves-read (own.bytes + most) written (omega arith)).looks;
-          keeps = λ n r before live. (let k = (moves-read (own.bytes + most) written (omega arith)).keeps n r before live in record { lent = k.lent; kept = k.kept });
+          keeps = λ n r before live.
+              (let k = (moves-read (own.bytes + most) written (omega arith)).keeps n r before live in record { lent = k.lent; kept = k.kept });
           stays = λ other. absurd (other works.going);
           leaked = (moves-read (own.bytes + most) written (omega arith)).leaked;
           bytes = (moves-read (own.bytes + most) written (omega arith)).bytes;
         };
         shelved = λ first shelved. subst (λ (fs : List FlowQueue). AreShelved first kept_now fs new) (sym (at.set_is later))
-            (shelved-reaped first kept kept_now was.notes at.before at.after own p (ps ++ was.posted.entries) most was.leaked.items old new number only stood part
+            (shelved-reaped first kept kept_now was.notes at.before at.after own p (ps ++ was.posted.entries) most was.leaked.items old new number only stood
+                part
             added (subst (λ (fs : List FlowQueue). AreShelved first kept fs old) at.is shelved));
         stopped = refl;
         same = refl;

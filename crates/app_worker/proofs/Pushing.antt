@@ -1,5 +1,6 @@
 -- The entries that follow a loan are written.
-use Rattle.std.proofs.Common.{◌≡◌, ◌≢◌, ℕ, zero, suc, ◌+◌, ◌-◌, ◌*◌, ◌<◌, ◌≤◌, Bool, false, List, [], ◌∷◌, ◌++◌, Option, Some, None}
+use Rattle.std.proofs.Common.{◌≡◌, ◌≢◌, ℕ, zero, suc, ◌+◌, ◌-◌, ◌*◌, ◌<◌, ◌≤◌, Bool, false, List, [], ◌∷◌}
+use Rattle.std.proofs.Common.{◌++◌, Option, Some, None}
 use Rattle.std.proofs.Common.{length, refl, sym, ap, subst, ◌∙◌, arith, ◌⊎◌, inl, inr, append-nil, append_assoc}
 use Rattle.std.specs.Prelude.{if◌then◌else◌}
 use Rattle.std.proofs.Math.Nat.{mul-le-mul_left}
@@ -50,7 +51,8 @@ pushed-one u v was now some left =
       count = suc some.count;
       written = ap (λ ws. ws ++ one now.entry ∷ []) some.written
           ∙ append_assoc u.written (raw_copies some.count was.entry) (one now.entry ∷ [])
-          ∙ ap (λ e. u.written ++ (raw_copies some.count was.entry ++ one e ∷ [])) entry ∙ ap (λ ws. u.written ++ ws) (copies-push some.count was.entry);
+          ∙ ap (λ e. u.written ++ (raw_copies some.count was.entry ++ one e ∷ [])) entry
+              ∙ ap (λ ws. u.written ++ ws) (copies-push some.count was.entry);
       same = ap (λ (s : Stray). record s { left = now.left - 1 }) some.same;
       fits = omega (arith, some.fits, left);
       looks = looks-trans u v (pushed_raw v now.entry) some.looks (looks-same v (pushed_raw v now.entry) refl);
@@ -122,7 +124,8 @@ module _ (old : AppView) (settled quiet : Bool) (written : List WrittenEntry) (l
     counted = stands.counted;
   }
 
-  working-view : (was : State) (now : Stray) → (0 < now.left → was.due ≡ None) → Gives seen old.returned → Working was old → Working (with_stray was now) seen
+  working-view : (was : State) (now : Stray) → (0 < now.left → was.due ≡ None) → Gives seen old.returned → Working was old
+      → Working (with_stray was now) seen
   working-view was now waits given works = record {
     stands = stands-view was.notes was.flows (was.unread ++ was.posted.entries) (read_of was) works.stands;
     completions = works.completions;
@@ -148,6 +151,7 @@ module _ (old : AppView) (settled quiet : Bool) (written : List WrittenEntry) (l
     counted = common.counted;
     owns = common.owns;
     copied = common.copied;
+    copies = common.copies;
     spares = common.spares;
     some_places = common.some_places;
     within = common.within;
@@ -252,7 +256,8 @@ back-did was now old new gave.Did part in_use some gives = gives
 back-did was now old new gave.Part part in_use some gives = absurd (part refl)
 back-did was now old new gave.InUse part in_use some gives = absurd (in_use refl)
 
-pub gave-then : (a b c : State) (u v w : AppView) → GaveOne a b u v → a.due ≢ None → Moves b c v w → c ≡ with_stray b c.stray → w.taken ≡ v.taken
+pub gave-then : (a b c : State) (u v w : AppView) → GaveOne a b u v → a.due ≢ None → Moves b c v w → c ≡ with_stray b c.stray
+    → w.taken ≡ v.taken
     → w.left ≡ v.left → GaveBack a c u w × (c.due ≡ None)
 gave-then a b c u v w one some moves same taken left =
     let chain : c ≡ record a { due = None; leaked = b.leaked; stray = c.stray } = same ∙ ap (λ (s : State). record s { stray = c.stray }) one.same in (

@@ -1,5 +1,6 @@
 -- What is read through a loan stands at its marks.
-use Rattle.std.proofs.Common.{◌≡◌, ℕ, zero, suc, ◌+◌, ◌-◌, ◌<◌, ◌≤◌, Bool, true, false, List, [], ◌∷◌, ◌++◌, Option, Some, length, take, drop, refl}
+use Rattle.std.proofs.Common.{◌≡◌, ℕ, zero, suc, ◌+◌, ◌-◌, ◌<◌, ◌≤◌, Bool, true, false, List, [], ◌∷◌, ◌++◌}
+use Rattle.std.proofs.Common.{Option, Some, length, take, drop, refl}
 use Rattle.std.proofs.Common.{sym, ap, subst, ◌∙◌, arith, ⊎_elim, inl, append_assoc, append-nil, length-append, length-take-le, take_all}
 use Rattle.std.proofs.lemmas.Bool.{cases_lt, cases_Bool}
 use Rattle.std.specs.Prelude.{MatchBool, slice_get}
@@ -116,7 +117,8 @@ module _ (taken : List TakenNote) (note : ℕ) (t : TakenNote) (is_note : slice_
           stands = subst (λ b1. MatchBool b1 (IsReadAt reads mark b) (value_at t.bytes mark.place ≡ Some b)) (sym split) read;
         },
         subst (λ p. AreReadAt taken reads (marks_from note p (length bs)) bs) longer
-            (text-read split reads at (before ++ b ∷ []) bs (subst (λ (ys : List ℕ). IsIn (record { origin = of_note note at; bytes = ys }) reads) next is)),
+            (text-read split reads at (before ++ b ∷ []) bs
+                (subst (λ (ys : List ℕ). IsIn (record { origin = of_note note at; bytes = ys }) reads) next is)),
       )
 
   with-reads : t.note.split ≡ true → (reads : List Reading) (at : ℕ) (text : List ℕ)
@@ -231,7 +233,8 @@ pub record IsReadTo (taken : List TakenNote) (reads : List Reading) (l : Lending
 pub one-more : (taken : List TakenNote) (a b c : Option (List ℕ)) (v : AppView) (lie : LieApart v) (l : Lending) (done : ℕ) (text piece : List ℕ)
     → IsIn (lent_piece taken l) v.loans → l.note < length taken → ShowsCopy (loan_origin v l.loan) done text → done + length text ≤ l.loan.len
     → piece ≡ text
-    → Gained a b (IsReadTo taken v.reads l done) → Appends b c piece → Gained a c (IsReadTo taken (has_read v l.loan done text).reads l (done + length text))
+    → Gained a b (IsReadTo taken v.reads l done) → Appends b c piece
+        → Gained a c (IsReadTo taken (has_read v l.loan done text).reads l (done + length text))
 one-more taken a b c v lie l done text piece out known shows fits same before added =
     let w : AppView = has_read v l.loan done text in
     let only = only-read v l done text in
@@ -239,7 +242,8 @@ one-more taken a b c v lie l done text piece out known shows fits same before ad
     (λ xs ys was is.
     let grow : AreReadAt taken w.reads (marks_from l.note l.at done) xs = subst (λ rs. AreReadAt taken rs (marks_from l.note l.at done) xs) (sym only.are)
     (all-grow taken v.reads only.more (marks_from l.note l.at done) xs was.are) in
-    let more : AreReadAt taken w.reads (marks_from l.note (l.at + done) (length text)) ys = subst (AreReadAt taken w.reads (marks_from l.note (l.at + done) (length text)))
+    let more : AreReadAt taken w.reads (marks_from l.note (l.at + done) (length text)) ys = subst
+        (AreReadAt taken w.reads (marks_from l.note (l.at + done) (length text)))
     (sym is) (read-there taken v lie l done text out known shows fits) in
     let both = read-append taken w.reads (marks_from l.note l.at done) (marks_from l.note (l.at + done) (length text)) xs ys grow more in
     record {
@@ -252,7 +256,8 @@ one-more taken a b c v lie l done text piece out known shows fits same before ad
 pub some-more : (taken : List TakenNote) (a b c : Option (List ℕ)) (v : AppView) (lie : LieApart v) (l : Lending) (done most n : ℕ)
     (text piece : List ℕ) → IsIn (lent_piece taken l) v.loans → l.note < length taken → ShowsCopy (loan_origin v l.loan) done text
     → most ≤ l.loan.len → done + length text ≤ most → length text ≤ most_at_once → piece ≡ text
-    → Gained a b (IsReadTo taken v.reads l done) → Appends b c (take n piece) → Gained a c (IsReadOf taken (has_read v l.loan done text).reads l done most)
+    → Gained a b (IsReadTo taken v.reads l done) → Appends b c (take n piece)
+        → Gained a c (IsReadOf taken (has_read v l.loan done text).reads l done most)
 some-more taken a b c v lie l done most n text piece out known shows part fits once same before added =
     let w : AppView = has_read v l.loan done text in
     let only = only-read v l done text in
@@ -264,7 +269,8 @@ some-more taken a b c v lie l done most n text piece out known shows part fits o
     (λ (all : length text ≤ n). let e : take n text ≡ text = take_all n text all in let f : length ys ≡ length text = ap length is
     ∙ ap length e in omega arith)
     (cases_lt n (length text)) in
-    let there : AreReadAt taken w.reads (marks_from l.note (l.at + done) (length text)) text = read-there taken v lie l done text out known shows (omega (arith, fits, part)) in
+    let there : AreReadAt taken w.reads (marks_from l.note (l.at + done) (length text)) text = read-there taken v lie l done text out known shows
+        (omega (arith, fits, part)) in
     let front : AreReadAt taken w.reads (marks_from l.note (l.at + done) (length ys)) ys =
     subst (λ zs. AreReadAt taken w.reads (marks_from l.note (l.at + done) (length zs)) zs) (sym is) (front-read w.reads l.note (l.at + done) n text there) in
     let grow : AreReadAt taken w.reads (marks_from l.note l.at done) xs = subst (λ rs. AreReadAt taken rs (marks_from l.note l.at done) xs) (sym only.are)
@@ -286,7 +292,8 @@ some-more taken a b c v lie l done most n text piece out known shows part fits o
     front-read reads note at (suc n) [] are = tt
     front-read reads note at (suc n) (b ∷ bs) are = (are.0, front-read reads note (suc at) n bs are.1)
 
-pub read-of : (taken : List TakenNote) (reads : List Reading) (l : Lending) (done most : ℕ) (bytes : List ℕ) → done ≤ most → IsReadTo taken reads l done bytes
+pub read-of : (taken : List TakenNote) (reads : List Reading) (l : Lending) (done most : ℕ) (bytes : List ℕ) → done ≤ most
+    → IsReadTo taken reads l done bytes
     → IsReadOf taken reads l done most bytes
 read-of taken reads l done most bytes within to = record {
   are = subst (λ k. AreReadAt taken reads (marks_from l.note l.at k) bytes) (sym to.size) to.are;

@@ -1,5 +1,6 @@
 -- What the shelf has since the first step.
-use Rattle.std.proofs.Common.{◌≤◌, ◌≡◌, ℕ, ◌+◌, ◌<◌, List, ◌∷◌, ◌++◌, Option, Some, None, IsSome, refl, sym, ap, subst, ◌∙◌}
+use Rattle.std.proofs.Common.{◌≤◌, ◌≡◌, ℕ, ◌+◌, ◌<◌, List, ◌∷◌, ◌++◌, Option, Some, None, IsSome, refl, sym, ap}
+use Rattle.std.proofs.Common.{subst, ◌∙◌}
 use Rattle.std.proofs.Common.{arith}
 use Rattle.std.specs.Io.KnownBytes.{Keeps}
 use Rattle.std.proofs.KnownBytes.{Keeps-trans}
@@ -31,7 +32,8 @@ gained-kept (Some xs) (Some ys) (Some zs) P (bytes, e, p) kept = (bytes, kept �
 pub shelved-other : (first kept now : ℕ → Option (List ℕ)) (taken : List TakenNote) (old new : AppView) (f : FlowQueue) → OnlyReads old new
     → Keeps (kept f.number) (now f.number) → IsShelved first kept taken old.reads f → IsShelved first now taken new.reads f
 shelved-other first kept now taken old new f only keeps shelved = record {
-  gained = gained-kept (first f.number) (kept f.number) (now f.number) (λ bytes. AreReadAt taken new.reads (values_from (placed_of f taken).at f.bytes 0) bytes)
+  gained = gained-kept (first f.number) (kept f.number) (now f.number)
+      (λ bytes. AreReadAt taken new.reads (values_from (placed_of f taken).at f.bytes 0) bytes)
       (Gained-weaker (first f.number) (kept f.number) (λ bytes. AreReadAt taken old.reads (values_from (placed_of f taken).at f.bytes 0) bytes)
       (λ bytes. AreReadAt taken new.reads (values_from (placed_of f taken).at f.bytes 0) bytes)
       (λ bytes are. subst (λ rs. AreReadAt taken rs (values_from (placed_of f taken).at f.bytes 0) bytes) (sym only.are)
@@ -49,9 +51,11 @@ shelved-appended first kept now taken old new own len only there appended shelve
     values-split at own.bytes len 0 (λ q from until. there q (omega arith)) ∙ ap (λ p. values_from at own.bytes 0 ++ values_from at len p) start in
     record {
       gained = Gained-then (first own.number) (kept own.number) (now own.number) (λ bytes. AreReadAt taken old.reads (values_from at own.bytes 0) bytes)
-          (λ bytes. AreReadAt taken new.reads (values_from at len own.bytes) bytes) (λ bytes. AreReadAt taken new.reads (values_from at (own.bytes + len) 0) bytes)
+          (λ bytes. AreReadAt taken new.reads (values_from at len own.bytes) bytes)
+              (λ bytes. AreReadAt taken new.reads (values_from at (own.bytes + len) 0) bytes)
           (λ xs ys was is.
-          let grow : AreReadAt taken new.reads (values_from at own.bytes 0) xs = subst (λ rs. AreReadAt taken rs (values_from at own.bytes 0) xs) (sym only.are)
+          let grow : AreReadAt taken new.reads (values_from at own.bytes 0) xs = subst (λ rs. AreReadAt taken rs (values_from at own.bytes 0) xs)
+              (sym only.are)
           (all-grow taken old.reads only.more (values_from at own.bytes 0) xs was) in
           subst (λ ms. AreReadAt taken new.reads ms (xs ++ ys)) (sym all)
           (read-append taken new.reads (values_from at own.bytes 0) (values_from at len own.bytes) xs ys grow is))

@@ -20,7 +20,8 @@ use Rattle.app_worker.specs.declared.stack.Waiting.{Waiting}
 use Rattle.app_worker.specs.declared.stack.Lending.{Lending}
 use Rattle.app_worker.specs.declared.stack.FlowQueue.{FlowQueue}
 use Rattle.app_worker.specs.Marks.{Mark}
-use Rattle.app_worker.specs.Core.{total, IsIn, lent_piece, over_kept, marks_of_waiting, marks_of_loan, received_notes, own_notes, BeginAt, lent_marks, placed_of, IsOfNote}
+use Rattle.app_worker.specs.Core.{total, IsIn, lent_piece, over_kept, marks_of_waiting, marks_of_loan, received_notes, own_notes, BeginAt, lent_marks}
+use Rattle.app_worker.specs.Core.{placed_of, IsOfNote}
 use Rattle.app_worker.specs.Core.{FlowStands, Each, many, over_read, Stands}
 use Rattle.board_face.specs.AppEvents.{app_saw}
 use Rattle.board_face.specs.declared.views.app.AppLook.{AppLook}

@@ -24,7 +24,8 @@ use Rattle.app_worker.specs.declared.stack.Lending.{Lending}
 use Rattle.app_worker.specs.declared.stack.FlowQueue.{FlowQueue}
 use Rattle.app_worker.specs.Marks.{Mark}
 use Rattle.board_face.specs.declared.views.parts.Setting.{Setting}
-use Rattle.app_worker.specs.Core.{total, IsIn, LieApart, has_at, is_odd, held_piece, lent_piece, over_kept, over_read, IsOfNote, marks_of_waiting, received_note}
+use Rattle.app_worker.specs.Core.{total, IsIn, LieApart, has_at, is_odd, held_piece, lent_piece, over_kept, over_read, IsOfNote, marks_of_waiting}
+use Rattle.app_worker.specs.Core.{received_note}
 use Rattle.app_worker.specs.Core.{own_notes, FlowStands, Each}
 use Rattle.app_worker.specs.Core.{many, HasTokens, Stands}
 use Rattle.app_worker.specs.Steps.{whole_piece}
@@ -196,7 +197,8 @@ module _ (count : ℕ) (posted : List (Completion × Lending)) (due : List Lendi
       }
 
   -- in that of a flow that begins
-  pub took-begun : (flows : List FlowQueue) (q : Queue Waiting) → Stands count flows posted due old → many t.note.flow flows ≡ 0 → q.base ≡ t.note.base
+  pub took-begun : (flows : List FlowQueue) (q : Queue Waiting) → Stands count flows posted due old → many t.note.flow flows ≡ 0
+      → q.base ≡ t.note.base
       → q.popped ≡ 0
       → ((f : HeldPiece → ℕ) → total f new.helds ≡ total f old.helds + over_kept f q)
       → ((placed : Placed Mark) → Holds marks_of_waiting (fresh_flow t.note).queue placed
@@ -343,7 +345,8 @@ module _ (count : ℕ) (posted : List (Completion × Lending)) (due : List Lendi
 
 -- nothing of it is kept
 pub kept-tokens : (count : ℕ) (flows : List FlowQueue) (posted : List (Completion × Lending)) (due : List Lending) (old new : AppView) (t : TakenNote)
-    → new.taken ≡ old.taken ++ t ∷ [] → new.loans ≡ old.loans → LieApart new → ((f : HeldPiece → ℕ) → total f new.helds ≡ total f old.helds)
+    → new.taken ≡ old.taken ++ t ∷ [] → new.loans ≡ old.loans → LieApart new
+        → ((f : HeldPiece → ℕ) → total f new.helds ≡ total f old.helds)
     → Stands count flows posted due old → HasTokens flows posted due new
 kept-tokens count flows posted due old new t taken loans lie helds stands = record {
   apart = lie;

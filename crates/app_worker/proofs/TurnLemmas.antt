@@ -42,7 +42,8 @@ no-poll was now old new same live differs = absurd (differs same)
 pub no-rest : (was now : State) (old new : AppView) (k m : ℕ → Option (List ℕ)) → was.bare ≡ false → was.bare ≡ true → Rests was now old new k m
 no-rest was now old new k m live is = absurd (cc)
 
-pub no-look : (was now : State) (old new : AppView) (turn : Turn) → was.bare ≡ false → was.bare ≡ true → was.ended ≡ false → LooksForOne now old new turn
+pub no-look : (was now : State) (old new : AppView) (turn : Turn) → was.bare ≡ false → was.bare ≡ true → was.ended ≡ false
+    → LooksForOne now old new turn
 no-look was now old new turn live is more = absurd (cc)
 
 -- it did something and took no note
@@ -272,7 +273,8 @@ begins-through was mid old midv k l f f1 works here through steps later = record
 }
 
 -- what was due was given back
-pub begins-gave : (was mid : State) (old midv : AppView) (k : ℕ → Option (List ℕ)) (f : ℕ) → Working was old → old.left ≡ false → Working mid midv
+pub begins-gave : (was mid : State) (old midv : AppView) (k : ℕ → Option (List ℕ)) (f : ℕ) → Working was old → old.left ≡ false
+    → Working mid midv
     → Goes was mid old midv k k → GaveBack was mid old midv → Begins was mid old midv k k f f
 begins-gave was mid old midv k f works here then goes gave = record {
   live = works.live;
@@ -288,7 +290,8 @@ begins-gave was mid old midv k f works here then goes gave = record {
 }
 
 -- and a refill slot is in use before the end of it
-pub turns-gave : (was mid : State) (old midv : AppView) (k : ℕ → Option (List ℕ)) (f : ℕ) → Working was old → was.posted.entries ≡ [] → Working mid midv
+pub turns-gave : (was mid : State) (old midv : AppView) (k : ℕ → Option (List ℕ)) (f : ℕ) → Working was old → was.posted.entries ≡ []
+    → Working mid midv
     → Common mid midv → Goes was mid old midv k k → GaveBack was mid old midv → Turns was mid old midv k k f f Did
 turns-gave was mid old midv k f works reaped then common goes gave = record {
   stands = stands-working mid midv then common (ap (λ (s : State). s.posted.entries) gave.same ∙ reaped);

@@ -1,5 +1,6 @@
 -- The entries that were written, once more were.
-use Rattle.std.proofs.Common.{◌≡◌, ℕ, zero, suc, ◌+◌, ◌<◌, ◌≤◌, Bool, true, false, if◌then◌else◌, List, [], ◌∷◌, ◌++◌, map, take, length, refl, sym, ap, subst, ◌∙◌, arith, ⊎_elim}
+use Rattle.std.proofs.Common.{◌≡◌, ℕ, zero, suc, ◌+◌, ◌<◌, ◌≤◌, Bool, true, false, if◌then◌else◌, List, [], ◌∷◌}
+use Rattle.std.proofs.Common.{◌++◌, map, take, length, refl, sym, ap, subst, ◌∙◌, arith, ⊎_elim}
 use Rattle.std.proofs.Common.{append_assoc, append-nil, length-append}
 use Rattle.std.proofs.Math.Seq.{take-append_seam}
 use Rattle.std.proofs.lemmas.List.{map-append, length-map}
@@ -41,7 +42,8 @@ loans-size (w ∷ ws) = length-append (if w.of_loan then w.entry ∷ [] else [])
 abbrev pub entries_of : Shape → List LentPiece → List Rqe
 entries_of layout loans = map (λ l. entry_of layout l.place) loans
 
-pub gives-same : (old new : AppView) (loans : List LentPiece) → new.written ≡ old.written → new.setting ≡ old.setting → Gives old loans → Gives new loans
+pub gives-same : (old new : AppView) (loans : List LentPiece) → new.written ≡ old.written → new.setting ≡ old.setting → Gives old loans
+    → Gives new loans
 gives-same old new loans written setting gives = ap loans_of written ∙ gives ∙ ap (λ (s : Setting). entries_of s.layout loans) (sym setting)
 
 -- a loan was given back
@@ -64,7 +66,8 @@ pub gives-count : (v : AppView) (loans : List LentPiece) → Gives v loans → l
 gives-count v loans gives = sym (loans-size v.written) ∙ ap length gives ∙ length-map loans (λ (l : LentPiece). entry_of v.setting.layout l.place)
 
 -- the others were abandoned
-pub gives-gone : (old new : AppView) (more : List LentPiece) → new.written ≡ old.written → new.setting ≡ old.setting → new.returned ≡ old.returned ++ more
+pub gives-gone : (old new : AppView) (more : List LentPiece) → new.written ≡ old.written → new.setting ≡ old.setting
+    → new.returned ≡ old.returned ++ more
     → Gives old old.returned → Gives new (take (loan_entries new) new.returned)
 gives-gone old new more written setting returned gives =
     let same : Gives new old.returned = gives-same old new old.returned written setting gives in
@@ -94,7 +97,8 @@ drop-to most (suc left) rest ws e few blocks = ⊎_elim
 
 pub blocks-raw : (most left rest count : ℕ) (ws : List WrittenEntry) (e : Rqe) → count + rest ≤ left → AreBlocks most ws e left
     → AreBlocks most (ws ++ raw_copies count e) e rest
-blocks-raw most left rest zero ws e few blocks = subst (λ xs. AreBlocks most xs e rest) (sym (append-nil ws)) (drop-to most left rest ws e (omega (arith, few)) blocks)
+blocks-raw most left rest zero ws e few blocks = subst (λ xs. AreBlocks most xs e rest) (sym (append-nil ws))
+    (drop-to most left rest ws e (omega (arith, few)) blocks)
 blocks-raw most zero rest (suc count) ws e few blocks = absurd (omega (arith, few))
 blocks-raw most (suc left) rest (suc count) ws e few blocks = subst (λ xs. AreBlocks most xs e rest)
     (append_assoc ws (record { entry = e; of_loan = false } ∷ []) (raw_copies count e))

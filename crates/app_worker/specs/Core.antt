@@ -1,5 +1,6 @@
 -- What an application keeps between its turns, and how that stands to what its face has seen.
-use Rattle.std.specs.Prelude.{◌≡◌, ℕ, ◌+◌, ◌-◌, ◌≤◌, nat_lt, nat_le, ◌==◌, ◌&&◌, ◌||◌, ◌⊎◌, ◌<◌, Bool, false, if◌then◌else◌}
+use Rattle.std.specs.Prelude.{◌≡◌, ℕ, ◌+◌, ◌-◌, ◌≤◌, nat_lt, nat_le, ◌==◌, ◌&&◌, ◌||◌, ◌⊎◌, ◌<◌, Bool}
+use Rattle.std.specs.Prelude.{false, if◌then◌else◌}
 use Rattle.std.specs.Prelude.{List, [], ◌∷◌, ◌++◌, length, take, drop, slice_get, Option, Some, None, MatchBool, true}
 use Rattle.zr_kinds.specs.declared.place.Place.{Place}
 use Rattle.area_layout.specs.Layout.{Shape, size_of, total as buffers_of}
@@ -71,6 +72,14 @@ origin_in (Some t) note at len = if t.note.split then of_note note at else of_co
 
 abbrev pub lent_piece : List TakenNote → Lending → LentPiece
 lent_piece taken l = record { place = l.loan; origin = origin_in (slice_get taken l.note) l.note l.at l.loan.len }
+
+-- 1 where the loan is a copy
+abbrev pub one_copy : Origin → ℕ
+one_copy (of_note note at) = 0
+one_copy (of_copy bytes) = 1
+
+abbrev pub is_copy : LentPiece → ℕ
+is_copy l = one_copy l.origin
 
 -- over the pieces in the area that a queue keeps
 abbrev pub over_waiting : (HeldPiece → ℕ) → Waiting → ℕ

@@ -1,7 +1,8 @@
 -- What an application keeps between its turns, as plain data, and how that stands to what its face has seen.
 use mir.Syntax.{w32}
 use Rattle.std.specs.Int.{cast_signed}
-use Rattle.std.specs.Prelude.{◌≡◌, ◌≢◌, ◌↔◌, ℕ, zero, suc, ◌+◌, ◌-◌, ◌*◌, ◌^◌, ◌<◌, ◌≤◌, ◌==◌, min, Bool, true, false, if◌then◌else◌}
+use Rattle.std.specs.Prelude.{◌≡◌, ◌≢◌, ◌↔◌, ℕ, zero, suc, ◌+◌, ◌-◌, ◌*◌, ◌^◌, ◌<◌, ◌≤◌, ◌==◌, min}
+use Rattle.std.specs.Prelude.{Bool, true, false, if◌then◌else◌}
 use Rattle.std.specs.Prelude.{List, [], ◌∷◌, ◌++◌, length, take, Option, Some, None, MatchBool, MatchOption, IsSome, slice_index_or}
 use Rattle.std.specs.Map.{lookup}
 use Rattle.std.specs.Ordering.{is_eq, nat_cmp}
@@ -23,7 +24,7 @@ use Rattle.app_worker.specs.declared.stack.Lending.{Lending}
 use Rattle.app_worker.specs.declared.stack.Stray.{Stray}
 use Rattle.app_worker.specs.declared.stack.FlowQueue.{FlowQueue}
 use Rattle.app_worker.specs.Entries.{Gives, AreBlocks}
-use Rattle.app_worker.specs.Core.{total, is_odd, Each, many, read_out, own_notes, BeginAt, placed_of, short_bytes, Stands}
+use Rattle.app_worker.specs.Core.{total, is_odd, is_copy, Each, many, read_out, own_notes, BeginAt, placed_of, short_bytes, Stands}
 
 pub record State : Type 0 where
   pub app : ℕ
@@ -203,6 +204,8 @@ pub record Common (st : State) (v : AppView) : Type 0 where
   pub counted : v.left ≡ false → v.scrubbed ≡ false
   pub owns : v.owns ≡ []
   pub copied : st.copied ≡ capped v.spares
+  -- each was lent
+  pub copies : v.spares ≡ total is_copy v.loans + total is_copy v.returned
   -- each spare was for a byte that came in a note, and is for one that it doesn't keep any more
   pub spares : v.spares + total (λ f. short_bytes f.queue) st.flows ≤ total unsplit_len v.taken
   pub some_places : 1 ≤ st.posted.places

@@ -1,5 +1,6 @@
 -- What each step of the core does.
-use Rattle.std.specs.Prelude.{List, zero, suc, ◌≡◌, ◌≢◌, ℕ, ◌+◌, ◌-◌, ◌^◌, ◌<◌, ◌≤◌, min, Bool, true, false, ◌||◌, ◌==◌, [], ◌∷◌, ◌++◌, Option, Some, None, length}
+use Rattle.std.specs.Prelude.{List, zero, suc, ◌≡◌, ◌≢◌, ℕ, ◌+◌, ◌-◌, ◌^◌, ◌<◌, ◌≤◌, min, Bool, true, false}
+use Rattle.std.specs.Prelude.{◌||◌, ◌==◌, [], ◌∷◌, ◌++◌, Option, Some, None, length}
 use Rattle.zr_kinds.specs.declared.place.Place.{Place}
 use Rattle.board_face.specs.Texts.{front_place, rest_place}
 use Rattle.board_face.specs.declared.views.app.HeldPiece.{HeldPiece}
@@ -31,7 +32,7 @@ use Rattle.app_worker.specs.declared.reading.Pushed.{Pushed}
 use Rattle.app_worker.specs.declared.reading.Pushed.TheVariants.{Nothing, All, Part, InUse}
 use Rattle.app_worker.specs.declared.stack.Delivery.{Delivery}
 use Rattle.app_worker.specs.declared.stack.Delivery.TheVariants.{Did, NoneInOrder, Full, Unsettled, ReserveHeld}
-use Rattle.app_worker.specs.Core.{total, IsIn, LieApart, held_piece, lent_piece, over_waiting, short_len, marks_of_waiting, marks_of_loan}
+use Rattle.app_worker.specs.Core.{total, IsIn, LieApart, held_piece, lent_piece, is_copy, over_waiting, short_len, marks_of_waiting, marks_of_loan}
 use Rattle.app_worker.specs.State.{TellsOf, held_len}
 
 -- the first bytes of a piece, and the others
@@ -143,12 +144,14 @@ pub record Delivers (old new : AppView) (was now : FlowQueue) (posted then : Rin
   pub loans : (f : LentPiece → ℕ) → total f new.loans ≡ total f old.loans + f (lent_piece old.taken lending)
   -- a piece in the area takes no spare, and a short one takes one, which is counted
   pub spares : new.spares ≡ old.spares + spares_of piece
+  pub copy : is_copy (lent_piece old.taken lending) ≡ spares_of piece
   pub copies : copied_now ≡ with_copy piece copied
   -- a loan in the reserve is to be read with all that is kept unread
   pub flushes : flush_now ≡ flush || (lending.loan.buffer == reserve_of old)
 
 -- what a delivery did, by its answer
-abbrev pub Delivered : AppView → AppView → FlowQueue → FlowQueue → Ring (Completion × Lending) → Ring (Completion × Lending) → ℕ → ℕ → Bool → Bool
+abbrev pub Delivered : AppView → AppView → FlowQueue → FlowQueue → Ring (Completion × Lending) → Ring (Completion × Lending) → ℕ → ℕ
+    → Bool → Bool
     → Delivery → Type 0
 Delivered old new was now posted then copied copied_now flush flush_now Did = Delivers old new was now posted then copied copied_now flush flush_now
 Delivered old new was now posted then copied copied_now flush flush_now NoneInOrder = (new ≡ old) × (now ≡ was) × (then ≡ posted)

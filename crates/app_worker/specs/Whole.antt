@@ -31,7 +31,8 @@ use Rattle.app_worker.specs.Moves.{Moves, Goes}
 
 -- what was kept of a flow went on by the bytes that were read at its next marks
 pub record Appended (flow : FlowQueue) (taken : List TakenNote) (new : AppView) (len : ℕ) (kept kept_now : ℕ → Option (List ℕ)) : Type 0 where
-  pub gained : Gained (kept flow.number) (kept_now flow.number) (λ bytes. AreReadAt taken new.reads (values_from (placed_of flow taken).at len flow.bytes) bytes)
+  pub gained : Gained (kept flow.number) (kept_now flow.number)
+      (λ bytes. AreReadAt taken new.reads (values_from (placed_of flow taken).at len flow.bytes) bytes)
   pub others : (other : ℕ) → other ≢ flow.number → Keeps (kept other) (kept_now other)
 
 -- ---- the queue of a note's flow

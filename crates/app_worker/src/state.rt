@@ -174,6 +174,8 @@ pub fn app_turn<F: AppFace, T: Shelf>(
         → reserve_loans (F.seen face.new) ≡ reserve_loans (F.seen face.old)
         → reads_of st.old (F.seen face.old) < reads_of st.new (F.seen face.new) → st.new.how.hold ≤ length st.new.unread }
     // What it saw is so, on a board for one thread.
+    // At most as many loans were copies as were lent.
+    ensures copies { st.new.copied ≤ st.new.loans }
     // One that came to its end without being stopped has written at least as many bytes as loans.
     ensures counts { st.new.bare ≡ true → st.new.stopped ≡ No → st.new.loans ≤ st.new.written }
     ensures told { (why : Why) → result ≡ Idle why → F.tells (look_of why) (app_gist (F.seen face.new)) (F.beside face.new) }

@@ -6,7 +6,7 @@ use Rattle.app_worker.specs.Turns.{Answers}
 use Rattle.app_worker.specs.declared.turn.Turn.TheVariants.{Finished}
 use Rattle.app_worker.proofs.StreamLemmas.{stands-fronts, stands-failed, stands-all, stands-within}
 use Rattle.app_worker.proofs.TurnLemmas.{turns-keep}
-use Rattle.app_worker.proofs.Counts.{loans-few}
+use Rattle.app_worker.proofs.Counts.{copies-few, loans-few}
 use Rattle.app_worker.proofs.state.app_turn.Goals as goal
 
 pub returns-clause-fronts : goal.returns-clause-fronts
@@ -29,6 +29,9 @@ returns-clause-whole g c = λ first is going whole shelved.
 
 pub returns-clause-within : goal.returns-clause-within
 returns-clause-within g c = stands-within (state_of c.turn.new.st) (g.F.AppFace.seen c.turn.new.face) c.turn.ensures.turns.stands
+
+pub returns-clause-copies : goal.returns-clause-copies
+returns-clause-copies g c = copies-few (state_of c.turn.new.st) (g.F.AppFace.seen c.turn.new.face) c.turn.ensures.turns.stands
 
 pub returns-clause-counts : goal.returns-clause-counts
 returns-clause-counts g c = loans-few (state_of c.turn.new.st) (g.F.AppFace.seen c.turn.new.face) c.turn.ensures.turns.stands
