@@ -2,5 +2,7 @@
 #![tactic(auto)]
 
 mod scene;
+#[cfg(test)]
+mod tests;
 
 pub use scene::{Scene, play, turn_step};
