@@ -192,6 +192,7 @@ module _ (st : State) (old : AppView) (bare : Bare st old) (is_bare : st.bare â‰
         counted = common.counted;
         owns = common.owns;
         copied = common.copied;
+        origins = common.origins;
         copies = common.copies;
         spares = common.spares;
         some_places = common.some_places;

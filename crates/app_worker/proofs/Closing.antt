@@ -150,6 +150,7 @@ common-gone st v common = record {
   counted = λ here. absurd (cc);
   owns = common.owns;
   copied = common.copied;
+  origins = common.origins;
   copies = common.copies;
   spares = common.spares;
   some_places = common.some_places;

@@ -33,6 +33,7 @@ use Rattle.app_worker.proofs.Moving.{total-one, lies-not, aside-same, leaked-asi
 use Rattle.app_worker.proofs.Resting.{rest-set, rest-too}
 use Rattle.app_worker.proofs.Indexing.{index-set}
 use Rattle.app_worker.proofs.Accounts.{sound-same}
+use Rattle.app_worker.proofs.Origins.{origins-same}
 use Rattle.app_worker.specs.Entries.{Gives}
 use Rattle.app_worker.proofs.Written.{gives-same, blocks-same}
 use Rattle.app_worker.proofs.Seeing.{Left, left-none, left-saw, left-no-spare}
@@ -201,6 +202,7 @@ lent-bundle was own now then old new loans copied flush more count within value 
           ap (total unsplit_len) taken,
           common.spares,
         );
+        origins = origins-same old new returned taken common.origins;
         copies = omega (arith, step.spares, step.copy, step.loans is_copy, ap (total is_copy) returned, common.copies);
         some_places = omega (arith, places, common.some_places);
         within = omega (arith, longer, places, step.room);

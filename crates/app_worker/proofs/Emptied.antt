@@ -15,13 +15,14 @@ use Rattle.app_worker.specs.declared.stack.FlowQueue.{FlowQueue}
 use Rattle.app_worker.specs.Core.{total, many, Each, over_due, over_read, read_out, short_bytes, lent_piece, own_notes, BeginAt, received_notes}
 use Rattle.app_worker.specs.Core.{AreReadAt, most_at_once, is_copy}
 use Rattle.app_worker.proofs.Indexing.{by-place}
-use Rattle.app_worker.specs.State.{State, IsIndex, place_in, Common, FlowEnds, capped, held_len, taken_len, unsplit_len, due_one, app_steps, one_if}
+use Rattle.app_worker.specs.State.{State, IsIndex, place_in, Common, FlowEnds, capped, held_len, taken_len, unsplit_len, due_one, app_steps, one_if, read_of}
 use Rattle.app_worker.specs.Shelves.{IsShelved, AreShelved, ReadsFront, IsFrontShelved, AreFronts}
 use Rattle.std.proofs.Math.Nat.{mul-le-mul_left}
 use Rattle.std.proofs.Common.{◌*◌}
 use Rattle.board_face.specs.declared.views.app.WrittenEntry.{WrittenEntry}
 use Rattle.app_worker.proofs.Moving.{strays-same, names-same}
 use Rattle.app_worker.proofs.Accounts.{sound-gone}
+use Rattle.app_worker.proofs.Origins.{origins-more, gone-origins}
 use Rattle.app_worker.proofs.Written.{gives-gone, gives-same, gives-count, blocks-same}
 use Rattle.app_worker.specs.Whole.{Torn}
 use Rattle.app_worker.specs.Letting.{FlowFacts, facts_of, Abandons, LetGo}
@@ -204,7 +205,8 @@ gone-all was now old v1 v2 v3 new reaped not_yet pushed torn common first second
     let no_more : length new.loans ≡ 0 = ap length no_loan in
     let written : new.written ≡ old.written = ap (λ (v : AppView). v.written) view in
     let setting : new.setting ≡ old.setting = ap (λ (v : AppView). v.setting) view in
-    let behind : new.returned ≡ old.returned ++ (first.behind.0 ++ second.behind.0 ++ third.behind.0) = returned ∙ third.behind.1
+    let more : List LentPiece = first.behind.0 ++ second.behind.0 ++ third.behind.0 in
+    let behind : new.returned ≡ old.returned ++ more = returned ∙ third.behind.1
     ∙ ap (λ ls. ls ++ third.behind.0) (second.behind.1 ∙ ap (λ ls. ls ++ second.behind.0) first.behind.1
     ∙ append_assoc old.returned first.behind.0 second.behind.0)
     ∙ append_assoc old.returned (first.behind.0 ++ second.behind.0) third.behind.0 in
@@ -230,7 +232,7 @@ gone-all was now old v1 v2 v3 new reaped not_yet pushed torn common first second
       helds = helds;
       loans = no_loan;
       back = back;
-      given = gives-gone old new (first.behind.0 ++ second.behind.0 ++ third.behind.0) written setting behind torn.given;
+      given = gives-gone old new more written setting behind torn.given;
       entries = gives-count new old.returned (gives-same old new old.returned written setting torn.given);
       same = refl;
       facts = facts;
@@ -244,6 +246,8 @@ gone-all was now old v1 v2 v3 new reaped not_yet pushed torn common first second
         counted = λ here. scrubbed ∙ common.counted (sym left ∙ here);
         owns = ap (λ (v : AppView). v.owns) view ∙ common.owns;
         copied = common.copied ∙ ap capped (sym (ap (λ (v : AppView). v.spares) view));
+        origins = origins-more old new more behind taken common.origins (gone-origins old.taken more (was.unread ++ was.posted.entries) (read_of was)
+            (λ f. omega (arith, back f, ap (total f) behind, total-append f old.returned more, torn.tokens.loans f)) torn.lent torn.due_lent);
         copies = omega (arith, ap (λ (v : AppView). v.spares) view, back is_copy, ap (total is_copy) no_loan, common.copies);
         spares = omega (arith, ap (λ (v : AppView). v.spares) view, no_bytes, common.spares, ap (total unsplit_len) taken);
         some_places = common.some_places;

@@ -25,6 +25,7 @@ use Rattle.app_worker.specs.Moves.{Moves}
 use Rattle.app_worker.specs.Whole.{Gives}
 use Rattle.app_worker.proofs.Standing2.{given-stands}
 use Rattle.app_worker.proofs.Accounts.{sound-gave}
+use Rattle.app_worker.proofs.Origins.{origins-more}
 use Rattle.app_worker.proofs.Written.{gives-gave, blocks-loan}
 use Rattle.app_worker.proofs.Moving.{total-one, looks-same, kept-same, no-write, reserve-same, leaked-aside, same-leaked}
 use Rattle.app_worker.proofs.Tokens.{total-append}
@@ -140,6 +141,8 @@ gave-left was l stray old new due step follow enough works common =
           counted = λ here. scrubbed ∙ common.counted (sym left ∙ here);
           owns = owns ∙ common.owns;
           copied = common.copied ∙ ap capped (sym spares);
+          origins = origins-more old new (lent_piece old.taken l ∷ []) step.returned taken common.origins
+              (record { lending = l; known = stood.due_lent.0; is = refl }, tt);
           copies = omega (
             arith,
             spares,
@@ -284,6 +287,7 @@ kept-left was rest leaked v step works common =
           counted = common.counted;
           owns = common.owns;
           copied = common.copied;
+          origins = common.origins;
           copies = common.copies;
           spares = common.spares;
           some_places = common.some_places;

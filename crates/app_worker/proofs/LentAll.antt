@@ -51,6 +51,7 @@ reaped-common st v common = record {
   counted = common.counted;
   owns = common.owns;
   copied = common.copied;
+  origins = common.origins;
   copies = common.copies;
   spares = common.spares;
   some_places = common.some_places;

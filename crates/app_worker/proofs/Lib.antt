@@ -16,6 +16,7 @@ pub mod WholeFrames
 pub mod StreamLemmas
 pub mod Accounts
 pub mod Written
+pub mod Origins
 pub mod Counts
 pub mod Moving
 pub mod Resting

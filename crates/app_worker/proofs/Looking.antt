@@ -170,6 +170,7 @@ ended-common st v mid common told = rw told.event (record {
   counted = common.counted;
   owns = common.owns;
   copied = common.copied;
+  origins = common.origins;
   copies = common.copies;
   spares = common.spares;
   some_places = common.some_places;

@@ -1,7 +1,6 @@
 -- A note is taken: by each way that it goes.
 use Rattle.std.proofs.Common.{◌≡◌, ℕ, ◌+◌, ◌<◌, ◌≤◌, true, false, List, [], ◌∷◌, ◌++◌, Some, length, set, get_or}
-use Rattle.std.proofs.Common.{refl, sym, ap, subst}
-use Rattle.std.proofs.Common.{◌∙◌, arith, inl, inr, take}
+use Rattle.std.proofs.Common.{refl, sym, ap, subst, ◌∙◌, arith, inl, inr, take, length-append}
 use Rattle.zr_kinds.specs.declared.place.Place.{Place}
 use Rattle.zr_kinds.specs.declared.place.Note.{Note}
 use Rattle.zr_kinds.specs.CopyingReceiver.{Placed}
@@ -23,6 +22,8 @@ use Rattle.board_face.specs.declared.views.app.HeldPiece.{HeldPiece}
 use Rattle.std.specs.Prelude.{slice_get}
 use Rattle.app_worker.specs.Steps.{OnlyHelds, whole_piece}
 use Rattle.app_worker.specs.Whole.{fresh_flow, IsChosen, TookOne, TookNone, Torn}
+use Rattle.zr_kinds.specs.declared.ring.Completion.{Completion}
+use Rattle.app_worker.specs.declared.stack.Lending.{Lending}
 use Rattle.app_worker.specs.Entries.{Gives}
 use Rattle.app_worker.proofs.Written.{gives-same}
 use Rattle.app_worker.proofs.Tokens.{is-released}
@@ -43,8 +44,15 @@ all-end st v works = each-map (FlowStands v.taken (st.unread ++ st.posted.entrie
 
 -- it can be given up as it is
 pub torn-of : (st : State) (v : AppView) → Working st v → Torn st v
-torn-of st v works = record
-    { tokens = works.stands.tokens; flows = all-end st v works; distinct = works.stands.distinct; index = works.index; given = works.given }
+torn-of st v works = record {
+  tokens = works.stands.tokens;
+  flows = all-end st v works;
+  distinct = works.stands.distinct;
+  index = works.index;
+  given = works.given;
+  lent = works.stands.lent;
+  due_lent = works.stands.due_lent;
+}
 
 -- ---- a note
 
@@ -52,6 +60,17 @@ module _ (was : State) (old new : AppView) (t : TakenNote) (works : Working was 
     (view : new ≡ record old { taken = old.taken ++ t ∷ []; helds = new.helds }) (lie : LieApart new) where
   view-in : TookView old new t
   view-in = record { view = view }
+
+  one-longer : length new.taken ≡ length old.taken + 1
+  one-longer = ap length (ap (λ (v : AppView). v.taken) view) ∙ length-append old.taken (t ∷ [])
+
+  lent-taken : Each (λ (p : Completion × Lending). p.1.note < length new.taken) (was.unread ++ was.posted.entries)
+  lent-taken = each-map (λ (p : Completion × Lending). p.1.note < length old.taken) (λ p. p.1.note < length new.taken)
+      (was.unread ++ was.posted.entries) (λ p _ below. omega (arith, below, one-longer)) works.stands.lent
+
+  due-taken : Each (λ (l : Lending). l.note < length new.taken) (read_of was)
+  due-taken = each-map (λ (l : Lending). l.note < length old.taken) (λ l. l.note < length new.taken) (read_of was)
+      (λ l _ below. omega (arith, below, one-longer)) works.stands.due_lent
 
   gives-taken : Gives new new.returned
   gives-taken = subst (Gives new) (sym (ap (λ (v : AppView). v.returned) view)) (gives-same old new old.returned
@@ -67,6 +86,8 @@ module _ (was : State) (old new : AppView) (t : TakenNote) (works : Working was 
       distinct = works.stands.distinct;
       index = works.index;
       given = gives-taken;
+      lent = lent-taken;
+      due_lent = due-taken;
     };
     common = common-noted was old new t view-in was.notes was.active was.index was.flows refl
         (record { kept = omega (arith, helds held_len); short = omega arith }) common;
@@ -110,6 +131,8 @@ module _ (was : State) (old new : AppView) (t : TakenNote) (works : Working was 
             distinct = λ n. (many-noted was.flows t.note own (λ x. set flows i x) q base put-in n).1 (works.stands.distinct n);
             index = index-set index flows i own (record own { queue = q }) within value refl is_index;
             given = gives-taken;
+            lent = lent-taken;
+            due_lent = due-taken;
           };
           common = common-noted was old new t view-in notes i index now bytes-in few-in common;
           moves = moves-noted was old new t view-in notes i index now (grow-noted was.flows t.note own (λ x. set flows i x) q base put-in);

@@ -28,6 +28,7 @@ use Rattle.app_worker.proofs.Took.{get-last, set-last}
 use Rattle.app_worker.proofs.ReadLemmas.{all-noted}
 use Rattle.app_worker.proofs.EachBoth.{each-both}
 use Rattle.app_worker.proofs.Accounts.{sound-same}
+use Rattle.app_worker.proofs.Origins.{origins-noted}
 use Rattle.app_worker.proofs.Written.{blocks-same}
 use Rattle.app_worker.proofs.Moving.{looks-same, kept-same, leaked-aside, same-leaked, strays-same, entries-same, names-same, most-same}
 
@@ -263,6 +264,7 @@ module _ (was : State) (old new : AppView) (t : TakenNote) (took : TookView old 
         counted = λ here. scrubbed ∙ common.counted (sym left ∙ here);
         owns = ap (λ (v : AppView). v.owns) took.view ∙ common.owns;
         copied = common.copied ∙ ap capped (sym (ap (λ (v : AppView). v.spares) took.view));
+        origins = origins-noted old new t (ap (λ (v : AppView). v.returned) took.view) taken-is common.origins;
         copies = omega (
           arith,
           ap (λ (v : AppView). v.spares) took.view,

@@ -38,6 +38,7 @@ use Rattle.app_worker.proofs.EachBoth.{each-both}
 use Rattle.app_worker.proofs.Moving.{looks-same, no-write, aside-same, leaked-aside, same-leaked, strays-same, entries-same, names-same, most-same}
 use Rattle.app_worker.proofs.Indexing.{index-set}
 use Rattle.app_worker.proofs.Accounts.{sound-same}
+use Rattle.app_worker.proofs.Origins.{origins-same}
 use Rattle.app_worker.specs.Entries.{Gives}
 use Rattle.app_worker.proofs.Written.{gives-same, blocks-same}
 use Rattle.app_worker.proofs.Resting.{rest-same, each-same}
@@ -178,6 +179,7 @@ module _ (was : State) (i : ℕ) (own : FlowQueue) (p : Completion × Lending) (
         counted = λ here. scrubbed ∙ common.counted (sym left ∙ here);
         owns = ap (λ (v : AppView). v.owns) only.view ∙ common.owns;
         copied = common.copied ∙ ap capped (sym (ap (λ (v : AppView). v.spares) only.view));
+        origins = origins-same old new same_returned same_taken common.origins;
         copies = omega (
           arith,
           ap (λ (v : AppView). v.spares) only.view,
@@ -410,6 +412,8 @@ module _ (was : State) (i : ℕ) (own : FlowQueue) (p : Completion × Lending) (
         distinct = λ n. omega (arith, ap (many n) (at.set_is later), many-same at.before at.after own later refl n, stood.distinct n);
         index = index-set was.index was.flows i own later within value refl works.index;
         given = gives-read;
+        lent = subst (λ ts. Each (λ (q : Completion × Lending). q.1.note < length ts) (ps ++ was.posted.entries)) (sym same_taken) stood.lent.1;
+        due_lent = subst (λ ts. Each (λ (l : Lending). l.note < length ts) (p.1 ∷ was.leaked.items)) (sym same_taken) (stood.lent.0, stood.due_lent);
       }
 
   pub oldest-failed : (bytes written most faults faults_now : ℕ) (kept kept_now : ℕ → Option (List ℕ)) → own.bytes ≤ bytes

@@ -151,6 +151,7 @@ module _ (old : AppView) (settled quiet : Bool) (written : List WrittenEntry) (l
     counted = common.counted;
     owns = common.owns;
     copied = common.copied;
+    origins = common.origins;
     copies = common.copies;
     spares = common.spares;
     some_places = common.some_places;

@@ -144,6 +144,7 @@ common-stopped st v cause none other common = record {
   counted = common.counted;
   owns = common.owns;
   copied = common.copied;
+  origins = common.origins;
   copies = common.copies;
   spares = common.spares;
   some_places = common.some_places;

@@ -81,6 +81,12 @@ one_copy (of_copy bytes) = 1
 abbrev pub is_copy : LentPiece → ℕ
 is_copy l = one_copy l.origin
 
+-- the loan is one of a note that was taken: of a part of its piece, or of a copy of bytes that came with it
+pub record IsOfTaken (taken : List TakenNote) (l : LentPiece) : Type 0 where
+  pub lending : Lending
+  pub known : lending.note < length taken
+  pub is : l ≡ lent_piece taken lending
+
 -- over the pieces in the area that a queue keeps
 abbrev pub over_waiting : (HeldPiece → ℕ) → Waiting → ℕ
 over_waiting f (InArea p) = f (held_piece p)

@@ -24,7 +24,7 @@ use Rattle.app_worker.specs.declared.stack.Lending.{Lending}
 use Rattle.app_worker.specs.declared.stack.Stray.{Stray}
 use Rattle.app_worker.specs.declared.stack.FlowQueue.{FlowQueue}
 use Rattle.app_worker.specs.Entries.{Gives, AreBlocks}
-use Rattle.app_worker.specs.Core.{total, is_odd, is_copy, Each, many, read_out, own_notes, BeginAt, placed_of, short_bytes, Stands}
+use Rattle.app_worker.specs.Core.{total, is_odd, is_copy, IsOfTaken, Each, many, read_out, own_notes, BeginAt, placed_of, short_bytes, Stands}
 
 pub record State : Type 0 where
   pub app : ℕ
@@ -204,7 +204,8 @@ pub record Common (st : State) (v : AppView) : Type 0 where
   pub counted : v.left ≡ false → v.scrubbed ≡ false
   pub owns : v.owns ≡ []
   pub copied : st.copied ≡ capped v.spares
-  -- each was lent
+  -- each loan that it doesn't have any more was one of a note, and each spare was lent
+  pub origins : Each (IsOfTaken v.taken) v.returned
   pub copies : v.spares ≡ total is_copy v.loans + total is_copy v.returned
   -- each spare was for a byte that came in a note, and is for one that it doesn't keep any more
   pub spares : v.spares + total (λ f. short_bytes f.queue) st.flows ≤ total unsplit_len v.taken

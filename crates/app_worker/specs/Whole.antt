@@ -120,6 +120,8 @@ pub record Torn (st : State) (v : AppView) : Type 0 where
   pub distinct : (number : ℕ) → many number st.flows ≤ 1
   pub index : IsIndex st.index st.flows
   pub given : GivesAll v v.returned
+  pub lent : Each (λ p. p.1.note < length v.taken) (st.unread ++ st.posted.entries)
+  pub due_lent : Each (λ l. l.note < length v.taken) (read_of st)
 
 -- The oldest loan was appended up to the byte at which the application quits, and is due.
 pub record ReadQuit (was now : State) (old new : AppView) (kept kept_now : ℕ → Option (List ℕ)) : Type 0 where

@@ -1,4 +1,5 @@
-use Rattle.std.proofs.Common.{rules, ◌≡◌, ◌≢◌, ℕ, ◌<◌, ◌≤◌, true, false, List, [], ◌∷◌, Option, length, refl, sym, ap, ◌∙◌, arith, ⊎_elim, ◌⊎◌, inl, inr}
+use Rattle.std.proofs.Common.{rules, ◌≡◌, ◌≢◌, ℕ, ◌<◌, ◌≤◌, true, false, List, [], ◌∷◌, Option, length, refl, sym, ap}
+use Rattle.std.proofs.Common.{◌∙◌, arith, ⊎_elim, ◌⊎◌, inl, inr}
 use Rattle.std.specs.Prelude.{if◌then◌else◌}
 use Rattle.std.proofs.lemmas.Bool.{cases_Bool}
 use Rattle.board_face.specs.declared.views.app.AppView.{AppView}
@@ -127,7 +128,8 @@ off-too a b d e off same before read some = ⊎_elim
     (λ (none : d.unread ≡ []). inr (same ∙ none))
     (read off)
 
-more-than-kept : (a b : State) (keep least : ℕ) → (a.ended ≡ false → a.how.hold ≤ keep) → b.how ≡ a.how → b.ended ≡ a.ended → least ≡ kept_of keep a
+more-than-kept : (a b : State) (keep least : ℕ) → (a.ended ≡ false → a.how.hold ≤ keep) → b.how ≡ a.how → b.ended ≡ a.ended
+    → least ≡ kept_of keep a
     → (b.flush ≡ false → (a.flush ≡ false) ⊎ (b.unread ≡ [])) → least < length b.unread
     → b.ended ≡ false → b.flush ≡ false → b.how.hold < length b.unread
 more-than-kept a b keep least hold how ended is before more notes off = ⊎_elim

@@ -37,6 +37,7 @@ pub returns-clause-counts : goal.returns-clause-counts
 returns-clause-counts g c = loans-few (state_of c.turn.new.st) (g.F.AppFace.seen c.turn.new.face) c.turn.ensures.turns.stands
 
 pub returns-clause-keeps : goal.returns-clause-keeps
-returns-clause-keeps g c = rw (← c.st.view_is) (λ off live notes lent read. turns-keep (state_of c.st.inside.stack) (state_of c.turn.new.st) (g.F.AppFace.seen c.args.face.now)
+returns-clause-keeps g c = rw (← c.st.view_is)
+    (λ off live notes lent read. turns-keep (state_of c.st.inside.stack) (state_of c.turn.new.st) (g.F.AppFace.seen c.args.face.now)
     (g.F.AppFace.seen c.turn.new.face) (g.T.Shelf.kept c.args.shelf.now) (g.T.Shelf.kept c.turn.new.shelf) (g.T.Shelf.faults c.args.shelf.now)
     (g.T.Shelf.faults c.turn.new.shelf) c.turn.result c.turn.ensures.turns off live notes lent read)

@@ -1,5 +1,6 @@
 use Rattle.std.proofs.Common.{true, false, [], ◌⊎◌}
-use Rattle.std.proofs.Common.{rules, ◌≡◌, ◌≢◌, ◌<◌, ◌+◌, ◌-◌, ◌^◌, min, ℕ, List, drop, length, get_or, sym, ap, subst, ◌∙◌, arith}
+use Rattle.std.proofs.Common.{rules, ◌≡◌, ◌≢◌, ◌<◌, ◌+◌, ◌-◌, ◌^◌, min, ℕ, List, drop, length, get_or, sym, ap, subst}
+use Rattle.std.proofs.Common.{◌∙◌, arith}
 use Rattle.std.proofs.Common.{◌++◌, ◌∷◌, ◌≤◌, Some}
 use Rattle.zr_kinds.specs.declared.ring.Completion.{Completion}
 use Rattle.zr_io.specs.Moved.{Gained}
@@ -90,7 +91,8 @@ returns-then-eq-clause-reads g c =
     let count : c.saturating_add-st.result ≡ min (st.written + most) (2 ^ 64 - 1) = omega (arith, bytes) in
     let all : st.how.quit ≡ Some c.saturating_add-st.result = search rules in
     let exact : Gained (g.T.Shelf.kept c.args.shelf.now own.number) (g.T.Shelf.kept c.read_loan-result.new.shelf own.number)
-    (λ (read : List ℕ). IsReadOf (g.F.AppFace.seen c.args.face.now).taken (g.F.AppFace.seen c.read_loan-result.new.face).reads c.in-Some.lending most most read) = search rules in
+    (λ (read : List ℕ). IsReadOf (g.F.AppFace.seen c.args.face.now).taken (g.F.AppFace.seen c.read_loan-result.new.face).reads c.in-Some.lending most most
+        read) = search rules in
     rw (items, capacity) (oldest-quit st i own p (drop 1 st.unread) (g.F.AppFace.seen c.args.face.now)
     (g.F.AppFace.seen c.read_loan-result.new.face) unread c.requires.due c.requires.pushed within value
     (sym number) c.read_loan-result.ensures.only c.requires.working c.requires.common c.requires.reaped
@@ -129,7 +131,8 @@ returns-clause-reads g c =
     let not = quits-not st.how.quit st.written most c.saturating_add-st.result c.in-Some.lending.loan.len (search rules) is count other going in
     let whole : most ≡ c.in-Some.lending.loan.len = not.1 in
     let exact : Gained (g.T.Shelf.kept c.args.shelf.now own.number) (g.T.Shelf.kept c.read_loan-result.new.shelf own.number)
-    (λ (read : List ℕ). IsReadOf (g.F.AppFace.seen c.args.face.now).taken (g.F.AppFace.seen c.read_loan-result.new.face).reads c.in-Some.lending most most read) = search rules in
+    (λ (read : List ℕ). IsReadOf (g.F.AppFace.seen c.args.face.now).taken (g.F.AppFace.seen c.read_loan-result.new.face).reads c.in-Some.lending most most
+        read) = search rules in
     rw (items, capacity) (oldest-read st i own p (drop 1 st.unread) (g.F.AppFace.seen c.args.face.now)
     (g.F.AppFace.seen c.read_loan-result.new.face) unread c.requires.due c.requires.pushed within value
     (sym number) c.read_loan-result.ensures.only c.requires.working c.requires.common c.requires.reaped
@@ -139,5 +142,6 @@ returns-clause-reads g c =
     (count ∙ ap (λ n. min (st.written + n) (2 ^ 64 - 1)) whole)
     (subst (Quits st.how.quit c.saturating_add-st.result) (sym c.requires.working.going) not.0)
     (subst (λ (n : ℕ). Gained (g.T.Shelf.kept c.args.shelf.now own.number) (g.T.Shelf.kept c.read_loan-result.new.shelf own.number)
-    (λ (read : List ℕ). IsReadOf (g.F.AppFace.seen c.args.face.now).taken (g.F.AppFace.seen c.read_loan-result.new.face).reads c.in-Some.lending n n read)) whole exact)
+    (λ (read : List ℕ). IsReadOf (g.F.AppFace.seen c.args.face.now).taken (g.F.AppFace.seen c.read_loan-result.new.face).reads c.in-Some.lending n n read))
+        whole exact)
     c.read_loan-result.ensures.others)

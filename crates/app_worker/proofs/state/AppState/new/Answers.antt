@@ -1,6 +1,7 @@
 use Rattle.std.proofs.Common.{rules}
 use Rattle.app_worker.proofs.Written.{fresh_blocks, fresh_given, fresh_front}
+use Rattle.app_worker.proofs.Origins.{fresh_origins}
 use Rattle.app_worker.proofs.state.AppState.new.Goals as goal
 
 pub returns-clause-stands : goal.returns-clause-stands
-returns-clause-stands g c = search (rules, fresh_blocks, fresh_given, fresh_front)
+returns-clause-stands g c = search (rules, fresh_blocks, fresh_given, fresh_front, fresh_origins)
