@@ -256,7 +256,7 @@ module _ (v w : AppView) (was : FlowQueue) (q : Queue Waiting) (span : Span) (po
     (place : Place) where
   pub copy-delivers : (s : Short) (b copied copied_now : ℕ) (owns : v.owns ≡ []) → LosesFirst was.queue q (Copied s) span → IsShort v.taken s
       → HasNoneIn v b → LiesIn v.setting.layout (begin_place b (length s.bytes.items)) → 0 < length s.bytes.items
-          → w ≡ copy_lent v b s.bytes.items owns → place ≡ begin_place b (length s.bytes.items)
+      → w ≡ copy_lent v b s.bytes.items owns → place ≡ begin_place b (length s.bytes.items)
       → after_it ≡ with_posted posted w.setting.layout was.number (short_at s place) → copied_now ≡ min (copied + 1) (2 ^ 64 - 1)
       → flush_now ≡ flush || (place.buffer == reserve_of w)
       → Delivers v w was (record was { queue = q }) posted after_it copied copied_now flush flush_now

@@ -79,8 +79,8 @@ IsLeft v was now number seq len from (Some piece) =
     IsIn (held_piece piece) v.helds × (piece.note ≡ number) × (piece.at + piece.held.len ≡ len)
     × GoesOnFrom {A = Mark} {H = Waiting} marks_of_waiting now seq len piece.at from
     ×
-        ((placed : Placed Mark) → Holds marks_of_waiting was placed
-            → Holds marks_of_waiting now (filled placed from (take piece.at (marks_from number 0 len))))
+    ((placed : Placed Mark) → Holds marks_of_waiting was placed
+    → Holds marks_of_waiting now (filled placed from (take piece.at (marks_from number 0 len))))
 
 abbrev pub left_len : Option Piece → ℕ
 left_len None = 0

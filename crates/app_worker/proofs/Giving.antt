@@ -55,7 +55,7 @@ aside-gave was l old new returned setting app enough few first some =
     let sum : returned_aside new ≡ total one old.returned + one (lent_piece old.taken l) =
     ap (λ xs. total (λ (x : LentPiece). if x.place.buffer == reserve_of new then 0 else 1) xs) returned
     ∙ ap (λ n. total (λ (x : LentPiece). if x.place.buffer == n then 0 else 1) (old.returned ++ lent_piece old.taken l ∷ []))
-        (reserve-same old new setting app)
+    (reserve-same old new setting app)
     ∙ omega (arith, total-append one old.returned (lent_piece old.taken l ∷ [])) in
     ⊎_elim
     (λ (same : l.loan.buffer ≡ reserve_of old). let none : one (lent_piece old.taken l)
@@ -66,7 +66,7 @@ aside-gave was l old new returned setting app enough few first some =
 
 gave-left : (was : State) (l : Lending) (stray : Stray) (old new : AppView) → was.due ≡ Some l → Gave old new l
     → IsToFollow old.setting.layout l was.how.stray stray → (l.loan.buffer ≢ reserve_of old → was.how.leak ≤ length was.leaked.items)
-        → Working was old
+    → Working was old
     → Common was old → Left was (with_due was None stray) old new × (app_steps was old < app_steps (with_due was None stray) new)
     × (new.taken ≡ old.taken) × (new.left ≡ old.left)
 gave-left was l stray old new due step follow enough works common =
@@ -197,7 +197,7 @@ gave-left was l stray old new due step follow enough works common =
 pub given-left : (was : State) (due now : Option Lending) (stray : Stray) (old new : AppView) (result : Bool) → was.due ≡ due
     → Given was.how.stray old new due now was.stray stray result
     → ((l : Lending) → due ≡ Some l → l.loan.buffer ≢ reserve_of old → was.how.leak ≤ length was.leaked.items) → Working was old
-        → Common was old
+    → Common was old
     → Left was (with_due was now stray) old new × Gives was (with_due was now stray) old new result
 given-left was None now stray old new true is step enough works common =
     let same : with_due was None was.stray ≡ was = ap (λ d. with_due was d was.stray) (sym is) in

@@ -138,7 +138,7 @@ through-end b c v w end_by kept reaped lent =
 
 pub none-at-all : (a b c : State) (u v w : AppView) (k l : ℕ → Option (List ℕ)) (end_by : Delivery) → b.posted.entries ≡ [] → 1 ≤ b.posted.places
     → end_by ≢ Unsettled → end_by ≢ ReserveHeld → Untouched a b u v k l → LentSome b c v w false end_by
-        → Untouched a c u w k l × Each IsAtRest a.flows
+    → Untouched a c u w k l × Each IsAtRest a.flows
 none-at-all a b c u v w k l Did reaped some other spare same lent = absurd (lent.final refl)
 none-at-all a b c u v w k l NoneInOrder reaped some other spare same lent =
     let none = lent.nothing refl in (

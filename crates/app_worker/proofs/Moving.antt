@@ -86,7 +86,7 @@ entries-same old new written returned few = subst (λ ws. total (λ (w : Written
 
 pub names-same : (stray : Stray) (old new : AppView) → new.setting ≡ old.setting
     → (0 < stray.left → judged old.setting.layout stray.entry ≡ Some stray.buffer) → 0 < stray.left
-        → judged new.setting.layout stray.entry ≡ Some stray.buffer
+    → judged new.setting.layout stray.entry ≡ Some stray.buffer
 names-same stray old new setting names some = subst (λ (s : Setting). judged s.layout stray.entry ≡ Some stray.buffer) (sym setting) (names some)
 
 pub most-same : (most : ℕ) (old new : AppView) → new.returned ≡ old.returned → most * length new.returned ≡ most * length old.returned

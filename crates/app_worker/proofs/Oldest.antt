@@ -89,7 +89,7 @@ front-own first kept now taken old new own l bytes most ps only more part there 
           let r : ℕ = l.loan.len - k in
           let len : l.loan.len ≡ k + r = omega (arith, is.at_most, part) in
           let grow : AreReadAt taken new.reads (values_from at own.bytes 0) xs = subst (λ rs. AreReadAt taken rs (values_from at own.bytes 0) xs)
-              (sym only.are)
+          (sym only.are)
           (all-grow taken old.reads only.more (values_from at own.bytes 0) xs was) in
           let split_marks : marks_of_loan l ≡ marks_from l.note l.at k ++ marks_from l.note (l.at + k) r = ap (marks_from l.note l.at) len
           ∙ marks-split l.note l.at k r in
@@ -131,11 +131,11 @@ with_read was i own bytes unread l written flush = record was {
 
 module _ (was : State) (i : ℕ) (own : FlowQueue) (p : Completion × Lending) (ps : List (Completion × Lending)) (old new : AppView)
     (unread : was.unread ≡ p ∷ ps) (due : was.due ≡ None) (pushed : was.stray.left ≡ 0) (within : i < length was.flows)
-        (value : own ≡ get_or was.flows i own)
+    (value : own ≡ get_or was.flows i own)
     (number : p.0.user_data ≡ own.number) (only : OnlyReads old new) (works : Working was old) (common : Common was old)
     (reaped : was.posted.entries ≡ []) (flush : Bool) (flush_on : flush ≡ true → (was.flush ≡ true) × (ps ≢ []))
     (flush_off : flush ≡ false → (was.flush ≡ false) ⊎ (ps ≡ []))
-        (more_kept : was.ended ≡ false → was.flush ≡ false → was.how.hold < length was.unread) where
+    (more_kept : was.ended ≡ false → was.flush ≡ false → was.how.hold < length was.unread) where
   at : At was.flows i own
   at = split-at was.flows i own within value
 
@@ -303,7 +303,7 @@ module _ (was : State) (i : ℕ) (own : FlowQueue) (p : Completion × Lending) (
   oldest-read bytes written kept kept_now is count quits gained others =
       let later : FlowQueue = record own { bytes = own.bytes + p.1.loan.len } in
       let stands : Stands was.notes (at.before ++ later ∷ at.after) (ps ++ was.posted.entries)
-          (p.1 ∷ was.leaked.items) new = stands-read was.notes at.before at.after own p
+      (p.1 ∷ was.leaked.items) new = stands-read was.notes at.before at.after own p
       (ps ++ was.posted.entries) was.leaked.items old new number only stood in
       let told : Each (TellsOf old.setting.layout) (p ∷ (ps ++ was.posted.entries)) = subst (Each (TellsOf old.setting.layout)) all works.completions in
       let added : Appended own old.taken new p.1.loan.len kept kept_now = appended old.taken p (ps ++ was.posted.entries) own p.1.loan.len new kept
@@ -337,7 +337,7 @@ module _ (was : State) (i : ℕ) (own : FlowQueue) (p : Completion × Lending) (
           moves = moves-read (own.bytes + p.1.loan.len) written (omega arith);
           shelved = λ _ first shelved. subst (λ (fs : List FlowQueue). AreShelved first kept_now fs new) (sym (at.set_is later))
               (shelved-reaped first kept kept_now was.notes at.before at.after own p (ps ++ was.posted.entries) p.1.loan.len was.leaked.items old new number
-                  only stood
+              only stood
               (omega arith) added
               (subst (λ (fs : List FlowQueue). AreShelved first kept fs old) at.is shelved));
           failed = λ is. absurd (no-write was.stopped works.going is);
@@ -375,7 +375,7 @@ module _ (was : State) (i : ℕ) (own : FlowQueue) (p : Completion × Lending) (
       (IsFrontShelved first kept_now old.taken new.reads) at.before at.after own later (stood.distinct own.number) both
       (λ f other e. front-other first kept kept_now old.taken (p ∷ (ps ++ was.posted.entries)) old new f only (others f.number other) e.0 e.1)
       (front-own first kept kept_now old.taken old new own p.1 bytes most (ps ++ was.posted.entries) only more part own_stands.holds.popped next own_shelved
-          gained) in
+      gained) in
       let exact : Each (λ f. f.number ≢ own.number → IsShelved first kept_now old.taken new.reads f) (at.before ++ later ∷ at.after) =
       each-changed (IsShelved first kept old.taken old.reads) (λ f. f.number ≢ own.number → IsShelved first kept_now old.taken new.reads f)
       at.before at.after own later (stood.distinct own.number) before
@@ -460,7 +460,7 @@ module _ (was : State) (i : ℕ) (own : FlowQueue) (p : Completion × Lending) (
         };
         shelved = λ first shelved. subst (λ (fs : List FlowQueue). AreShelved first kept_now fs new) (sym (at.set_is later))
             (shelved-reaped first kept kept_now was.notes at.before at.after own p (ps ++ was.posted.entries) most was.leaked.items old new number only stood
-                part
+            part
             added (subst (λ (fs : List FlowQueue). AreShelved first kept fs old) at.is shelved));
         stopped = refl;
         same = refl;

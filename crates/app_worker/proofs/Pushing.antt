@@ -52,7 +52,7 @@ pushed-one u v was now some left =
       written = ap (λ ws. ws ++ one now.entry ∷ []) some.written
           ∙ append_assoc u.written (raw_copies some.count was.entry) (one now.entry ∷ [])
           ∙ ap (λ e. u.written ++ (raw_copies some.count was.entry ++ one e ∷ [])) entry
-              ∙ ap (λ ws. u.written ++ ws) (copies-push some.count was.entry);
+          ∙ ap (λ ws. u.written ++ ws) (copies-push some.count was.entry);
       same = ap (λ (s : Stray). record s { left = now.left - 1 }) some.same;
       fits = omega (arith, some.fits, left);
       looks = looks-trans u v (pushed_raw v now.entry) some.looks (looks-same v (pushed_raw v now.entry) refl);

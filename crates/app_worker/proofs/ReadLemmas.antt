@@ -118,7 +118,7 @@ module _ (taken : List TakenNote) (note : ℕ) (t : TakenNote) (is_note : slice_
         },
         subst (λ p. AreReadAt taken reads (marks_from note p (length bs)) bs) longer
             (text-read split reads at (before ++ b ∷ []) bs
-                (subst (λ (ys : List ℕ). IsIn (record { origin = of_note note at; bytes = ys }) reads) next is)),
+            (subst (λ (ys : List ℕ). IsIn (record { origin = of_note note at; bytes = ys }) reads) next is)),
       )
 
   with-reads : t.note.split ≡ true → (reads : List Reading) (at : ℕ) (text : List ℕ)
@@ -234,7 +234,7 @@ pub one-more : (taken : List TakenNote) (a b c : Option (List ℕ)) (v : AppView
     → IsIn (lent_piece taken l) v.loans → l.note < length taken → ShowsCopy (loan_origin v l.loan) done text → done + length text ≤ l.loan.len
     → piece ≡ text
     → Gained a b (IsReadTo taken v.reads l done) → Appends b c piece
-        → Gained a c (IsReadTo taken (has_read v l.loan done text).reads l (done + length text))
+    → Gained a c (IsReadTo taken (has_read v l.loan done text).reads l (done + length text))
 one-more taken a b c v lie l done text piece out known shows fits same before added =
     let w : AppView = has_read v l.loan done text in
     let only = only-read v l done text in
@@ -243,7 +243,7 @@ one-more taken a b c v lie l done text piece out known shows fits same before ad
     let grow : AreReadAt taken w.reads (marks_from l.note l.at done) xs = subst (λ rs. AreReadAt taken rs (marks_from l.note l.at done) xs) (sym only.are)
     (all-grow taken v.reads only.more (marks_from l.note l.at done) xs was.are) in
     let more : AreReadAt taken w.reads (marks_from l.note (l.at + done) (length text)) ys = subst
-        (AreReadAt taken w.reads (marks_from l.note (l.at + done) (length text)))
+    (AreReadAt taken w.reads (marks_from l.note (l.at + done) (length text)))
     (sym is) (read-there taken v lie l done text out known shows fits) in
     let both = read-append taken w.reads (marks_from l.note l.at done) (marks_from l.note (l.at + done) (length text)) xs ys grow more in
     record {
@@ -257,7 +257,7 @@ pub some-more : (taken : List TakenNote) (a b c : Option (List ℕ)) (v : AppVie
     (text piece : List ℕ) → IsIn (lent_piece taken l) v.loans → l.note < length taken → ShowsCopy (loan_origin v l.loan) done text
     → most ≤ l.loan.len → done + length text ≤ most → length text ≤ most_at_once → piece ≡ text
     → Gained a b (IsReadTo taken v.reads l done) → Appends b c (take n piece)
-        → Gained a c (IsReadOf taken (has_read v l.loan done text).reads l done most)
+    → Gained a c (IsReadOf taken (has_read v l.loan done text).reads l done most)
 some-more taken a b c v lie l done most n text piece out known shows part fits once same before added =
     let w : AppView = has_read v l.loan done text in
     let only = only-read v l done text in
@@ -270,7 +270,7 @@ some-more taken a b c v lie l done most n text piece out known shows part fits o
     ∙ ap length e in omega arith)
     (cases_lt n (length text)) in
     let there : AreReadAt taken w.reads (marks_from l.note (l.at + done) (length text)) text = read-there taken v lie l done text out known shows
-        (omega (arith, fits, part)) in
+    (omega (arith, fits, part)) in
     let front : AreReadAt taken w.reads (marks_from l.note (l.at + done) (length ys)) ys =
     subst (λ zs. AreReadAt taken w.reads (marks_from l.note (l.at + done) (length zs)) zs) (sym is) (front-read w.reads l.note (l.at + done) n text there) in
     let grow : AreReadAt taken w.reads (marks_from l.note l.at done) xs = subst (λ rs. AreReadAt taken rs (marks_from l.note l.at done) xs) (sym only.are)

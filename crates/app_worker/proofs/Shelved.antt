@@ -52,10 +52,10 @@ shelved-appended first kept now taken old new own len only there appended shelve
     record {
       gained = Gained-then (first own.number) (kept own.number) (now own.number) (λ bytes. AreReadAt taken old.reads (values_from at own.bytes 0) bytes)
           (λ bytes. AreReadAt taken new.reads (values_from at len own.bytes) bytes)
-              (λ bytes. AreReadAt taken new.reads (values_from at (own.bytes + len) 0) bytes)
+          (λ bytes. AreReadAt taken new.reads (values_from at (own.bytes + len) 0) bytes)
           (λ xs ys was is.
           let grow : AreReadAt taken new.reads (values_from at own.bytes 0) xs = subst (λ rs. AreReadAt taken rs (values_from at own.bytes 0) xs)
-              (sym only.are)
+          (sym only.are)
           (all-grow taken old.reads only.more (values_from at own.bytes 0) xs was) in
           subst (λ ms. AreReadAt taken new.reads ms (xs ++ ys)) (sym all)
           (read-append taken new.reads (values_from at own.bytes 0) (values_from at len own.bytes) xs ys grow is))

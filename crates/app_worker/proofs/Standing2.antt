@@ -97,8 +97,8 @@ flow-took-other taken t posted f other stands =
 pub flow-took : (taken : List TakenNote) (t : TakenNote) (posted : List (Completion × Lending)) (own : FlowQueue) (q : Queue Waiting)
     → own.number ≡ t.note.flow → q.base ≡ own.queue.base → q.popped ≡ own.queue.popped
     →
-        ((placed : Placed Mark) → Holds marks_of_waiting own.queue placed
-            → Holds marks_of_waiting q (received_note own.queue.base placed (next_note taken t)))
+    ((placed : Placed Mark) → Holds marks_of_waiting own.queue placed
+    → Holds marks_of_waiting q (received_note own.queue.base placed (next_note taken t)))
     → (Each (λ k. IsOfNote (taken ++ t ∷ []) k.piece) own.queue.kept → Each (λ k. IsOfNote (taken ++ t ∷ []) k.piece) q.kept)
     → FlowStands taken posted own → FlowStands (taken ++ t ∷ []) posted (record own { queue = q })
 flow-took taken t posted own q number base popped enters keeps stands =
@@ -348,7 +348,7 @@ appended taken p ps own most new kept kept_now number stands part gained others 
           (λ bytes read.
           let size : length bytes ≡ most = omega (arith, read.at_least, read.at_most) in
           subst (λ ms. AreReadAt taken new.reads ms bytes) same (subst (λ n. AreReadAt taken new.reads (marks_from p.1.note p.1.at n) bytes) size read.are))
-              gained;
+          gained;
       others = others;
     }
 

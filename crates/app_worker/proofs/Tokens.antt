@@ -228,9 +228,13 @@ module _ (v : AppView) (lie : LieApart v) where
         view = rw origin refl;
         apart = record {
           once = λ b x. omega (arith, lie.once b x, helds (λ h. has_at b x h.place), loans (λ l. has_at b x l.place));
-          some = omega
-              (arith, lie.some, helds (λ h. is_odd v.setting.layout h.place), loans (λ l. is_odd v.setting.layout l.place),
-                  not-odd v.setting.layout h.place some few (held-lies h is));
+          some = omega (
+            arith,
+            lie.some,
+            helds (λ h. is_odd v.setting.layout h.place),
+            loans (λ l. is_odd v.setting.layout l.place),
+            not-odd v.setting.layout h.place some few (held-lies h is),
+          );
         };
         helds = helds;
         loans = loans;

@@ -346,7 +346,7 @@ module _ (count : ℕ) (posted : List (Completion × Lending)) (due : List Lendi
 -- nothing of it is kept
 pub kept-tokens : (count : ℕ) (flows : List FlowQueue) (posted : List (Completion × Lending)) (due : List Lending) (old new : AppView) (t : TakenNote)
     → new.taken ≡ old.taken ++ t ∷ [] → new.loans ≡ old.loans → LieApart new
-        → ((f : HeldPiece → ℕ) → total f new.helds ≡ total f old.helds)
+    → ((f : HeldPiece → ℕ) → total f new.helds ≡ total f old.helds)
     → Stands count flows posted due old → HasTokens flows posted due new
 kept-tokens count flows posted due old new t taken loans lie helds stands = record {
   apart = lie;

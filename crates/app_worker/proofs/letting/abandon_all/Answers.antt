@@ -30,7 +30,7 @@ abandon-requires-clause-out g c =
     let some : AbandonsSome u v all (λ f. f (lent_piece u.taken l) + total (λ p. f (lent_piece u.taken p.1)) (drop 1 xs)) = subst
     (λ ys. AbandonsSome u v all (λ f. total (λ p. f (lent_piece u.taken p.1)) ys)) unread c.loop-lending.invariant.0 in
     in-contains (λ l. l.place)
-        (lent_piece u.taken l) v.loans (first-lent u v all (λ f. total (λ p. f (lent_piece u.taken p.1)) (drop 1 xs)) u.taken l c.requires.out some)
+    (lent_piece u.taken l) v.loans (first-lent u v all (λ f. total (λ p. f (lent_piece u.taken p.1)) (drop 1 xs)) u.taken l c.requires.out some)
 
 pub loop-lending-preserved : goal.loop-lending-preserved
 loop-lending-preserved g c =

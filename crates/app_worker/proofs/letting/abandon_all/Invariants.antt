@@ -7,7 +7,7 @@ use Rattle.app_worker.proofs.letting.abandon_all.Given as goal
 abbrev pub invariant-loop-lending : goal.invariant-loop-lending
 invariant-loop-lending g l =
     AbandonsSome (g.F.AppFace.seen l.fn.face) (g.F.AppFace.seen l.face)
-        (λ f. total (λ p. f (lent_piece (g.F.AppFace.seen l.fn.face).taken p.1)) l.fn.unread.items)
+    (λ f. total (λ p. f (lent_piece (g.F.AppFace.seen l.fn.face).taken p.1)) l.fn.unread.items)
     (λ f. total (λ p. f (lent_piece (g.F.AppFace.seen l.fn.face).taken p.1)) l.unread.items)
     × (l.unread.capacity ≡ l.fn.unread.capacity)
     × (g.F.AppFace.beside l.face ≡ g.F.AppFace.beside l.fn.face)

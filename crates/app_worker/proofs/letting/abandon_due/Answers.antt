@@ -13,7 +13,7 @@ abandon-requires-clause-out g c =
     let l : Lending = c.in-Some.lending in
     let is : c.args.due.now ≡ Some l = search rules in
     let out : (f : LentPiece → ℕ)
-        → f (lent_piece v.taken l) + 0 ≤ total f v.loans = λ f. omega (arith, c.requires.out f, ap (over_due v.taken f) is) in
+    → f (lent_piece v.taken l) + 0 ≤ total f v.loans = λ f. omega (arith, c.requires.out f, ap (over_due v.taken f) is) in
     in-contains (λ l. l.place) (lent_piece v.taken l) v.loans (first-lent v v (λ f. f (lent_piece v.taken l) + 0) (λ f. 0) v.taken l out
     (abandons-none v c.requires.apart (λ f. f (lent_piece v.taken l) + 0)))
 
@@ -23,9 +23,9 @@ returns-in-Some-clause-abandons g c =
     let l : Lending = c.in-Some.lending in
     let is : c.args.due.now ≡ Some l = search rules in
     let out : (f : LentPiece → ℕ)
-        → f (lent_piece v.taken l) + 0 ≤ total f v.loans = λ f. omega (arith, c.requires.out f, ap (over_due v.taken f) is) in
+    → f (lent_piece v.taken l) + 0 ≤ total f v.loans = λ f. omega (arith, c.requires.out f, ap (over_due v.taken f) is) in
     let begin : AbandonsSome v v (λ f. f (lent_piece v.taken l) + 0)
-        (λ f. f (lent_piece v.taken l) + 0) = abandons-none v c.requires.apart (λ f. f (lent_piece v.taken l) + 0) in
+    (λ f. f (lent_piece v.taken l) + 0) = abandons-none v c.requires.apart (λ f. f (lent_piece v.taken l) + 0) in
     let here : IsIn (lent_piece v.taken l) v.loans = first-lent v v (λ f. f (lent_piece v.taken l) + 0) (λ f. 0) v.taken l out begin in
     let all = abandons-all v _ (λ f. f (lent_piece v.taken l) + 0) (abandons-one v v (λ f. f (lent_piece v.taken l) + 0) (λ f. 0) v.taken l here begin) in
     rw (c.abandon.ensures.view, is) (record {

@@ -10,9 +10,11 @@ use Rattle.app_worker.proofs.LetGone.{AbandonsSome, abandons-none, abandons-one,
 use Rattle.app_worker.proofs.letting.abandon_leaked.Goals as goal
 
 pub loop-lending-init : goal.loop-lending-init
-loop-lending-init g c =
-    (abandons-none (g.F.AppFace.seen c.args.face.now) c.requires.apart (λ f. over_read (g.F.AppFace.seen c.args.face.now).taken f c.args.leaked.now.items),
-        refl, refl)
+loop-lending-init g c = (
+  abandons-none (g.F.AppFace.seen c.args.face.now) c.requires.apart (λ f. over_read (g.F.AppFace.seen c.args.face.now).taken f c.args.leaked.now.items),
+  refl,
+  refl,
+)
 
 pub abandon-requires-clause-out : goal.abandon-requires-clause-out
 abandon-requires-clause-out g c =

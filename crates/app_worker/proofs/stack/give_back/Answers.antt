@@ -9,5 +9,5 @@ pub release-requires-clause-out : goal.release-requires-clause-out
 release-requires-clause-out g c =
     let is : c.args.waiting ≡ InArea c.in-InArea.piece = search rules in
     let out : IsIn (held_piece c.in-InArea.piece)
-        (g.F.AppFace.seen c.args.face.now).helds = subst (IsOut (g.F.AppFace.seen c.args.face.now)) is c.requires.out in
+    (g.F.AppFace.seen c.args.face.now).helds = subst (IsOut (g.F.AppFace.seen c.args.face.now)) is c.requires.out in
     in-contains (λ h. h.place) (held_piece c.in-InArea.piece) (g.F.AppFace.seen c.args.face.now).helds out

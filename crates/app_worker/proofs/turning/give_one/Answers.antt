@@ -42,11 +42,11 @@ returns g c =
     let step : Given st.how.stray v (g.F.AppFace.seen c.give_due.new.face) st.due c.give_due.new.due st.stray
     c.give_due.new.stray c.give_due.result = subst
     (λ d. Given st.how.stray v (g.F.AppFace.seen c.give_due.new.face) d c.give_due.new.due st.stray c.give_due.new.stray c.give_due.result) not.due
-        c.give_due.ensures.given in
+    c.give_due.ensures.given in
     let enough : (l : Lending) → st.due ≡ Some l → l.loan.buffer ≢ reserve_of v → st.how.leak ≤ length st.leaked.items =
     λ l due aside. not.enough l due (λ e. aside (e ∙ is)) in
     let given = given-left st st.due c.give_due.new.due c.give_due.new.stray v (g.F.AppFace.seen c.give_due.new.face) c.give_due.result refl step enough
-        c.requires.working
+    c.requires.working
     c.requires.common in
     rw not.same (record {
       working = given.0.working;

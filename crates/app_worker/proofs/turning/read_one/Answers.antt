@@ -92,7 +92,7 @@ returns-then-eq-clause-reads g c =
     let all : st.how.quit ≡ Some c.saturating_add-st.result = search rules in
     let exact : Gained (g.T.Shelf.kept c.args.shelf.now own.number) (g.T.Shelf.kept c.read_loan-result.new.shelf own.number)
     (λ (read : List ℕ). IsReadOf (g.F.AppFace.seen c.args.face.now).taken (g.F.AppFace.seen c.read_loan-result.new.face).reads c.in-Some.lending most most
-        read) = search rules in
+    read) = search rules in
     rw (items, capacity) (oldest-quit st i own p (drop 1 st.unread) (g.F.AppFace.seen c.args.face.now)
     (g.F.AppFace.seen c.read_loan-result.new.face) unread c.requires.due c.requires.pushed within value
     (sym number) c.read_loan-result.ensures.only c.requires.working c.requires.common c.requires.reaped
@@ -132,7 +132,7 @@ returns-clause-reads g c =
     let whole : most ≡ c.in-Some.lending.loan.len = not.1 in
     let exact : Gained (g.T.Shelf.kept c.args.shelf.now own.number) (g.T.Shelf.kept c.read_loan-result.new.shelf own.number)
     (λ (read : List ℕ). IsReadOf (g.F.AppFace.seen c.args.face.now).taken (g.F.AppFace.seen c.read_loan-result.new.face).reads c.in-Some.lending most most
-        read) = search rules in
+    read) = search rules in
     rw (items, capacity) (oldest-read st i own p (drop 1 st.unread) (g.F.AppFace.seen c.args.face.now)
     (g.F.AppFace.seen c.read_loan-result.new.face) unread c.requires.due c.requires.pushed within value
     (sym number) c.read_loan-result.ensures.only c.requires.working c.requires.common c.requires.reaped
@@ -143,5 +143,5 @@ returns-clause-reads g c =
     (subst (Quits st.how.quit c.saturating_add-st.result) (sym c.requires.working.going) not.0)
     (subst (λ (n : ℕ). Gained (g.T.Shelf.kept c.args.shelf.now own.number) (g.T.Shelf.kept c.read_loan-result.new.shelf own.number)
     (λ (read : List ℕ). IsReadOf (g.F.AppFace.seen c.args.face.now).taken (g.F.AppFace.seen c.read_loan-result.new.face).reads c.in-Some.lending n n read))
-        whole exact)
+    whole exact)
     c.read_loan-result.ensures.others)

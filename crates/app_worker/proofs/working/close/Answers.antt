@@ -41,11 +41,11 @@ returns-then-leave-clause-turns g c =
     let f : ℕ = g.T.Shelf.faults c.args.shelf.now in
     let f2 : ℕ = g.T.Shelf.faults c.drain.new.shelf in
     let then = drained 0 a b u v k m f f2 c.drain.result c.in_default.not-InUse c.in_default.not-Quit c.in_default.not-Failed c.requires.due c.requires.pushed
-        c.requires.working c.requires.common
+    c.requires.working c.requires.common
     c.requires.reaped c.drain.ensures.reads in
     turns-finished a e u w (g.F.AppFace.seen c.leave.new.face) k m f f2
     (out-of a b e u v w k m c.requires.ended c.requires.working.going c.requires.working.live c.requires.here then.0 then.2 then.1 c.let_go.ensures.done)
-        (search rules)
+    (search rules)
 
 pub returns-else-leave-clause-turns : goal.returns-else-leave-clause-turns
 returns-else-leave-clause-turns g c =
@@ -60,7 +60,7 @@ returns-else-leave-clause-turns g c =
     let f : ℕ = g.T.Shelf.faults c.args.shelf.now in
     let f2 : ℕ = g.T.Shelf.faults c.drain.new.shelf in
     let then = drained 0 a b u v k m f f2 c.drain.result c.in_default.not-InUse c.in_default.not-Quit c.in_default.not-Failed c.requires.due c.requires.pushed
-        c.requires.working c.requires.common
+    c.requires.working c.requires.common
     c.requires.reaped c.drain.ensures.reads in
     turns-not-quiet a e u w (g.F.AppFace.seen c.leave.new.face) k m f f2
     (out-of a b e u v w k m c.requires.ended c.requires.working.going c.requires.working.live c.requires.here then.0 then.2 then.1 c.let_go.ensures.done)
