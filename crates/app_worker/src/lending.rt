@@ -1,5 +1,6 @@
 //! What is next in a stream is lent and posted: a piece that lies in the area, or a copy of bytes that came with their note.
-ghost use Rattle.std.specs.Prelude.{◌≡◌, ◌≢◌, true, false, ℕ, ◌+◌, ◌<◌, ◌≤◌, [], ◌∷◌, ◌++◌, length, ◌||◌, ◌==◌, ◌⊎◌};
+ghost use Rattle.std.specs.Prelude.{◌≡◌, ◌≢◌, true, false, ℕ, ◌+◌, ◌<◌};
+ghost use Rattle.std.specs.Prelude.{◌≤◌, [], ◌∷◌, ◌++◌, length, ◌||◌, ◌==◌, ◌⊎◌};
 ghost use Rattle.completion_ring.specs.Ring.{ring};
 ghost use Rattle.tcp_reorder.specs.Values.{AreSized};
 ghost use Rattle.board_face.specs.AppCalls.{IsHere, HasPlace};

@@ -1,5 +1,6 @@
 //! A loan is read, and what was read is appended; and a loan is given back.
-ghost use Rattle.std.specs.Prelude.{◌≡◌, false, ◌≢◌, ℕ, ◌+◌, ◌-◌, ◌^◌, ◌<◌, ◌≤◌, List, length, IfSome, OnOk, OnErr, MatchBool, Some, ◌⊎◌};
+ghost use Rattle.std.specs.Prelude.{◌≡◌, false, ◌≢◌, ℕ, ◌+◌, ◌-◌, ◌^◌, ◌<◌};
+ghost use Rattle.std.specs.Prelude.{◌≤◌, List, length, IfSome, OnOk, OnErr, MatchBool, Some, ◌⊎◌};
 ghost use Rattle.area_layout.specs.Layout.{judged};
 ghost use Rattle.std.specs.Io.KnownBytes.{Keeps};
 ghost use Rattle.zr_io.specs.Moved.{Gained, Rose};

@@ -1,5 +1,6 @@
 //! The core of a turn: what waits in the queues, pieces into queues, lending.
-ghost use Rattle.std.specs.Prelude.{◌≡◌, true, false, ℕ, ◌+◌, ◌-◌, ◌^◌, ◌<◌, ◌≤◌, length, IfSome, OnOk, List, [], Some, slice_get};
+ghost use Rattle.std.specs.Prelude.{◌≡◌, true, false, ℕ, ◌+◌, ◌-◌, ◌^◌, ◌<◌};
+ghost use Rattle.std.specs.Prelude.{◌≤◌, length, IfSome, OnOk, List, [], Some, slice_get};
 ghost use Rattle.zr_kinds.specs.CopyingReceiver.{Placed};
 ghost use Rattle.tcp_reorder.specs.Values.{Holds};
 ghost use Rattle.board_face.specs.AppCalls.{IsHere};
