@@ -1,5 +1,5 @@
 -- The application of a board that was just opened for one.
-use Rattle.std.proofs.Common.{◌≡◌, ℕ, false, [], ◌∷◌, refl, sym, ap, nat_eq}
+use Rattle.std.proofs.Common.{◌≡◌, ℕ, [], ◌∷◌, refl, sym, ap, nat_eq}
 use Rattle.std.specs.List.{IsDistinct}
 use Rattle.area_layout.specs.Layout.{Shape}
 use Rattle.board_face.specs.AppCalls.{IsHere}
