@@ -13,12 +13,12 @@ use Rattle.board_face.specs.declared.views.app.AppView.{AppView}
 use Rattle.app_worker.specs.declared.stack.Lending.{Lending}
 use Rattle.app_worker.specs.declared.stack.FlowQueue.{FlowQueue}
 use Rattle.app_worker.specs.Core.{total, many, Each, over_due, over_read, read_out, short_bytes, lent_piece, own_notes, BeginAt, received_notes}
-use Rattle.app_worker.specs.Core.{AreReadAt, most_at_once, is_copy}
+use Rattle.app_worker.specs.Core.{AreReadAt, most_at_once, is_copy, IsIn}
 use Rattle.app_worker.proofs.Indexing.{by-place}
 use Rattle.app_worker.specs.State.{State, IsIndex, place_in, Common, FlowEnds, capped, held_len, taken_len, unsplit_len, due_one, app_steps, one_if, read_of}
-use Rattle.app_worker.specs.Shelves.{IsShelved, AreShelved, ReadsFront, IsFrontShelved, AreFronts}
+use Rattle.app_worker.specs.Shelves.{IsShelved, AreShelved, AreOfOneLoan, ReadsFront, IsFrontShelved, AreFronts}
 use Rattle.std.proofs.Math.Nat.{mul-le-mul_left}
-use Rattle.std.proofs.Common.{◌*◌}
+use Rattle.std.proofs.Common.{◌*◌, ◌-◌}
 use Rattle.board_face.specs.declared.views.app.WrittenEntry.{WrittenEntry}
 use Rattle.app_worker.proofs.Moving.{strays-same, names-same}
 use Rattle.app_worker.proofs.Accounts.{sound-gone}
@@ -28,7 +28,7 @@ use Rattle.app_worker.specs.Whole.{Torn}
 use Rattle.app_worker.specs.Letting.{FlowFacts, facts_of, Abandons, LetGo}
 use Rattle.circular_buffer.specs.Buffer.{buffer}
 use Rattle.app_worker.proofs.Measure.{read-one, read-parts, due-most}
-use Rattle.app_worker.proofs.Tokens.{total-append}
+use Rattle.app_worker.proofs.Tokens.{total-append, in-right, in-total, is_that_loan, that-loan, is-lent-there}
 use Rattle.app_worker.proofs.Moving.{total-one, looks-same, due-is}
 use Rattle.app_worker.proofs.LetGone.{total-none, each-facts, total-facts}
 
@@ -86,34 +86,65 @@ shelves-facts first kept flows now old new facts taken reads shelved = record {
   others = λ n none. shelved.others n (sym (total-facts (λ x. if x.number == n then 1 else 0) flows now facts) ∙ none);
 }
 
+-- each loan is still one of those that went
+still-lent : (old new : AppView) → ((f : LentPiece → ℕ) → total f new.returned ≡ total f old.returned + total f old.loans) → (x : LentPiece)
+    → IsIn x (old.loans ++ old.returned) → IsIn x (new.loans ++ new.returned)
+still-lent old new back x there = in-right x new.loans new.returned (is-lent-there x new.returned (omega (
+  arith,
+  back (is_that_loan x),
+  total-append (is_that_loan x) old.loans old.returned,
+  in-total (is_that_loan x) x (old.loans ++ old.returned) there,
+  that-loan x,
+)))
+
 -- the same of a shelf that failed
-front-facts : (taken : List TakenNote) (reads : List Reading) (f g : FlowQueue) → facts_of g ≡ facts_of f → (bytes : List ℕ)
-    → ReadsFront taken reads f bytes → ReadsFront taken reads g bytes
-front-facts taken reads f g same bytes front =
+front-facts : (taken : List TakenNote) (reads : List Reading) (lent later : List LentPiece) → ((x : LentPiece) → IsIn x lent → IsIn x later)
+    → (f g : FlowQueue) → facts_of g ≡ facts_of f → (bytes : List ℕ) → ReadsFront taken reads lent f bytes → ReadsFront taken reads later g bytes
+front-facts taken reads lent later stay f g same bytes front =
     let P : FlowFacts → Type 0 = λ x. (x.bytes ≤ front.count)
     × (front.count ≤ x.bytes + most_at_once)
+    × (x.bytes < front.count → AreOfOneLoan taken later
+    (values_from (received_notes x.base nothing_placed (own_notes x.number taken)).at (front.count - x.bytes) x.bytes))
     × ((p : ℕ) → p < front.count → IsSome ((received_notes x.base nothing_placed (own_notes x.number taken)).at p))
     × AreReadAt taken reads (values_from (received_notes x.base nothing_placed (own_notes x.number taken)).at front.count 0) bytes in
-    let moved : P (facts_of g) = subst P (sym same) (front.at_least, front.at_once, front.below, front.are) in
-    record { count = front.count; at_least = moved.0; at_once = moved.1; below = moved.2; are = moved.3 }
+    let moved : P (facts_of g) = subst P (sym same) (
+      front.at_least,
+      front.at_once,
+      λ more. (let of = front.beyond more in record {
+        lending = of.lending;
+        known = of.known;
+        out = stay (lent_piece taken of.lending) of.out;
+        from = of.from;
+        within = of.within;
+        are = of.are;
+      }),
+      front.below,
+      front.are,
+    ) in
+    record { count = front.count; at_least = moved.0; at_once = moved.1; beyond = moved.2; below = moved.3; are = moved.4 }
 
-fronts-facts : (first kept : ℕ → Option (List ℕ)) (taken : List TakenNote) (reads : List Reading) (f g : FlowQueue) → facts_of g ≡ facts_of f
-    → IsFrontShelved first kept taken reads f → IsFrontShelved first kept taken reads g
-fronts-facts first kept taken reads f g same shelved =
+fronts-facts : (first kept : ℕ → Option (List ℕ)) (taken : List TakenNote) (reads : List Reading) (lent later : List LentPiece)
+    → ((x : LentPiece) → IsIn x lent → IsIn x later) → (f g : FlowQueue) → facts_of g ≡ facts_of f
+    → IsFrontShelved first kept taken reads lent f → IsFrontShelved first kept taken reads later g
+fronts-facts first kept taken reads lent later stay f g same shelved =
     let number : f.number ≡ g.number = ap (λ (x : FlowFacts). x.number) (sym same) in
     record {
-      gained = subst (λ n. Gained (first n) (kept n) (ReadsFront taken reads g)) number
-          (Gained-weaker (first f.number) (kept f.number) (ReadsFront taken reads f) (ReadsFront taken reads g)
-          (front-facts taken reads f g same) shelved.gained);
+      gained = subst (λ n. Gained (first n) (kept n) (ReadsFront taken reads later g)) number
+          (Gained-weaker (first f.number) (kept f.number) (ReadsFront taken reads lent f) (ReadsFront taken reads later g)
+          (front-facts taken reads lent later stay f g same) shelved.gained);
     }
 
 pub all-fronts-facts : (first kept : ℕ → Option (List ℕ)) (flows now : List FlowQueue) (old new : AppView) → map facts_of now ≡ map facts_of flows
-    → new.taken ≡ old.taken → new.reads ≡ old.reads → AreFronts first kept flows old → AreFronts first kept now new
-all-fronts-facts first kept flows now old new facts taken reads shelved = record {
-  flows = subst (λ ts. Each (IsFrontShelved first kept ts new.reads) now) (sym taken)
-      (subst (λ rs. Each (IsFrontShelved first kept old.taken rs) now) (sym reads)
-      (each-facts (IsFrontShelved first kept old.taken old.reads) (IsFrontShelved first kept old.taken old.reads)
-      (fronts-facts first kept old.taken old.reads) flows now facts shelved.flows));
+    → new.taken ≡ old.taken → new.reads ≡ old.reads
+    → ((f : LentPiece → ℕ) → total f new.returned ≡ total f old.returned + total f old.loans)
+    → AreFronts first kept flows old → AreFronts first kept now new
+all-fronts-facts first kept flows now old new facts taken reads back shelved = record {
+  flows = subst (λ ts. Each (IsFrontShelved first kept ts new.reads (new.loans ++ new.returned)) now) (sym taken)
+      (subst (λ rs. Each (IsFrontShelved first kept old.taken rs (new.loans ++ new.returned)) now) (sym reads)
+      (each-facts (IsFrontShelved first kept old.taken old.reads (old.loans ++ old.returned))
+      (IsFrontShelved first kept old.taken old.reads (new.loans ++ new.returned))
+      (fronts-facts first kept old.taken old.reads (old.loans ++ old.returned) (new.loans ++ new.returned) (still-lent old new back)) flows now facts
+      shelved.flows));
   torn = shelved.torn;
   exact = subst (λ ts. Each (IsExact ts new.reads) now) (sym taken) (subst (λ rs. Each (IsExact old.taken rs) now) (sym reads)
       (each-facts (IsExact old.taken old.reads) (IsExact old.taken old.reads)
@@ -285,7 +316,7 @@ gone-all was now old v1 v2 v3 new reaped not_yet pushed torn common first second
       };
       steps = steps;
       shelved = λ begin kept shelved. shelves-facts begin kept was.flows now old new facts taken reads shelved;
-      fronts = λ begin kept shelved. all-fronts-facts begin kept was.flows now old new facts taken reads shelved;
+      fronts = λ begin kept shelved. all-fronts-facts begin kept was.flows now old new facts taken reads back shelved;
       none_left = pushed;
       taken = taken;
       left = left;

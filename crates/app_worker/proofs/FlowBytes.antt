@@ -1,20 +1,28 @@
--- How many bytes of a flow were appended, by its place.
-use Rattle.std.proofs.Common.{◌≡◌, ◌≢◌, ℕ, zero, suc, ◌<◌, ◌≤◌, List, [], ◌∷◌, length, get_or, refl, arith, eq-eqb}
+-- How many bytes of a flow were appended.
+use Rattle.std.proofs.Common.{◌≡◌, ◌≢◌, ℕ, zero, suc, ◌<◌, ◌≤◌, List, [], ◌∷◌, length, get_or, refl, arith, eq-eqb, Option}
+use Rattle.std.proofs.Common.{ap, subst, ◌∙◌, ⊎_elim}
+use Rattle.std.proofs.lemmas.Bool.{cases_eq}
+use Rattle.std.specs.Io.KnownBytes.{Keeps}
+use Rattle.zr_io.specs.Moved.{Gained}
+use Rattle.zr_io.proofs.Moved.{Gained-weaker}
+use Rattle.zr_kinds.specs.CopyingReceiver.{values_from}
+use Rattle.board_face.specs.declared.views.app.Reading.{Reading}
+use Rattle.board_face.specs.declared.views.app.TakenNote.{TakenNote}
+use Rattle.app_worker.specs.Marks.{Mark}
+use Rattle.app_worker.specs.Shelves.{IsShelved, AreShelved}
+use Rattle.app_worker.specs.Streams.{HasCounted}
+use Rattle.app_worker.proofs.Placing.{values-length}
+use Rattle.app_worker.proofs.Noting.{gained-nothing}
+use Rattle.app_worker.proofs.NoteTaken.{all-end}
 use Rattle.std.specs.Prelude.{◌==◌, false, true}
 use Rattle.board_face.proofs.ListLemmas.{not-eqb}
 use Rattle.board_face.specs.declared.views.app.AppView.{AppView}
 use Rattle.app_worker.specs.declared.stack.FlowQueue.{FlowQueue}
-use Rattle.app_worker.specs.Core.{many}
-use Rattle.app_worker.specs.State.{State, IsIndex, AppStands, Bare, Working}
+use Rattle.app_worker.specs.Core.{many, Each, AreReadAt, placed_of}
+use Rattle.app_worker.specs.State.{State, AppStands, Bare, Working, FlowEnds, bytes_of}
 use Rattle.app_worker.specs.Kept.{flow_bytes}
 use Rattle.app_worker.proofs.Standing.{number-is, number-not}
 use Rattle.app_worker.proofs.StreamLemmas.{by-mode}
-
--- between two turns the index tells the place of each flow, of which there is one at most
-pub stands-index : (st : State) (v : AppView) → AppStands st v → IsIndex st.index st.flows × ((number : ℕ) → many number st.flows ≤ 1)
-stands-index st v stands = by-mode st.bare (Bare st v) (Working st v) (IsIndex st.index st.flows × ((number : ℕ) → many number st.flows ≤ 1)) stands.mode
-    (λ _ bare. (bare.index, bare.distinct))
-    (λ _ works. (works.index, works.stands.distinct))
 
 -- a flow that is there is counted
 some-number : (number i : ℕ) (flows : List FlowQueue) (d : FlowQueue) → i < length flows → (get_or flows i d).number ≡ number
@@ -39,3 +47,61 @@ bytes-none number (f ∷ fs) none =
     let other : f.number ≢ number = number-not number f (omega (arith, none)) in
     let no : (f.number == number) ≡ false = not-eqb f.number number other in
     rw no (bytes-none number fs (omega (arith, none)))
+
+-- where a flow is there once at most, these are all
+sum-none : (number : ℕ) (flows : List FlowQueue) → many number flows ≡ 0 → bytes_of number flows ≡ 0
+sum-none number [] none = refl
+sum-none number (f ∷ fs) none =
+    let other : f.number ≢ number = number-not number f (omega (arith, none)) in
+    let no : (f.number == number) ≡ false = not-eqb f.number number other in
+    rw no (omega (arith, sum-none number fs (omega (arith, none))))
+
+pub bytes-sum : (number : ℕ) (flows : List FlowQueue) → many number flows ≤ 1 → flow_bytes number flows ≡ bytes_of number flows
+bytes-sum number [] one = refl
+bytes-sum number (f ∷ fs) one = ⊎_elim
+    (λ (here : f.number ≡ number).
+    let yes : (f.number == number) ≡ true = eq-eqb f.number number here in
+    let none : bytes_of number fs ≡ 0 = sum-none number fs (omega (arith, one, number-is number f here)) in
+    rw yes (omega (arith, none)))
+    (λ (other : f.number ≢ number).
+    let no : (f.number == number) ≡ false = not-eqb f.number number other in
+    rw no (omega (arith, bytes-sum number fs (omega (arith, one)))))
+    (cases_eq f.number number)
+
+-- ---- what the shelf has
+
+read-length : (taken : List TakenNote) (reads : List Reading) (marks : List Mark) (bytes : List ℕ) → AreReadAt taken reads marks bytes
+    → length bytes ≡ length marks
+read-length taken reads [] [] are = refl
+read-length taken reads (m ∷ ms) (b ∷ bs) are = ap suc (read-length taken reads ms bs are.1)
+read-length taken reads [] (b ∷ bs) are = absurd are
+read-length taken reads (m ∷ ms) [] are = absurd are
+
+-- of one flow there are as many bytes as are counted
+shelved-count : (first kept : ℕ → Option (List ℕ)) (v : AppView) (f : FlowQueue) → FlowEnds v.taken f → IsShelved first kept v.taken v.reads f
+    → Gained (first f.number) (kept f.number) (λ bytes. length bytes ≡ f.bytes)
+shelved-count first kept v f ends shelved = Gained-weaker (first f.number) (kept f.number)
+    (λ bytes. AreReadAt v.taken v.reads (values_from (placed_of f v.taken).at f.bytes 0) bytes) (λ bytes. length bytes ≡ f.bytes)
+    (λ bytes are. read-length v.taken v.reads (values_from (placed_of f v.taken).at f.bytes 0) bytes are
+    ∙ values-length (placed_of f v.taken).at f.bytes 0 (λ q from until. ends.below q (omega (arith, until)))) shelved.gained
+
+counts-of : (first kept : ℕ → Option (List ℕ)) (v : AppView) (number : ℕ) (flows : List FlowQueue) → Each (FlowEnds v.taken) flows
+    → Each (IsShelved first kept v.taken v.reads) flows → (many number flows ≡ 0 → Keeps (first number) (kept number))
+    → Gained (first number) (kept number) (λ bytes. length bytes ≡ flow_bytes number flows)
+counts-of first kept v number [] ends shelved others = gained-nothing (first number) (kept number) (λ bytes. length bytes ≡ 0) refl (others refl)
+counts-of first kept v number (f ∷ fs) ends shelved others = ⊎_elim
+    (λ (here : f.number ≡ number).
+    let yes : (f.number == number) ≡ true = eq-eqb f.number number here in
+    rw yes (subst (λ n. Gained (first n) (kept n) (λ bytes. length bytes ≡ f.bytes)) here (shelved-count first kept v f ends.0 shelved.0)))
+    (λ (other : f.number ≢ number).
+    let no : (f.number == number) ≡ false = not-eqb f.number number other in
+    rw no
+    (counts-of first kept v number fs ends.1 shelved.1 (λ none. others (rw no (omega (arith, none))))))
+    (cases_eq f.number number)
+
+pub stands-counted : (first kept : ℕ → Option (List ℕ)) (st : State) (v : AppView) → AppStands st v → AreShelved first kept st.flows v
+    → HasCounted first kept st.flows
+stands-counted first kept st v stands shelved flow = by-mode st.bare (Bare st v) (Working st v)
+    (Gained (first flow) (kept flow) (λ bytes. length bytes ≡ flow_bytes flow st.flows)) stands.mode
+    (λ _ bare. counts-of first kept v flow st.flows bare.flows shelved.flows (shelved.others flow))
+    (λ _ works. counts-of first kept v flow st.flows (all-end st v works) shelved.flows (shelved.others flow))

@@ -1,5 +1,5 @@
 -- A note is taken: what that does to the flows, and to all that is kept.
-use Rattle.std.proofs.Common.{◌≡◌, ◌≢◌, ℕ, ◌+◌, ◌<◌, ◌≤◌, false, List, [], ◌∷◌, ◌++◌, Option, Some, None, IsSome, length}
+use Rattle.std.proofs.Common.{◌≡◌, ◌≢◌, ℕ, ◌+◌, ◌-◌, ◌<◌, ◌≤◌, false, List, [], ◌∷◌, ◌++◌, Option, Some, None, IsSome, length}
 use Rattle.std.proofs.Common.{set, get_or, refl, sym, ap, subst, ◌∙◌, arith, ⊎_elim, inl, inr, length-append, append-nil}
 use Rattle.std.specs.Prelude.{◌==◌, Bool, true, if◌then◌else◌}
 use Rattle.std.specs.Io.KnownBytes.{Keeps}
@@ -12,16 +12,19 @@ use Rattle.zr_io.proofs.Moved.{Gained-weaker}
 use Rattle.tcp_reorder.specs.Queue.{Queue}
 use Rattle.board_face.specs.declared.views.app.Reading.{Reading}
 use Rattle.board_face.specs.declared.views.app.TakenNote.{TakenNote}
+use Rattle.board_face.specs.declared.views.app.LentPiece.{LentPiece}
 use Rattle.board_face.specs.declared.views.app.AppView.{AppView}
 use Rattle.app_worker.specs.declared.stack.Waiting.{Waiting}
 use Rattle.app_worker.specs.declared.stack.FlowQueue.{FlowQueue}
 use Rattle.app_worker.specs.Marks.{Mark, Numbered}
 use Rattle.app_worker.specs.Core.{total, is_copy, Each, many, short_bytes, own_notes, BeginAt, placed_of, received_note, received_notes, AreReadAt}
+use Rattle.app_worker.specs.Core.{IsIn}
 use Rattle.app_worker.specs.State.{State, Common, FlowEnds, capped, held_len, taken_len, unsplit_len, bytes_if, bytes_of, due_one, app_steps, one_if}
-use Rattle.app_worker.specs.Shelves.{IsShelved, AreShelved, ReadsFront, IsFrontShelved, AreFronts}
+use Rattle.app_worker.specs.Shelves.{IsShelved, AreShelved, AreOfOneLoan, ReadsFront, IsFrontShelved, AreFronts}
 use Rattle.app_worker.specs.Moves.{Moves}
 use Rattle.app_worker.specs.Whole.{fresh_flow, IsChosen}
 use Rattle.app_worker.proofs.Tokens.{total-append}
+use Rattle.app_worker.proofs.Standing2.{lent-still}
 use Rattle.app_worker.proofs.Placing.{own-notes-other, own-notes-here, next_note, received-push, begin-push, values-stay, some_of, still-there}
 use Rattle.app_worker.proofs.Standing.{At, split-at, each-map, each-join, each-left, each-right, is_number, number-is, total-changed, many-same}
 use Rattle.app_worker.proofs.Took.{get-last, set-last}
@@ -85,9 +88,9 @@ module _ (taken : List TakenNote) (t : TakenNote) (f : FlowQueue) (q : Queue Wai
       }
 
   -- the same of so many first marks
-  front-note : (reads : List Reading) (bytes : List ℕ) → ReadsFront taken reads f bytes
-      → ReadsFront (taken ++ t ∷ []) reads (record f { queue = q }) bytes
-  front-note reads bytes front =
+  front-note : (reads : List Reading) (lent : List LentPiece) (bytes : List ℕ) → ReadsFront taken reads lent f bytes
+      → ReadsFront (taken ++ t ∷ []) reads lent (record f { queue = q }) bytes
+  front-note reads lent bytes front =
       let stay : values_from (placed_of (record f { queue = q }) (taken ++ t ∷ [])).at front.count 0
       ≡ values_from (placed_of f taken).at front.count 0 = ⊎_elim
       (λ (is : t.note.flow ≡ f.number). ap (λ (p : Placed Mark). values_from p.at front.count 0) (placed-here is)
@@ -98,6 +101,23 @@ module _ (taken : List TakenNote) (t : TakenNote) (f : FlowQueue) (q : Queue Wai
         count = front.count;
         at_least = front.at_least;
         at_once = front.at_once;
+        beyond = λ more.
+            let of = front.beyond more in
+            let behind : values_from (placed_of (record f { queue = q }) (taken ++ t ∷ [])).at (front.count - f.bytes) f.bytes
+            ≡ values_from (placed_of f taken).at (front.count - f.bytes) f.bytes = ⊎_elim
+            (λ (is : t.note.flow ≡ f.number). ap (λ (p : Placed Mark). values_from p.at (front.count - f.bytes) f.bytes) (placed-here is)
+            ∙ values-stay f.queue.base (placed_of f taken) (next_note taken t) (front.count - f.bytes) f.bytes
+            (λ p below. front.below p (omega (arith, below, more))))
+            (λ (other : t.note.flow ≢ f.number). ap (λ (p : Placed Mark). values_from p.at (front.count - f.bytes) f.bytes) (placed-other other))
+            (cases_eq t.note.flow f.number) in
+            subst (AreOfOneLoan (taken ++ t ∷ []) lent) (sym behind) (record {
+              lending = of.lending;
+              known = omega (arith, of.known, length-append taken (t ∷ []));
+              out = subst (λ l. IsIn l lent) (sym (lent-still taken t of.lending of.known)) of.out;
+              from = of.from;
+              within = of.within;
+              are = of.are;
+            });
         below = λ p below. ⊎_elim
             (λ (is : t.note.flow ≡ f.number). let (value, here) = some_of ((placed_of f taken).at p) (front.below p below) in
             subst (λ (pl : Placed Mark). IsSome (pl.at p)) (sym (placed-here is))
@@ -108,11 +128,11 @@ module _ (taken : List TakenNote) (t : TakenNote) (f : FlowQueue) (q : Queue Wai
             (all-noted taken t reads (values_from (placed_of f taken).at front.count 0) bytes front.are);
       }
 
-  pub fronts-note : (first kept : ℕ → Option (List ℕ)) (reads : List Reading) → IsFrontShelved first kept taken reads f
-      → IsFrontShelved first kept (taken ++ t ∷ []) reads (record f { queue = q })
-  fronts-note first kept reads shelved = record {
-    gained = Gained-weaker (first f.number) (kept f.number) (ReadsFront taken reads f)
-        (ReadsFront (taken ++ t ∷ []) reads (record f { queue = q })) (front-note reads) shelved.gained;
+  pub fronts-note : (first kept : ℕ → Option (List ℕ)) (reads : List Reading) (lent : List LentPiece) → IsFrontShelved first kept taken reads lent f
+      → IsFrontShelved first kept (taken ++ t ∷ []) reads lent (record f { queue = q })
+  fronts-note first kept reads lent shelved = record {
+    gained = Gained-weaker (first f.number) (kept f.number) (ReadsFront taken reads lent f)
+        (ReadsFront (taken ++ t ∷ []) reads lent (record f { queue = q })) (front-note reads lent) shelved.gained;
   }
 
 pub gained-nothing : (a b : Option (List ℕ)) (P : List ℕ → Type 0) → P [] → Keeps a b → Gained a b P
@@ -392,11 +412,14 @@ pub fronts-kept : (was : List FlowQueue) (old new : AppView) (t : TakenNote) →
 fronts-kept was old new t took ends first kept shelved =
     let reads : new.reads ≡ old.reads = ap (λ (v : AppView). v.reads) took.view in
     let later : new.taken ≡ old.taken ++ t ∷ [] = ap (λ (v : AppView). v.taken) took.view in
+    let lent : new.loans ++ new.returned ≡ old.loans ++ old.returned = ap (λ (v : AppView). v.loans ++ v.returned) took.view in
     record {
-      flows = subst (λ ts. Each (IsFrontShelved first kept ts new.reads) was) (sym later)
-          (subst (λ rs. Each (IsFrontShelved first kept (old.taken ++ t ∷ []) rs) was) (sym reads)
-          (each-map (IsFrontShelved first kept old.taken old.reads) (IsFrontShelved first kept (old.taken ++ t ∷ []) old.reads) was
-          (λ f _ e. fronts-note old.taken t f f.queue refl first kept old.reads e) shelved.flows));
+      flows = subst (λ ls. Each (IsFrontShelved first kept new.taken new.reads ls) was) (sym lent)
+          (subst (λ ts. Each (IsFrontShelved first kept ts new.reads (old.loans ++ old.returned)) was) (sym later)
+          (subst (λ rs. Each (IsFrontShelved first kept (old.taken ++ t ∷ []) rs (old.loans ++ old.returned)) was) (sym reads)
+          (each-map (IsFrontShelved first kept old.taken old.reads (old.loans ++ old.returned))
+          (IsFrontShelved first kept (old.taken ++ t ∷ []) old.reads (old.loans ++ old.returned)) was
+          (λ f _ e. fronts-note old.taken t f f.queue refl first kept old.reads (old.loans ++ old.returned) e) shelved.flows)));
       torn = shelved.torn;
       exact = subst (λ ts. Each (IsExact ts new.reads) was) (sym later) (subst (λ rs. Each (IsExact (old.taken ++ t ∷ []) rs) was) (sym reads)
           (each-map (λ f. FlowEnds old.taken f × IsExact old.taken old.reads f) (IsExact (old.taken ++ t ∷ []) old.reads) was

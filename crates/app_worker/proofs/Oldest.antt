@@ -12,25 +12,26 @@ use Rattle.zr_io.proofs.Moved.{Gained-weaker, Gained-then}
 use Rattle.app_worker.specs.Marks.{Mark, marks_from}
 use Rattle.board_face.specs.declared.views.parts.Setting.{Setting}
 use Rattle.board_face.specs.declared.views.app.TakenNote.{TakenNote}
+use Rattle.board_face.specs.declared.views.app.LentPiece.{LentPiece}
 use Rattle.board_face.specs.declared.views.app.AppView.{AppView}
 use Rattle.app_worker.specs.declared.stack.Lending.{Lending}
 use Rattle.app_worker.specs.declared.stack.FlowQueue.{FlowQueue}
 use Rattle.app_worker.specs.Core.{total, is_copy, Each, Stands, FlowStands, HasTokens, OnlyReads, IsReadOf, AreReadAt, placed_of, marks_of_loan, many}
-use Rattle.app_worker.specs.Core.{short_bytes}
+use Rattle.app_worker.specs.Core.{short_bytes, IsIn, lent_piece}
 use Rattle.app_worker.specs.Core.{read_out}
 use Rattle.zr_kinds.specs.declared.behaviour.Stopped.{Stopped}
 use Rattle.zr_kinds.specs.declared.behaviour.Stopped.TheVariants as stop
 use Rattle.app_worker.specs.State.{State, read_of, TellsOf, LiesOutside, Working, Common, Quits, FlowEnds, capped, held_len, taken_len, unsplit_len, due_one}
 use Rattle.app_worker.specs.State.{lent_len, loan_len, bytes_if, bytes_of, app_steps, one_if}
 use Rattle.board_face.specs.AppEvents.{reserve_of}
-use Rattle.app_worker.specs.Shelves.{IsShelved, AreShelved, ReadsFront, IsFrontShelved, AreFronts}
+use Rattle.app_worker.specs.Shelves.{IsShelved, AreShelved, AreOfOneLoan, ReadsFront, IsFrontShelved, AreFronts}
 use Rattle.app_worker.specs.Moves.{Moves, KeptSince, reserve_loans}
 use Rattle.std.proofs.lemmas.Bool.{cases_Bool}
 use Rattle.app_worker.specs.Whole.{Torn, ReadOne, ReadQuit, ReadFailed, Appended}
 use Rattle.app_worker.proofs.Standing.{At, split-at, each-right, each-changed, many-same, total-changed, parts-alike, is_number, number-is}
-use Rattle.app_worker.proofs.Standing2.{IsNext, is-next, stands-read, tokens-read, appended, own-stands}
+use Rattle.app_worker.proofs.Standing2.{IsNext, is-next, stands-read, tokens-read, appended, own-stands, oldest-out}
 use Rattle.app_worker.proofs.Shelved.{shelved-reaped, shelved-other}
-use Rattle.app_worker.proofs.Tokens.{total-append}
+use Rattle.app_worker.proofs.Tokens.{total-append, in-left}
 use Rattle.app_worker.proofs.Entering.{marks-length}
 use Rattle.app_worker.proofs.ReadLemmas.{all-grow, read-append, marks-split}
 use Rattle.app_worker.proofs.Placing.{values-split, values-length}
@@ -55,18 +56,20 @@ ends-of taken posted f b within stands = record { begun = stands.begun; below = 
 -- ---- the shelf failed
 
 -- what was appended of another flow
-front-other : (first kept now : ℕ → Option (List ℕ)) (taken : List TakenNote) (posted : List (Completion × Lending)) (old new : AppView) (f : FlowQueue)
+front-other : (first kept now : ℕ → Option (List ℕ)) (taken : List TakenNote) (posted : List (Completion × Lending)) (old new : AppView)
+    (lent : List LentPiece) (f : FlowQueue)
     → OnlyReads old new → Keeps (kept f.number) (now f.number) → FlowStands taken posted f → IsShelved first kept taken old.reads f
-    → IsFrontShelved first now taken new.reads f
-front-other first kept now taken posted old new f only keeps stands shelved =
+    → IsFrontShelved first now taken new.reads lent f
+front-other first kept now taken posted old new lent f only keeps stands shelved =
     let still : IsShelved first now taken new.reads f = shelved-other first kept now taken old new f only keeps shelved in
     record {
       gained = Gained-weaker (first f.number) (now f.number) (λ bytes. AreReadAt taken new.reads (values_from (placed_of f taken).at f.bytes 0) bytes)
-          (ReadsFront taken new.reads f)
+          (ReadsFront taken new.reads lent f)
           (λ bytes are. record {
             count = f.bytes;
             at_least = omega arith;
             at_once = omega arith;
+            beyond = λ more. absurd (omega (arith, more));
             below = λ p below. stands.holds.popped p (omega (arith, below, stands.counted));
             are = are;
           }) still.gained;
@@ -74,16 +77,16 @@ front-other first kept now taken posted old new f only keeps stands shelved =
 
 -- and of the flow whose loan was read
 front-own : (first kept now : ℕ → Option (List ℕ)) (taken : List TakenNote) (old new : AppView) (own : FlowQueue) (l : Lending) (bytes most : ℕ)
-    (ps : List (Completion × Lending)) → OnlyReads old new → own.bytes ≤ bytes → most ≤ l.loan.len
+    (ps : List (Completion × Lending)) (lent : List LentPiece) → l.note < length taken → IsIn (lent_piece taken l) lent → OnlyReads old new → own.bytes ≤ bytes → most ≤ l.loan.len
     → ((q : ℕ) → q < own.queue.popped → IsSome ((placed_of own taken).at q)) → IsNext taken own l ps
     → IsShelved first kept taken old.reads own → Gained (kept own.number) (now own.number) (IsReadOf taken new.reads l (bytes - own.bytes) most)
-    → IsFrontShelved first now taken new.reads (record own { bytes = bytes })
-front-own first kept now taken old new own l bytes most ps only more part there next shelved gained =
+    → IsFrontShelved first now taken new.reads lent (record own { bytes = bytes })
+front-own first kept now taken old new own l bytes most ps lent known out only more part there next shelved gained =
     let at : ℕ → Option Mark = (placed_of own taken).at in
     let start : 0 + own.bytes ≡ own.bytes = omega arith in
     record {
       gained = Gained-then (first own.number) (kept own.number) (now own.number) (λ xs. AreReadAt taken old.reads (values_from at own.bytes 0) xs)
-          (IsReadOf taken new.reads l (bytes - own.bytes) most) (ReadsFront taken new.reads (record own { bytes = bytes }))
+          (IsReadOf taken new.reads l (bytes - own.bytes) most) (ReadsFront taken new.reads lent (record own { bytes = bytes }))
           (λ xs ys was is.
           let k : ℕ = length ys in
           let r : ℕ = l.loan.len - k in
@@ -104,10 +107,34 @@ front-own first kept now taken old new own l bytes most ps only more part there 
           let all : values_from at (own.bytes + k) 0 ≡ values_from at own.bytes 0 ++ values_from at k own.bytes =
           values-split at own.bytes k 0 (λ q from until. there q (omega (arith, next.within)))
           ∙ ap (λ p. values_from at own.bytes 0 ++ values_from at k p) start in
+          let d : ℕ = bytes - own.bytes in
+          let m : ℕ = k - d in
+          let parts : k ≡ d + m = omega (arith, is.at_least) in
+          let counted : own.bytes + d ≡ bytes = omega (arith, more) in
+          let behind : own.bytes + k - bytes ≡ m = omega (arith, is.at_least, more) in
+          let values_parts : values_from at k own.bytes ≡ values_from at d own.bytes ++ values_from at m bytes = ap (λ n. values_from at n own.bytes) parts
+          ∙ values-split at d m own.bytes (λ q from until. there q (omega (arith, next.within, is.at_most, part, parts, until)))
+          ∙ ap (λ q. values_from at d own.bytes ++ values_from at m q) counted in
+          let marks_parts : marks_from l.note l.at k ≡ marks_from l.note l.at d ++ marks_from l.note (l.at + d) m = ap (marks_from l.note l.at) parts
+          ∙ marks-split l.note l.at d m in
+          let size_counted : length (values_from at d own.bytes) ≡ d = values-length at d own.bytes
+          (λ q from until. there q (omega (arith, next.within, is.at_most, part, parts, until))) in
+          let size_behind : length (values_from at m bytes) ≡ m = values-length at m bytes
+          (λ q from until. there q (omega (arith, next.within, is.at_most, part, parts, until, counted))) in
+          let (_, beyond) = parts-alike (marks_from l.note l.at d) (marks_from l.note (l.at + d) m) (values_from at d own.bytes) (values_from at m bytes)
+          (marks-length l.note l.at d ∙ sym size_counted) (sym marks_parts ∙ same ∙ values_parts) in
           record {
             count = own.bytes + k;
             at_least = omega (arith, is.at_least, more);
             at_once = omega (arith, is.at_once, more);
+            beyond = λ _. subst (λ n. AreOfOneLoan taken lent (values_from at n bytes)) (sym behind) (record {
+              lending = l;
+              known = known;
+              out = out;
+              from = d;
+              within = omega (arith, size_behind, parts, is.at_most, part);
+              are = sym beyond ∙ ap (marks_from l.note (l.at + d)) (sym size_behind);
+            });
             below = λ q below. there q (omega (arith, next.within, is.at_most, part));
             are = subst (λ ms. AreReadAt taken new.reads ms (xs ++ ys)) (sym all)
                 (read-append taken new.reads (values_from at own.bytes 0) (values_from at k own.bytes) xs ys grow
@@ -361,6 +388,9 @@ module _ (was : State) (i : ℕ) (own : FlowQueue) (p : Completion × Lending) (
       → AreFronts first kept_now (set was.flows i (record own { bytes = bytes })) new
   fronts-failed bytes most kept kept_now more part gained others first shelved =
       let later : FlowQueue = record own { bytes = bytes } in
+      let out : IsIn (lent_piece old.taken p.1) (new.loans ++ new.returned) = in-left (lent_piece old.taken p.1) new.loans new.returned
+      (subst (IsIn (lent_piece old.taken p.1)) (sym (ap (λ (v : AppView). v.loans) only.view))
+      (oldest-out was.notes (at.before ++ own ∷ at.after) p (ps ++ was.posted.entries) was.leaked.items old stood)) in
       let before : Each (IsShelved first kept old.taken old.reads) (at.before ++ own ∷ at.after) = subst
       (Each (IsShelved first kept old.taken old.reads)) at.is shelved.flows in
       let both : Each (λ f. FlowStands old.taken (p ∷ (ps ++ was.posted.entries)) f × IsShelved first kept old.taken old.reads f)
@@ -370,12 +400,13 @@ module _ (was : State) (i : ℕ) (own : FlowQueue) (p : Completion × Lending) (
       (p ∷ (ps ++ was.posted.entries)) was.leaked.items old stood in
       let own_shelved : IsShelved first kept old.taken old.reads own =
       (each-right (IsShelved first kept old.taken old.reads) at.before (own ∷ at.after) before).0 in
-      let flows : Each (IsFrontShelved first kept_now old.taken new.reads) (at.before ++ later ∷ at.after) =
+      let flows : Each (IsFrontShelved first kept_now old.taken new.reads (new.loans ++ new.returned)) (at.before ++ later ∷ at.after) =
       each-changed (λ f. FlowStands old.taken (p ∷ (ps ++ was.posted.entries)) f × IsShelved first kept old.taken old.reads f)
-      (IsFrontShelved first kept_now old.taken new.reads) at.before at.after own later (stood.distinct own.number) both
-      (λ f other e. front-other first kept kept_now old.taken (p ∷ (ps ++ was.posted.entries)) old new f only (others f.number other) e.0 e.1)
-      (front-own first kept kept_now old.taken old new own p.1 bytes most (ps ++ was.posted.entries) only more part own_stands.holds.popped next own_shelved
-      gained) in
+      (IsFrontShelved first kept_now old.taken new.reads (new.loans ++ new.returned)) at.before at.after own later (stood.distinct own.number) both
+      (λ f other e. front-other first kept kept_now old.taken (p ∷ (ps ++ was.posted.entries)) old new
+      (new.loans ++ new.returned) f only (others f.number other) e.0 e.1)
+      (front-own first kept kept_now old.taken old new own p.1 bytes most (ps ++ was.posted.entries) (new.loans ++ new.returned) stood.lent.0 out only more part
+      own_stands.holds.popped next own_shelved gained) in
       let exact : Each (λ f. f.number ≢ own.number → IsShelved first kept_now old.taken new.reads f) (at.before ++ later ∷ at.after) =
       each-changed (IsShelved first kept old.taken old.reads) (λ f. f.number ≢ own.number → IsShelved first kept_now old.taken new.reads f)
       at.before at.after own later (stood.distinct own.number) before
@@ -384,8 +415,8 @@ module _ (was : State) (i : ℕ) (own : FlowQueue) (p : Completion × Lending) (
         torn = own.number;
         exact = subst (λ ts. Each (λ f. f.number ≢ own.number → IsShelved first kept_now ts new.reads f) (set was.flows i later)) (sym same_taken)
             (subst (Each (λ f. f.number ≢ own.number → IsShelved first kept_now old.taken new.reads f)) (sym (at.set_is later)) exact);
-        flows = subst (λ ts. Each (IsFrontShelved first kept_now ts new.reads) (set was.flows i later)) (sym same_taken)
-            (subst (Each (IsFrontShelved first kept_now old.taken new.reads)) (sym (at.set_is later)) flows);
+        flows = subst (λ ts. Each (IsFrontShelved first kept_now ts new.reads (new.loans ++ new.returned)) (set was.flows i later)) (sym same_taken)
+            (subst (Each (IsFrontShelved first kept_now old.taken new.reads (new.loans ++ new.returned))) (sym (at.set_is later)) flows);
         others = λ n none.
             let gone : many n was.flows ≡ 0 = ap (many n) at.is ∙ sym (many-same at.before at.after own later refl n)
             ∙ sym (ap (many n) (at.set_is later)) ∙ none in

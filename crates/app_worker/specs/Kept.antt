@@ -1,12 +1,18 @@
 -- What an application's readers show.
-use Rattle.std.specs.Prelude.{◌≡◌, ℕ, ◌+◌, ◌==◌, Bool, false, if◌then◌else◌, List, [], ◌∷◌, Option, Some, None}
+use Rattle.std.specs.Prelude.{◌≡◌, ℕ, ◌+◌, ◌≤◌, ◌==◌, Bool, false, if◌then◌else◌, List, [], ◌∷◌, Option, Some, None}
 use Rattle.zr_kinds.specs.declared.behaviour.Behaviour.{Behaviour}
 use Rattle.zr_kinds.specs.declared.behaviour.Stopped.TheVariants.{No, Quit}
 use Rattle.circular_buffer.specs.Buffer.{buffer}
 use Rattle.completion_ring.specs.Ring.{ring}
 use Rattle.board_face.specs.declared.views.app.AppView.{AppView}
 use Rattle.app_worker.specs.declared.stack.FlowQueue.{FlowQueue}
-use Rattle.app_worker.specs.State.{State}
+use Rattle.app_worker.specs.Core.{many}
+use Rattle.app_worker.specs.State.{State, IsIndex}
+
+-- each flow is there once, and the index tells its place
+pub record AreFound (st : State) : Type 0 where
+  pub index : IsIndex st.index st.flows
+  pub once : (number : ℕ) → many number st.flows ≤ 1
 
 -- it is to write nothing
 abbrev pub is_nothing : Option ℕ → Bool

@@ -8,8 +8,8 @@ ghost use Rattle.app_worker.specs.declared.turn.Turn.TheVariants.{Idle, Finished
 ghost use Rattle.zr_kinds.specs.declared.behaviour.Stopped.TheVariants.{No};
 ghost use Rattle.app_worker.specs.Marks.{AreWholeFrames};
 ghost use Rattle.app_worker.specs.Shelves.{AreShelved, AreFronts};
-ghost use Rattle.app_worker.specs.Streams.{HasFronts, HasAll};
-ghost use Rattle.app_worker.specs.State.{AppStands, app_steps, furthest};
+ghost use Rattle.app_worker.specs.Streams.{HasFronts, HasAll, HasCounted};
+ghost use Rattle.app_worker.specs.State.{AppStands, app_steps, furthest, bytes_of};
 ghost use Rattle.app_worker.specs.Kept.{new_state, IsFresh, flow_bytes};
 ghost use Rattle.app_worker.specs.Moves.{reads_of, reserve_loans};
 ghost use Rattle.app_worker.specs.Turns.{Turns, look_of};
@@ -36,10 +36,13 @@ pub struct AppState {
 impl Model for AppState {
     ghost use Rattle.app_worker.specs.State.{State};
     ghost use Rattle.app_worker.specs.StateOf.{state_of};
+    ghost use Rattle.app_worker.specs.Kept.{AreFound};
 
     ghost Value = { State };
 
     ghost view = { λ s. state_of s.stack };
+
+    ghost invariant = { λ s. AreFound (state_of s.stack) };
 }
 
 impl AppState {
@@ -119,8 +122,8 @@ impl AppState {
 
     /// How many bytes of a flow the appends that went well took.
     pub fn flow_bytes(&self, flow: u32) -> u64
-        requires stands { (v : AppView) × AppStands self.now v }
-        ensures { result ≡ flow_bytes flow self.now.flows }
+        ensures value { result ≡ flow_bytes flow self.now.flows }
+        ensures sum { result ≡ bytes_of flow self.now.flows }
     {
         match find(&self.stack.index, u64::from(flow)) {
             Some(place) => self.stack.flows[place].bytes,
@@ -161,6 +164,9 @@ pub fn app_turn<F: AppFace, T: Shelf>(
     ensures failed { (first : ℕ → Option (List ℕ)) → AreWholeFrames (F.seen face.new).taken
         → AreFronts first (T.kept shelf.new) st.new.flows (F.seen face.new)
         → HasFronts first (T.kept shelf.new) (F.seen face.new) }
+    // As long as it hasn't failed, it has as many of each flow as are counted.
+    ensures counted { (first : ℕ → Option (List ℕ)) → AreShelved first (T.kept shelf.new) st.new.flows (F.seen face.new)
+        → HasCounted first (T.kept shelf.new) st.new.flows }
     // It leaves with all of them, unless it was stopped.
     ensures whole { (first : ℕ → Option (List ℕ)) → result ≡ Finished → st.new.stopped ≡ No
         → AreWholeFrames (F.seen face.new).taken

@@ -1,6 +1,4 @@
 ghost use Rattle.std.specs.Prelude.{◌≡◌, [], ◌∷◌, length, vec_len, IfOk};
-ghost use Rattle.board_face.specs.declared.views.app.AppView.{AppView};
-ghost use Rattle.app_worker.specs.State.{AppStands};
 ghost use Rattle.turn_runs.specs.Scene.{port, IsPlaying};
 
 use crate::{Scene, play};
@@ -88,7 +86,6 @@ fn capture_of(alloc: Global, frames: &[(u32, u8, &[u8])]) -> Result<Vec<u8>, Fai
 
 /// The bytes of the flows, as the application counts them.
 fn counted(alloc: Global, feed: &Feed, st: &AppState) -> Result<Vec<u64>, Fail>
-    requires { (v : AppView) × AppStands st.now v }
     ensures { IfOk result (λ bytes. vec_len bytes ≡ length feed.now.flows) }
 {
     let mut bytes = Vec::new(alloc);
@@ -156,8 +153,7 @@ fn run(
 
 /// What came of a run.
 fn told(alloc: Global, scene: Scene) -> Result<(Outcome, MemShelf), Fail>
-    requires ports { scene.feed.ports ≡ port ∷ [] }
-    requires stands { (v : AppView) × AppStands scene.st v }
+    requires { scene.feed.ports ≡ port ∷ [] }
 {
     let Scene {
         feed,

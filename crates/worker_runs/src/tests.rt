@@ -1,9 +1,7 @@
-ghost use Rattle.std.specs.Prelude.{◌≡◌, ◌≢◌, ◌≤◌, IfOk};
+ghost use Rattle.std.specs.Prelude.{◌≡◌, ◌≢◌, ◌≤◌};
 ghost use Rattle.board_face.specs.AppCalls.{IsHere};
 ghost use Rattle.plain_board.specs.Board.{side_of};
-ghost use Rattle.board_face.specs.declared.views.app.AppView.{AppView};
 ghost use Rattle.face_table.specs.CardHand.{IsCardHand};
-ghost use Rattle.app_worker.specs.State.{AppStands};
 
 use super::{card_step, turn_step};
 use app_worker::{AppState, Turn, Why};
@@ -130,7 +128,6 @@ fn run(
 ) -> Result<(AppState, MemShelf), Fail>
     requires some { 1 ≤ places }
     requires few { places ≤ 256 }
-    ensures stands { IfOk result (λ p. (v : AppView) × AppStands p.0 v) }
 {
     let layout = Layout::new(4, 1, 1024).ok_or("no layout")?;
     let board = PlainBoard::open(alloc, layout, 1, places)?;

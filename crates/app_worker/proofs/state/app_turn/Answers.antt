@@ -6,6 +6,7 @@ use Rattle.app_worker.specs.Turns.{Answers}
 use Rattle.app_worker.specs.declared.turn.Turn.TheVariants.{Finished}
 use Rattle.app_worker.proofs.StreamLemmas.{stands-fronts, stands-failed, stands-all, stands-within}
 use Rattle.app_worker.proofs.TurnLemmas.{turns-keep}
+use Rattle.app_worker.proofs.FlowBytes.{stands-counted}
 use Rattle.app_worker.proofs.Counts.{copies-few, loans-few}
 use Rattle.app_worker.proofs.state.app_turn.Goals as goal
 
@@ -16,6 +17,10 @@ returns-clause-fronts g c = λ first whole shelved. stands-fronts first (g.T.She
 pub returns-clause-failed : goal.returns-clause-failed
 returns-clause-failed g c = λ first whole shelved. stands-failed first (g.T.Shelf.kept c.turn.new.shelf) (state_of c.turn.new.st)
     (g.F.AppFace.seen c.turn.new.face) c.turn.ensures.turns.stands whole shelved
+
+pub returns-clause-counted : goal.returns-clause-counted
+returns-clause-counted g c = λ first shelved. stands-counted first (g.T.Shelf.kept c.turn.new.shelf) (state_of c.turn.new.st)
+    (g.F.AppFace.seen c.turn.new.face) c.turn.ensures.turns.stands shelved
 
 pub returns-clause-whole : goal.returns-clause-whole
 returns-clause-whole g c = λ first is going whole shelved.
