@@ -17,11 +17,11 @@ use Rattle.app_worker.specs.declared.turn.Turn.TheVariants.{Did, Idle, Finished}
 use Rattle.app_worker.specs.declared.turn.Why.TheVariants.{NoNote, NotQuiet as not_quiet}
 use Rattle.app_worker.specs.Core.{total}
 use Rattle.app_worker.specs.State.{State, Common, Bare, held_len, app_steps, one_if}
-use Rattle.app_worker.specs.Turns.{Turns}
+use Rattle.app_worker.specs.Turns.{Because, Turns}
 use Rattle.app_worker.proofs.Moving.{looks-more, same-leaked}
 use Rattle.app_worker.proofs.Seeing.{goes-none, goes-saw, common-saw}
 use Rattle.app_worker.proofs.Noting.{TookView, common-noted, steps-noted, moves-noted, ends-kept, shelves-kept, fronts-kept}
-use Rattle.app_worker.proofs.TurnLemmas.{stands-bare, as-before}
+use Rattle.app_worker.proofs.TurnLemmas.{stands-bare, as-before, idle-for}
 use Rattle.app_worker.proofs.Written.{front-same}
 use Rattle.app_worker.proofs.Closing.{IsOut, bare-saw, turns-finished}
 
@@ -59,9 +59,10 @@ module _ (st : State) (old : AppView) (bare : Bare st old) (is_bare : st.bare �
     };
     answer = omega (arith, steps-noted st old new t took st.notes st.active st.index st.flows);
     few = inr (t, ap (λ (v : AppView). v.taken) took.view);
+    idle = λ why e. absurd (cc);
+    left_over = λ live. absurd (bare-live live);
     here = λ _. ap (λ (v : AppView). v.left) took.view;
     polled = λ live. absurd (bare-live live);
-    none = λ live. absurd (bare-live live);
     cause = λ other is. absurd (other is);
     rests = λ _. record { state = refl; view = took.view ∙ held-same; kept_is = refl };
     looks = λ _ _. inl (t, ap (λ (v : AppView). v.taken) took.view);
@@ -110,10 +111,11 @@ module _ (st : State) (old : AppView) (bare : Bare st old) (is_bare : st.bare �
     stands = rw saw.event (stands-bare st _ (bare-saw st old no_note bare) (common-saw st old no_note common) reaped is_bare);
     goes = rw saw.event (goes-saw st old no_note kept);
     answer = (as-before st old new no_note saw, saw.rose);
+    idle = idle-for NoNote (λ w. (kept ≡ kept) × Because w st old) (refl, λ live. absurd (bare-live live));
+    left_over = λ live. absurd (bare-live live);
     few = inl (ap (λ (v : AppView). v.taken) saw.event);
     here = λ _. ap (λ (v : AppView). v.left) saw.event;
     polled = λ live. absurd (bare-live live);
-    none = λ live. absurd (bare-live live);
     cause = λ other is. absurd (other is);
     rests = λ _. rw saw.event (record { state = refl; view = refl; kept_is = refl });
     looks = λ _ _. inr (inl refl);
@@ -150,10 +152,11 @@ module _ (st : State) (old : AppView) (bare : Bare st old) (is_bare : st.bare �
     stands = rw saw.event (stands-bare st _ (bare-saw st old NotQuiet bare) (common-saw st old NotQuiet common) reaped is_bare);
     goes = rw saw.event (goes-saw st old NotQuiet kept);
     answer = (as-before st old new NotQuiet saw, saw.rose);
+    idle = idle-for not_quiet (λ w. (kept ≡ kept) × Because w st old) (refl, (is_bare, ended));
+    left_over = λ live. absurd (bare-live live);
     few = inl (ap (λ (v : AppView). v.taken) saw.event);
     here = λ _. ap (λ (v : AppView). v.left) saw.event;
     polled = λ live. absurd (bare-live live);
-    none = λ live. absurd (bare-live live);
     cause = λ other is. absurd (other is);
     rests = λ _. rw saw.event (record { state = refl; view = refl; kept_is = refl });
     looks = λ _ more. absurd (let over = ended in cc);

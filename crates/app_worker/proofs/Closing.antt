@@ -30,7 +30,7 @@ use Rattle.app_worker.proofs.Moving.{total-one, looks-same, same-leaked, no-writ
 use Rattle.app_worker.proofs.Seeing.{common-saw, goes-saw}
 use Rattle.app_worker.proofs.Measure.{one-most, read-one}
 use Rattle.app_worker.proofs.Through.{goes-then}
-use Rattle.app_worker.proofs.TurnLemmas.{stands-bare, no-poll, no-rest}
+use Rattle.app_worker.proofs.TurnLemmas.{stands-bare, no-poll, no-rest, bare-over}
 
 -- all of the flow was appended
 abbrev pub IsWhole : List TakenNote → FlowQueue → Type 0
@@ -208,9 +208,10 @@ turns-finished a c u w x k m f f2 out is = rw is (record {
   goes = goes-then a c c u w (left_board (scrubbed (fell_quiet w))) k m m out.goes (goes-gone c w m);
   answer = (out.here, refl, out.is_bare);
   few = inl out.taken;
+  idle = λ why e. absurd (cc);
+  left_over = bare-over c u _ out.is_bare;
   here = λ other. absurd (other refl);
   polled = no-poll a c u (left_board (scrubbed (fell_quiet w))) out.taken;
-  none = λ _ e. absurd (cc);
   cause = λ other is. absurd (other (sym out.same ∙ is));
   rests = λ bare. (let r = out.rests bare in record {
     state = r.state;
@@ -227,9 +228,10 @@ turns-not-quiet a c u w x k m f f2 out steps saw = rw saw.event (record {
   goes = goes-then a c c u w (app_saw w NotQuiet) k m m out.goes (goes-saw c w NotQuiet m);
   answer = omega (arith, steps);
   few = inl out.taken;
+  idle = λ why e. absurd (cc);
+  left_over = bare-over c u _ out.is_bare;
   here = λ _. out.left;
   polled = no-poll a c u (app_saw w NotQuiet) out.taken;
-  none = λ _ e. absurd (cc);
   cause = λ other is. absurd (other (sym out.same ∙ is));
   rests = λ bare. (let r = out.rests bare in record {
     state = r.state;

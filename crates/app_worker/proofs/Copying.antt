@@ -386,7 +386,7 @@ pub delivered-from-rest : (v w : AppView) (was now : FlowQueue) (posted after_it
 delivered-from-rest v w was now posted after_it copied copied_now flush flush_now Did kind step =
     from-rest v w was now posted after_it copied copied_now flush flush_now step
 delivered-from-rest v w was now posted after_it copied copied_now flush flush_now ReserveHeld kind step =
-    (record { event = step.0.event; rose = record { rose = step.0.rose.rose } }, step.1, step.2, step.3, step.4)
+    (record { event = step.0.event; rose = record { rose = step.0.rose.rose } }, step.1, step.2, step.3, step.4, step.5)
 delivered-from-rest v w was now posted after_it copied copied_now flush flush_now NoneInOrder kind step = absurd (other kind)
   where
     other : (NoneInOrder ≡ Did) ⊎ (NoneInOrder ≡ ReserveHeld) → ⊥

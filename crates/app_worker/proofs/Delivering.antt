@@ -1,5 +1,7 @@
 -- A piece is lent: all that is kept then.
 use Rattle.std.proofs.Common.{◌≡◌, ◌≢◌, ℕ, suc, ◌+◌, ◌-◌, ◌^◌, ◌<◌, ◌≤◌, min, Bool, true, false, List, []}
+use Rattle.std.proofs.Common.{slice_get, Some}
+use Rattle.std.proofs.lemmas.Option.{slice_get-get_or}
 use Rattle.std.proofs.Common.{◌∷◌, ◌++◌, Option, length}
 use Rattle.std.proofs.Common.{set, get_or, refl, sym, ap, subst, ◌∙◌, arith, append_assoc, length-append}
 use Rattle.zr_kinds.specs.declared.ring.Completion.{Completion}
@@ -265,6 +267,10 @@ lent-bundle was own now then old new loans copied flush more count within value 
     }
 
 -- nothing was lent
+active-own : (was : State) (own : FlowQueue) → was.active < length was.flows → own ≡ get_or was.flows was.active own
+    → slice_get was.flows was.active ≡ Some own
+active-own was own within value = slice_get-get_or was.flows was.active own within ∙ ap Some (sym value)
+
 pub none-lent : (was : State) (own now : FlowQueue) (then : Ring (Completion × Lending)) (copied : ℕ) (flush : Bool) (old new : AppView)
     (result : Delivery) → result ≢ Did → was.active < length was.flows → own ≡ get_or was.flows was.active own
     → Delivered old new own now was.posted then was.copied copied was.flush flush result → Working was old → Common was old
@@ -282,8 +288,30 @@ none-lent was own now then copied flush old new Full other within value step wor
 none-lent was own now then copied flush old new Unsettled other within value step works common =
     let at : At was.flows was.active own = split-at was.flows was.active own within value in
     let same : set was.flows was.active own ≡ was.flows = at.set_is own ∙ sym at.is in
-    rw (step.1, step.2, same, step.3, step.4) (left-saw was old new RawOnItsWay step.0 works common, (refl, step.0))
+    rw (step.1, step.2, same, step.3, step.4) (
+      left-saw was old new RawOnItsWay step.0 works common,
+      (
+        refl,
+        step.0,
+        record {
+          flow = own;
+          active = active-own was own within value;
+          next = step.5;
+        },
+      ),
+    )
 none-lent was own now then copied flush old new ReserveHeld other within value step works common =
     let at : At was.flows was.active own = split-at was.flows was.active own within value in
     let same : set was.flows was.active own ≡ was.flows = at.set_is own ∙ sym at.is in
-    rw (step.1, step.2, same, step.3, step.4) (left-no-spare was old new step.0 works common, (refl, step.0))
+    rw (step.1, step.2, same, step.3, step.4) (
+      left-no-spare was old new step.0 works common,
+      (
+        refl,
+        step.0,
+        record {
+          flow = own;
+          active = active-own was own within value;
+          next = step.5;
+        },
+      ),
+    )

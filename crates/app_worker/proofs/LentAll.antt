@@ -4,7 +4,7 @@ use Rattle.std.proofs.Common.{◌∙◌, arith, append-nil, length-append, ⊎_e
 use Rattle.completion_ring.specs.Ring.{ring}
 use Rattle.board_face.specs.AppCalls.{AppOnlySaw}
 use Rattle.board_face.specs.declared.views.app.AppView.{AppView}
-use Rattle.board_face.specs.declared.views.app.AppLook.TheVariants.{RawOnItsWay}
+use Rattle.board_face.specs.declared.views.app.AppLook.TheVariants.{RawOnItsWay, RefillInUse}
 use Rattle.app_worker.specs.declared.stack.Delivery.{Delivery}
 use Rattle.app_worker.specs.declared.stack.Delivery.TheVariants.{Did, NoneInOrder, Full, Unsettled, ReserveHeld}
 use Rattle.app_worker.specs.Core.{Each, Stands}
@@ -13,8 +13,12 @@ use Rattle.app_worker.specs.State.{State, read_of, TellsOf, LiesOutside, IsAtRes
 use Rattle.app_worker.specs.Steps.{SawNoSpare}
 use Rattle.app_worker.proofs.Standing.{each-left}
 use Rattle.app_worker.specs.Moves.{Goes, KeptSince}
-use Rattle.app_worker.specs.Whole.{Lends}
-use Rattle.app_worker.specs.Stages.{LentSome, Through, Untouched, ReadsTo, kept_of, NoneInReserve}
+use Rattle.app_worker.specs.Whole.{Lends, HasNext, HasCopyNext}
+use Rattle.app_worker.specs.Stages.{LentSome, Through, Untouched, ReadsTo, kept_of, NoneInReserve, LeavesInUse}
+use Rattle.app_worker.specs.Turns.{IsCaughtUp}
+use Rattle.board_face.specs.Looks.{AppLooksStay}
+use Rattle.std.proofs.Common.{inl, inr}
+use Rattle.app_worker.proofs.Moving.{rose-after}
 use Rattle.std.proofs.lemmas.Bool.{cases_Bool}
 use Rattle.std.specs.Prelude.{if◌then◌else◌}
 use Rattle.app_worker.specs.declared.stages.Drained.{Drained}
@@ -115,7 +119,7 @@ reap-room b c v w did end_by few lent =
 
 -- ---- nothing more is lent
 
-same-end : (b c : State) (v w : AppView) (end_by : Delivery) → end_by ≢ Did → Lends b c v w end_by → c ≡ b
+pub same-end : (b c : State) (v w : AppView) (end_by : Delivery) → end_by ≢ Did → Lends b c v w end_by → c ≡ b
 same-end b c v w Did other lends = absurd (other refl)
 same-end b c v w NoneInOrder other lends = lends.0
 same-end b c v w Full other lends = lends.0
@@ -151,16 +155,16 @@ none-at-all a b c u v w k l Unsettled reaped some other spare same lent = absurd
 none-at-all a b c u v w k l ReserveHeld reaped some other spare same lent = absurd (spare refl)
 
 pub stuck-at-once : (a b c : State) (u v w : AppView) (k l : ℕ → Option (List ℕ)) → Untouched a b u v k l → LentSome b c v w false Unsettled
-    → (c ≡ a) × (l ≡ k) × AppOnlySaw RawOnItsWay u w
+    → (c ≡ a) × (l ≡ k) × AppOnlySaw RawOnItsWay u w × HasNext a
 stuck-at-once a b c u v w k l same lent =
     let none = lent.nothing refl in
-    (none.0 ∙ same.state, same.kept_is, subst (λ x. AppOnlySaw RawOnItsWay x w) same.view none.1)
+    (none.0 ∙ same.state, same.kept_is, subst (λ x. AppOnlySaw RawOnItsWay x w) same.view none.1, subst HasNext same.state none.2)
 
 pub none-had-at-once : (a b c : State) (u v w : AppView) (k l : ℕ → Option (List ℕ)) → Untouched a b u v k l → LentSome b c v w false ReserveHeld
-    → (c ≡ a) × (l ≡ k) × SawNoSpare u w
+    → (c ≡ a) × (l ≡ k) × SawNoSpare u w × HasCopyNext a
 none-had-at-once a b c u v w k l same lent =
     let none = lent.nothing refl in
-    (none.0 ∙ same.state, same.kept_is, subst (λ x. SawNoSpare x w) same.view none.1)
+    (none.0 ∙ same.state, same.kept_is, subst (λ x. SawNoSpare x w) same.view none.1, subst HasCopyNext same.state none.2)
 
 -- ---- and enough of it is read
 
@@ -206,3 +210,25 @@ drained keep d e w x l m f f1 drain_failed free quit fail due pushed works commo
 -- nothing that is unread lies in the reserve then
 pub none-in-reserve : (st : State) (v : AppView) → Working st v → st.posted.entries ≡ [] → st.flush ≡ false → NoneInReserve st v
 none-in-reserve st v works reaped off = each-left (LiesOutside (reserve_of v)) st.unread st.posted.entries (works.outside off)
+
+-- ---- what is left over
+
+-- nothing is
+pub leaves-none : (st : State) (old new : AppView) → st.due ≡ None → st.stray.left ≡ 0 → st.flush ≡ false → LeavesInUse st old new
+leaves-none st old new due pushed off (inl (inl some)) = absurd (some due)
+leaves-none st old new due pushed off (inl (inr some)) = absurd (omega (arith, some, pushed))
+leaves-none st old new due pushed off (inr on) = absurd (cc)
+
+pub leaves-after : (st : State) (u v w : AppView) → AppLooksStay u v → LeavesInUse st v w → LeavesInUse st u w
+leaves-after st u v w first second left = rose-after RefillInUse u v w first (second left)
+
+-- nothing is to be done but what waits
+pub caught-up : (st : State) (v : AppView) → Working st v → st.due ≡ None → st.stray.left ≡ 0 → st.posted.entries ≡ [] → length st.unread ≤ st.how.hold
+    → st.flush ≡ false → IsCaughtUp st v
+caught-up st v works due pushed reaped few off = record {
+  given = due;
+  none_left = pushed;
+  posted = reaped;
+  unread = few;
+  reserve = none-in-reserve st v works reaped off;
+}

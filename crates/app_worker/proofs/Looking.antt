@@ -1,5 +1,5 @@
 -- A look for a note, and what comes of it.
-use Rattle.std.proofs.Common.{◌≡◌, ◌≢◌, ℕ, true, false, List, [], ◌∷◌, ◌++◌, Option, refl, ap, subst, ◌∙◌, arith, inr}
+use Rattle.std.proofs.Common.{◌≡◌, ◌≢◌, ℕ, true, false, List, [], ◌∷◌, ◌++◌, Option, refl, sym, ap, subst, ◌∙◌, arith, inr}
 use Rattle.zr_kinds.specs.declared.fault.Fault.TheVariants as fault
 use Rattle.zr_kinds.specs.declared.behaviour.Stopped.TheVariants as stop
 use Rattle.board_face.specs.AppCalls.{AppOnlySaw, ToldEnd}
@@ -17,12 +17,13 @@ use Rattle.app_worker.specs.State.{State, IsAtRest, Working, Common, one_if}
 use Rattle.app_worker.specs.Moves.{Moves, Goes}
 use Rattle.app_worker.specs.Whole.{TookOne, TookNone}
 use Rattle.app_worker.specs.Letting.{LetGo}
-use Rattle.app_worker.specs.Stages.{Through, HasQuit, WriteStopped, LendsAll}
+use Rattle.app_worker.specs.Stages.{Through, HasQuit, WriteStopped, LendsAll, LeavesInUse}
+use Rattle.app_worker.proofs.LentAll.{leaves-none, leaves-after}
 use Rattle.app_worker.specs.Turns.{Turns, MayPoll, Polled, turn_after}
 use Rattle.app_worker.proofs.Moving.{looks-more, same-leaked, moves-none, moves-then, no-write, quit-no-write}
 use Rattle.app_worker.proofs.Seeing.{working-saw, common-saw, goes-saw, working-rested, common-rested, goes-rested}
 use Rattle.app_worker.proofs.Through.{goes-then, through-none, bare-stopped, common-stopped}
-use Rattle.app_worker.proofs.TurnLemmas.{stands-working, stands-bare, no-look, no-rest, Begins, turns-later}
+use Rattle.app_worker.proofs.TurnLemmas.{stands-working, stands-bare, no-look, no-rest, bare-over, Begins, turns-later}
 
 -- a note may be taken at once
 pub polled-now : (was now : State) (old new : AppView) → Working was old → MayPoll was old → Moves was now old new → Polled was now old new
@@ -38,7 +39,8 @@ polled-now was now old new works may moves = record {
 
 -- ---- a note was taken
 
-module _ (a b : State) (u v : AppView) (k m : ℕ → Option (List ℕ)) (f f2 : ℕ) (works : Working a u) (may : MayPoll a u) (took : TookOne a b u v) where
+module _ (a b : State) (u v : AppView) (k m : ℕ → Option (List ℕ)) (f f2 : ℕ) (works : Working a u) (may : MayPoll a u) (off : a.flush ≡ false)
+    (took : TookOne a b u v) where
   goes-took : Goes a b u v k k
   goes-took = record {
     moves = took.moves;
@@ -47,17 +49,18 @@ module _ (a b : State) (u v : AppView) (k m : ℕ → Option (List ℕ)) (f f2 :
   }
 
   -- and then pieces were lent
-  took-through : (c : State) (w : AppView) → Through b c v w k m → Turns a c u w k m f f2 Did
-  took-through c w through =
+  took-through : (c : State) (w : AppView) → Through b c v w k m → LeavesInUse c v w → Turns a c u w k m f f2 Did
+  took-through c w through over =
       let goes : Goes a c u w k m = goes-then a b c u v w k k m goes-took through.goes in
       record {
         stands = stands-working c w through.working through.common through.reaped;
         goes = goes;
         answer = omega (arith, took.steps, through.goes.moves.steps);
         few = inr (took.note, through.taken ∙ took.taken);
+        idle = λ why e. absurd (cc);
+        left_over = λ _. leaves-after c u v w took.moves.looks over;
         here = λ _. through.left ∙ took.left;
         polled = λ _ _. polled-now a c u w works may goes.moves;
-        none = λ _ e. absurd (cc);
         cause = λ _ is. absurd (no-write c.stopped through.working.going is);
         rests = no-rest a c u w k m works.live;
         looks = no-look a c u w Did works.live;
@@ -72,9 +75,10 @@ module _ (a b : State) (u v : AppView) (k m : ℕ → Option (List ℕ)) (f f2 :
         goes = goes;
         answer = omega (arith, took.steps, quit.steps);
         few = inr (took.note, quit.taken ∙ took.taken);
+        idle = λ why e. absurd (cc);
+        left_over = bare-over c u w quit.is_bare;
         here = λ _. quit.left ∙ took.left;
         polled = λ _ _. polled-now a c u w works may goes.moves;
-        none = λ _ e. absurd (cc);
         cause = λ _ is. absurd (quit-no-write c.stopped quit.stopped is);
         rests = no-rest a c u w k m works.live;
         looks = no-look a c u w Did works.live;
@@ -89,9 +93,10 @@ module _ (a b : State) (u v : AppView) (k m : ℕ → Option (List ℕ)) (f f2 :
         goes = goes;
         answer = (works.going, stopped.stopped, stopped.rose);
         few = inr (took.note, stopped.taken ∙ took.taken);
+        idle = λ why e. absurd (cc);
+        left_over = bare-over c u w stopped.is_bare;
         here = λ _. stopped.left ∙ took.left;
         polled = λ _ _. polled-now a c u w works may goes.moves;
-        none = λ _ e. absurd (cc);
         cause = λ _ _. stopped.rose;
         rests = no-rest a c u w k m works.live;
         looks = no-look a c u w (Failed fault.Write) works.live;
@@ -119,15 +124,21 @@ module _ (a b : State) (u v : AppView) (k m : ℕ → Option (List ℕ)) (f f2 :
     left = refl;
   })
 
+  -- as nothing was left over when the note was taken
+  took-none-over : (c : State) (w : AppView) → c ≡ b → LeavesInUse c v w
+  took-none-over c w same = subst (λ s. LeavesInUse s v w) (sym same) (leaves-none b v w (ap (λ (s : State). s.due) took.same ∙ may.given)
+      (ap (λ (s : State). s.stray.left) took.same ∙ may.none_left) (ap (λ (s : State). s.flush) took.same ∙ off))
+
   pub took-did : (c : State) (w : AppView) (lent : Lent) → lent ≢ lent_failed → b.posted.entries ≡ [] → LendsAll b c v w k m f f2 lent
       → Turns a c u w k m f f2 Did
   took-did c w Nothing other reaped lends =
       let same = lends.0 in
-      took-through c w (rw (same.state, same.view, same.kept_is) (through-none b v k took.working took.common reaped))
-  took-did c w lent_some other reaped lends = took-through c w lends.0
-  took-did c w Stuck other reaped lends = took-through c w (stuck-through c w reaped lends.0 lends.1 lends.2)
+      took-through c w (rw (same.state, same.view, same.kept_is) (through-none b v k took.working took.common reaped)) (took-none-over c w same.state)
+  took-did c w lent_some other reaped lends = took-through c w lends.0 lends.2
+  took-did c w Stuck other reaped lends = took-through c w (stuck-through c w reaped lends.0 lends.1 lends.2) (took-none-over c w lends.0)
   took-did c w lent_quit other reaped lends = took-quit c w lends
   took-did c w NoSpareHad other reaped lends = took-through c w (no-spare-through c w reaped lends.0 lends.1 lends.2)
+      (took-none-over c w lends.0)
   took-did c w lent_failed other reaped lends = absurd (other refl)
 
 -- ---- no note comes any more
@@ -271,6 +282,8 @@ module _ (a b c : State) (u v w : AppView) (k : ℕ → Option (List ℕ)) (f : 
     };
     answer = (works.going, refl);
     few = inr (took.note, few-one);
+    idle = λ why e. absurd (cc);
+    left_over = bare-over (record c { stopped = stop.Memory }) u w (ap (λ (s : State). s.bare) gone.same);
     here = λ _. gone.left ∙ took.left;
     polled = λ _ _. polled-now a (record c { stopped = stop.Memory }) u w works may
         (record {
@@ -284,7 +297,6 @@ module _ (a b c : State) (u v w : AppView) (k : ℕ → Option (List ℕ)) (f : 
           leaked = moves-both.leaked;
           bytes = moves-both.bytes;
         });
-    none = λ _ e. absurd (cc);
     cause = λ _ is. absurd (cc);
     rests = no-rest a (record c { stopped = stop.Memory }) u w k k works.live;
     looks = no-look a (record c { stopped = stop.Memory }) u w (Failed fault.Memory) works.live;

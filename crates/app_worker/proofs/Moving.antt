@@ -12,7 +12,7 @@ use Rattle.board_face.specs.declared.views.app.LentPiece.{LentPiece}
 use Rattle.app_worker.specs.declared.stack.Lending.{Lending}
 use Rattle.zr_kinds.specs.declared.behaviour.Stopped.TheVariants as stop
 use Rattle.zr_kinds.specs.declared.behaviour.Stopped.{Stopped}
-use Rattle.board_face.specs.Looks.{AppLooksStay, app_looks, times, same_app_look}
+use Rattle.board_face.specs.Looks.{AppLooksStay, AppRose, app_looks, times, same_app_look}
 use Rattle.board_face.specs.declared.views.app.AppLook.{AppLook}
 use Rattle.board_face.specs.declared.views.app.AppView.{AppView}
 use Rattle.board_face.specs.declared.views.app.TakenNote.{TakenNote}
@@ -46,6 +46,13 @@ looks-more old new seen more = record {
 
 pub looks-trans : (u v w : AppView) → AppLooksStay u v → AppLooksStay v w → AppLooksStay u w
 looks-trans u v w first second = record { later = λ look. omega (arith, first.later look, second.later look) }
+
+-- what was seen in a part was seen in the whole
+pub rose-after : (look : AppLook) (u v w : AppView) → AppLooksStay u v → AppRose look v w → AppRose look u w
+rose-after look u v w first second = record { rose = omega (arith, first.later look, second.rose) }
+
+pub rose-before : (look : AppLook) (u v w : AppView) → AppRose look u v → AppLooksStay v w → AppRose look u w
+rose-before look u v w first second = record { rose = omega (arith, second.later look, first.rose) }
 
 -- ---- what is kept to the end
 

@@ -29,7 +29,8 @@ use Rattle.app_worker.specs.Whole.{GaveOne, GaveBack, GivesBack, PushesLeft}
 use Rattle.app_worker.specs.Entries.{Gives, AreBlocks}
 use Rattle.app_worker.proofs.Written.{gives-raw, blocks-raw}
 use Rattle.app_worker.proofs.Tokens.{total-append}
-use Rattle.app_worker.proofs.Moving.{looks-same, looks-more, looks-trans, kept-same, same-leaked, no-write}
+use Rattle.board_face.specs.Looks.{AppRose}
+use Rattle.app_worker.proofs.Moving.{looks-same, looks-more, looks-trans, kept-same, same-leaked, no-write, rose-after}
 use Rattle.app_worker.proofs.Seeing.{Left, left-none, left-saw}
 
 -- ---- one by one
@@ -244,8 +245,8 @@ push-left was now old new All step works common =
     let pushed = pushed-left was now old new step.0 (omega (arith, step.1, step.2)) works common in
     (pushed.0, (pushed.1, refl, step.2, step.1))
 push-left was now old new Part step works common =
-    let pushed = pushed-left was now old new step.0 step.1 works common in (pushed.0, (pushed.1, refl))
-push-left was now old new InUse step works common = rw step.1 (left-saw was old new RefillInUse step.0 works common, (refl, step.0))
+    let pushed = pushed-left was now old new step.0 step.1 works common in (pushed.0, (pushed.1, refl, step.2))
+push-left was now old new InUse step works common = rw step.1 (left-saw was old new RefillInUse step.0 works common, (refl, step.0, step.2))
 
 -- ---- a loan, and then the entries that follow it
 
@@ -286,3 +287,20 @@ gave-whole a b d e u v w x All part in_use same view some one moves pushes =
     (subst (λ y. GaveBack b e y x × (e.due ≡ None) × (e.stray.left ≡ 0)) view (gone.0, gone.1, pushes.3))
 gave-whole a b d e u v w x Part part in_use same view some one moves pushes = absurd (part refl)
 gave-whole a b d e u v w x InUse part in_use same view some one moves pushes = absurd (in_use refl)
+
+-- and then a refill slot was in use
+pub gave-part : (a b d e : State) (u v w x : AppView) (result : Pushed) → (result ≡ Part) ⊎ (result ≡ InUse) → b ≡ a → v ≡ u → b.due ≢ None
+    → GaveOne b d v w → Moves b d v w → Moves d e w x → PushesLeft d e w x result → GaveBack a e u x × AppRose RefillInUse u x
+gave-part a b d e u v w x Nothing (inl part) same view some one first moves pushes = absurd (cc)
+gave-part a b d e u v w x Nothing (inr part) same view some one first moves pushes = absurd (cc)
+gave-part a b d e u v w x All (inl part) same view some one first moves pushes = absurd (cc)
+gave-part a b d e u v w x All (inr part) same view some one first moves pushes = absurd (cc)
+gave-part a b d e u v w x Part part same view some one first moves pushes =
+    let gone = gave-then b d e v w x one some moves pushes.1 pushes.0.taken pushes.0.left in
+    subst (λ s. GaveBack s e u x × AppRose RefillInUse u x) same
+    (subst (λ y. GaveBack b e y x × AppRose RefillInUse y x) view (gone.0, rose-after RefillInUse v w x first.looks pushes.2))
+gave-part a b d e u v w x InUse part same view some one first moves pushes =
+    let gone = gave-then b d e v w x one some moves (pushes.0 ∙ ap (λ (s : State). record d { stray = s.stray }) (sym pushes.0))
+    (ap (λ (y : AppView). y.taken) pushes.1.event) (ap (λ (y : AppView). y.left) pushes.1.event) in
+    subst (λ s. GaveBack s e u x × AppRose RefillInUse u x) same
+    (subst (λ y. GaveBack b e y x × AppRose RefillInUse y x) view (gone.0, rose-after RefillInUse v w x first.looks pushes.1.rose))

@@ -5,20 +5,22 @@ use Rattle.std.specs.Prelude.{MatchBool}
 use Rattle.zr_kinds.specs.declared.fault.Fault.TheVariants as fault
 use Rattle.zr_kinds.specs.declared.behaviour.Stopped.TheVariants as stop
 use Rattle.board_face.specs.AppCalls.{AppOnlySaw}
+use Rattle.board_face.specs.Looks.{AppRose}
 use Rattle.board_face.specs.declared.views.app.AppLook.{AppLook}
+use Rattle.board_face.specs.declared.views.app.AppLook.TheVariants.{RefillInUse}
 use Rattle.board_face.specs.declared.views.app.AppView.{AppView}
 use Rattle.app_worker.specs.declared.turn.Turn.{Turn}
 use Rattle.app_worker.specs.declared.turn.Turn.TheVariants.{Did, Idle, Finished, Failed}
 use Rattle.app_worker.specs.declared.turn.Why.{Why}
-use Rattle.app_worker.specs.declared.turn.Why.TheVariants.{NoNote, ReserveHeld}
+use Rattle.app_worker.specs.declared.turn.Why.TheVariants.{ReserveHeld}
 use Rattle.app_worker.specs.State.{State, Working, Common, Bare, AppStands, app_steps}
 use Rattle.app_worker.specs.Steps.{SawNoSpare}
 use Rattle.app_worker.specs.Moves.{Goes, KeptSince, reads_of, reserve_loans}
 use Rattle.zr_io.specs.Moved.{Rose}
-use Rattle.app_worker.specs.Turns.{Answers, IsAsBefore, MayPoll, look_of, LooksForOne, Polled, Rests, Turns, TakesFew, turn_after}
+use Rattle.app_worker.specs.Turns.{Answers, Because, IsAsBefore, look_of, LooksForOne, Polled, Rests, Turns, TakesFew, turn_after}
 use Rattle.app_worker.specs.Whole.{GaveBack}
-use Rattle.app_worker.specs.Stages.{Through, HasQuit, WriteStopped, Untouched}
-use Rattle.app_worker.proofs.Moving.{moves-then, no-write, quit-no-write}
+use Rattle.app_worker.specs.Stages.{Through, HasQuit, WriteStopped, Untouched, LeavesInUse}
+use Rattle.app_worker.proofs.Moving.{moves-then, no-write, quit-no-write, rose-after}
 use Rattle.app_worker.proofs.Seeing.{Left, left-saw, left-no-spare}
 use Rattle.app_worker.proofs.Through.{goes-then}
 
@@ -46,17 +48,30 @@ pub no-look : (was now : State) (old new : AppView) (turn : Turn) → was.bare �
     → LooksForOne now old new turn
 no-look was now old new turn live is more = absurd (cc)
 
+-- one that has nothing out leaves nothing over
+pub bare-over : (now : State) (old new : AppView) → now.bare ≡ true → now.bare ≡ false → LeavesInUse now old new
+bare-over now old new is live = absurd (cc)
+
+-- an answer that does something isn't idle
+pub no-idle : (turn : Turn) (Q : Why → Type 0) → ((why : Why) → turn ≢ Idle why) → (why : Why) → turn ≡ Idle why → Q why
+no-idle turn Q busy why is = absurd (busy why is)
+
+-- this is why
+pub idle-for : (other : Why) (Q : Why → Type 0) → Q other → (why : Why) → Idle other ≡ Idle why → Q why
+idle-for other Q so why is = let e : other ≡ why = cc in subst Q e so
+
 -- it did something and took no note
 pub turns-did : (was now : State) (old new : AppView) (k m : ℕ → Option (List ℕ)) (f f2 : ℕ) → was.bare ≡ false
-    → Through was now old new k m → app_steps was old < app_steps now new → Turns was now old new k m f f2 Did
-turns-did was now old new k m f f2 live through steps = record {
+    → Through was now old new k m → app_steps was old < app_steps now new → LeavesInUse now old new → Turns was now old new k m f f2 Did
+turns-did was now old new k m f f2 live through steps over = record {
   stands = stands-working now new through.working through.common through.reaped;
   goes = through.goes;
   answer = steps;
   few = inl through.taken;
+  idle = λ why e. absurd (cc);
+  left_over = λ _. over;
   here = λ _. through.left;
   polled = no-poll was now old new through.taken;
-  none = λ _ e. absurd (cc);
   cause = λ _ is. absurd (no-write now.stopped through.working.going is);
   rests = no-rest was now old new k m live;
   looks = no-look was now old new Did live;
@@ -69,9 +84,10 @@ turns-failed was now old new k m f f2 none live stopped = record {
   goes = stopped.goes;
   answer = (none, stopped.stopped, stopped.rose);
   few = inl stopped.taken;
+  idle = λ why e. absurd (cc);
+  left_over = bare-over now old new stopped.is_bare;
   here = λ _. stopped.left;
   polled = no-poll was now old new stopped.taken;
-  none = λ _ e. absurd (cc);
   cause = λ _ _. stopped.rose;
   rests = no-rest was now old new k m live;
   looks = no-look was now old new (Failed fault.Write) live;
@@ -85,9 +101,10 @@ turns-quit was now old new k m f f2 live quit = record {
   goes = quit.goes;
   answer = quit.steps;
   few = inl quit.taken;
+  idle = λ why e. absurd (cc);
+  left_over = bare-over now old new quit.is_bare;
   here = λ _. quit.left;
   polled = no-poll was now old new quit.taken;
-  none = λ _ e. absurd (cc);
   cause = λ _ is. absurd (quit-no-write now.stopped quit.stopped is);
   rests = no-rest was now old new k m live;
   looks = no-look was now old new Did live;
@@ -103,17 +120,18 @@ as-before st v new look saw = rw saw.event (record { state = refl; view = refl }
 
 -- it did nothing but see this
 pub turns-saw : (st : State) (v new : AppView) (k : ℕ → Option (List ℕ)) (f f2 : ℕ) (why : Why) → AppOnlySaw (look_of why) v new → Working st v
-    → Common st v → st.posted.entries ≡ [] → (why ≡ NoNote → MayPoll st v) → Turns st st v new k k f f2 (Idle why)
-turns-saw st v new k f f2 why saw works common reaped may =
+    → Common st v → st.posted.entries ≡ [] → Because why st v → LeavesInUse st v new → Turns st st v new k k f f2 (Idle why)
+turns-saw st v new k f f2 why saw works common reaped because over =
     let left : Left st st v new = left-saw st v new (look_of why) saw works common in
     record {
       stands = stands-working st new left.working left.common reaped;
       goes = left.goes k;
       answer = (as-before st v new (look_of why) saw, saw.rose);
       few = inl (ap (λ (x : AppView). x.taken) saw.event);
+      idle = idle-for why (λ w. (k ≡ k) × Because w st v) (refl, because);
+      left_over = λ _. over;
       here = λ _. ap (λ (x : AppView). x.left) saw.event;
       polled = no-poll st st v new (ap (λ (x : AppView). x.taken) saw.event);
-      none = λ _ is. may (cc);
       cause = λ other is. absurd (other is);
       rests = no-rest st st v new k k works.live;
       looks = no-look st st v new (Idle why) works.live;
@@ -121,17 +139,18 @@ turns-saw st v new k f f2 why saw works common reaped may =
 
 -- or that no spare was to be had
 pub turns-no-spare : (st : State) (v new : AppView) (k : ℕ → Option (List ℕ)) (f f2 : ℕ) → SawNoSpare v new → Working st v → Common st v
-    → st.posted.entries ≡ [] → Turns st st v new k k f f2 (Idle ReserveHeld)
-turns-no-spare st v new k f f2 saw works common reaped =
+    → st.posted.entries ≡ [] → Because ReserveHeld st v → LeavesInUse st v new → Turns st st v new k k f f2 (Idle ReserveHeld)
+turns-no-spare st v new k f f2 saw works common reaped because over =
     let left : Left st st v new = left-no-spare st v new saw works common in
     record {
       stands = stands-working st new left.working left.common reaped;
       goes = left.goes k;
       answer = (as-before-rested st v new saw, saw.rose);
       few = inl (ap (λ (x : AppView). x.taken) saw.event);
+      idle = idle-for ReserveHeld (λ w. (k ≡ k) × Because w st v) (refl, because);
+      left_over = λ _. over;
       here = λ _. ap (λ (x : AppView). x.left) saw.event;
       polled = no-poll st st v new (ap (λ (x : AppView). x.taken) saw.event);
-      none = λ _ is. absurd (cc);
       cause = λ other is. absurd (other is);
       rests = no-rest st st v new k k works.live;
       looks = no-look st st v new (Idle ReserveHeld) works.live;
@@ -153,11 +172,11 @@ after-idle false (Idle other) why is = is
 after-idle did Finished why is = absurd (cc)
 after-idle did (Failed fault) why is = absurd (cc)
 
-pub after-busy : (turn : Turn) → turn_after true turn ≢ Idle NoNote
-after-busy Did = λ e. absurd (cc)
-after-busy (Idle why) = λ e. absurd (cc)
-after-busy Finished = λ e. absurd (cc)
-after-busy (Failed fault) = λ e. absurd (cc)
+pub after-busy : (turn : Turn) (why : Why) → turn_after true turn ≢ Idle why
+after-busy Did why = λ e. absurd (cc)
+after-busy (Idle other) why = λ e. absurd (cc)
+after-busy Finished why = λ e. absurd (cc)
+after-busy (Failed fault) why = λ e. absurd (cc)
 
 -- what is known of the first part
 pub record Begins (was mid : State) (old midv : AppView) (k l : ℕ → Option (List ℕ)) (f f1 : ℕ) : Type 0 where
@@ -189,9 +208,10 @@ turns-later was mid now old midv new k l m f f1 f2 turn begin turns = record {
   goes = goes-then was mid now old midv new k l m begin.goes turns.goes;
   answer = answer-after was mid now old midv new k l m f f1 f2 turn begin turns.goes turns.answer;
   few = few turns.few;
+  idle = λ why is. absurd (after-busy turn why is);
+  left_over = λ live left. rose-after RefillInUse old midv new begin.goes.moves.looks (turns.left_over live left);
   here = λ other. turns.here (λ is. other (ap (turn_after true) is)) ∙ begin.left;
   polled = λ live. polled;
-  none = λ _ is. absurd (after-busy turn is);
   cause = cause;
   rests = no-rest was now old new k m begin.live;
   looks = no-look was now old new (turn_after true turn) begin.live;
@@ -234,9 +254,10 @@ turns-earlier was now old new k m f f1 f2 turn later turns = record {
   goes = turns.goes;
   answer = answer-earlier was now old new f f1 f2 turn later turns.answer;
   few = turns.few;
+  idle = turns.idle;
+  left_over = turns.left_over;
   here = turns.here;
   polled = turns.polled;
-  none = turns.none;
   cause = λ other is. omega (arith, later, turns.cause other is);
   rests = turns.rests;
   looks = turns.looks;
@@ -292,15 +313,16 @@ begins-gave was mid old midv k f works here then goes gave = record {
 -- and a refill slot is in use before the end of it
 pub turns-gave : (was mid : State) (old midv : AppView) (k : ℕ → Option (List ℕ)) (f : ℕ) → Working was old → was.posted.entries ≡ []
     → Working mid midv
-    → Common mid midv → Goes was mid old midv k k → GaveBack was mid old midv → Turns was mid old midv k k f f Did
-turns-gave was mid old midv k f works reaped then common goes gave = record {
+    → Common mid midv → Goes was mid old midv k k → GaveBack was mid old midv → AppRose RefillInUse old midv → Turns was mid old midv k k f f Did
+turns-gave was mid old midv k f works reaped then common goes gave rose = record {
   stands = stands-working mid midv then common (ap (λ (s : State). s.posted.entries) gave.same ∙ reaped);
   goes = goes;
   answer = gave.steps;
   few = inl gave.taken;
+  idle = λ why e. absurd (cc);
+  left_over = λ _ _. rose;
   here = λ _. gave.left;
   polled = no-poll was mid old midv gave.taken;
-  none = λ _ e. absurd (cc);
   cause = λ _ is. absurd (no-write mid.stopped then.going is);
   rests = no-rest was mid old midv k k works.live;
   looks = no-look was mid old midv Did works.live;

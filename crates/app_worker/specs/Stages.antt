@@ -1,10 +1,11 @@
 -- What the stages of a turn do.
-use Rattle.std.specs.Prelude.{◌≡◌, ◌≢◌, ℕ, ◌<◌, ◌≤◌, Bool, true, false, if◌then◌else◌, List, [], length, Option, None}
+use Rattle.std.specs.Prelude.{◌≡◌, ◌≢◌, ℕ, ◌<◌, ◌≤◌, ◌⊎◌, Bool, true, false, if◌then◌else◌, List, [], length, Option, None}
 use Rattle.zr_kinds.specs.declared.behaviour.Stopped.TheVariants as stop
 use Rattle.zr_io.specs.Moved.{Rose}
 use Rattle.board_face.specs.AppCalls.{AppOnlySaw}
+use Rattle.board_face.specs.Looks.{AppRose}
 use Rattle.board_face.specs.AppEvents.{fell_quiet, scrubbed, left_board, reserve_of}
-use Rattle.board_face.specs.declared.views.app.AppLook.TheVariants.{RawOnItsWay, NotQuiet}
+use Rattle.board_face.specs.declared.views.app.AppLook.TheVariants.{RawOnItsWay, RefillInUse, NotQuiet}
 use Rattle.board_face.specs.declared.views.app.AppView.{AppView}
 use Rattle.app_worker.specs.declared.stack.Delivery.{Delivery}
 use Rattle.app_worker.specs.declared.stack.Delivery.TheVariants.{Did as lent_it}
@@ -17,7 +18,7 @@ use Rattle.app_worker.specs.Core.{Each}
 use Rattle.app_worker.specs.State.{State, IsAtRest, LiesOutside, Working, Common, Bare, app_steps}
 use Rattle.app_worker.specs.Steps.{SawNoSpare}
 use Rattle.app_worker.specs.Moves.{Goes}
-use Rattle.app_worker.specs.Whole.{Lends}
+use Rattle.app_worker.specs.Whole.{Lends, HasNext, HasCopyNext, IsDue}
 
 -- it goes on, nothing is posted, and no note was taken
 pub record Through (was now : State) (old new : AppView) (kept kept_now : ℕ → Option (List ℕ)) : Type 0 where
@@ -64,6 +65,14 @@ pub record Untouched (was now : State) (old new : AppView) (kept kept_now : ℕ 
 abbrev pub kept_of : ℕ → State → ℕ
 kept_of keep st = if st.flush then 0 else keep
 
+-- a loan is due, or entries are to follow one, or all that is unread is to be read
+abbrev pub IsLeftOver : State → Type 0
+IsLeftOver st = IsDue st ⊎ (st.flush ≡ true)
+
+-- something is left only where a refill slot was seen in use
+abbrev pub LeavesInUse : State → AppView → AppView → Type 0
+LeavesInUse now old new = IsLeftOver now → AppRose RefillInUse old new
+
 -- nothing unread lies in the reserve
 abbrev pub NoneInReserve : State → AppView → Type 0
 NoneInReserve st v = Each (LiesOutside (reserve_of v)) st.unread
@@ -75,7 +84,7 @@ ReadsTo keep was now old new kept kept_now faults faults_now read_nothing = Unto
 ReadsTo keep was now old new kept kept_now faults faults_now read_some = Through was now old new kept kept_now × (app_steps was old < app_steps now new)
     × (now.due ≡ None) × (length now.unread ≡ kept_of keep was) × (now.flush ≡ false) × (now.stray.left ≡ 0)
 ReadsTo keep was now old new kept kept_now faults faults_now InUse = Through was now old new kept kept_now × (app_steps was old < app_steps now new)
-    × (kept_of keep was ≤ length now.unread)
+    × (kept_of keep was ≤ length now.unread) × AppRose RefillInUse old new
 ReadsTo keep was now old new kept kept_now faults faults_now read_quit = HasQuit was now old new kept kept_now
 ReadsTo keep was now old new kept kept_now faults faults_now read_failed = WriteStopped was now old new kept kept_now faults faults_now
 
@@ -96,9 +105,10 @@ abbrev pub LendsAll : State → State → AppView → AppView → (ℕ → Optio
     → Type 0
 LendsAll was now old new kept kept_now faults faults_now none_in_order = Untouched was now old new kept kept_now × Each IsAtRest was.flows
 LendsAll was now old new kept kept_now faults faults_now lent_some = Through was now old new kept kept_now × (app_steps was old < app_steps now new)
-LendsAll was now old new kept kept_now faults faults_now Stuck = (now ≡ was) × (kept_now ≡ kept) × AppOnlySaw RawOnItsWay old new
+    × LeavesInUse now old new
+LendsAll was now old new kept kept_now faults faults_now Stuck = (now ≡ was) × (kept_now ≡ kept) × AppOnlySaw RawOnItsWay old new × HasNext was
 LendsAll was now old new kept kept_now faults faults_now lending_quit = HasQuit was now old new kept kept_now
-LendsAll was now old new kept kept_now faults faults_now NoSpareHad = (now ≡ was) × (kept_now ≡ kept) × SawNoSpare old new
+LendsAll was now old new kept kept_now faults faults_now NoSpareHad = (now ≡ was) × (kept_now ≡ kept) × SawNoSpare old new × HasCopyNext was
 LendsAll was now old new kept kept_now faults faults_now lending_failed = WriteStopped was now old new kept kept_now faults faults_now
 
 -- ---- leaving

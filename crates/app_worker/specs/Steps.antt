@@ -159,9 +159,9 @@ Delivered old new was now posted then copied copied_now flush flush_now NoneInOr
 Delivered old new was now posted then copied copied_now flush flush_now Full = (new ≡ old) × (now ≡ was) × (then ≡ posted) × IsFull posted
     × (copied_now ≡ copied) × (flush_now ≡ flush)
 Delivered old new was now posted then copied copied_now flush flush_now Unsettled = AppOnlySaw RawOnItsWay old new × (now ≡ was) × (then ≡ posted)
-    × (copied_now ≡ copied) × (flush_now ≡ flush)
+    × (copied_now ≡ copied) × (flush_now ≡ flush) × (was.queue.popped ≢ next_of was.queue)
 Delivered old new was now posted then copied copied_now flush flush_now ReserveHeld = SawNoSpare old new × (now ≡ was) × (then ≡ posted)
-    × (copied_now ≡ copied) × (flush_now ≡ flush)
+    × (copied_now ≡ copied) × (flush_now ≡ flush) × IsNext true was.queue
 
 -- ---- giving back
 
@@ -202,8 +202,8 @@ pub record PushedSome (old new : AppView) (was now : Stray) : Type 0 where
 abbrev pub Pushes : AppView → AppView → Stray → Stray → Pushed → Type 0
 Pushes old new was now Nothing = (new ≡ old) × (now ≡ was) × (was.left ≡ 0)
 Pushes old new was now All = PushedSome old new was now × (now.left ≡ 0) × (0 < was.left)
-Pushes old new was now Part = PushedSome old new was now × (now.left < was.left)
-Pushes old new was now InUse = AppOnlySaw RefillInUse old new × (now ≡ was)
+Pushes old new was now Part = PushedSome old new was now × (now.left < was.left) × AppRose RefillInUse old new
+Pushes old new was now InUse = AppOnlySaw RefillInUse old new × (now ≡ was) × (0 < was.left)
 
 -- ---- keeping to the end
 

@@ -16,7 +16,8 @@ use Rattle.app_worker.specs.declared.turn.Why.TheVariants.{NoNote, RefillFull, U
 use Rattle.app_worker.specs.Core.{Each}
 use Rattle.app_worker.specs.State.{State, IsAtRest, Working, AppStands, app_steps}
 use Rattle.app_worker.specs.Moves.{Moves, Goes}
-use Rattle.app_worker.specs.Stages.{NoneInReserve}
+use Rattle.app_worker.specs.Whole.{HasNext, HasCopyNext, IsDue}
+use Rattle.app_worker.specs.Stages.{NoneInReserve, LeavesInUse}
 
 -- ---- a turn that did nothing
 
@@ -43,6 +44,24 @@ pub record MayPoll (st : State) (v : AppView) : Type 0 where
   pub posted : st.posted.entries ≡ []
   pub unread : length st.unread ≤ st.how.hold
   pub reserve : NoneInReserve st v
+
+-- ---- why nothing is done
+
+-- nothing is to be given back, reaped or read
+pub record IsCaughtUp (st : State) (v : AppView) : Type 0 where
+  pub given : st.due ≡ None
+  pub none_left : st.stray.left ≡ 0
+  pub posted : st.posted.entries ≡ []
+  pub unread : length st.unread ≤ st.how.hold
+  pub reserve : NoneInReserve st v
+
+-- There is something to do that this reason keeps back, and nothing else.
+abbrev pub Because : Why → State → AppView → Type 0
+Because NoNote was old = was.bare ≡ false → MayPoll was old
+Because RefillFull was old = IsDue was
+Because Unsettled was old = IsCaughtUp was old × HasNext was
+Because ReserveHeld was old = IsCaughtUp was old × HasCopyNext was
+Because NotQuiet was old = (was.bare ≡ true) × (was.ended ≡ true)
 
 -- On its way the turn came to a state and a view in which a note may be taken, and no note was taken before.
 pub record Polled (was now : State) (old new : AppView) : Type 0 where
@@ -96,12 +115,14 @@ pub record Turns (was now : State) (old new : AppView) (kept kept_now : ℕ → 
   pub goes : Goes was now old new kept kept_now
   pub answer : Answers was now old new faults faults_now result
   pub few : TakesFew old new
+  -- where it did nothing, that was so, and the shelf has what it had
+  pub idle : (why : Why) → result ≡ Idle why → (kept_now ≡ kept) × Because why was old
+  -- a loan that was read is left due, or one in the reserve unread, only where a refill slot was seen in use
+  pub left_over : now.bare ≡ false → LeavesInUse now old new
   -- it leaves only where it says so
   pub here : result ≢ Finished → new.left ≡ old.left
   -- a note is taken only where that may be
   pub polled : was.bare ≡ false → new.taken ≢ old.taken → Polled was now old new
-  -- and so is NoNote answered
-  pub none : was.bare ≡ false → result ≡ Idle NoNote → MayPoll was old
   -- the shelf stops it only where that failed
   pub cause : was.stopped ≢ stop.Write → now.stopped ≡ stop.Write → Rose faults faults_now
   -- once it is stopped, it only takes notes

@@ -1,12 +1,14 @@
 -- What the steps of a turn do to all that an application keeps.
-use Rattle.std.specs.Prelude.{◌≡◌, ◌≢◌, ℕ, ◌+◌, ◌<◌, ◌≤◌, Bool, true, false, List, [], ◌∷◌, ◌++◌, length, slice_index_or}
-use Rattle.std.specs.Prelude.{◌⊎◌, Option, None}
+use Rattle.std.specs.Prelude.{◌≡◌, ◌≢◌, ℕ, ◌+◌, ◌<◌, ◌≤◌, Bool, true, false, List, [], ◌∷◌, ◌++◌, length, slice_get, slice_index_or}
+use Rattle.std.specs.Prelude.{◌⊎◌, Option, None, Some}
 use Rattle.std.specs.Io.KnownBytes.{Keeps}
 use Rattle.zr_kinds.specs.declared.place.Note.{Note}
 use Rattle.zr_kinds.specs.declared.behaviour.Stopped.TheVariants as stop
 use Rattle.zr_kinds.specs.CopyingReceiver.{values_from}
 use Rattle.zr_io.specs.Moved.{Gained, Rose}
 use Rattle.completion_ring.specs.Ring.{IsFull}
+use Rattle.tcp_reorder.specs.Queue.{next_of}
+use Rattle.board_face.specs.Looks.{AppRose}
 use Rattle.board_face.specs.AppCalls.{AppOnlySaw, ToldEnd}
 use Rattle.board_face.specs.declared.views.app.AppLook.TheVariants.{NoNote as no_note, RawOnItsWay, RefillInUse}
 use Rattle.board_face.specs.declared.views.app.TakenNote.{TakenNote}
@@ -26,7 +28,7 @@ use Rattle.app_worker.specs.Entries.{Gives as GivesAll}
 use Rattle.app_worker.specs.Core.{HasTokens, Each, many, AreReadAt, placed_of}
 use Rattle.app_worker.specs.State.{IsIndex, State, read_of, IsAtRest, Working, Common, FlowEnds, app_steps}
 use Rattle.app_worker.specs.Shelves.{AreShelved, AreFronts}
-use Rattle.app_worker.specs.Steps.{SawNoSpare}
+use Rattle.app_worker.specs.Steps.{IsNext, SawNoSpare}
 use Rattle.app_worker.specs.Moves.{Moves, Goes}
 
 -- what was kept of a flow went on by the bytes that were read at its next marks
@@ -57,12 +59,24 @@ pub record LentOne (was now : State) (old new : AppView) : Type 0 where
   pub taken : new.taken ≡ old.taken
   pub left : new.left ≡ old.left
 
+-- something of the active flow is in order
+pub record HasNext (st : State) : Type 0 where
+  pub flow : FlowQueue
+  pub active : slice_get st.flows st.active ≡ Some flow
+  pub next : flow.queue.popped ≢ next_of flow.queue
+
+-- and it is to be copied
+pub record HasCopyNext (st : State) : Type 0 where
+  pub flow : FlowQueue
+  pub active : slice_get st.flows st.active ≡ Some flow
+  pub next : IsNext true flow.queue
+
 abbrev pub Lends : State → State → AppView → AppView → Delivery → Type 0
 Lends was now old new lent_it = LentOne was now old new
 Lends was now old new NoneInOrder = (now ≡ was) × (new ≡ old) × Each IsAtRest was.flows
 Lends was now old new Full = (now ≡ was) × (new ≡ old) × IsFull was.posted
-Lends was now old new Unsettled = (now ≡ was) × AppOnlySaw RawOnItsWay old new
-Lends was now old new ReserveHeld = (now ≡ was) × SawNoSpare old new
+Lends was now old new Unsettled = (now ≡ was) × AppOnlySaw RawOnItsWay old new × HasNext was
+Lends was now old new ReserveHeld = (now ≡ was) × SawNoSpare old new × HasCopyNext was
 
 -- ---- giving back
 
@@ -87,14 +101,18 @@ pub record GaveBack (was now : State) (old new : AppView) : Type 0 where
 abbrev pub PushesLeft : State → State → AppView → AppView → Pushed → Type 0
 PushesLeft was now old new pushed_nothing = (now ≡ was) × (new ≡ old) × (was.stray.left ≡ 0)
 PushesLeft was now old new pushed_all = GaveBack was now old new × (now ≡ record was { stray = now.stray }) × (0 < was.stray.left) × (now.stray.left ≡ 0)
-PushesLeft was now old new pushed_part = GaveBack was now old new × (now ≡ record was { stray = now.stray })
-PushesLeft was now old new pushed_none = (now ≡ was) × AppOnlySaw RefillInUse old new
+PushesLeft was now old new pushed_part = GaveBack was now old new × (now ≡ record was { stray = now.stray }) × AppRose RefillInUse old new
+PushesLeft was now old new pushed_none = (now ≡ was) × AppOnlySaw RefillInUse old new × (0 < was.stray.left)
+
+-- a loan is due, or entries are to follow one
+abbrev pub IsDue : State → Type 0
+IsDue st = (st.due ≢ None) ⊎ (0 < st.stray.left)
 
 abbrev pub GivesBack : State → State → AppView → AppView → Gave → Type 0
 GivesBack was now old new nothing_given = (now ≡ was) × (new ≡ old) × (was.due ≡ None) × (was.stray.left ≡ 0)
 GivesBack was now old new given = GaveBack was now old new × (now.due ≡ None) × (now.stray.left ≡ 0)
-GivesBack was now old new given_in_part = GaveBack was now old new
-GivesBack was now old new given_none = (now ≡ was) × AppOnlySaw RefillInUse old new
+GivesBack was now old new given_in_part = GaveBack was now old new × AppRose RefillInUse old new
+GivesBack was now old new given_none = (now ≡ was) × AppOnlySaw RefillInUse old new × IsDue was
 
 -- ---- reading
 

@@ -140,6 +140,7 @@ pub fn lend_all<F: AppFace, T: Shelf>(face: &mut F, st: &mut Stack, shelf: &mut 
     requires pushed { st.old.stray.left ≡ 0 }
     requires reaped { st.old.posted.entries ≡ [] }
     requires few { length st.old.unread.items ≤ st.old.how.hold }
+    requires flush { st.old.flush ≡ false }
     ensures lends { LendsAll (state_of st.old) (state_of st.new) (F.seen face.old) (F.seen face.new) (T.kept shelf.old) (T.kept shelf.new) (T.faults shelf.old)
         (T.faults shelf.new) result }
     ensures told { result ≡ Lent.Stuck → F.tells RawOnItsWay (app_gist (F.seen face.new)) (F.beside face.new) }

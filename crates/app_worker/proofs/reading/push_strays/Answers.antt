@@ -4,6 +4,7 @@ use Rattle.board_face.specs.AppEvents.{pushed_raw}
 use Rattle.board_face.specs.declared.views.app.AppLook.TheVariants.{RefillInUse}
 use Rattle.board_face.specs.declared.views.app.AppView.{AppView}
 use Rattle.app_worker.proofs.Pushing.{pushed-either, pushed-saw}
+use Rattle.app_worker.proofs.Moving.{rose-after}
 use Rattle.app_worker.proofs.reading.push_strays.Goals as goal
 
 pub returns-then-did-clause-pushes : goal.returns-then-did-clause-pushes
@@ -13,7 +14,7 @@ returns-then-did-clause-pushes g c =
     let w : AppView = g.F.AppFace.seen c.push_stray.new.face in
     let saw : AppOnlySaw RefillInUse v w = search rules in
     let fewer : c.loop-stray.stray.left < c.args.stray.now.left = search rules in
-    (pushed-saw u v w c.args.stray.now c.loop-stray.stray c.loop-stray.invariant.0 saw, fewer)
+    (pushed-saw u v w c.args.stray.now c.loop-stray.stray c.loop-stray.invariant.0 saw, fewer, rose-after RefillInUse u v w c.loop-stray.invariant.0.looks saw.rose)
 
 pub loop-stray-preserved : goal.loop-stray-preserved
 loop-stray-preserved g c =

@@ -9,6 +9,8 @@ use Rattle.app_worker.specs.State.{State}
 use Rattle.app_worker.specs.StateOf.{state_of}
 use Rattle.app_worker.specs.Whole.{ReadOne, GaveBack}
 use Rattle.app_worker.proofs.Pushing.{back-did}
+use Rattle.app_worker.proofs.Moving.{looks-trans, rose-after}
+use Rattle.board_face.specs.declared.views.app.AppLook.TheVariants.{RefillInUse}
 use Rattle.app_worker.specs.Stages.{Through, kept_of}
 use Rattle.app_worker.proofs.Through.{write-stopped, write-later, read-did, through-then, through-read, through-gave, through-in-use}
 use Rattle.app_worker.proofs.Quitting.{has-quit, quit-later}
@@ -80,12 +82,14 @@ returns-in-Part-clause-reads g c =
     let going : c.read_one.result ≢ Quit = c.in_default.not-Quit in
     let read : ReadOne b d v w l m = read-did b d v w l m f1 f2 c.read_one.result other going some c.read_one.ensures.reads in
     let first : Through b d v w l m = through-read b d v w l m inv.0.reaped read in
-    let gave : GaveBack d e w x = c.in-Part.ensures.gives in
+    let gives = c.in-Part.ensures.gives in
+    let gave : GaveBack d e w x = gives.0 in
     let second : Through d e w x m m = through-gave d e w x m first.reaped c.give_back.ensures.working c.give_back.ensures.common
     (c.give_back.ensures.goes m) gave in (
       through-then a b e u v x k l m inv.0 (through-then b d e v w x l m m first second),
       omega (arith, inv.0.goes.moves.steps, read.steps, (c.give_back.ensures.goes m).moves.steps),
       omega (arith, inv.6, c.loop-face-test.true, c.len.ensures.len, read.unread, ap (λ (s : State). length s.unread) gave.same),
+      rose-after RefillInUse u w x (looks-trans u v w inv.0.goes.moves.looks read.goes.moves.looks) gives.1,
     )
 
 pub returns-in-InUse-clause-reads : goal.returns-in-InUse-clause-reads
@@ -115,6 +119,7 @@ returns-in-InUse-clause-reads g c =
       through-then a b e u v x k l m inv.0 (through-then b d e v w x l m m first second),
       omega (arith, inv.0.goes.moves.steps, read.steps, (c.give_back.ensures.goes m).moves.steps),
       omega (arith, inv.6, c.loop-face-test.true, c.len.ensures.len, read.unread, ap (λ (s : State). length s.unread) gives.0),
+      rose-after RefillInUse u w x (looks-trans u v w inv.0.goes.moves.looks read.goes.moves.looks) gives.1.rose,
     )
 
 -- where not all is to be read, that was so, or nothing is unread

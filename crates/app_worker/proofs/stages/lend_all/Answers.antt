@@ -8,7 +8,9 @@ use Rattle.app_worker.specs.Stages.{LentSome, Through}
 use Rattle.app_worker.proofs.Measure.{working-within}
 use Rattle.app_worker.proofs.Through.{through-then, write-later}
 use Rattle.app_worker.proofs.Quitting.{quit-later}
-use Rattle.app_worker.proofs.LentAll.{with_reaped, through-reaped, through-end, drained}
+use Rattle.app_worker.proofs.LentAll.{with_reaped, through-reaped, through-end, same-end, leaves-none, drained}
+use Rattle.app_worker.proofs.Moving.{rose-after}
+use Rattle.board_face.specs.declared.views.app.AppLook.TheVariants.{RefillInUse}
 use Rattle.app_worker.proofs.stages.lend_all.Goals as goal
 
 pub returns-then-did-clause-lends : goal.returns-then-did-clause-lends
@@ -27,7 +29,12 @@ returns-then-did-clause-lends g c =
     (λ did. LentSome b cs v w did c.lend_some-lent.result.1) no c.lend_some-lent.ensures.lends in
     let last : Through b cs v w l l = through-end b cs v w c.lend_some-lent.result.1 l inv.0.reaped lent in
     let did : app_steps a u < app_steps b v = search rules in
-    (through-then a b cs u v w k l l inv.0 last, omega (arith, did, last.goes.moves.steps))
+    let same : cs ≡ b = same-end b cs v w c.lend_some-lent.result.1 lent.final (lent.nothing refl) in (
+      through-then a b cs u v w k l l inv.0 last,
+      omega (arith, did, last.goes.moves.steps),
+      leaves-none cs u w (ap (λ (s : State). s.due) same ∙ inv.1) (ap (λ (s : State). s.stray.left) same ∙ inv.7)
+          (ap (λ (s : State). s.flush) same ∙ inv.8),
+    )
 
 pub returns-in-InUse-clause-lends : goal.returns-in-InUse-clause-lends
 returns-in-InUse-clause-lends g c =
@@ -54,8 +61,11 @@ returns-in-InUse-clause-lends g c =
     let first : Through b d v w l l = subst (λ s. Through b s v w l l) (sym reaped) (through-reaped b cs v w true c.lend_some-lent.result.1 l lent) in
     let to_d : Through a d u w k l = through-then a b d u v w k l l inv.0 first in
     let steps_d : app_steps d w ≡ app_steps cs w = ap (λ (s : State). app_steps s w) reaped in
-    let reads = c.in-InUse.ensures.reads in
-    (through-then a d e u w x k l m to_d reads.0, omega (arith, inv.0.goes.moves.steps, lent.steps refl, steps_d, reads.1))
+    let reads = c.in-InUse.ensures.reads in (
+      through-then a d e u w x k l m to_d reads.0,
+      omega (arith, inv.0.goes.moves.steps, lent.steps refl, steps_d, reads.1),
+      λ _. rose-after RefillInUse u w x to_d.goes.moves.looks reads.3,
+    )
 
 pub returns-in-Quit-clause-lends : goal.returns-in-Quit-clause-lends
 returns-in-Quit-clause-lends g c =
@@ -149,6 +159,7 @@ loop-end-preserved g c =
       c.drain.ensures.beside ∙ c.lend_some-lent.ensures.beside ∙ inv.5,
       omega (arith, then.2, ap (λ h. h.hold) then.0.goes.moves.how.1),
       then.4,
+      then.3,
     )
 
 pub loop-end-smaller : goal.loop-end-smaller

@@ -16,6 +16,7 @@ invariant-loop-end g l =
     × (g.F.AppFace.beside l.face ≡ g.F.AppFace.beside l.fn.face)
     × (length l.st.unread.items ≤ l.st.how.hold)
     × (l.st.stray.left ≡ 0)
+    × (l.st.flush ≡ false)
 
 abbrev pub decreases-loop-end : goal.decreases-loop-end
 decreases-loop-end g l = furthest l.st.how.stray (g.F.AppFace.seen l.face) - app_steps (state_of l.st) (g.F.AppFace.seen l.face)

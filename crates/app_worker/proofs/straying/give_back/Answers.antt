@@ -1,9 +1,10 @@
-use Rattle.std.proofs.Common.{rules, ◌≢◌, None}
+use Rattle.std.proofs.Common.{rules, ◌≢◌, None, inl, inr, refl}
 use Rattle.board_face.specs.declared.views.app.AppView.{AppView}
 use Rattle.app_worker.specs.State.{State}
 use Rattle.app_worker.specs.StateOf.{state_of}
 use Rattle.app_worker.specs.Whole.{GaveOne}
-use Rattle.app_worker.proofs.Pushing.{gave-whole}
+use Rattle.app_worker.proofs.Pushing.{gave-whole, gave-part}
+use Rattle.app_worker.specs.declared.reading.Pushed.TheVariants as pushed
 use Rattle.app_worker.proofs.Through.{goes-then}
 use Rattle.app_worker.proofs.straying.give_back.Goals as goal
 
@@ -61,3 +62,35 @@ returns-in_default-clause-gives g c =
     let one : GaveOne b d v w = search rules in
     gave-whole a b d e u v w x c.push_left-2.result c.in_default.not-Part c.in_default.not-InUse nothing.0 nothing.1 some one
     (c.push_left-2.ensures.goes (λ _. None)).moves c.push_left-2.ensures.pushes
+
+pub returns-in-Part-push_left-clause-gives : goal.returns-in-Part-push_left-clause-gives
+returns-in-Part-push_left-clause-gives g c =
+    let a : State = state_of c.args.st.now in
+    let b : State = state_of c.push_left.new.st in
+    let d : State = state_of c.give_one.new.st in
+    let e : State = state_of c.push_left-2.new.st in
+    let u : AppView = g.F.AppFace.seen c.args.face.now in
+    let v : AppView = g.F.AppFace.seen c.push_left.new.face in
+    let w : AppView = g.F.AppFace.seen c.give_one.new.face in
+    let x : AppView = g.F.AppFace.seen c.push_left-2.new.face in
+    let nothing = c.in-Nothing.ensures.pushes in
+    let some : b.due ≢ None = search rules in
+    let one : GaveOne b d v w = search rules in
+    gave-part a b d e u v w x pushed.Part (inl refl) nothing.0 nothing.1 some one (c.give_one.ensures.goes (λ _. None)).moves
+    (c.push_left-2.ensures.goes (λ _. None)).moves c.in-Part-push_left.ensures.pushes
+
+pub returns-in-InUse-push_left-clause-gives : goal.returns-in-InUse-push_left-clause-gives
+returns-in-InUse-push_left-clause-gives g c =
+    let a : State = state_of c.args.st.now in
+    let b : State = state_of c.push_left.new.st in
+    let d : State = state_of c.give_one.new.st in
+    let e : State = state_of c.push_left-2.new.st in
+    let u : AppView = g.F.AppFace.seen c.args.face.now in
+    let v : AppView = g.F.AppFace.seen c.push_left.new.face in
+    let w : AppView = g.F.AppFace.seen c.give_one.new.face in
+    let x : AppView = g.F.AppFace.seen c.push_left-2.new.face in
+    let nothing = c.in-Nothing.ensures.pushes in
+    let some : b.due ≢ None = search rules in
+    let one : GaveOne b d v w = search rules in
+    gave-part a b d e u v w x pushed.InUse (inr refl) nothing.0 nothing.1 some one (c.give_one.ensures.goes (λ _. None)).moves
+    (c.push_left-2.ensures.goes (λ _. None)).moves c.in-InUse-push_left.ensures.pushes

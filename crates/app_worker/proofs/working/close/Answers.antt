@@ -5,6 +5,7 @@ use Rattle.app_worker.specs.StateOf.{state_of}
 use Rattle.app_worker.proofs.NoteTaken.{torn-of}
 use Rattle.app_worker.proofs.LentAll.{drained}
 use Rattle.app_worker.proofs.Closing.{out-of, turns-finished, turns-not-quiet}
+use Rattle.app_worker.proofs.TurnLemmas.{turns-did}
 use Rattle.app_worker.proofs.working.close.Goals as goal
 
 pub let_go-requires-clause-torn : goal.let_go-requires-clause-torn
@@ -65,3 +66,13 @@ returns-else-leave-clause-turns g c =
     turns-not-quiet a e u w (g.F.AppFace.seen c.leave.new.face) k m f f2
     (out-of a b e u v w k m c.requires.ended c.requires.working.going c.requires.working.live c.requires.here then.0 then.2 then.1 c.let_go.ensures.done)
     (omega (arith, then.0.goes.moves.steps, c.let_go.ensures.done.steps)) (search rules)
+
+pub returns-in-InUse-clause-turns : goal.returns-in-InUse-clause-turns
+returns-in-InUse-clause-turns g c =
+    let a : State = state_of c.args.st.now in
+    let b : State = state_of c.drain.new.st in
+    let u : AppView = g.F.AppFace.seen c.args.face.now in
+    let v : AppView = g.F.AppFace.seen c.drain.new.face in
+    let reads = c.in-InUse.ensures.reads in
+    turns-did a b u v (g.T.Shelf.kept c.args.shelf.now) (g.T.Shelf.kept c.drain.new.shelf) (g.T.Shelf.faults c.args.shelf.now)
+    (g.T.Shelf.faults c.drain.new.shelf) c.requires.working.live reads.0 reads.1 (λ _. reads.3)

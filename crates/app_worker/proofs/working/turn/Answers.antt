@@ -2,8 +2,10 @@ use Rattle.std.proofs.Common.{rules, true, ◌≡◌, ℕ, List, Option, sym, su
 use Rattle.board_face.specs.declared.views.app.AppView.{AppView}
 use Rattle.app_worker.specs.State.{State, Working}
 use Rattle.app_worker.specs.StateOf.{state_of}
+use Rattle.app_worker.specs.declared.turn.Turn.TheVariants.{Idle}
+use Rattle.app_worker.specs.declared.turn.Why.TheVariants.{RefillFull}
 use Rattle.app_worker.specs.Turns.{Turns, turn_after}
-use Rattle.app_worker.proofs.TurnLemmas.{turns-gave, turns-later, begins-gave}
+use Rattle.app_worker.proofs.TurnLemmas.{turns-saw, turns-gave, turns-later, begins-gave}
 use Rattle.app_worker.proofs.working.turn.Goals as goal
 
 pub returns-then-st-clause-turns : goal.returns-then-st-clause-turns
@@ -18,7 +20,7 @@ returns-in-Part-clause-turns g c =
     let k : ℕ → Option (List ℕ) = g.T.Shelf.kept c.args.shelf.now in
     let works : Working a u = search rules in
     turns-gave a b u v k (g.T.Shelf.faults c.args.shelf.now) works c.requires.stands.reaped c.give_back.ensures.working c.give_back.ensures.common
-    (c.give_back.ensures.goes k) c.in-Part.ensures.gives
+    (c.give_back.ensures.goes k) c.in-Part.ensures.gives.0 c.in-Part.ensures.gives.1
 
 pub returns-in-Did-clause-turns : goal.returns-in-Did-clause-turns
 returns-in-Did-clause-turns g c =
@@ -38,3 +40,15 @@ returns-in-Did-clause-turns g c =
     (turns-later a b e u v w k k m f f f2 c.work-turn.result
     (begins-gave a b u v k f works c.requires.here c.give_back.ensures.working (c.give_back.ensures.goes k) c.in-Did.ensures.gives.0)
     c.work-turn.ensures.turns)
+
+pub returns-in-InUse-clause-turns : goal.returns-in-InUse-clause-turns
+returns-in-InUse-clause-turns g c =
+    let a : State = state_of c.args.st.now in
+    let u : AppView = g.F.AppFace.seen c.args.face.now in
+    let v : AppView = g.F.AppFace.seen c.give_back.new.face in
+    let k : ℕ → Option (List ℕ) = g.T.Shelf.kept c.args.shelf.now in
+    let f : ℕ = g.T.Shelf.faults c.args.shelf.now in
+    let works : Working a u = search rules in
+    let gives = c.in-InUse.ensures.gives in
+    subst (λ (s : State). Turns a s u v k k f f (Idle RefillFull)) (sym gives.0)
+    (turns-saw a u v k f f RefillFull gives.1 works c.requires.stands.common c.requires.stands.reaped gives.2 (λ _. gives.1.rose))

@@ -3,7 +3,7 @@ use Rattle.board_face.specs.declared.views.app.AppView.{AppView}
 use Rattle.app_worker.specs.State.{State}
 use Rattle.app_worker.specs.StateOf.{state_of}
 use Rattle.app_worker.specs.Turns.{Turns, turn_after}
-use Rattle.app_worker.proofs.TurnLemmas.{turns-later, turns-first, begins-through}
+use Rattle.app_worker.proofs.TurnLemmas.{turns-did, turns-later, turns-first, begins-through}
 use Rattle.app_worker.proofs.working.work.Goals as goal
 
 pub returns-in-Did-clause-turns : goal.returns-in-Did-clause-turns
@@ -39,3 +39,13 @@ returns-in-Nothing-clause-turns g c =
     let m : ℕ → Option (List ℕ) = g.T.Shelf.kept c.go_on.new.shelf in
     turns-first a b e u v w k l m (g.T.Shelf.faults c.args.shelf.now) (g.T.Shelf.faults c.drain.new.shelf) (g.T.Shelf.faults c.go_on.new.shelf)
     c.go_on.result c.in-Nothing.ensures.reads.0 c.drain.ensures.later c.go_on.ensures.turns
+
+pub returns-in-InUse-clause-turns : goal.returns-in-InUse-clause-turns
+returns-in-InUse-clause-turns g c =
+    let a : State = state_of c.args.st.now in
+    let b : State = state_of c.drain.new.st in
+    let u : AppView = g.F.AppFace.seen c.args.face.now in
+    let v : AppView = g.F.AppFace.seen c.drain.new.face in
+    let reads = c.in-InUse.ensures.reads in
+    turns-did a b u v (g.T.Shelf.kept c.args.shelf.now) (g.T.Shelf.kept c.drain.new.shelf) (g.T.Shelf.faults c.args.shelf.now)
+    (g.T.Shelf.faults c.drain.new.shelf) c.requires.working.live reads.0 reads.1 (λ _. reads.3)
