@@ -61,6 +61,7 @@ module _ (st : State) (old : AppView) (bare : Bare st old) (is_bare : st.bare �
     few = inr (t, ap (λ (v : AppView). v.taken) took.view);
     idle = λ why e. absurd (cc);
     left_over = λ live. absurd (bare-live live);
+    flushes = λ live. absurd (bare-live live);
     here = λ _. ap (λ (v : AppView). v.left) took.view;
     polled = λ live. absurd (bare-live live);
     cause = λ other is. absurd (other is);
@@ -113,6 +114,7 @@ module _ (st : State) (old : AppView) (bare : Bare st old) (is_bare : st.bare �
     answer = (as-before st old new no_note saw, saw.rose);
     idle = idle-for NoNote (λ w. (kept ≡ kept) × Because w st old) (refl, λ live. absurd (bare-live live));
     left_over = λ live. absurd (bare-live live);
+    flushes = λ live. absurd (bare-live live);
     few = inl (ap (λ (v : AppView). v.taken) saw.event);
     here = λ _. ap (λ (v : AppView). v.left) saw.event;
     polled = λ live. absurd (bare-live live);
@@ -154,6 +156,7 @@ module _ (st : State) (old : AppView) (bare : Bare st old) (is_bare : st.bare �
     answer = (as-before st old new NotQuiet saw, saw.rose);
     idle = idle-for not_quiet (λ w. (kept ≡ kept) × Because w st old) (refl, (is_bare, ended));
     left_over = λ live. absurd (bare-live live);
+    flushes = λ live. absurd (bare-live live);
     few = inl (ap (λ (v : AppView). v.taken) saw.event);
     here = λ _. ap (λ (v : AppView). v.left) saw.event;
     polled = λ live. absurd (bare-live live);

@@ -30,7 +30,7 @@ use Rattle.app_worker.proofs.Moving.{total-one, looks-same, same-leaked, no-writ
 use Rattle.app_worker.proofs.Seeing.{common-saw, goes-saw}
 use Rattle.app_worker.proofs.Measure.{one-most, read-one}
 use Rattle.app_worker.proofs.Through.{goes-then}
-use Rattle.app_worker.proofs.TurnLemmas.{stands-bare, no-poll, no-rest, bare-over}
+use Rattle.app_worker.proofs.TurnLemmas.{stands-bare, no-poll, no-rest, bare-over, bare-flushes}
 
 -- all of the flow was appended
 abbrev pub IsWhole : List TakenNote → FlowQueue → Type 0
@@ -210,6 +210,7 @@ turns-finished a c u w x k m f f2 out is = rw is (record {
   few = inl out.taken;
   idle = λ why e. absurd (cc);
   left_over = bare-over c u _ out.is_bare;
+  flushes = bare-flushes a c u _ out.is_bare;
   here = λ other. absurd (other refl);
   polled = no-poll a c u (left_board (scrubbed (fell_quiet w))) out.taken;
   cause = λ other is. absurd (other (sym out.same ∙ is));
@@ -230,6 +231,7 @@ turns-not-quiet a c u w x k m f f2 out steps saw = rw saw.event (record {
   few = inl out.taken;
   idle = λ why e. absurd (cc);
   left_over = bare-over c u _ out.is_bare;
+  flushes = bare-flushes a c u _ out.is_bare;
   here = λ _. out.left;
   polled = no-poll a c u (app_saw w NotQuiet) out.taken;
   cause = λ other is. absurd (other (sym out.same ∙ is));

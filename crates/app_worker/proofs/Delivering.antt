@@ -19,7 +19,10 @@ use Rattle.app_worker.specs.Core.{total, is_odd, is_copy, Each, Stands, many, le
 use Rattle.app_worker.specs.State.{State, read_of, TellsOf, LiesOutside, Working, Common, capped, held_len, taken_len, unsplit_len, lent_len}
 use Rattle.app_worker.specs.State.{bytes_if, bytes_of, app_steps, one_if}
 use Rattle.app_worker.specs.Shelves.{IsShelved}
-use Rattle.app_worker.specs.Moves.{Moves, KeptSince, reserve_loans, lies_in}
+use Rattle.app_worker.specs.Flushing.{loans_so_far}
+use Rattle.app_worker.proofs.Flushing.{lies-away}
+use Rattle.std.proofs.Common.{◌⊎◌, ⊎_elim}
+use Rattle.app_worker.specs.Moves.{reads_of, Moves, KeptSince, reserve_loans, lies_in}
 use Rattle.board_face.specs.declared.views.app.LentPiece.{LentPiece}
 use Rattle.board_face.specs.declared.views.app.AppLook.TheVariants.{RawOnItsWay}
 use Rattle.app_worker.specs.declared.stack.Delivery.{Delivery}
@@ -165,6 +168,14 @@ lent-bundle was own now then old new loans copied flush more count within value 
     omega (arith, step.loans lies, ap (total lies) returned) in
     let lent : reserve_loans new ≡ reserve_loans old + lies (lent_piece old.taken step.lending) =
     ap (λ b. total (lies_in b) new.loans + total (lies_in b) new.returned) reserve ∙ sums in
+    let all_read : flush ≡ false → (was.flush ≡ true) ⊎ (reserve_loans old < reserve_loans new)
+    → loans_so_far old ≤ reads_of (with_lent was now then loans copied flush) new = λ off before.
+    let (was_off, away) = no-flush was.flush step.lending.loan.buffer (reserve_of old) (sym step.flushes ∙ off) in
+    let elsewhere : lies (lent_piece old.taken step.lending) ≡ 0 = lies-away (reserve_of old) (lent_piece old.taken step.lending) away in
+    ⊎_elim
+    (λ (on : was.flush ≡ true). absurd (let e : true ≡ false = sym on ∙ was_off in cc))
+    (λ (more : reserve_loans old < reserve_loans new). absurd (omega (arith, more, lent, elsewhere)))
+    before in
     let longer : length then.entries ≡ length was.posted.entries + 1 = ap length entries ∙ length-append was.posted.entries (p ∷ []) in
     let steps : app_steps (with_lent was now then loans copied flush) new
     ≡ app_steps was old + 1 = omega
@@ -263,7 +274,19 @@ lent-bundle was own now then old new loans copied flush more count within value 
         others = λ n none. was_shelved.others n (ap (many n) at.is
             ∙ sym (many-same at.before at.after own now (ap (λ (f : FlowQueue). f.number) step.flow) n) ∙ sym (ap (many n) (at.set_is now)) ∙ none);
       };
-      one = record { steps = omega (arith, steps); posted = longer; same = refl; taken = taken; left = left };
+      one = record {
+        flushes = record {
+          reads = omega (arith, ap length returned);
+          lent = omega (arith, ap length returned, one_more);
+          reserve = omega (arith, lent);
+          all = all_read;
+        };
+        steps = omega (arith, steps);
+        posted = longer;
+        same = refl;
+        taken = taken;
+        left = left;
+      };
     }
 
 -- nothing was lent

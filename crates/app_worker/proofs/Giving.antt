@@ -31,6 +31,8 @@ use Rattle.app_worker.proofs.Moving.{total-one, looks-same, kept-same, no-write,
 use Rattle.app_worker.proofs.Tokens.{total-append}
 use Rattle.app_worker.proofs.Standing.{each-join}
 use Rattle.app_worker.specs.Moves.{reads_of, reserve_loans, lies_in}
+use Rattle.app_worker.specs.Flushing.{Flushes}
+use Rattle.app_worker.proofs.Flushing.{flushes-same, flushes-none}
 use Rattle.board_face.specs.declared.views.app.LentPiece.{LentPiece}
 use Rattle.app_worker.proofs.Seeing.{Left, left-none, left-saw}
 
@@ -68,7 +70,7 @@ gave-left : (was : State) (l : Lending) (stray : Stray) (old new : AppView) → 
     → IsToFollow old.setting.layout l was.how.stray stray → (l.loan.buffer ≢ reserve_of old → was.how.leak ≤ length was.leaked.items)
     → Working was old
     → Common was old → Left was (with_due was None stray) old new × (app_steps was old < app_steps (with_due was None stray) new)
-    × (new.taken ≡ old.taken) × (new.left ≡ old.left)
+    × (new.taken ≡ old.taken) × (new.left ≡ old.left) × Flushes was (with_due was None stray) old new
 gave-left was l stray old new due step follow enough works common =
     let no_left : was.stray.left ≡ 0 = ⊎_elim (λ (some : 0 < was.stray.left). absurd (let none = works.waits some in let e : Some l
     ≡ None = sym due ∙ none in cc)) (λ (none : was.stray.left ≤ 0). omega (arith, none)) (cases_lt 0 was.stray.left) in
@@ -192,6 +194,7 @@ gave-left was l stray old new due step follow enough works common =
       omega (arith, steps),
       taken,
       left,
+      flushes-same was (with_due was None stray) old new read_count (omega (arith, one_less, one_more)) lent refl,
     )
 
 pub given-left : (was : State) (due now : Option Lending) (stray : Stray) (old new : AppView) (result : Bool) → was.due ≡ due
@@ -203,12 +206,12 @@ given-left was None now stray old new true is step enough works common =
     let same : with_due was None was.stray ≡ was = ap (λ d. with_due was d was.stray) (sym is) in
     rw (step.1, step.2, same, step.0) (
       left-none was old works common,
-      record { same = sym same; steps = λ other. absurd (other is); taken = refl; left = refl },
+      record { flushes = flushes-none was old; same = sym same; steps = λ other. absurd (other is); taken = refl; left = refl },
     )
 given-left was None now stray old new false is step enough works common = absurd (cc)
 given-left was (Some l) now stray old new true is step enough works common =
     let gone = gave-left was l stray old new is step.0 step.2 (enough l refl) works common in
-    rw step.1 (gone.0, record { same = refl; steps = λ _. gone.1; taken = gone.2; left = gone.3 })
+    rw step.1 (gone.0, record { flushes = gone.4; same = refl; steps = λ _. gone.1; taken = gone.2; left = gone.3 })
 given-left was (Some l) now stray old new false is step enough works common =
     let same : with_due was (Some l) was.stray ≡ was = ap (λ d. with_due was d was.stray) (sym is) in
     rw (step.1, step.2, same) (left-saw was old new RefillInUse step.0 works common, (refl, (λ none. absurd (cc)), step.0))
@@ -314,6 +317,7 @@ kept-left was rest leaked v step works common =
         };
       },
       record {
+        flushes = flushes-same was now v v (omega (arith, one_due, longer)) refl refl refl;
         same = refl;
         steps = λ _. omega (arith, steps);
         taken = refl;

@@ -81,6 +81,7 @@ pub through-reaped : (b c : State) (v w : AppView) (did : Bool) (end_by : Delive
 through-reaped b c v w did end_by kept lent =
     let goes : Goes b c v w kept kept = lent.goes kept in
     record {
+      flushes = record { reads = lent.flushes.reads; lent = lent.flushes.lent; reserve = lent.flushes.reserve; all = lent.flushes.all };
       working = reaped-working c w lent.working;
       common = reaped-common c w lent.common;
       goes = record {
@@ -131,6 +132,7 @@ pub through-end : (b c : State) (v w : AppView) (end_by : Delivery) (kept : ℕ 
 through-end b c v w end_by kept reaped lent =
     let same : c ≡ b = same-end b c v w end_by lent.final (lent.nothing refl) in
     record {
+      flushes = lent.flushes;
       working = lent.working;
       common = lent.common;
       goes = lent.goes kept;

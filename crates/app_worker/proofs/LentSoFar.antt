@@ -7,13 +7,17 @@ use Rattle.app_worker.specs.declared.stack.Delivery.TheVariants.{Did, NoneInOrde
 use Rattle.app_worker.specs.Core.{total}
 use Rattle.app_worker.specs.State.{State, Working, Common, app_steps, furthest, taken_len}
 use Rattle.app_worker.proofs.Measure.{working-within}
-use Rattle.app_worker.specs.Moves.{Goes}
+use Rattle.app_worker.specs.Moves.{Goes, reads_of, reserve_loans}
+use Rattle.app_worker.specs.Flushing.{Flushes, loans_so_far}
+use Rattle.app_worker.proofs.Flushing.{flushes-none, flushes-same, flushes-then, flushes-saw}
+use Rattle.board_face.specs.declared.views.app.AppLook.TheVariants.{RawOnItsWay}
 use Rattle.app_worker.specs.Whole.{LentOne, Lends}
 use Rattle.app_worker.specs.Stages.{LentSome}
 use Rattle.app_worker.proofs.Seeing.{goes-none}
 use Rattle.app_worker.proofs.Through.{goes-then}
 
 pub record LentSoFar (was now : State) (old new : AppView) (did : Bool) : Type 0 where
+  pub flushes : Flushes was now old new
   pub working : Working now new
   pub common : Common now new
   pub goes : (kept : ℕ → Option (List ℕ)) → Goes was now old new kept kept
@@ -25,6 +29,7 @@ pub record LentSoFar (was now : State) (old new : AppView) (did : Bool) : Type 0
 
 pub lent-none : (st : State) (v : AppView) → Working st v → Common st v → LentSoFar st st v v false
 lent-none st v working common = record {
+  flushes = flushes-none st v;
   working = working;
   common = common;
   goes = goes-none st v;
@@ -38,6 +43,7 @@ lent-none st v working common = record {
 pub lent-more : (a b c : State) (u v w : AppView) (did : Bool) → LentSoFar a b u v did → Working c w → Common c w
     → ((kept : ℕ → Option (List ℕ)) → Goes b c v w kept kept) → LentOne b c v w → LentSoFar a c u w true
 lent-more a b c u v w did so working common goes one = record {
+  flushes = flushes-then a b c u v w so.flushes one.flushes;
   working = working;
   common = common;
   goes = λ kept. goes-then a b c u v w kept kept kept (so.goes kept) (goes kept);
@@ -50,18 +56,39 @@ lent-more a b c u v w did so working common goes one = record {
 
 -- what a step that lent nothing left
 rest-of : (b c : State) (v w : AppView) (end_by : Delivery) → end_by ≢ Did → Lends b c v w end_by
-    → (c ≡ b) × (w.taken ≡ v.taken) × (w.left ≡ v.left)
+    → (c ≡ b) × (w.taken ≡ v.taken) × (w.left ≡ v.left) × Flushes b c v w
 rest-of b c v w Did other lends = absurd (other refl)
-rest-of b c v w NoneInOrder other lends = (lends.0, ap (λ (x : AppView). x.taken) lends.1, ap (λ (x : AppView). x.left) lends.1)
-rest-of b c v w Full other lends = (lends.0, ap (λ (x : AppView). x.taken) lends.1, ap (λ (x : AppView). x.left) lends.1)
-rest-of b c v w Unsettled other lends = (lends.0, ap (λ (x : AppView). x.taken) lends.1.event, ap (λ (x : AppView). x.left) lends.1.event)
-rest-of b c v w ReserveHeld other lends = (lends.0, ap (λ (x : AppView). x.taken) lends.1.event, ap (λ (x : AppView). x.left) lends.1.event)
+rest-of b c v w NoneInOrder other lends = (
+  lends.0,
+  ap (λ (x : AppView). x.taken) lends.1,
+  ap (λ (x : AppView). x.left) lends.1,
+  rw (lends.0, lends.1) (flushes-none b v),
+)
+rest-of b c v w Full other lends = (
+  lends.0,
+  ap (λ (x : AppView). x.taken) lends.1,
+  ap (λ (x : AppView). x.left) lends.1,
+  rw (lends.0, lends.1) (flushes-none b v),
+)
+rest-of b c v w Unsettled other lends = (
+  lends.0,
+  ap (λ (x : AppView). x.taken) lends.1.event,
+  ap (λ (x : AppView). x.left) lends.1.event,
+  rw lends.0 (flushes-saw b v w RawOnItsWay lends.1),
+)
+rest-of b c v w ReserveHeld other lends = (
+  lends.0,
+  ap (λ (x : AppView). x.taken) lends.1.event,
+  ap (λ (x : AppView). x.left) lends.1.event,
+  rw lends.0 (flushes-same b b v w (ap (reads_of b) lends.1.event) (ap loans_so_far lends.1.event) (ap reserve_loans lends.1.event) refl),
+)
 
 pub lent-end : (a b c : State) (u v w : AppView) (did : Bool) (end_by : Delivery) → LentSoFar a b u v did → end_by ≢ Did → Working c w → Common c w
     → ((kept : ℕ → Option (List ℕ)) → Goes b c v w kept kept) → Lends b c v w end_by → LentSome a c u w did end_by
 lent-end a b c u v w did end_by so other working common goes lends =
-    let (same, taken, left) = rest-of b c v w end_by other lends in
+    let (same, taken, left, flushes) = rest-of b c v w end_by other lends in
     record {
+      flushes = flushes-then a b c u v w so.flushes flushes;
       working = working;
       common = common;
       goes = λ kept. goes-then a b c u v w kept kept kept (so.goes kept) (goes kept);

@@ -42,3 +42,4 @@ pub mod Looking
 pub mod EachBoth
 pub mod Indexing
 pub mod FlowBytes
+pub mod Flushing

@@ -3,7 +3,7 @@ use Rattle.std.proofs.Common.{◌≡◌, ◌≢◌, ℕ, true, false, List, [], 
 use Rattle.zr_kinds.specs.declared.fault.Fault.TheVariants as fault
 use Rattle.zr_kinds.specs.declared.behaviour.Stopped.TheVariants as stop
 use Rattle.board_face.specs.AppCalls.{AppOnlySaw, ToldEnd}
-use Rattle.board_face.specs.AppEvents.{told_end, came_to_rest}
+use Rattle.board_face.specs.AppEvents.{told_end, came_to_rest, app_saw}
 use Rattle.app_worker.specs.Steps.{SawNoSpare}
 use Rattle.board_face.specs.declared.views.app.AppLook.TheVariants.{CardEnded, RawOnItsWay, NoSpare}
 use Rattle.board_face.specs.declared.views.app.AppView.{AppView}
@@ -17,13 +17,14 @@ use Rattle.app_worker.specs.State.{State, IsAtRest, Working, Common, one_if}
 use Rattle.app_worker.specs.Moves.{Moves, Goes}
 use Rattle.app_worker.specs.Whole.{TookOne, TookNone}
 use Rattle.app_worker.specs.Letting.{LetGo}
+use Rattle.app_worker.proofs.Flushing.{flushes-same, flushes-then}
 use Rattle.app_worker.specs.Stages.{Through, HasQuit, WriteStopped, LendsAll, LeavesInUse}
 use Rattle.app_worker.proofs.LentAll.{leaves-none, leaves-after}
 use Rattle.app_worker.specs.Turns.{Turns, MayPoll, Polled, turn_after}
 use Rattle.app_worker.proofs.Moving.{looks-more, same-leaked, moves-none, moves-then, no-write, quit-no-write}
 use Rattle.app_worker.proofs.Seeing.{working-saw, common-saw, goes-saw, working-rested, common-rested, goes-rested}
 use Rattle.app_worker.proofs.Through.{goes-then, through-none, bare-stopped, common-stopped}
-use Rattle.app_worker.proofs.TurnLemmas.{stands-working, stands-bare, no-look, no-rest, bare-over, Begins, turns-later}
+use Rattle.app_worker.proofs.TurnLemmas.{stands-working, stands-bare, no-look, no-rest, bare-over, bare-flushes, Begins, turns-later}
 
 -- a note may be taken at once
 pub polled-now : (was now : State) (old new : AppView) → Working was old → MayPoll was old → Moves was now old new → Polled was now old new
@@ -59,6 +60,7 @@ module _ (a b : State) (u v : AppView) (k m : ℕ → Option (List ℕ)) (f f2 :
         few = inr (took.note, through.taken ∙ took.taken);
         idle = λ why e. absurd (cc);
         left_over = λ _. leaves-after c u v w took.moves.looks over;
+        flushes = λ _. flushes-then a b c u v w took.flushes through.flushes;
         here = λ _. through.left ∙ took.left;
         polled = λ _ _. polled-now a c u w works may goes.moves;
         cause = λ _ is. absurd (no-write c.stopped through.working.going is);
@@ -77,6 +79,7 @@ module _ (a b : State) (u v : AppView) (k m : ℕ → Option (List ℕ)) (f f2 :
         few = inr (took.note, quit.taken ∙ took.taken);
         idle = λ why e. absurd (cc);
         left_over = bare-over c u w quit.is_bare;
+        flushes = bare-flushes a c u w quit.is_bare;
         here = λ _. quit.left ∙ took.left;
         polled = λ _ _. polled-now a c u w works may goes.moves;
         cause = λ _ is. absurd (quit-no-write c.stopped quit.stopped is);
@@ -95,6 +98,7 @@ module _ (a b : State) (u v : AppView) (k m : ℕ → Option (List ℕ)) (f f2 :
         few = inr (took.note, stopped.taken ∙ took.taken);
         idle = λ why e. absurd (cc);
         left_over = bare-over c u w stopped.is_bare;
+        flushes = bare-flushes a c u w stopped.is_bare;
         here = λ _. stopped.left ∙ took.left;
         polled = λ _ _. polled-now a c u w works may goes.moves;
         cause = λ _ _. stopped.rose;
@@ -104,6 +108,7 @@ module _ (a b : State) (u v : AppView) (k m : ℕ → Option (List ℕ)) (f f2 :
 
   stuck-through : (c : State) (w : AppView) → b.posted.entries ≡ [] → c ≡ b → m ≡ k → AppOnlySaw RawOnItsWay v w → Through b c v w k m
   stuck-through c w reaped same kept saw = rw (same, kept, saw.event) (record {
+    flushes = flushes-same b b v (app_saw v RawOnItsWay) refl refl refl refl;
     working = working-saw b v RawOnItsWay took.working;
     common = common-saw b v RawOnItsWay took.common;
     goes = goes-saw b v RawOnItsWay k;
@@ -115,6 +120,7 @@ module _ (a b : State) (u v : AppView) (k m : ℕ → Option (List ℕ)) (f f2 :
 
   no-spare-through : (c : State) (w : AppView) → b.posted.entries ≡ [] → c ≡ b → m ≡ k → SawNoSpare v w → Through b c v w k m
   no-spare-through c w reaped same kept saw = rw (same, kept, saw.event) (record {
+    flushes = flushes-same b b v (app_saw (came_to_rest v) NoSpare) refl refl refl refl;
     working = working-saw b (came_to_rest v) NoSpare (working-rested b v took.working);
     common = common-saw b (came_to_rest v) NoSpare (common-rested b v took.common);
     goes = goes-rested b v NoSpare k;
@@ -211,6 +217,7 @@ ended-begins st v mid kept f works common here more told =
       here = here;
       still = works.live;
       still_going = works.going;
+      flushes = flushes-same st (record st { ended = true }) v (told_end v) refl refl refl refl;
       goes = record {
         moves = record {
           same = (refl, refl, refl, omega arith);
@@ -284,6 +291,7 @@ module _ (a b c : State) (u v w : AppView) (k : ℕ → Option (List ℕ)) (f : 
     few = inr (took.note, few-one);
     idle = λ why e. absurd (cc);
     left_over = bare-over (record c { stopped = stop.Memory }) u w (ap (λ (s : State). s.bare) gone.same);
+    flushes = bare-flushes a (record c { stopped = stop.Memory }) u w (ap (λ (s : State). s.bare) gone.same);
     here = λ _. gone.left ∙ took.left;
     polled = λ _ _. polled-now a (record c { stopped = stop.Memory }) u w works may
         (record {

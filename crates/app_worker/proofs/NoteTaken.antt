@@ -21,6 +21,9 @@ use Rattle.app_worker.specs.State.{State, read_of, TellsOf, LiesOutside, IsAtRes
 use Rattle.board_face.specs.declared.views.app.HeldPiece.{HeldPiece}
 use Rattle.std.specs.Prelude.{slice_get}
 use Rattle.app_worker.specs.Steps.{OnlyHelds, whole_piece}
+use Rattle.app_worker.specs.Moves.{reads_of, reserve_loans}
+use Rattle.app_worker.specs.Flushing.{loans_so_far}
+use Rattle.app_worker.proofs.Flushing.{flushes-same}
 use Rattle.app_worker.specs.Whole.{fresh_flow, IsChosen, TookOne, TookNone, Torn}
 use Rattle.zr_kinds.specs.declared.ring.Completion.{Completion}
 use Rattle.app_worker.specs.declared.stack.Lending.{Lending}
@@ -184,6 +187,7 @@ module _ (was : State) (old new : AppView) (t : TakenNote) (works : Working was 
           common = common-noted was old new t view-in notes i index now bytes-in few-in common;
           moves = moves-noted was old new t view-in notes i index now (grow-noted was.flows t.note own (λ x. set flows i x) q base put-in);
           shelved = shelves-noted was.flows old new t view-in (all-end was old works) known-in own (λ x. set flows i x) put-in q base;
+          flushes = flushes-same was (with_note was notes now index i) old new (ap (reads_of was) view) (ap loans_so_far view) (ap reserve_loans view) refl;
           steps = omega (arith, steps-noted was old new t view-in notes i index now);
           note = t;
           taken = ap (λ (v : AppView). v.taken) view;

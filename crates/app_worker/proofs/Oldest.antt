@@ -1,7 +1,7 @@
 -- The oldest loan is read: all that is kept then.
 use Rattle.std.proofs.Common.{◌≡◌, ◌≢◌, ℕ, ◌+◌, ◌-◌, ◌^◌, ◌<◌, ◌≤◌, min, Bool, true, false, List, [], ◌∷◌}
 use Rattle.std.proofs.Common.{◌++◌, Option, Some, None}
-use Rattle.std.proofs.Common.{IsSome, length, drop, set, get_or, refl, sym, ap, subst, ◌∙◌, arith, ◌⊎◌, ⊎_elim, append-nil, length-append}
+use Rattle.std.proofs.Common.{IsSome, length, drop, set, get_or, refl, sym, ap, subst, ◌∙◌, arith, ◌⊎◌, ⊎_elim, append-nil, length-append, inl, inr}
 use Rattle.std.specs.Prelude.{slice_get, ◌==◌, if◌then◌else◌}
 use Rattle.std.specs.Io.KnownBytes.{Keeps}
 use Rattle.zr_kinds.specs.declared.ring.Completion.{Completion}
@@ -25,7 +25,8 @@ use Rattle.app_worker.specs.State.{State, read_of, TellsOf, LiesOutside, Working
 use Rattle.app_worker.specs.State.{lent_len, loan_len, bytes_if, bytes_of, app_steps, one_if}
 use Rattle.board_face.specs.AppEvents.{reserve_of}
 use Rattle.app_worker.specs.Shelves.{IsShelved, AreShelved, AreOfOneLoan, ReadsFront, IsFrontShelved, AreFronts}
-use Rattle.app_worker.specs.Moves.{Moves, KeptSince, reserve_loans}
+use Rattle.app_worker.specs.Moves.{Moves, KeptSince, reads_of, reserve_loans}
+use Rattle.app_worker.specs.Flushing.{Flushes, loans_so_far}
 use Rattle.std.proofs.lemmas.Bool.{cases_Bool}
 use Rattle.app_worker.specs.Whole.{Torn, ReadOne, ReadQuit, ReadFailed, Appended}
 use Rattle.app_worker.proofs.Standing.{At, split-at, each-right, each-changed, many-same, total-changed, parts-alike, is_number, number-is}
@@ -36,7 +37,7 @@ use Rattle.app_worker.proofs.Entering.{marks-length}
 use Rattle.app_worker.proofs.ReadLemmas.{all-grow, read-append, marks-split}
 use Rattle.app_worker.proofs.Placing.{values-split, values-length}
 use Rattle.app_worker.proofs.EachBoth.{each-both}
-use Rattle.app_worker.proofs.Moving.{looks-same, no-write, aside-same, leaked-aside, same-leaked, strays-same, entries-same, names-same, most-same}
+use Rattle.app_worker.proofs.Moving.{total-one, looks-same, no-write, aside-same, leaked-aside, same-leaked, strays-same, entries-same, names-same, most-same}
 use Rattle.app_worker.proofs.Indexing.{index-set}
 use Rattle.app_worker.proofs.Accounts.{sound-same}
 use Rattle.app_worker.proofs.Origins.{origins-same}
@@ -270,6 +271,41 @@ module _ (was : State) (i : ℕ) (own : FlowQueue) (p : Completion × Lending) (
   same_lent : reserve_loans new ≡ reserve_loans old
   same_lent = rw only.view refl
 
+  -- one more was read, which is the last of them where all were to be read
+  flushes-read : (bytes written : ℕ) → Flushes was (with_read was i own bytes ps p.1 written flush) old new
+  flushes-read bytes written = record {
+    reads = omega (arith, one_read);
+    lent = omega (arith, lent_still);
+    reserve = omega (arith, same_lent);
+    all = all_read;
+  }
+    where
+      lent_still : loans_so_far new ≡ loans_so_far old
+      lent_still = ap loans_so_far only.view
+
+      one_read : reads_of (with_read was i own bytes ps p.1 written flush) new ≡ reads_of was old + 1
+      one_read = omega (arith, ap length same_returned, ap due_one due)
+
+      one : LentPiece → ℕ
+      one l = 1
+
+      all_read : flush ≡ false → (was.flush ≡ true) ⊎ (reserve_loans old < reserve_loans new)
+          → loans_so_far old ≤ reads_of (with_read was i own bytes ps p.1 written flush) new
+      all_read off (inr more) = absurd (omega (arith, more, same_lent))
+      all_read off (inl on) = ⊎_elim
+          (λ (before : was.flush ≡ false). absurd (let e : true ≡ false = sym on ∙ before in cc))
+          (λ (none : ps ≡ []). omega (
+            arith,
+            one_read,
+            stood.tokens.loans one,
+            total-one old.loans,
+            total-one was.leaked.items,
+            ap (λ (es : List (Completion × Lending)). total (λ (q : Completion × Lending). 1) (es ++ was.posted.entries)) none,
+            ap (λ (es : List (Completion × Lending)). total (λ (q : Completion × Lending). 1) es) reaped,
+            ap due_one due,
+          ))
+          (flush_off off)
+
   -- it isn't to be read whole where it wasn't
   no-flush : was.flush ≡ false → flush ≡ false
   no-flush off = ⊎_elim (λ (on : flush ≡ true). absurd (let e = (flush_on on).0 in cc)) (λ (not : flush ≡ false). not) (cases_Bool flush)
@@ -369,6 +405,7 @@ module _ (was : State) (i : ℕ) (own : FlowQueue) (p : Completion × Lending) (
               (subst (λ (fs : List FlowQueue). AreShelved first kept fs old) at.is shelved));
           failed = λ is. absurd (no-write was.stopped works.going is);
         };
+        flushes = flushes-read (own.bytes + p.1.loan.len) written;
         steps = omega (arith, steps-read (own.bytes + p.1.loan.len) written);
         unread = ap length unread ∙ (omega arith);
         flush = flush_on;

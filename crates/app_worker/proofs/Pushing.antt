@@ -30,6 +30,8 @@ use Rattle.app_worker.specs.Entries.{Gives, AreBlocks}
 use Rattle.app_worker.proofs.Written.{gives-raw, blocks-raw}
 use Rattle.app_worker.proofs.Tokens.{total-append}
 use Rattle.board_face.specs.Looks.{AppRose}
+use Rattle.app_worker.specs.Flushing.{Flushes, loans_so_far}
+use Rattle.app_worker.proofs.Flushing.{flushes-same, flushes-none, flushes-then, flushes-saw}
 use Rattle.app_worker.proofs.Moving.{looks-same, looks-more, looks-trans, kept-same, same-leaked, no-write, rose-after}
 use Rattle.app_worker.proofs.Seeing.{Left, left-none, left-saw}
 
@@ -235,7 +237,14 @@ pushed-left was now old new some fewer works common =
           failed = λ is. absurd (no-write was.stopped works.going is);
         };
       },
-      record { same = refl; steps = steps; taken = ap (λ (v : AppView). v.taken) some.view; left = ap (λ (v : AppView). v.left) some.view },
+      record {
+        flushes = flushes-same was (with_stray was now) old new (ap (λ (v : AppView). reads_of was v) some.view) (ap loans_so_far some.view)
+            (ap reserve_loans some.view) refl;
+        same = refl;
+        steps = steps;
+        taken = ap (λ (v : AppView). v.taken) some.view;
+        left = ap (λ (v : AppView). v.left) some.view;
+      },
     )
 
 pub push-left : (was : State) (now : Stray) (old new : AppView) (result : Pushed) → Pushes old new was.stray now result → Working was old → Common was old
@@ -260,10 +269,11 @@ back-did was now old new gave.InUse part in_use some gives = absurd (in_use refl
 
 pub gave-then : (a b c : State) (u v w : AppView) → GaveOne a b u v → a.due ≢ None → Moves b c v w → c ≡ with_stray b c.stray
     → w.taken ≡ v.taken
-    → w.left ≡ v.left → GaveBack a c u w × (c.due ≡ None)
-gave-then a b c u v w one some moves same taken left =
+    → w.left ≡ v.left → Flushes b c v w → GaveBack a c u w × (c.due ≡ None)
+gave-then a b c u v w one some moves same taken left flushes =
     let chain : c ≡ record a { due = None; leaked = b.leaked; stray = c.stray } = same ∙ ap (λ (s : State). record s { stray = c.stray }) one.same in (
       record {
+        flushes = flushes-then a b c u v w one.flushes flushes;
         same = chain ∙ ap (λ (s : State). record a { due = s.due; leaked = s.leaked; stray = c.stray }) (sym chain);
         steps = omega (arith, one.steps some, moves.steps);
         taken = taken ∙ one.taken;
@@ -277,12 +287,12 @@ pub gave-whole : (a b d e : State) (u v w x : AppView) (result : Pushed) → res
     → GaveOne b d v w → Moves d e w x → PushesLeft d e w x result → GaveBack a e u x × (e.due ≡ None) × (e.stray.left ≡ 0)
 gave-whole a b d e u v w x Nothing part in_use same view some one moves pushes =
     let gone = gave-then b d e v w x one some moves (pushes.0 ∙ ap (λ (s : State). record d { stray = s.stray }) (sym pushes.0))
-    (ap (λ (y : AppView). y.taken) pushes.1) (ap (λ (y : AppView). y.left) pushes.1) in
+    (ap (λ (y : AppView). y.taken) pushes.1) (ap (λ (y : AppView). y.left) pushes.1) (rw (pushes.0, pushes.1) (flushes-none d w)) in
     subst (λ s. GaveBack s e u x × (e.due ≡ None) × (e.stray.left ≡ 0)) same
     (subst (λ y. GaveBack b e y x × (e.due ≡ None) × (e.stray.left ≡ 0)) view
     (gone.0, gone.1, ap (λ (s : State). s.stray.left) pushes.0 ∙ pushes.2))
 gave-whole a b d e u v w x All part in_use same view some one moves pushes =
-    let gone = gave-then b d e v w x one some moves pushes.1 pushes.0.taken pushes.0.left in
+    let gone = gave-then b d e v w x one some moves pushes.1 pushes.0.taken pushes.0.left pushes.0.flushes in
     subst (λ s. GaveBack s e u x × (e.due ≡ None) × (e.stray.left ≡ 0)) same
     (subst (λ y. GaveBack b e y x × (e.due ≡ None) × (e.stray.left ≡ 0)) view (gone.0, gone.1, pushes.3))
 gave-whole a b d e u v w x Part part in_use same view some one moves pushes = absurd (part refl)
@@ -296,11 +306,12 @@ gave-part a b d e u v w x Nothing (inr part) same view some one first moves push
 gave-part a b d e u v w x All (inl part) same view some one first moves pushes = absurd (cc)
 gave-part a b d e u v w x All (inr part) same view some one first moves pushes = absurd (cc)
 gave-part a b d e u v w x Part part same view some one first moves pushes =
-    let gone = gave-then b d e v w x one some moves pushes.1 pushes.0.taken pushes.0.left in
+    let gone = gave-then b d e v w x one some moves pushes.1 pushes.0.taken pushes.0.left pushes.0.flushes in
     subst (λ s. GaveBack s e u x × AppRose RefillInUse u x) same
     (subst (λ y. GaveBack b e y x × AppRose RefillInUse y x) view (gone.0, rose-after RefillInUse v w x first.looks pushes.2))
 gave-part a b d e u v w x InUse part same view some one first moves pushes =
     let gone = gave-then b d e v w x one some moves (pushes.0 ∙ ap (λ (s : State). record d { stray = s.stray }) (sym pushes.0))
-    (ap (λ (y : AppView). y.taken) pushes.1.event) (ap (λ (y : AppView). y.left) pushes.1.event) in
+    (ap (λ (y : AppView). y.taken) pushes.1.event) (ap (λ (y : AppView). y.left) pushes.1.event)
+    (rw pushes.0 (flushes-saw d w x RefillInUse pushes.1)) in
     subst (λ s. GaveBack s e u x × AppRose RefillInUse u x) same
     (subst (λ y. GaveBack b e y x × AppRose RefillInUse y x) view (gone.0, rose-after RefillInUse v w x first.looks pushes.1.rose))

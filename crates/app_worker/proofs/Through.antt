@@ -13,6 +13,8 @@ use Rattle.app_worker.specs.Whole.{GaveBack, ReadOne, ReadFailed, Reads}
 use Rattle.app_worker.specs.Letting.{LetGo}
 use Rattle.app_worker.specs.Stages.{Through, WriteStopped}
 use Rattle.app_worker.proofs.Moving.{moves-then, no-write as no-writes}
+use Rattle.app_worker.specs.Flushing.{Flushes}
+use Rattle.app_worker.proofs.Flushing.{flushes-none, flushes-then, flushes-saw}
 use Rattle.app_worker.proofs.Seeing.{goes-none}
 
 -- what the shelf failed at stays so
@@ -36,6 +38,7 @@ pub through-none : (st : State) (v : AppView) (kept : ℕ → Option (List ℕ))
 through-none st v kept working common reaped = record {
   working = working;
   common = common;
+  flushes = flushes-none st v;
   goes = goes-none st v kept;
   reaped = reaped;
   ended = refl;
@@ -47,6 +50,7 @@ pub through-then : (a b c : State) (u v w : AppView) (k l m : ℕ → Option (Li
 through-then a b c u v w k l m first second = record {
   working = second.working;
   common = second.common;
+  flushes = flushes-then a b c u v w first.flushes second.flushes;
   goes = goes-then a b c u v w k l m first.goes second.goes;
   reaped = second.reaped;
   ended = second.ended ∙ first.ended;
@@ -66,6 +70,7 @@ read-did was now old new kept kept_now faults faults_now Failed other going some
 pub through-read : (was now : State) (old new : AppView) (kept kept_now : ℕ → Option (List ℕ)) → was.posted.entries ≡ []
     → ReadOne was now old new kept kept_now → Through was now old new kept kept_now
 through-read was now old new kept kept_now reaped read = record {
+  flushes = read.flushes;
   working = read.working;
   common = read.common;
   goes = read.goes;
@@ -78,6 +83,7 @@ through-read was now old new kept kept_now reaped read = record {
 pub through-gave : (was now : State) (old new : AppView) (kept : ℕ → Option (List ℕ)) → was.posted.entries ≡ [] → Working now new → Common now new
     → Goes was now old new kept kept → GaveBack was now old new → Through was now old new kept kept
 through-gave was now old new kept reaped working common goes gave = record {
+  flushes = gave.flushes;
   working = working;
   common = common;
   goes = goes;
@@ -221,6 +227,7 @@ write-later a b c u v w k l m f f1 f2 later first stopped = record {
 pub through-in-use : (was now : State) (old new : AppView) (kept : ℕ → Option (List ℕ)) → was.posted.entries ≡ [] → Working now new
     → Common now new → Goes was now old new kept kept → now ≡ was → AppOnlySaw RefillInUse old new → Through was now old new kept kept
 through-in-use was now old new kept reaped working common goes same saw = record {
+  flushes = subst (λ (s : State). Flushes was s old new) (sym same) (flushes-saw was old new RefillInUse saw);
   working = working;
   common = common;
   goes = goes;

@@ -15,6 +15,8 @@ use Rattle.app_worker.specs.declared.turn.Why.{Why}
 use Rattle.app_worker.specs.declared.turn.Why.TheVariants.{ReserveHeld}
 use Rattle.app_worker.specs.State.{State, Working, Common, Bare, AppStands, app_steps}
 use Rattle.app_worker.specs.Steps.{SawNoSpare}
+use Rattle.app_worker.specs.Flushing.{Flushes, loans_so_far}
+use Rattle.app_worker.proofs.Flushing.{flushes-same, flushes-then, flushes-saw}
 use Rattle.app_worker.specs.Moves.{Goes, KeptSince, reads_of, reserve_loans}
 use Rattle.zr_io.specs.Moved.{Rose}
 use Rattle.app_worker.specs.Turns.{Answers, Because, IsAsBefore, look_of, LooksForOne, Polled, Rests, Turns, TakesFew, turn_after}
@@ -52,6 +54,9 @@ no-look was now old new turn live is more = absurd (cc)
 pub bare-over : (now : State) (old new : AppView) → now.bare ≡ true → now.bare ≡ false → LeavesInUse now old new
 bare-over now old new is live = absurd (cc)
 
+pub bare-flushes : (was now : State) (old new : AppView) → now.bare ≡ true → now.bare ≡ false → Flushes was now old new
+bare-flushes was now old new is live = absurd (cc)
+
 -- an answer that does something isn't idle
 pub no-idle : (turn : Turn) (Q : Why → Type 0) → ((why : Why) → turn ≢ Idle why) → (why : Why) → turn ≡ Idle why → Q why
 no-idle turn Q busy why is = absurd (busy why is)
@@ -70,6 +75,7 @@ turns-did was now old new k m f f2 live through steps over = record {
   few = inl through.taken;
   idle = λ why e. absurd (cc);
   left_over = λ _. over;
+  flushes = λ _. through.flushes;
   here = λ _. through.left;
   polled = no-poll was now old new through.taken;
   cause = λ _ is. absurd (no-write now.stopped through.working.going is);
@@ -86,6 +92,7 @@ turns-failed was now old new k m f f2 none live stopped = record {
   few = inl stopped.taken;
   idle = λ why e. absurd (cc);
   left_over = bare-over now old new stopped.is_bare;
+  flushes = bare-flushes was now old new stopped.is_bare;
   here = λ _. stopped.left;
   polled = no-poll was now old new stopped.taken;
   cause = λ _ _. stopped.rose;
@@ -103,6 +110,7 @@ turns-quit was now old new k m f f2 live quit = record {
   few = inl quit.taken;
   idle = λ why e. absurd (cc);
   left_over = bare-over now old new quit.is_bare;
+  flushes = bare-flushes was now old new quit.is_bare;
   here = λ _. quit.left;
   polled = no-poll was now old new quit.taken;
   cause = λ _ is. absurd (quit-no-write now.stopped quit.stopped is);
@@ -130,6 +138,7 @@ turns-saw st v new k f f2 why saw works common reaped because over =
       few = inl (ap (λ (x : AppView). x.taken) saw.event);
       idle = idle-for why (λ w. (k ≡ k) × Because w st v) (refl, because);
       left_over = λ _. over;
+      flushes = λ _. flushes-saw st v new (look_of why) saw;
       here = λ _. ap (λ (x : AppView). x.left) saw.event;
       polled = no-poll st st v new (ap (λ (x : AppView). x.taken) saw.event);
       cause = λ other is. absurd (other is);
@@ -149,6 +158,7 @@ turns-no-spare st v new k f f2 saw works common reaped because over =
       few = inl (ap (λ (x : AppView). x.taken) saw.event);
       idle = idle-for ReserveHeld (λ w. (k ≡ k) × Because w st v) (refl, because);
       left_over = λ _. over;
+      flushes = λ _. flushes-same st st v new (ap (reads_of st) saw.event) (ap loans_so_far saw.event) (ap reserve_loans saw.event) refl;
       here = λ _. ap (λ (x : AppView). x.left) saw.event;
       polled = no-poll st st v new (ap (λ (x : AppView). x.taken) saw.event);
       cause = λ other is. absurd (other is);
@@ -186,6 +196,7 @@ pub record Begins (was mid : State) (old midv : AppView) (k l : ℕ → Option (
   pub still : mid.bare ≡ false
   pub still_going : mid.stopped ≡ stop.No
   pub goes : Goes was mid old midv k l
+  pub flushes : Flushes was mid old midv
   pub steps : app_steps was old < app_steps mid midv
   pub taken : midv.taken ≡ old.taken
   pub left : midv.left ≡ old.left
@@ -209,6 +220,7 @@ turns-later was mid now old midv new k l m f f1 f2 turn begin turns = record {
   answer = answer-after was mid now old midv new k l m f f1 f2 turn begin turns.goes turns.answer;
   few = few turns.few;
   idle = λ why is. absurd (after-busy turn why is);
+  flushes = λ live. flushes-then was mid now old midv new begin.flushes (turns.flushes live);
   left_over = λ live left. rose-after RefillInUse old midv new begin.goes.moves.looks (turns.left_over live left);
   here = λ other. turns.here (λ is. other (ap (turn_after true) is)) ∙ begin.left;
   polled = λ live. polled;
@@ -256,6 +268,7 @@ turns-earlier was now old new k m f f1 f2 turn later turns = record {
   few = turns.few;
   idle = turns.idle;
   left_over = turns.left_over;
+  flushes = turns.flushes;
   here = turns.here;
   polled = turns.polled;
   cause = λ other is. omega (arith, later, turns.cause other is);
@@ -287,6 +300,7 @@ begins-through was mid old midv k l f f1 works here through steps later = record
   still = through.working.live;
   still_going = through.working.going;
   goes = through.goes;
+  flushes = through.flushes;
   steps = steps;
   taken = through.taken;
   left = through.left;
@@ -304,6 +318,7 @@ begins-gave was mid old midv k f works here then goes gave = record {
   still = then.live;
   still_going = then.going;
   goes = goes;
+  flushes = gave.flushes;
   steps = gave.steps;
   taken = gave.taken;
   left = gave.left;
@@ -321,6 +336,7 @@ turns-gave was mid old midv k f works reaped then common goes gave rose = record
   few = inl gave.taken;
   idle = λ why e. absurd (cc);
   left_over = λ _ _. rose;
+  flushes = λ _. gave.flushes;
   here = λ _. gave.left;
   polled = no-poll was mid old midv gave.taken;
   cause = λ _ is. absurd (no-write mid.stopped then.going is);

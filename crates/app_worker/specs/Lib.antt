@@ -6,6 +6,7 @@ pub mod State
 pub mod StateOf
 pub mod Shelves
 pub mod Moves
+pub mod Flushing
 pub mod Whole
 pub mod Kept
 pub mod Letting

@@ -18,10 +18,12 @@ use Rattle.app_worker.specs.Core.{Each}
 use Rattle.app_worker.specs.State.{State, IsAtRest, LiesOutside, Working, Common, Bare, app_steps}
 use Rattle.app_worker.specs.Steps.{SawNoSpare}
 use Rattle.app_worker.specs.Moves.{Goes}
+use Rattle.app_worker.specs.Flushing.{Flushes}
 use Rattle.app_worker.specs.Whole.{Lends, HasNext, HasCopyNext, IsDue}
 
 -- it goes on, nothing is posted, and no note was taken
 pub record Through (was now : State) (old new : AppView) (kept kept_now : ℕ → Option (List ℕ)) : Type 0 where
+  pub flushes : Flushes was now old new
   pub working : Working now new
   pub common : Common now new
   pub goes : Goes was now old new kept kept_now
@@ -90,6 +92,7 @@ ReadsTo keep was now old new kept kept_now faults faults_now read_failed = Write
 
 -- pieces were lent, up to one that couldn't be
 pub record LentSome (was now : State) (old new : AppView) (did : Bool) (end_by : Delivery) : Type 0 where
+  pub flushes : Flushes was now old new
   pub working : Working now new
   pub common : Common now new
   pub goes : (kept : ℕ → Option (List ℕ)) → Goes was now old new kept kept

@@ -16,6 +16,7 @@ use Rattle.app_worker.specs.declared.turn.Why.TheVariants.{NoNote, RefillFull, U
 use Rattle.app_worker.specs.Core.{Each}
 use Rattle.app_worker.specs.State.{State, IsAtRest, Working, AppStands, app_steps}
 use Rattle.app_worker.specs.Moves.{Moves, Goes}
+use Rattle.app_worker.specs.Flushing.{Flushes}
 use Rattle.app_worker.specs.Whole.{HasNext, HasCopyNext, IsDue}
 use Rattle.app_worker.specs.Stages.{NoneInReserve, LeavesInUse}
 
@@ -119,6 +120,8 @@ pub record Turns (was now : State) (old new : AppView) (kept kept_now : ℕ → 
   pub idle : (why : Why) → result ≡ Idle why → (kept_now ≡ kept) × Because why was old
   -- a loan that was read is left due, or one in the reserve unread, only where a refill slot was seen in use
   pub left_over : now.bare ≡ false → LeavesInUse now old new
+  -- a loan in the reserve has all read that was unread
+  pub flushes : now.bare ≡ false → Flushes was now old new
   -- it leaves only where it says so
   pub here : result ≢ Finished → new.left ≡ old.left
   -- a note is taken only where that may be

@@ -30,6 +30,7 @@ use Rattle.app_worker.specs.State.{IsIndex, State, read_of, IsAtRest, Working, C
 use Rattle.app_worker.specs.Shelves.{AreShelved, AreFronts}
 use Rattle.app_worker.specs.Steps.{IsNext, SawNoSpare}
 use Rattle.app_worker.specs.Moves.{Moves, Goes}
+use Rattle.app_worker.specs.Flushing.{Flushes}
 
 -- what was kept of a flow went on by the bytes that were read at its next marks
 pub record Appended (flow : FlowQueue) (taken : List TakenNote) (new : AppView) (len : ℕ) (kept kept_now : ℕ → Option (List ℕ)) : Type 0 where
@@ -53,6 +54,7 @@ IsChosen was now note i =
 
 -- The piece that is next in the stream was lent and posted.
 pub record LentOne (was now : State) (old new : AppView) : Type 0 where
+  pub flushes : Flushes was now old new
   pub steps : app_steps was old < app_steps now new
   pub posted : length now.posted.entries ≡ length was.posted.entries + 1
   pub same : now ≡ record was { flows = now.flows; posted = now.posted; loans = now.loans; copied = now.copied; flush = now.flush }
@@ -82,6 +84,7 @@ Lends was now old new ReserveHeld = (now ≡ was) × SawNoSpare old new × HasCo
 
 -- nothing is due any more: what was is given back, and entries are to follow it, or it is kept to the end
 pub record GaveOne (was now : State) (old new : AppView) : Type 0 where
+  pub flushes : Flushes was now old new
   pub same : now ≡ record was { due = None; leaked = now.leaked; stray = now.stray }
   pub steps : was.due ≢ None → app_steps was old < app_steps now new
   pub taken : new.taken ≡ old.taken
@@ -93,6 +96,7 @@ Gives was now old new false = (now ≡ was) × (was.due ≢ None) × AppOnlySaw 
 
 -- loans were given back or kept, and entries written
 pub record GaveBack (was now : State) (old new : AppView) : Type 0 where
+  pub flushes : Flushes was now old new
   pub same : now ≡ record was { due = now.due; leaked = now.leaked; stray = now.stray }
   pub steps : app_steps was old < app_steps now new
   pub taken : new.taken ≡ old.taken
@@ -118,6 +122,7 @@ GivesBack was now old new given_none = (now ≡ was) × AppOnlySaw RefillInUse o
 
 -- The oldest loan was read and appended, and is due.
 pub record ReadOne (was now : State) (old new : AppView) (kept kept_now : ℕ → Option (List ℕ)) : Type 0 where
+  pub flushes : Flushes was now old new
   pub working : Working now new
   pub common : Common now new
   pub goes : Goes was now old new kept kept_now
@@ -175,6 +180,7 @@ abbrev pub KeepsShelves : State → State → AppView → AppView → Type 0
 KeepsShelves was now old new = (first kept : ℕ → Option (List ℕ)) → AreShelved first kept was.flows old → AreShelved first kept now.flows new
 
 pub record TookOne (was now : State) (old new : AppView) : Type 0 where
+  pub flushes : Flushes was now old new
   pub working : Working now new
   pub common : Common now new
   pub moves : Moves was now old new
