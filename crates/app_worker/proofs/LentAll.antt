@@ -225,8 +225,8 @@ pub leaves-after : (st : State) (u v w : AppView) → AppLooksStay u v → Leave
 leaves-after st u v w first second left = rose-after RefillInUse u v w first (second left)
 
 -- nothing is to be done but what waits
-pub caught-up : (st : State) (v : AppView) → Working st v → st.due ≡ None → st.stray.left ≡ 0 → st.posted.entries ≡ [] → length st.unread ≤ st.how.hold
-    → st.flush ≡ false → IsCaughtUp st v
+pub caught-up : (st : State) (v : AppView) → Working st v → st.due ≡ None → st.stray.left ≡ 0 → st.posted.entries ≡ []
+    → length st.unread ≤ st.how.hold → st.flush ≡ false → IsCaughtUp st v
 caught-up st v works due pushed reaped few off = record {
   given = due;
   none_left = pushed;

@@ -1,7 +1,8 @@
 -- The oldest loan is read: all that is kept then.
 use Rattle.std.proofs.Common.{◌≡◌, ◌≢◌, ℕ, ◌+◌, ◌-◌, ◌^◌, ◌<◌, ◌≤◌, min, Bool, true, false, List, [], ◌∷◌}
 use Rattle.std.proofs.Common.{◌++◌, Option, Some, None}
-use Rattle.std.proofs.Common.{IsSome, length, drop, set, get_or, refl, sym, ap, subst, ◌∙◌, arith, ◌⊎◌, ⊎_elim, append-nil, length-append, inl, inr}
+use Rattle.std.proofs.Common.{IsSome, length, drop, set, get_or, refl, sym, ap, subst, ◌∙◌, arith, ◌⊎◌, ⊎_elim, append-nil, length-append}
+use Rattle.std.proofs.Common.{inl, inr}
 use Rattle.std.specs.Prelude.{slice_get, ◌==◌, if◌then◌else◌}
 use Rattle.std.specs.Io.KnownBytes.{Keeps}
 use Rattle.zr_kinds.specs.declared.ring.Completion.{Completion}
@@ -78,7 +79,8 @@ front-other first kept now taken posted old new lent f only keeps stands shelved
 
 -- and of the flow whose loan was read
 front-own : (first kept now : ℕ → Option (List ℕ)) (taken : List TakenNote) (old new : AppView) (own : FlowQueue) (l : Lending) (bytes most : ℕ)
-    (ps : List (Completion × Lending)) (lent : List LentPiece) → l.note < length taken → IsIn (lent_piece taken l) lent → OnlyReads old new → own.bytes ≤ bytes → most ≤ l.loan.len
+    (ps : List (Completion × Lending)) (lent : List LentPiece) → l.note < length taken → IsIn (lent_piece taken l) lent → OnlyReads old new
+    → own.bytes ≤ bytes → most ≤ l.loan.len
     → ((q : ℕ) → q < own.queue.popped → IsSome ((placed_of own taken).at q)) → IsNext taken own l ps
     → IsShelved first kept taken old.reads own → Gained (kept own.number) (now own.number) (IsReadOf taken new.reads l (bytes - own.bytes) most)
     → IsFrontShelved first now taken new.reads lent (record own { bytes = bytes })

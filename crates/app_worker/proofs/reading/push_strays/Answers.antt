@@ -1,5 +1,6 @@
 use Rattle.std.proofs.Common.{rules, ◌≡◌, ◌<◌, ◌⊎◌, ◌∙◌, arith}
 use Rattle.board_face.specs.AppCalls.{AppOnlySaw}
+use Rattle.board_face.specs.Looks.{AppRose}
 use Rattle.board_face.specs.AppEvents.{pushed_raw}
 use Rattle.board_face.specs.declared.views.app.AppLook.TheVariants.{RefillInUse}
 use Rattle.board_face.specs.declared.views.app.AppView.{AppView}
@@ -14,7 +15,8 @@ returns-then-did-clause-pushes g c =
     let w : AppView = g.F.AppFace.seen c.push_stray.new.face in
     let saw : AppOnlySaw RefillInUse v w = search rules in
     let fewer : c.loop-stray.stray.left < c.args.stray.now.left = search rules in
-    (pushed-saw u v w c.args.stray.now c.loop-stray.stray c.loop-stray.invariant.0 saw, fewer, rose-after RefillInUse u v w c.loop-stray.invariant.0.looks saw.rose)
+    let rose : AppRose RefillInUse u w = rose-after RefillInUse u v w c.loop-stray.invariant.0.looks saw.rose in
+    (pushed-saw u v w c.args.stray.now c.loop-stray.stray c.loop-stray.invariant.0 saw, fewer, rose)
 
 pub loop-stray-preserved : goal.loop-stray-preserved
 loop-stray-preserved g c =

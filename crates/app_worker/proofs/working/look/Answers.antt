@@ -73,7 +73,8 @@ returns-in_default g c =
     let took : TookOne a b u v = c.in-Did.ensures.takes in
     let reaped : b.posted.entries ≡ [] = ap (λ (s : State). s.posted.entries) took.same ∙ c.requires.reaped in
     record {
-      turns = took-did a b u v k m f f2 c.requires.working may c.requires.flush took e w c.lend_all.result c.in_default.not-Failed reaped c.lend_all.ensures.lends;
+      turns = took-did a b u v k m f f2 c.requires.working may c.requires.flush took e w c.lend_all.result c.in_default.not-Failed reaped
+          c.lend_all.ensures.lends;
       told = λ why is. absurd (cc);
       later = c.lend_all.ensures.later;
       beside = c.lend_all.ensures.beside ∙ c.take_note.ensures.beside;
