@@ -1,0 +1,4 @@
+mod Placing
+mod Framing
+mod Tokens
+mod Opening

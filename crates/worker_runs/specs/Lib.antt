@@ -1,0 +1,3 @@
+pub mod Card
+pub mod Plain
+pub mod Scene

@@ -1,8 +1,11 @@
 //! Runs of an application at the board for one thread: the card's calls and the application's turns, one after another.
 #![tactic(auto)]
 
+mod card;
+pub mod plain;
 mod scene;
 #[cfg(test)]
 mod tests;
 
-pub use scene::{card_step, turn_step};
+pub use card::{Card, CardCall, Told, card_call};
+pub use scene::{Scene, card_step, turn_step};

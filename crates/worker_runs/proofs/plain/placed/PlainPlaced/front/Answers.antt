@@ -1,0 +1,11 @@
+use Rattle.worker_runs.specs.Plain.{mark_in, placed_shown}
+use Rattle.worker_runs.proofs.Placing.{front_begins, front_goes_on}
+use Rattle.worker_runs.proofs.plain.placed.PlainPlaced.front.Goals as goal
+
+pub loop-position-init : goal.loop-position-init
+loop-position-init c = front_begins (placed_shown c.args.self.now) c.new-front.result.items c.new-front.ensures.items
+
+pub loop-position-preserved : goal.loop-position-preserved
+loop-position-preserved c =
+    front_goes_on (mark_in c.args.self.now.marks.items) c.args.self.now.top c.loop-position.position c.loop-position.front.items _ _ c.in-Some.mark
+    c.loop-position-test.true c.in-Some.ensures c.in_ok-push.ensures.items c.loop-position.invariant
