@@ -22,7 +22,7 @@ use Rattle.board_face.proofs.Tallies as tallies
 use Rattle.board_face.proofs.Parts.{user_part, user_count-parts}
 use Rattle.ref_words.specs.Words.{Words, pool_of, listed_in}
 use Rattle.ref_words.specs.Rule.{RefRule}
-use Rattle.ref_words.proofs.RingSteps.{refills-card}
+use Rattle.ref_words.proofs.RingSteps.{rings-card}
 use Rattle.ref_words.proofs.Counting.{weight-same, weight-other}
 use Rattle.ref_words.proofs.Frees.{AreFreeOnce-more, AreKept-card}
 use Rattle.ref_words.proofs.CardSteps.{SidesRule-card}
@@ -84,5 +84,5 @@ module _ (setting : Setting) (words : Words) (nic : NicSide) (apps : List AppSid
     users = same_users;
     free = AreFreeOnce-more (listed_in words) nic now apps apps own.buffer refl more held (λ b. refl) rule.free;
     kept = AreKept-card (listed_in words) nic now apps refl refl refl (λ b. omega arith) rule.kept;
-    refills = refills-card setting words nic now apps refl refl rule.refills;
+    rings = rings-card setting words nic now apps refl refl refl refl rule.rings;
   }

@@ -60,6 +60,8 @@ SidesRule-card setting nic now apps rule step = record {
   slots = record { notes = rw step.note_slots rule.slots.notes; refills = rw step.refill_slots rule.slots.refills };
   entries = rule.entries;
   notes = rw step.sent rule.notes;
+  taken = λ a app here. record { order = rw step.sent (rule.taken a app here).order };
+  proper = rw step.sent rule.proper;
   dealt = λ a app here. record { order = rw step.dealt (rule.dealt a app here).order };
   returns = λ a app here. AreReturns-card nic now app step.dealt step.entry (rule.returns a app here);
   hand = λ inhand is. let h = rule.hand inhand (sym step.entry ∙ is) in record {

@@ -22,7 +22,7 @@ use Rattle.board_face.proofs.FillingsFitLemmas.{FillingsFit-same}
 use Rattle.board_face.proofs.Tallies.{weight}
 use Rattle.ref_words.specs.Words.{Words, pool_of, listed_in}
 use Rattle.ref_words.specs.Rule.{RefRule}
-use Rattle.ref_words.proofs.RingSteps.{refills-app}
+use Rattle.ref_words.proofs.RingSteps.{rings-app}
 use Rattle.ref_words.proofs.Counting.{weight-same, weight-other}
 use Rattle.ref_words.proofs.Frees.{AreFreeOnce-more, AreKept-app, free_places-hands}
 use Rattle.ref_words.proofs.SideSteps.{mine, SidesRule-app}
@@ -75,6 +75,7 @@ module _ (setting : Setting) (words : Words) (nic : NicSide) (apps : List AppSid
       unheld = λ b past ne none. omega (arith, more b, held b, none);
       few = let f = mine setting nic apps a app rule.sides here HasFewPicks rule.sides.few in record { picks = f.picks; spares = f.spares };
       written = refl;
+      taken = refl;
       dealt = record { order = (rule.sides.dealt a app here).order };
       returns = let r = rule.sides.returns a app here in record {
         written = r.written;
@@ -107,5 +108,5 @@ module _ (setting : Setting) (words : Words) (nic : NicSide) (apps : List AppSid
     free = AreFreeOnce-more (listed_in words) nic nic apps apps' place.buffer refl more held
         (λ b. omega (arith, free_places-hands (listed_in words) b nic apps a app now here)) rule.free;
     kept = AreKept-app (listed_in words) nic apps a app now here refl rule.kept;
-    refills = refills-app setting words nic apps a app now here refl refl refl refl refl rule.refills;
+    rings = rings-app setting words nic apps a app now here refl refl refl refl refl refl refl rule.rings;
   }

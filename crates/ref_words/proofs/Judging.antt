@@ -29,7 +29,7 @@ use Rattle.board_face.proofs.IsFilledByOneLemmas.{IsFilledByOne-fewer}
 use Rattle.ref_words.specs.Words.{Words, user_of, listed_in}
 use Rattle.ref_words.specs.Sides.{IsInHand, IsFirstRaw}
 use Rattle.ref_words.specs.Rule.{RefRule}
-use Rattle.ref_words.proofs.RingSteps.{refills-card}
+use Rattle.ref_words.proofs.RingSteps.{rings-card}
 use Rattle.ref_words.proofs.Frees.{AreKept-card}
 use Rattle.ref_words.proofs.UserSteps.{AreFreeOnce-same}
 use Rattle.ref_words.proofs.InHand.{in_hand, some-is, if-none}
@@ -105,6 +105,8 @@ module _ (setting : Setting) (words : Words) (nic : NicSide) (apps : List AppSid
           slots = record { notes = rule.sides.slots.notes; refills = rule.sides.slots.refills };
           entries = rule.sides.entries;
           notes = rule.sides.notes;
+          taken = λ k x here. record { order = (rule.sides.taken k x here).order };
+          proper = rule.sides.proper;
           hand = hand;
           scrub = λ k x here. let s = rule.sides.scrub k x here in record {
             within = s.within;
@@ -122,7 +124,7 @@ module _ (setting : Setting) (words : Words) (nic : NicSide) (apps : List AppSid
         users = λ x c is less. rule.users x c is less ∙ sym (users x c);
         free = AreFreeOnce-same words nic like apps apps refl pools (λ c. refl) rule.free;
         kept = AreKept-card (listed_in words) nic like apps refl refl refl (λ c. omega arith) rule.kept;
-        refills = refills-card setting words nic like apps refl refl rule.refills;
+        rings = rings-card setting words nic like apps refl refl refl refl rule.rings;
       })
 
 part-none : (c : Bool) (n : ℕ) → c ≡ false → (if c then n else 0) ≡ 0

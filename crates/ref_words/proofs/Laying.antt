@@ -9,7 +9,8 @@ use Rattle.std.proofs.lemmas.List.Elements.{All-head, All-tail}
 use Rattle.area_layout.specs.Layout.{total}
 use Rattle.board_face.specs.NicCalls.{apps_of}
 use Rattle.board_face.specs.declared.views.parts.Setting.{Setting}
-use Rattle.ref_words.specs.Words.{Words, HasSizes, AreSlots, groups, group_sizes, begins, begin_at, joined, table_of, note_width, refill_width}
+use Rattle.ref_words.specs.Words.{Words, HasSizes, AreSlots, groups, group_sizes, begins, begin_at, joined, table_of}
+use Rattle.word_rings.specs.Slots.{note_width, refill_width}
 use Rattle.ref_words.specs.Words.{pool_at, pool_of, with_pool, user_at, user_of, with_user, role_at, with_role, table_words}
 
 -- ---- lists that lie one behind another

@@ -26,7 +26,7 @@ use Rattle.board_face.proofs.ReturnLemmas.{IsClear-of_loans}
 use Rattle.board_face.proofs.Tallies.{weight}
 use Rattle.ref_words.specs.Words.{Words, user_of, listed_in}
 use Rattle.ref_words.specs.Rule.{RefRule}
-use Rattle.ref_words.proofs.RingSteps.{refills-app}
+use Rattle.ref_words.proofs.RingSteps.{rings-app}
 use Rattle.ref_words.proofs.Counting.{weight-same}
 use Rattle.ref_words.proofs.Frees.{AreKept-app, free_places-hands}
 use Rattle.ref_words.proofs.InHand.{same-if, other-pair}
@@ -102,6 +102,7 @@ module _ (setting : Setting) (words : Words) (nic : NicSide) (apps : List AppSid
       unheld = λ b past ne none. same_pool b ∙ none;
       few = let f = mine setting nic apps a app rule.sides here HasFewPicks rule.sides.few in record { picks = f.picks; spares = f.spares };
       written = refl;
+      taken = refl;
       dealt = record { order = (rule.sides.dealt a app here).order };
       returns = let r = rule.sides.returns a app here in record {
         written = r.written;
@@ -133,5 +134,5 @@ module _ (setting : Setting) (words : Words) (nic : NicSide) (apps : List AppSid
     pool = same_pool;
     free = λ b. omega (arith, free_places-hands (listed_in words) b nic apps a app now here);
     kept = AreKept-app (listed_in words) nic apps a app now here refl rule.kept;
-    refills = refills-app setting words nic apps a app now here refl refl refl refl refl rule.refills;
+    rings = rings-app setting words nic apps a app now here refl refl refl refl refl refl refl rule.rings;
   }

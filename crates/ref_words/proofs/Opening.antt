@@ -26,10 +26,11 @@ use Rattle.board_face.proofs.MadeLastLemmas.{IsMadeLast-idle}
 use Rattle.board_face.proofs.OpenedLemmas.{all-alike, news, length-new_apps, numbered-new_apps, All-new, hands-new, count-new, users-new}
 use Rattle.board_face.proofs.OpenedLemmas.{FillingsFit-opened, IsFilledByOne-opened, ArePlaced-opened}
 use Rattle.ref_words.specs.declared.view.View.{View}
-use Rattle.ref_words.specs.Words.{AreSlots, opened_words, free_list, free_word, listed_in, user_of, roles_of, note_width, refill_width}
+use Rattle.ref_words.specs.Words.{AreSlots, opened_words, free_list, free_word, listed_in, user_of, roles_of}
+use Rattle.word_rings.specs.Slots.{note_width, refill_width}
 use Rattle.ref_words.specs.Seated.{Seated, no_role, side_at}
-use Rattle.ref_words.specs.Sides.{HasScrubLists, HasFreeReserve, IsDealtInOrder, HasNoneOwed, IsScrubbedSoFar}
-use Rattle.ref_words.specs.Rings.{slot_of, AreRefills, EntryFits}
+use Rattle.ref_words.specs.Sides.{HasScrubLists, HasFreeReserve, IsDealtInOrder, IsTakenInOrder, HasNoneOwed, IsScrubbedSoFar}
+use Rattle.ref_words.specs.Rings.{slot_of, IsRing, AreRings, EntryFits, words_of_entry, words_of_note}
 use Rattle.ref_words.specs.Rule.{RefRule}
 
 module _ (setting : Setting) where
@@ -119,33 +120,42 @@ module _ (setting : Setting) where
   user-zero : (n t a b : ℕ) → a < n → user_of (record (opened_words setting) { users = replicate n (replicate t 0) }) a b ≡ 0
   user-zero n t a b small = ap (λ row. get_or row b 0) (get_or-replicate n a (replicate t 0) [] small) ∙ all-alike t b 0
 
-  -- each slot of a ring is free
-  slot-is : 0 < setting.places → (k : ℕ) → slot_of setting.places (replicate setting.places (replicate refill_width 0)) k ≡ replicate refill_width 0
-  slot-is places_some k = get_or-replicate setting.places (k % setting.places) (replicate refill_width 0) [] (mod-lt k places_some)
+  -- in each ring nothing was written, and each slot is free
+  empty-ring : {X : Type 0} (width : ℕ) (body : X → List ℕ) → 0 < setting.places
+      → IsRing width body setting.places (replicate setting.places (replicate width 0)) [] 0 unseen unseen
+  empty-ring width body places_some = record {
+    some = places_some;
+    many = length-replicate setting.places (replicate width 0);
+    wide = λ k. ap length (slot-is k) ∙ length-replicate width 0;
+    order = omega arith;
+    room = omega arith;
+    full = λ k d taken written. absurd (omega (arith, taken, written));
+    free = λ k written taken. ap (λ slot. get_or slot 0 0) (slot-is k) ∙ all-alike width 0 0;
+    writer_seen = λ e. absurd (false≢true e);
+    writer_words = λ e. absurd (false≢true e);
+    reader_seen = λ e. absurd (false≢true e);
+    reader_words = λ e. absurd (false≢true e);
+  }
+    where
+      slot-is : (k : ℕ) → slot_of setting.places (replicate setting.places (replicate width 0)) k ≡ replicate width 0
+      slot-is k = get_or-replicate setting.places (k % setting.places) (replicate width 0) [] (mod-lt k places_some)
 
-  ring : 0 < setting.places → (a : ℕ) → a < apps_of setting → AreRefills setting (opened_words setting) (new_nic setting) (new_app setting a)
-  ring places_some a small =
-      let slots : List (List ℕ) = replicate setting.places (replicate refill_width 0) in
-      let lie : get_or (opened_words setting).refills a [] ≡ slots = get_or-replicate (apps_of setting) a slots [] small in
-      let ends : get_or (new_nic setting).inside.refill_slots a unseen ≡ unseen = get_or-replicate (apps_of setting) a unseen unseen small in
-      rw (lie, ends) (record {
-        ring = record {
-          some = places_some;
-          many = length-replicate setting.places (replicate refill_width 0);
-          wide = λ k. ap length (slot-is places_some k);
-          order = omega arith;
-          room = omega arith;
-          full = λ k d taken written. absurd (omega (arith, taken, written));
-          free = λ k written taken. ap (λ slot. get_or slot 0 0) (slot-is places_some k);
-          writer_seen = λ e. absurd (false≢true e);
-          writer_words = λ e. absurd (false≢true e);
-          reader_seen = λ e. absurd (false≢true e);
-          reader_words = λ e. absurd (false≢true e);
-        };
-        free_slots = All-nil _;
-        raw_slot = λ s e. absurd (let none : ⊥ = cc in none);
-        none_raw = λ e. All-nil _;
-      })
+  rings : 0 < setting.places → (a : ℕ) → a < apps_of setting → AreRings setting (opened_words setting) (new_nic setting) (new_app setting a)
+  rings places_some a small =
+      let refills : get_or (opened_words setting).refills a [] ≡ replicate setting.places (replicate refill_width 0) =
+      get_or-replicate (apps_of setting) a (replicate setting.places (replicate refill_width 0)) [] small in
+      let notes : get_or (opened_words setting).notes a [] ≡ replicate setting.places (replicate note_width 0) =
+      get_or-replicate (apps_of setting) a (replicate setting.places (replicate note_width 0)) [] small in
+      let ends : get_or (replicate (apps_of setting) unseen) a unseen ≡ unseen = get_or-replicate (apps_of setting) a unseen unseen small in
+      record {
+        refills = rw (refills, ends) (record {
+          ring = empty-ring refill_width words_of_entry places_some;
+          free_slots = All-nil _;
+          raw_slot = λ s e. absurd (let none : ⊥ = cc in none);
+          none_raw = λ e. All-nil _;
+        });
+        notes = rw (notes, ends) (empty-ring note_width words_of_note places_some);
+      }
 
   pub rule : IsLayout setting.layout → 0 < setting.places → RefRule setting (opened_words setting) (new_nic setting) apps
   rule layout places_some = record {
@@ -199,6 +209,9 @@ module _ (setting : Setting) where
           }) a app here.there);
       dealt = λ a app here. subst (IsDealtInOrder (new_nic setting)) here.is
           (All-new (IsDealtInOrder (new_nic setting)) setting 0 (apps_of setting) (λ n. record { order = refl }) a app here.there);
+      taken = λ a app here. subst (IsTakenInOrder (new_nic setting)) here.is
+          (All-new (IsTakenInOrder (new_nic setting)) setting 0 (apps_of setting) (λ n. record { order = refl }) a app here.there);
+      proper = All-nil _;
       honoured = All-nil _;
       slots = record { notes = length-replicate (apps_of setting) unseen; refills = length-replicate (apps_of setting) unseen };
       entries = All-new (λ app. All EntryFits app.view.written) setting 0 (apps_of setting) (λ a. All-nil _);
@@ -236,10 +249,10 @@ module _ (setting : Setting) where
       kept = λ b small. omega (arith, bit-set b small);
       swept = λ b small gone. absurd (omega (arith, gone));
     };
-    refills = λ a app here.
+    rings = λ a app here.
         let inside : a < apps_of setting = omega (arith, here.there, length-new_apps setting 0 (apps_of setting)) in
         let is : app ≡ new_app setting a = sym here.is ∙ (new-at 0 (apps_of setting) a app inside ∙ ap (new_app setting) (omega arith)) in
-        subst (AreRefills setting (opened_words setting) (new_nic setting)) (sym is) (ring places_some a inside);
+        subst (AreRings setting (opened_words setting) (new_nic setting)) (sym is) (rings places_some a inside);
   }
     where
       slots : (width : ℕ) → AreSlots setting.places width (replicate setting.places (replicate width 0))

@@ -1,5 +1,5 @@
 -- A pool count changes with the holders of its buffer.
-use Rattle.std.proofs.Common.{◌≡◌, ℕ, ◌<◌, List, sym, ◌∙◌, arith}
+use Rattle.std.proofs.Common.{◌≡◌, ℕ, ◌<◌, List, refl, sym, ◌∙◌, arith}
 use Rattle.std.specs.Prelude.{◌≢◌}
 use Rattle.std.proofs.lemmas.List.{length-set}
 use Rattle.area_layout.specs.Layout.{total}
@@ -12,7 +12,7 @@ use Rattle.board_face.specs.declared.views.app.AppSide.{AppSide}
 use Rattle.ref_words.specs.Words.{Words, with_pool, listed_in}
 use Rattle.ref_words.specs.Sides.{SidesRule}
 use Rattle.ref_words.specs.Rule.{RefRule}
-use Rattle.ref_words.proofs.RingSteps.{AllRefills}
+use Rattle.ref_words.proofs.RingSteps.{AllRings, rings-words}
 use Rattle.ref_words.proofs.Counting.{counts-set}
 
 -- What is to be known of the sides after the step, where the count of the buffer i becomes n.
@@ -24,7 +24,7 @@ pub record IsPoolStep (setting : Setting) (words : Words) (nic now : NicSide) (a
   pub users : (a b : ℕ) → user_count a b now apps' ≡ user_count a b nic apps
   pub free : AreFreeOnce (listed_in words) now apps'
   pub kept : AreKept (listed_in words) now apps'
-  pub refills : AllRefills setting words now apps'
+  pub rings : AllRings setting words now apps'
 
 pub RefRule-pool : (setting : Setting) (words : Words) (nic now : NicSide) (apps apps' : List AppSide) (i n : ℕ) → RefRule setting words nic apps
     → IsPoolStep setting words nic now apps apps' i n → RefRule setting (with_pool words i n) now apps'
@@ -53,5 +53,5 @@ RefRule-pool setting words nic now apps apps' i n rule step = record {
   users = λ a b app small. rule.users a b app small ∙ sym (step.users a b);
   free = record { pool = step.free.pool; reserves = step.free.reserves };
   kept = record { kept = step.kept.kept; swept = step.kept.swept };
-  refills = step.refills;
+  rings = rings-words setting words (with_pool words i n) now apps' refl refl step.rings;
 }

@@ -26,7 +26,7 @@ use Rattle.board_face.proofs.SideLemmas.{IsApp-at}
 use Rattle.ref_words.specs.Words.{Words, pool_of, listed_in}
 use Rattle.ref_words.specs.Sides.{IsInHand}
 use Rattle.ref_words.specs.Rule.{RefRule}
-use Rattle.ref_words.proofs.RingSteps.{refills-card}
+use Rattle.ref_words.proofs.RingSteps.{rings-card}
 use Rattle.ref_words.proofs.Counting.{weight-same, weight-other, if_so-weight, and-true, and-false}
 use Rattle.ref_words.proofs.Frees.{AreFreeOnce-fewer, AreKept-card, cache-grows}
 use Rattle.ref_words.proofs.PoolSteps.{IsPoolStep}
@@ -130,6 +130,8 @@ module _ (setting : Setting) (words : Words) (nic : NicSide) (apps : List AppSid
       slots = record { notes = rule.sides.slots.notes; refills = rule.sides.slots.refills };
       entries = rule.sides.entries;
       notes = rule.sides.notes;
+      taken = λ k x here. record { order = (rule.sides.taken k x here).order };
+      proper = rule.sides.proper;
       returns = λ k x here.
           let r = rule.sides.returns k x here in
           let was : lowered_in_hand x.view.app b nic.inside.entry ≡ lowered_in_hand x.view.app b (in_hand a entry (UserLowered b)) = ap
@@ -182,5 +184,5 @@ module _ (setting : Setting) (words : Words) (nic : NicSide) (apps : List AppSid
         (λ small. and-true last _ (lt-ltb b (pool_buffers nic.view.setting.layout) small) ∙ last-is (pool_of words b) (pool_count b now apps) 1 counted)
         (λ past. and-false last _ (le-ltb b (pool_buffers nic.view.setting.layout) past)) rule.free;
     kept = AreKept-card (listed_in words) nic now apps refl refl refl (λ c. cache-grows came nic.view.cache b c) rule.kept;
-    refills = refills-card setting words nic now apps refl refl rule.refills;
+    rings = rings-card setting words nic now apps refl refl refl refl rule.rings;
   }

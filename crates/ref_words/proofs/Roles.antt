@@ -14,6 +14,7 @@ use Rattle.ref_words.specs.declared.view.View.{View}
 use Rattle.ref_words.specs.Words.{Words, with_role}
 use Rattle.ref_words.specs.Seated.{Seated, times_in, card_view, app_view, due_view, dealt_out, both_sides, no_role, side_at}
 use Rattle.ref_words.specs.Rule.{RefRule}
+use Rattle.ref_words.proofs.RingSteps.{rings-words}
 use Rattle.ref_words.proofs.Seating as seating
 
 module _ (setting : Setting) (roles : List ℕ) (views : List View) (nic : NicSide) (apps : List AppSide) (seated : Seated setting roles views nic apps) where
@@ -119,5 +120,5 @@ role-taken setting words nic apps r rule = record {
   users = rule.users;
   free = record { pool = rule.free.pool; reserves = rule.free.reserves };
   kept = record { kept = rule.kept.kept; swept = rule.kept.swept };
-  refills = rule.refills;
+  rings = rings-words setting words (with_role words r) nic apps refl refl rule.rings;
 }

@@ -30,7 +30,7 @@ use Rattle.board_face.proofs.ListLemmas.{eqb_same, not-eqb}
 use Rattle.ref_words.specs.Words.{Words, user_of, listed_in}
 use Rattle.ref_words.specs.Sides.{HasScrubLists}
 use Rattle.ref_words.specs.Rule.{RefRule}
-use Rattle.ref_words.proofs.RingSteps.{refills-app}
+use Rattle.ref_words.proofs.RingSteps.{rings-app}
 use Rattle.ref_words.proofs.Counting.{if_so}
 use Rattle.ref_words.proofs.Frees.{AreKept-app, free_places-hands}
 use Rattle.ref_words.proofs.SideSteps.{mine, own-setting, SidesRule-app}
@@ -221,6 +221,7 @@ module _ (setting : Setting) (words : Words) (nic : NicSide) (apps : List AppSid
       unheld = λ c past ne none. same_pool c ∙ none;
       few = let f = mine setting nic apps a app rule.sides here HasFewPicks rule.sides.few in record { picks = f.picks; spares = f.spares };
       written = refl;
+      taken = refl;
       dealt = record { order = (rule.sides.dealt a app here).order };
       returns = let r = rule.sides.returns a app here in
           let way : entries_on_way nic app ≡ [] = r.quiet quiet in
@@ -266,5 +267,5 @@ module _ (setting : Setting) (words : Words) (nic : NicSide) (apps : List AppSid
     pool = same_pool;
     free = λ c. omega (arith, free_places-hands (listed_in words) c nic apps a app now here);
     kept = AreKept-app (listed_in words) nic apps a app now here refl rule.kept;
-    refills = refills-app setting words nic apps a app now here refl refl refl refl refl rule.refills;
+    rings = rings-app setting words nic apps a app now here refl refl refl refl refl refl refl rule.rings;
   }

@@ -23,7 +23,7 @@ use Rattle.board_face.proofs.IsFilledByOneLemmas.{IsFilledByOne-app}
 use Rattle.board_face.proofs.FillingsFitLemmas.{FillingsFit-same}
 use Rattle.ref_words.specs.Words.{Words, pool_of, listed_in}
 use Rattle.ref_words.specs.Rule.{RefRule}
-use Rattle.ref_words.proofs.RingSteps.{refills-app}
+use Rattle.ref_words.proofs.RingSteps.{rings-app}
 use Rattle.ref_words.proofs.Counting.{if_so, and-true, and-false}
 use Rattle.ref_words.proofs.Frees.{AreFreeOnce-fewer, AreKept-app, free_places-hands}
 use Rattle.ref_words.proofs.SideSteps.{mine, own-setting, SidesRule-app}
@@ -120,6 +120,7 @@ module _ (setting : Setting) (words : Words) (nic : NicSide) (apps : List AppSid
       unheld = λ c past ne none. omega (arith, less c, none);
       few = let f = mine setting nic apps a app rule.sides here HasFewPicks rule.sides.few in record { picks = f.picks; spares = f.spares };
       written = refl;
+      taken = refl;
       dealt = record { order = (rule.sides.dealt a app here).order };
       returns = let r = rule.sides.returns a app here in record {
         written = r.written;
@@ -155,5 +156,5 @@ module _ (setting : Setting) (words : Words) (nic : NicSide) (apps : List AppSid
         ∙ last-is (pool_of words b) (pool_count b nic apps') n counted)
         (λ past. and-false last _ (le-ltb b (pool_buffers app.view.setting.layout) (omega (arith, past, pools)))) rule.free;
     kept = AreKept-app (listed_in words) nic apps a app now here refl rule.kept;
-    refills = refills-app setting words nic apps a app now here refl refl refl refl refl rule.refills;
+    rings = rings-app setting words nic apps a app now here refl refl refl refl refl refl refl rule.rings;
   }

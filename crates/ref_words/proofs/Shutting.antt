@@ -23,7 +23,7 @@ use Rattle.board_face.proofs.ListLemmas.{not-eqb}
 use Rattle.board_face.proofs.Tallies.{weight}
 use Rattle.ref_words.specs.Words.{Words, pool_of, listed_in}
 use Rattle.ref_words.specs.Rule.{RefRule}
-use Rattle.ref_words.proofs.RingSteps.{refills-card}
+use Rattle.ref_words.proofs.RingSteps.{rings-card}
 use Rattle.ref_words.proofs.Counting.{weight-same, weight-other, weight-swap, cached-or-in_hand, if_so, if_so-weight, and-true}
 use Rattle.ref_words.proofs.Frees.{AreFreeOnce-fewer, AreKept-card, cache-grows}
 use Rattle.ref_words.proofs.CardSteps.{SidesRule-card}
@@ -99,5 +99,5 @@ module _ (setting : Setting) (words : Words) (nic : NicSide) (apps : List AppSid
         (λ past. absurd (let p = within in omega arith)) rule.free;
     kept = AreKept-card (listed_in words) nic now apps refl refl refl
         (λ b. cache-grows (last && nat_lt own.buffer (pool_buffers nic.view.setting.layout)) nic.view.cache own.buffer b) rule.kept;
-    refills = refills-card setting words nic now apps refl refl rule.refills;
+    rings = rings-card setting words nic now apps refl refl refl refl rule.rings;
   }

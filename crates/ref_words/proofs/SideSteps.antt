@@ -18,7 +18,7 @@ use Rattle.board_face.specs.declared.views.nic.NicSide.{NicSide}
 use Rattle.board_face.specs.declared.views.app.AppSide.{AppSide}
 use Rattle.board_face.proofs.SideLemmas.{AreNumbered-set}
 use Rattle.ref_words.specs.Rings.{EntryFits}
-use Rattle.ref_words.specs.Sides.{SidesRule, HasScrubLists, HasFreeReserve, IsDealtInOrder, HasNoneOwed, IsScrubbedSoFar, IsFirst, IsFirstRaw}
+use Rattle.ref_words.specs.Sides.{SidesRule, HasScrubLists, HasFreeReserve, IsDealtInOrder, IsTakenInOrder, HasNoneOwed, IsScrubbedSoFar, IsFirst, IsFirstRaw}
 
 -- What is to be known of the application's new side.
 pub record IsAppStep (nic : NicSide) (apps : List AppSide) (a : ℕ) (app now : AppSide) : Type 0 where
@@ -38,6 +38,7 @@ pub record IsAppStep (nic : NicSide) (apps : List AppSide) (a : ℕ) (app now : 
   pub few : HasFewPicks now
   pub dealt : IsDealtInOrder nic now
   pub written : now.view.written ≡ app.view.written
+  pub taken : now.view.taken ≡ app.view.taken
   pub returns : AreReturns nic now
   pub scrub : IsScrubbedSoFar nic now
   pub scrubbed : now.view.scrubbed ≡ true → HasNoneOwed nic now
@@ -124,6 +125,8 @@ module _ (setting : Setting) (nic : NicSide) (apps : List AppSide) (a : ℕ) (ap
       entries = All-set (λ x. All EntryFits x.view.written) apps a now
           (rw step.written (mine (λ x. All EntryFits x.view.written) rule.entries)) rule.entries;
       notes = rule.notes;
+      taken = λ k. then-now (IsTakenInOrder nic) k (λ x is. rule.taken k x is) (λ e was. record { order = rw (step.number, step.taken) was.order });
+      proper = rule.proper;
       returns = λ k. then-now (AreReturns nic) k (λ x is. rule.returns k x is) (λ e was. step.returns);
       hand = λ inhand is. let h = rule.hand inhand is in record {
         app = omega (arith, h.app, length-set apps a now);

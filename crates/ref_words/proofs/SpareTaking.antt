@@ -29,7 +29,7 @@ use Rattle.board_face.proofs.TokenLemmas.{FitsBuffer-fresh}
 use Rattle.board_face.proofs.Tallies.{weight}
 use Rattle.ref_words.specs.Words.{Words, pool_of, listed_in}
 use Rattle.ref_words.specs.Rule.{RefRule}
-use Rattle.ref_words.proofs.RingSteps.{refills-app}
+use Rattle.ref_words.proofs.RingSteps.{rings-app}
 use Rattle.ref_words.proofs.Counting.{weight-same, weight-other}
 use Rattle.ref_words.proofs.Frees.{AreFreeOnce-taken, AreFreeOnce-reserve, AreKept-app, free_places-hands, in-hands, count-taken, without-none}
 use Rattle.ref_words.proofs.SideSteps.{mine, own-setting, SidesRule-app}
@@ -96,6 +96,7 @@ module _ (setting : Setting) (words : Words) (nic : NicSide) (apps : List AppSid
               );
           few = let f = mine setting nic apps a app rule.sides here HasFewPicks rule.sides.few in record { picks = f.picks; spares = omega (arith, due) };
           written = refl;
+          taken = refl;
           dealt = record { order = (rule.sides.dealt a app here).order };
           returns = let r = rule.sides.returns a app here in record {
             written = r.written;
@@ -127,7 +128,7 @@ module _ (setting : Setting) (words : Words) (nic : NicSide) (apps : List AppSid
         users = λ x c. omega (arith, user_count-app x c nic apps a app now here);
         free = free;
         kept = AreKept-app (listed_in words) nic apps a app now here refl rule.kept;
-        refills = refills-app setting words nic apps a app now here refl refl refl refl refl rule.refills;
+        rings = rings-app setting words nic apps a app now here refl refl refl refl refl refl refl rule.rings;
       }
 
   -- ---- a buffer in hand

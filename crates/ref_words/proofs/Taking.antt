@@ -23,7 +23,7 @@ use Rattle.board_face.proofs.Tallies.{weight, tally}
 use Rattle.board_face.proofs.Parts.{pool_count-parts}
 use Rattle.ref_words.specs.Words.{Words, pool_of, listed_in}
 use Rattle.ref_words.specs.Rule.{RefRule}
-use Rattle.ref_words.proofs.RingSteps.{refills-card}
+use Rattle.ref_words.proofs.RingSteps.{rings-card}
 use Rattle.ref_words.proofs.Counting.{weight-same, weight-other, weight-swap, count-push}
 use Rattle.ref_words.proofs.Frees.{AreFreeOnce-taken, count-append}
 use Rattle.ref_words.proofs.CardSteps.{SidesRule-card}
@@ -120,5 +120,5 @@ module _ (setting : Setting) (words : Words) (nic : NicSide) (apps : List AppSid
         count-append x (nic.view.used ++ b ∷ []) (picked_buffers apps),
       );
     };
-    refills = refills-card setting words nic now apps refl refl rule.refills;
+    rings = rings-card setting words nic now apps refl refl refl refl rule.rings;
   }

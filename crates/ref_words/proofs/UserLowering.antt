@@ -27,7 +27,7 @@ use Rattle.board_face.proofs.SideLemmas.{IsApp-at}
 use Rattle.ref_words.specs.Words.{Words, user_of, listed_in}
 use Rattle.ref_words.specs.Sides.{IsInHand}
 use Rattle.ref_words.specs.Rule.{RefRule}
-use Rattle.ref_words.proofs.RingSteps.{refills-card}
+use Rattle.ref_words.proofs.RingSteps.{rings-card}
 use Rattle.ref_words.proofs.Counting.{weight-same}
 use Rattle.ref_words.proofs.Frees.{AreKept-card}
 use Rattle.ref_words.proofs.UserSteps.{IsUserStep}
@@ -152,6 +152,8 @@ module _ (setting : Setting) (words : Words) (nic : NicSide) (apps : List AppSid
       slots = record { notes = rule.sides.slots.notes; refills = rule.sides.slots.refills };
       entries = rule.sides.entries;
       notes = rule.sides.notes;
+      taken = λ k x here. record { order = (rule.sides.taken k x here).order };
+      proper = rule.sides.proper;
       returns = λ k x here.
           let r = rule.sides.returns k x here in
           let less : (c : ℕ) → length (owed_in c now x) + weight ((a == x.view.app) && (b == c)) ≡ length (owed_in c nic x) = λ c.
@@ -217,5 +219,5 @@ module _ (setting : Setting) (words : Words) (nic : NicSide) (apps : List AppSid
     pool = same_pool;
     free = λ c. refl;
     kept = AreKept-card (listed_in words) nic now apps refl refl refl (λ c. omega arith) rule.kept;
-    refills = refills-card setting words nic now apps refl refl rule.refills;
+    rings = rings-card setting words nic now apps refl refl refl refl rule.rings;
   }

@@ -1,5 +1,5 @@
 -- A user count changes with the loans of its application in its buffer.
-use Rattle.std.proofs.Common.{◌≡◌, ⊎_elim, ℕ, ◌<◌, List, [], length, set, get_or, ap, sym, ◌∙◌, arith, subst}
+use Rattle.std.proofs.Common.{◌≡◌, ⊎_elim, ℕ, ◌<◌, List, [], length, set, get_or, refl, ap, sym, ◌∙◌, arith, subst}
 use Rattle.std.specs.Prelude.{◌≢◌, ◌==◌, if◌then◌else◌}
 use Rattle.std.proofs.lemmas.List.{length-set, get_or-set_same, get_or-set_other}
 use Rattle.std.proofs.lemmas.List.Elements.{All-set, All-get_or}
@@ -15,7 +15,7 @@ use Rattle.board_face.specs.declared.views.app.AppSide.{AppSide}
 use Rattle.ref_words.specs.Words.{Words, with_user, user_of, listed_in}
 use Rattle.ref_words.specs.Sides.{SidesRule}
 use Rattle.ref_words.specs.Rule.{RefRule}
-use Rattle.ref_words.proofs.RingSteps.{AllRefills}
+use Rattle.ref_words.proofs.RingSteps.{AllRings, rings-words}
 
 -- What is to be known of the sides after the step, where the count of the application a for the buffer b becomes n.
 pub record IsUserStep (setting : Setting) (words : Words) (nic now : NicSide) (apps apps' : List AppSide) (a b n : ℕ) : Type 0 where
@@ -27,7 +27,7 @@ pub record IsUserStep (setting : Setting) (words : Words) (nic now : NicSide) (a
   pub pool : (c : ℕ) → pool_count c now apps' ≡ pool_count c nic apps
   pub free : (c : ℕ) → free_places (listed_in words) c now apps' ≡ free_places (listed_in words) c nic apps
   pub kept : AreKept (listed_in words) now apps'
-  pub refills : AllRefills setting words now apps'
+  pub rings : AllRings setting words now apps'
 
 -- neither holders nor free places changed
 pub AreFreeOnce-same : (words : Words) (nic now : NicSide) (apps apps' : List AppSide) → now.view.setting ≡ nic.view.setting
@@ -94,5 +94,5 @@ module _ (setting : Setting) (words : Words) (nic now : NicSide) (apps apps' : L
     free = let f = AreFreeOnce-same words nic now apps apps' (step.sides.set.card ∙ sym rule.sides.set.card) step.pool step.free rule.free in
         record { pool = f.pool; reserves = f.reserves };
     kept = record { kept = step.kept.kept; swept = step.kept.swept };
-    refills = step.refills;
+    rings = rings-words setting words (with_user words a b n) now apps' refl refl step.rings;
   }

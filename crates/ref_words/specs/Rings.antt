@@ -1,9 +1,9 @@
 -- Rings of slots. A slot is a list of words of which the first is the flag, 1 where the slot is full. The writer and the reader use
 -- the slots in turn; what either has seen of its next slot is so until it goes on.
-use Rattle.std.specs.Prelude.{◌≡◌, ℕ, ◌+◌, ◌*◌, ◌%◌, ◌^◌, ◌<◌, ◌≤◌, true, false, List, [], ◌∷◌, ◌++◌, length}
+use Rattle.std.specs.Prelude.{◌≡◌, ℕ, ◌+◌, ◌%◌, ◌^◌, ◌<◌, ◌≤◌, true, false, if◌then◌else◌, List, [], ◌∷◌, ◌++◌, length}
 use Rattle.std.specs.Prelude.{take, drop, slice_index, slice_index_or, All, Option, Some, None}
-use Rattle.zr_kinds.specs.declared.ring.Rqe.{Rqe}
 use Rattle.board_face.specs.Opened.{unseen}
+use Rattle.board_face.specs.Holders.{sent_to}
 use Rattle.board_face.specs.Relay.{dealt_entries}
 use Rattle.board_face.specs.Returns.{IsOfLoan}
 use Rattle.board_face.specs.declared.views.parts.Setting.{Setting}
@@ -12,7 +12,8 @@ use Rattle.board_face.specs.declared.views.nic.NicSide.{NicSide}
 use Rattle.board_face.specs.declared.views.nic.SentNote.{SentNote}
 use Rattle.board_face.specs.declared.views.app.WrittenEntry.{WrittenEntry}
 use Rattle.board_face.specs.declared.views.app.AppSide.{AppSide}
-use Rattle.ref_words.specs.Words.{Words, refill_width}
+use Rattle.word_rings.specs.Slots.{note_width, note_body, refill_width, entry_body}
+use Rattle.ref_words.specs.Words.{Words}
 
 -- the slot of what was written as the k-th, counted from 0
 abbrev pub slot_of : ℕ → List (List ℕ) → ℕ → List ℕ
@@ -37,9 +38,15 @@ module _ {X : Type 0} (width : ℕ) (words_of : X → List ℕ) where
     pub reader_seen : reader.seen ≡ true → taken < length written
     pub reader_words : reader.seen ≡ true → IsSoFar (slot_of places slots taken) reader.words
 
--- the words of a refill entry: its offset, and its length with the pad in the upper 32 bits
-abbrev pub entry_words : Rqe → List ℕ
-entry_words entry = entry.off ∷ (entry.len + entry.pad * 2 ^ 32) ∷ []
+-- what the card has seen of its next slot for an application
+abbrev pub next_slot : List Slot → ℕ → Slot
+next_slot slots a = slice_index_or slots a unseen
+
+-- ---- refill rings
+
+-- the words of an entry that was written
+abbrev pub words_of_entry : WrittenEntry → List ℕ
+words_of_entry w = entry_body w.entry
 
 -- a slot of the ring that is free
 pub record IsFreeSlot (places : ℕ) (slots : List (List ℕ)) (s : ℕ) : Type 0 where
@@ -60,7 +67,7 @@ pub record IsLastRaw (places : ℕ) (written : List WrittenEntry) (s : ℕ) : Ty
 -- it last published are so, and it knows the slot of its last raw entry, where it wrote one.
 pub record IsRefillRing (places : ℕ) (slots : List (List ℕ)) (written : List WrittenEntry) (taken : ℕ) (writer reader : Slot) (free : List ℕ)
     (raw : Option ℕ) : Type 0 where
-  pub ring : IsRing refill_width (λ w. entry_words w.entry) places slots written taken writer reader
+  pub ring : IsRing refill_width words_of_entry places slots written taken writer reader
   pub free_slots : All (IsFreeSlot places slots) free
   pub raw_slot : (s : ℕ) → raw ≡ Some s → IsLastRaw places written s
   pub none_raw : raw ≡ None → All IsOfLoan written
@@ -69,7 +76,28 @@ pub record IsRefillRing (places : ℕ) (slots : List (List ℕ)) (written : List
 abbrev pub AreRefills : Setting → Words → NicSide → AppSide → Type 0
 AreRefills setting words nic app =
     IsRefillRing setting.places (slice_index_or words.refills app.view.app []) app.view.written (length (dealt_entries app.view.app nic))
-    app.inside.refill_slot (slice_index_or nic.inside.refill_slots app.view.app unseen) app.inside.free_slots app.inside.raw_slot
+    app.inside.refill_slot (next_slot nic.inside.refill_slots app.view.app) app.inside.free_slots app.inside.raw_slot
+
+-- ---- note rings
+
+-- the bytes that travel in a note that was sent
+abbrev pub linear_bytes : SentNote → List ℕ
+linear_bytes s = if s.note.split then [] else s.bytes
+
+-- the words of such a note; all notes are of area 0
+abbrev pub words_of_note : SentNote → List ℕ
+words_of_note s = note_body s.note (linear_bytes s) 0
+
+-- An application's note ring: the notes that it hasn't taken lie in the slots.
+abbrev pub AreNotes : Setting → Words → NicSide → AppSide → Type 0
+AreNotes setting words nic app =
+    IsRing note_width words_of_note setting.places (slice_index_or words.notes app.view.app []) (sent_to app.view.app nic)
+    (length app.view.taken) (next_slot nic.inside.note_slots app.view.app) app.inside.note_slot
+
+-- both rings of an application
+pub record AreRings (setting : Setting) (words : Words) (nic : NicSide) (app : AppSide) : Type 0 where
+  pub refills : AreRefills setting words nic app
+  pub notes : AreNotes setting words nic app
 
 -- ---- fields, which are numbers of as many bits as their parts of words have
 

@@ -11,7 +11,7 @@ use Rattle.board_face.specs.declared.views.nic.NicSide.{NicSide}
 use Rattle.board_face.specs.declared.views.app.AppSide.{AppSide}
 use Rattle.ref_words.specs.Words.{Words, HasSizes, listed_in, pool_of, user_of}
 use Rattle.ref_words.specs.Sides.{SidesRule}
-use Rattle.ref_words.specs.Rings.{AreRefills}
+use Rattle.ref_words.specs.Rings.{AreRings}
 
 pub record RefRule (setting : Setting) (words : Words) (nic : NicSide) (apps : List AppSide) : Type 0 where
   pub layout : IsLayout setting.layout
@@ -23,5 +23,5 @@ pub record RefRule (setting : Setting) (words : Words) (nic : NicSide) (apps : L
   -- a pool buffer has a holder or stands in one free place, and one that nobody used is listed or cached
   pub free : AreFreeOnce (listed_in words) nic apps
   pub kept : AreKept (listed_in words) nic apps
-  -- the refill entries on their way lie in the slots, in order, and what either end has seen of its next slot is so
-  pub refills : (a : ℕ) (app : AppSide) → IsApp apps a app → AreRefills setting words nic app
+  -- the entries and the notes on their way lie in the slots, in order, and what either end has seen of its next slot is so
+  pub rings : (a : ℕ) (app : AppSide) → IsApp apps a app → AreRings setting words nic app

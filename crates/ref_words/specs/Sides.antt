@@ -8,11 +8,11 @@ use Rattle.board_face.specs.Counts.{pool_count, EndedWereReturned}
 use Rattle.board_face.specs.Places.{ArePlaced, IsMadeLast}
 use Rattle.board_face.specs.Fillings.{IsFilledByOne, FillingsFit}
 use Rattle.board_face.specs.Used.{HasFewPicks}
-use Rattle.board_face.specs.Relay.{dealt_entries}
+use Rattle.board_face.specs.Relay.{dealt_entries, as_taken, IsProper}
 use Rattle.board_face.specs.Returns.{AreReturns, entries_on_way}
 use Rattle.board_face.specs.Sides.{AreNumbered, IsApp}
 use Rattle.board_face.specs.Judged.{IsHonouredAsNamed}
-use Rattle.board_face.specs.Holders.{ended_in, returned_in, owed_in}
+use Rattle.board_face.specs.Holders.{ended_in, returned_in, owed_in, sent_to}
 use Rattle.board_face.specs.declared.views.parts.Setting.{Setting}
 use Rattle.board_face.specs.declared.views.nic.EntryInHand.{EntryInHand}
 use Rattle.board_face.specs.declared.views.nic.Judged.{Judged}
@@ -57,6 +57,10 @@ pub record HasNoneOwed (nic : NicSide) (app : AppSide) : Type 0 where
 -- the entries that the card dealt with are the first of those that the application wrote
 pub record IsDealtInOrder (nic : NicSide) (app : AppSide) : Type 0 where
   pub order : take (length (dealt_entries app.view.app nic)) (map (λ w. w.entry) app.view.written) ≡ dealt_entries app.view.app nic
+
+-- the notes that the application took are the first of those that were sent to it, with the bytes that travelled in them
+pub record IsTakenInOrder (nic : NicSide) (app : AppSide) : Type 0 where
+  pub order : take (length app.view.taken) (map as_taken (sent_to app.view.app nic)) ≡ app.view.taken
 
 -- the entry is the first of these
 pub record IsFirst (entry : Rqe) (way : List WrittenEntry) : Type 0 where
@@ -111,6 +115,9 @@ pub record SidesRule (setting : Setting) (nic : NicSide) (apps : List AppSide) :
   pub few : All HasFewPicks apps
   -- what the card dealt with are the first of the entries that were written, in order
   pub dealt : (a : ℕ) (app : AppSide) → IsApp apps a app → IsDealtInOrder nic app
+  -- the notes that an application took are the first of those that were sent to it, in order, and each may be sent
+  pub taken : (a : ℕ) (app : AppSide) → IsApp apps a app → IsTakenInOrder nic app
+  pub proper : All IsProper nic.view.sent
   -- an entry that was honoured named its buffer
   pub honoured : All (IsHonouredAsNamed setting.layout) nic.view.dealt
   -- the card's next slots, and the fields of what is written into slots

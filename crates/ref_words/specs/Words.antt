@@ -6,6 +6,7 @@ use Rattle.std.specs.Prelude.{slice_index_or, slice_set, ◌==◌, All}
 use Rattle.std.specs.List.{flat_map}
 use Rattle.std.specs.Int.{bit_at}
 use Rattle.area_layout.specs.Layout.{IsLayout, pool_buffers, total, area_words}
+use Rattle.word_rings.specs.Slots.{note_width, refill_width}
 use Rattle.board_face.specs.NicCalls.{apps_of, free_words_of}
 use Rattle.board_face.specs.NicEvents.{word_bits}
 use Rattle.board_face.specs.declared.views.parts.Setting.{Setting}
@@ -45,13 +46,6 @@ table_of w = joined (groups w)
 -- how many roles there are
 abbrev pub roles_of : Setting → ℕ
 roles_of setting = 1 + apps_of setting
-
--- how many words a note slot and a refill slot have, the flag first
-abbrev pub note_width : ℕ
-note_width = 39
-
-abbrev pub refill_width : ℕ
-refill_width = 3
 
 -- how many words each group has
 abbrev pub group_sizes : Setting → List ℕ

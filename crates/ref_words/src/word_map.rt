@@ -1,17 +1,13 @@
 ghost use Rattle.std.specs.Prelude.{◌≡◌, ◌<◌, ◌≤◌};
 ghost use Rattle.area_layout.specs.Layout.{total, area_words};
 ghost use Rattle.board_face.specs.NicCalls.{apps_of, free_words_of};
-ghost use Rattle.ref_words.specs.Words.{roles_of, note_width, refill_width, table_words, role_at, phase_at, pool_at, user_at, free_at, area_at};
+ghost use Rattle.ref_words.specs.Words.{roles_of, table_words, role_at, phase_at, pool_at, user_at, free_at, area_at};
 ghost use Rattle.ref_words.specs.Words.{note_at, refill_at};
+ghost use Rattle.word_rings.specs.Slots.{note_width, refill_width};
 
 use area_layout::Layout;
 use std::marker::Model;
-
-/// How many words a note slot has, the flag first.
-const NOTE_WORDS: usize = 39;
-
-/// How many words a refill slot has.
-const REFILL_WORDS: usize = 3;
+use word_rings::{NOTE_WORDS, REFILL_WORDS};
 
 const WORD_BYTES: usize = 8;
 

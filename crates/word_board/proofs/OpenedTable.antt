@@ -7,7 +7,8 @@ use Rattle.std.proofs.lemmas.List.{append_assoc, append-nil, replicate-append-re
 use Rattle.area_layout.specs.Layout.{total, pool_buffers, area_words}
 use Rattle.board_face.specs.NicCalls.{apps_of, free_words_of}
 use Rattle.board_face.specs.declared.views.parts.Setting.{Setting}
-use Rattle.ref_words.specs.Words.{joined, table_of, opened_words, begin_at, table_words, free_list, free_word, roles_of, note_width, refill_width}
+use Rattle.ref_words.specs.Words.{joined, table_of, opened_words, begin_at, table_words, free_list, free_word, roles_of}
+use Rattle.word_rings.specs.Slots.{note_width, refill_width}
 
 zeros : ℕ → List ℕ
 zeros n = replicate n 0

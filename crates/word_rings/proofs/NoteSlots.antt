@@ -3,7 +3,7 @@ use Rattle.std.proofs.Common.{◌≡◌, ℕ, zero, suc, ◌+◌, ◌/◌, ◌%�
 use Rattle.std.proofs.Common.{List, [], ◌∷◌, ◌++◌, length, drop, slice_index, refl, sym, ap, ◌∙◌, arith}
 use Rattle.std.proofs.lemmas.List.{append-nil}
 use Rattle.zr_kinds.specs.declared.place.Note.{Note}
-use Rattle.word_rings.specs.Slots.{pair, low_of, high_of, flags_of, words_of, note_slot, note_of, linear_of, IsNoteSlot}
+use Rattle.word_rings.specs.Slots.{pair, low_of, high_of, flags_of, words_of, note_width, note_slot, note_of, linear_of, IsNoteSlot}
 
 -- ---- two numbers in a word
 
@@ -80,7 +80,7 @@ first_word w full = ap
     (λ (f : ℕ). f ∷ slice_index w 1 ∷ slice_index w 2 ∷ slice_index w 3 ∷ slice_index w 4 ∷ slice_index w 5 ∷ slice_index w 6 ∷ drop 7 w)
     (sym full)
 
-pub slot_back : (w : List ℕ) → length w ≡ 39 → IsNoteSlot w → words_of 32 (linear_of w) ≡ drop 7 w
+pub slot_back : (w : List ℕ) → length w ≡ note_width → IsNoteSlot w → words_of 32 (linear_of w) ≡ drop 7 w
     → note_slot (note_of w) (linear_of w) (slice_index w 6) ≡ w
 slot_back w len slot payload =
     let flags = flags_back (high_of (slice_index w 5)) slot.flags in

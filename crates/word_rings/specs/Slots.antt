@@ -30,11 +30,19 @@ bytes_of words = flat_map (little_bytes 8) words
 
 -- ---- a note slot
 
--- a full one: flag, fields, area, and the 256 bytes in which an unsplit payload travels
-abbrev pub note_slot : Note → List ℕ → ℕ → List ℕ
-note_slot n linear area =
-    1 ∷ pair n.frame n.flow ∷ pair n.base n.seq ∷ pair n.at n.total ∷ pair n.place.buffer n.place.offset ∷ pair n.place.len (flags_of n)
+-- how many words it has, its flag among them
+abbrev pub note_width : ℕ
+note_width = 39
+
+-- the words of a note behind the flag: fields, area, and the 256 bytes in which an unsplit payload travels
+abbrev pub note_body : Note → List ℕ → ℕ → List ℕ
+note_body n linear area =
+    pair n.frame n.flow ∷ pair n.base n.seq ∷ pair n.at n.total ∷ pair n.place.buffer n.place.offset ∷ pair n.place.len (flags_of n)
     ∷ area ∷ words_of 32 linear
+
+-- a full one
+abbrev pub note_slot : Note → List ℕ → ℕ → List ℕ
+note_slot n linear area = 1 ∷ note_body n linear area
 
 -- the note of a slot
 abbrev pub note_of : List ℕ → Note
@@ -56,9 +64,17 @@ linear_of w = bytes_of (drop 7 w)
 
 -- ---- a refill slot
 
--- a full one: flag, off, len and pad
+-- how many words it has, its flag among them
+abbrev pub refill_width : ℕ
+refill_width = 3
+
+-- the words of an entry behind the flag: off, and len and pad
+abbrev pub entry_body : Rqe → List ℕ
+entry_body e = e.off ∷ pair e.len e.pad ∷ []
+
+-- a full one
 abbrev pub refill_slot : Rqe → List ℕ
-refill_slot e = 1 ∷ e.off ∷ pair e.len e.pad ∷ []
+refill_slot e = 1 ∷ entry_body e
 
 -- the entry of a slot
 abbrev pub entry_of : List ℕ → Rqe

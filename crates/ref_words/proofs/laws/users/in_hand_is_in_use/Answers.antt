@@ -12,5 +12,5 @@ returns c = λ setting words nic apps inhand app rule is here.
       length-drop (length (dealt_entries app.view.app nic)) app.view.written,
     ) in
     subst (λ a. get_or (slot_of setting.places (get_or words.refills a []) (length (dealt_entries a nic))) 0 0 ≡ 1) here.number
-    (ap (λ slot. get_or slot 0 0) ((rule.refills inhand.app app here).ring.full (length (dealt_entries app.view.app nic)) front.first
+    (ap (λ slot. get_or slot 0 0) ((rule.rings inhand.app app here).refills.ring.full (length (dealt_entries app.view.app nic)) front.first
     (omega arith) more))
