@@ -19,6 +19,7 @@ pub mod Relay
 pub mod Returns
 pub mod Phases
 pub mod Steps
+pub mod SlotSteps
 pub mod StepLaws
 pub mod Used
 pub mod OwnBuffers

@@ -1,131 +1,32 @@
 -- The card looks at the user count for the entry in hand.
-use Rattle.std.proofs.Common.{◌≡◌, ⊎_elim, ℕ, ◌+◌, ◌-◌, ◌<◌, ◌≤◌, Bool, true, false, List, ◌∷◌, length, drop, get_or, refl}
+use Rattle.std.proofs.Common.{◌≡◌, ⊎_elim, ℕ, ◌+◌, ◌-◌, ◌<◌, Bool, true, false, List}
+use Rattle.std.proofs.Common.{◌∷◌, length, refl}
 use Rattle.std.proofs.Common.{ap, sym, ◌∙◌, arith, subst}
 use Rattle.std.proofs.Common.{length-drop}
-use Rattle.std.specs.Prelude.{◌≢◌, ◌==◌, if◌then◌else◌, Some, Contains}
+use Rattle.std.specs.Prelude.{◌≢◌, ◌==◌, if◌then◌else◌, Some}
 use Rattle.std.proofs.lemmas.Bool.{cases_Bool, cases_lt}
 use Rattle.std.proofs.lemmas.Bool.Decides.{eqb_tells}
-use Rattle.std.proofs.lemmas.List.Elements.{All-contains}
 use Rattle.zr_kinds.specs.declared.ring.Rqe.{Rqe}
 use Rattle.area_layout.specs.Layout.{total, judged}
-use Rattle.board_face.specs.AppEvents.{reserve_of}
 use Rattle.board_face.specs.Sides.{IsApp}
-use Rattle.board_face.specs.Holders.{lowered_in_hand, returning_in_hand, ended_in, returning_count, returned_in, owed_in}
-use Rattle.board_face.specs.Counts.{pool_count, user_count, EndedWereReturned}
+use Rattle.board_face.specs.Holders.{lowered_in_hand, returning_in_hand, ended_in, returned_in, owed_in}
 use Rattle.board_face.specs.Returns.{names, returns, is_some_of, entries_on_way}
 use Rattle.board_face.specs.Steps.{side_judged}
 use Rattle.board_face.specs.declared.views.parts.Setting.{Setting}
-use Rattle.board_face.specs.declared.views.nic.EntryInHand.{EntryInHand}
 use Rattle.board_face.specs.declared.views.nic.Judged.TheVariants.{Not, Stray, Owed}
 use Rattle.board_face.specs.declared.views.nic.NicSide.{NicSide}
 use Rattle.board_face.specs.declared.views.app.AppSide.{AppSide}
 use Rattle.board_face.proofs.ListLemmas.{eqb_same, not-eqb}
-use Rattle.board_face.proofs.Tallies.{weight, total-agree}
-use Rattle.board_face.proofs.Parts.{user_part, user_count-parts, pool_count-parts, app_count, owed_count, returning_in_count, loans_in, came_back_in}
+use Rattle.board_face.proofs.Tallies.{weight}
+use Rattle.board_face.proofs.Parts.{user_part, user_count-parts, owed_count, loans_in}
 use Rattle.board_face.proofs.Parts.{returned_in-count, total-only, count-tally}
-use Rattle.board_face.proofs.ArePlacedLemmas.{ArePlaced-stretch}
-use Rattle.board_face.proofs.MadeLastLemmas.{IsMadeLast-stretch}
-use Rattle.board_face.proofs.IsFilledByOneLemmas.{IsFilledByOne-fewer}
-use Rattle.ref_words.specs.Words.{Words, user_of, listed_in}
+use Rattle.ref_words.specs.Words.{Words, user_of}
 use Rattle.ref_words.specs.Sides.{IsInHand, IsFirstRaw}
 use Rattle.ref_words.specs.Rule.{RefRule}
 use Rattle.ref_words.proofs.RingSteps.{rings-card}
-use Rattle.ref_words.proofs.Frees.{AreKept-card}
-use Rattle.ref_words.proofs.UserSteps.{AreFreeOnce-same}
+use Rattle.ref_words.proofs.SlotSteps.{no-word}
+use Rattle.ref_words.proofs.CardLooks.{RefRule-card}
 use Rattle.ref_words.proofs.InHand.{in_hand, some-is, if-none}
-
--- The looks and the entry in hand change, and no more was ended by that than before.
-module _ (setting : Setting) (words : Words) (nic : NicSide) (apps : List AppSide) (rule : RefRule setting words nic apps) (now : NicSide)
-    (same : now ≡ record { view = record nic.view { looks = now.view.looks }; inside = record nic.inside { entry = now.inside.entry } })
-    (lowered : (x c : ℕ) → lowered_in_hand x c now.inside.entry ≡ lowered_in_hand x c nic.inside.entry)
-    (returning : (x c : ℕ) → returning_in_hand x c now.inside.entry ≡ returning_in_hand x c nic.inside.entry) where
-  abbrev like : NicSide
-  like = record { view = record nic.view { looks = now.view.looks }; inside = record nic.inside { entry = now.inside.entry } }
-
-  ends : (c : ℕ) (x : AppSide) → ended_in c like x ≡ ended_in c nic x
-  ends c x = omega (arith, lowered x.view.app c)
-
-  returns-same : (c : ℕ) (x : AppSide) → returning_count c like x ≡ returning_count c nic x
-  returns-same c x = omega (arith, returning x.view.app c)
-
-  pools : (c : ℕ) → pool_count c like apps ≡ pool_count c nic apps
-  pools c =
-      let each : (x : AppSide) → app_count c like x ≡ app_count c nic x = λ x.
-      let p : owed_count c like x ≡ owed_count c nic x = omega (arith, ends c x) in
-      let q : returning_in_count c like x ≡ returning_in_count c nic x = omega (arith, ends c x, returns-same c x) in
-      omega (arith, p, q) in
-      omega (arith, pool_count-parts c like apps, pool_count-parts c nic apps, total-agree (app_count c like) (app_count c nic) each apps)
-
-  users : (x c : ℕ) → user_count x c like apps ≡ user_count x c nic apps
-  users x c =
-      let each : (y : AppSide) → user_part x c like y ≡ user_part x c nic y = λ y.
-      ap (λ h. if y.view.app == x then loans_in c y + (came_back_in c y - h) else 0) (ends c y) in
-      omega (arith, user_count-parts x c like apps, user_count-parts x c nic apps, total-agree (user_part x c like) (user_part x c nic) each apps)
-
-  small : (c : ℕ) (x : AppSide) → Contains apps x → returning_count c nic x ≤ ended_in c nic x
-  small c x has = (All-contains (EndedWereReturned c nic) apps x (rule.sides.returned c) has).returning
-
-  small-now : (c : ℕ) (x : AppSide) → Contains apps x → returning_count c like x ≤ ended_in c like x
-  small-now c x has = omega (arith, small c x has, ends c x, returns-same c x)
-
-  later : (c : ℕ) (x : AppSide) → Contains apps x → ended_in c nic x + returning_count c like x ≤ ended_in c like x + returning_count c nic x
-  later c x has = omega (arith, ends c x, returns-same c x)
-
-  pub RefRule-judged : ((it : EntryInHand) → now.inside.entry ≡ Some it → IsInHand like apps it) → RefRule setting words now apps
-  RefRule-judged hand =
-      subst (λ x. RefRule setting words x apps) (sym same) (record {
-        layout = rule.layout;
-        sizes = rule.sizes;
-        sides = record {
-          set = record { card = rule.sides.set.card; many = rule.sides.set.many; numbers = rule.sides.set.numbers; others = rule.sides.set.others };
-          lists = rule.sides.lists;
-          placed = λ c. ArePlaced-stretch c nic like apps refl refl refl refl refl (small c) (small-now c) (later c) (rule.sides.placed c);
-          by_one = λ c. IsFilledByOne-fewer c nic like apps apps refl (omega arith) (omega arith) (omega (arith, pools c)) (rule.sides.by_one c);
-          fit = record { of_pool = rule.sides.fit.of_pool; card = rule.sides.fit.card; sides = rule.sides.fit.sides };
-          made = IsMadeLast-stretch nic like apps refl refl refl small small-now later rule.sides.made;
-          returned = λ c k d less. let r = rule.sides.returned c k d less in let x = get_or apps k d in
-              record { ended = omega (arith, ends c x, r.ended); returning = omega (arith, ends c x, returns-same c x, r.returning) };
-          reserves = λ k x here. record { unheld = λ free. pools (reserve_of x.view) ∙ (rule.sides.reserves k x here).unheld free };
-          few = rule.sides.few;
-          returns = λ k x here. let r = rule.sides.returns k x here in
-              let owed : (c : ℕ) → length (owed_in c like x) ≡ length (owed_in c nic x) = λ c. ap (λ h. length (drop h (returned_in c x))) (ends c x) in
-              record {
-                written = r.written;
-                owed = λ c. omega (arith, r.owed c, lowered x.view.app c, owed c);
-                no_more = λ c. omega (arith, r.no_more c, lowered x.view.app c, owed c);
-                clear = r.clear;
-                named = r.named;
-                settled = r.settled;
-                quiet = r.quiet;
-                scrubbed = r.scrubbed;
-                strays = r.strays;
-              };
-          dealt = λ k x here. record { order = (rule.sides.dealt k x here).order };
-          honoured = rule.sides.honoured;
-          slots = record { notes = rule.sides.slots.notes; refills = rule.sides.slots.refills };
-          entries = rule.sides.entries;
-          notes = rule.sides.notes;
-          taken = λ k x here. record { order = (rule.sides.taken k x here).order };
-          proper = rule.sides.proper;
-          hand = hand;
-          scrub = λ k x here. let s = rule.sides.scrub k x here in record {
-            within = s.within;
-            done = s.done;
-            whole = s.whole;
-            taken = λ c less. omega (arith, s.taken c less, ap (λ h. length (drop h (returned_in c x))) (ends c x));
-            untaken = s.untaken;
-            quiet = s.quiet;
-            loans = s.loans;
-          };
-          scrubbed = λ k x here done. let none = rule.sides.scrubbed k x here done in
-              record { loans = none.loans; owed = λ c. omega (arith, none.owed c, ap (λ h. length (drop h (returned_in c x))) (ends c x)) };
-        };
-        pool = λ c less. rule.pool c less ∙ sym (pools c);
-        users = λ x c is less. rule.users x c is less ∙ sym (users x c);
-        free = AreFreeOnce-same words nic like apps apps refl pools (λ c. refl) rule.free;
-        kept = AreKept-card (listed_in words) nic like apps refl refl refl (λ c. omega arith) rule.kept;
-        rings = rings-card setting words nic like apps refl refl refl refl rule.rings;
-      })
 
 part-none : (c : Bool) (n : ℕ) → c ≡ false → (if c then n else 0) ≡ 0
 part-none true n e = absurd (let none : ⊥ = cc in none)
@@ -213,8 +114,8 @@ module _ (setting : Setting) (words : Words) (nic : NicSide) (apps : List AppSid
   judge-case : (none : Bool) → (none ≡ false → 0 < user_of words a b) → (none ≡ true → user_of words a b ≡ 0)
       → RefRule setting words (side_judged nic a entry b none) apps
   judge-case true above zero =
-      RefRule-judged setting words nic apps rule (side_judged nic a entry b true) refl (λ x c. if-none (a == x) ∙ sym (not-lowered x c))
-      (λ x c. if-none (a == x) ∙ sym (not-returning x c))
+      RefRule-card setting words nic apps rule (side_judged nic a entry b true) refl refl refl (λ x c. if-none (a == x) ∙ sym (not-lowered x c))
+      (λ x c. if-none (a == x) ∙ sym (not-returning x c)) words (no-word setting words rule.sizes)
       (λ it is.
       subst
       (IsInHand (side_judged nic a entry b true) apps)
@@ -227,9 +128,10 @@ module _ (setting : Setting) (words : Words) (nic : NicSide) (apps : List AppSid
         lowered = λ c e. absurd (let none : ⊥ = cc in none);
         stray = λ e app here. stray-raw app here (zero refl);
       }))
+      (rings-card setting words nic (side_judged nic a entry b true) apps refl refl refl refl rule.rings)
   judge-case false above zero =
-      RefRule-judged setting words nic apps rule (side_judged nic a entry b false) refl (λ x c. if-none (a == x) ∙ sym (not-lowered x c))
-      (λ x c. if-none (a == x) ∙ sym (not-returning x c))
+      RefRule-card setting words nic apps rule (side_judged nic a entry b false) refl refl refl (λ x c. if-none (a == x) ∙ sym (not-lowered x c))
+      (λ x c. if-none (a == x) ∙ sym (not-returning x c)) words (no-word setting words rule.sizes)
       (λ it is.
       subst
       (IsInHand (side_judged nic a entry b false) apps)
@@ -251,6 +153,7 @@ module _ (setting : Setting) (words : Words) (nic : NicSide) (apps : List AppSid
         lowered = λ c e. absurd (let none : ⊥ = cc in none);
         stray = λ e. absurd (let none : ⊥ = cc in none);
       }))
+      (rings-card setting words nic (side_judged nic a entry b false) apps refl refl refl refl rule.rings)
 
   pub RefRule-looked : RefRule setting words (side_judged nic a entry b (user_of words a b == 0)) apps
   RefRule-looked =

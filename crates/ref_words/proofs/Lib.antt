@@ -4,6 +4,7 @@ pub mod Laying
 pub mod Counting
 pub mod Frees
 pub mod RingSteps
+mod Ringing
 pub mod PoolSteps
 pub mod CardSteps
 pub mod SideSteps
@@ -21,5 +22,12 @@ mod UserSteps
 mod Lending
 mod SpareLending
 mod UserLowering
+mod SlotWords
+mod SlotSteps
+mod CardLooks
+mod RingMoves
+mod AppLooks
+mod AppSlots
+mod CardSlots
 mod Judging
 mod ScrubTaking

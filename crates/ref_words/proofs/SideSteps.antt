@@ -1,5 +1,6 @@
 -- What holds of the sides holds again once an application's side changed.
-use Rattle.std.proofs.Common.{◌≡◌, ⊎_elim, ℕ, ◌<◌, ◌≤◌, true, List, [], ◌∷◌, length, set, get_or, ap, sym, ◌∙◌, arith, subst}
+use Rattle.std.proofs.Common.{◌≡◌, ⊎_elim, ℕ, ◌<◌, ◌≤◌, true, List, [], ◌∷◌, length, set}
+use Rattle.std.proofs.Common.{get_or, ap, sym, ◌∙◌, arith, subst}
 use Rattle.std.specs.Prelude.{◌≢◌, ◌⊎◌, All}
 use Rattle.std.proofs.lemmas.List.{length-set, get_or-set_same, get_or-set_other}
 use Rattle.std.proofs.lemmas.List.Elements.{All-set}
@@ -18,7 +19,8 @@ use Rattle.board_face.specs.declared.views.nic.NicSide.{NicSide}
 use Rattle.board_face.specs.declared.views.app.AppSide.{AppSide}
 use Rattle.board_face.proofs.SideLemmas.{AreNumbered-set}
 use Rattle.ref_words.specs.Rings.{EntryFits}
-use Rattle.ref_words.specs.Sides.{SidesRule, HasScrubLists, HasFreeReserve, IsDealtInOrder, IsTakenInOrder, HasNoneOwed, IsScrubbedSoFar, IsFirst, IsFirstRaw}
+use Rattle.ref_words.specs.Sides.{SidesRule, HasScrubLists, HasFreeReserve, IsDealtInOrder, IsTakenInOrder, HasNoneOwed}
+use Rattle.ref_words.specs.Sides.{IsScrubbedSoFar, IsFirst, IsFirstRaw}
 
 -- What is to be known of the application's new side.
 pub record IsAppStep (nic : NicSide) (apps : List AppSide) (a : ℕ) (app now : AppSide) : Type 0 where

@@ -4,3 +4,4 @@ pub mod Sides
 pub mod Rings
 pub mod Rule
 pub mod Laws
+pub mod SlotLaws

@@ -1,8 +1,9 @@
 -- Rings of slots. A slot is a list of words of which the first is the flag, 1 where the slot is full. The writer and the reader use
 -- the slots in turn; what either has seen of its next slot is so until it goes on.
-use Rattle.std.specs.Prelude.{◌≡◌, ℕ, ◌+◌, ◌%◌, ◌^◌, ◌<◌, ◌≤◌, true, false, if◌then◌else◌, List, [], ◌∷◌, ◌++◌, length}
+use Rattle.std.specs.Prelude.{◌≡◌, ℕ, ◌+◌, ◌%◌, ◌^◌, ◌<◌, ◌≤◌, true, false}
+use Rattle.std.specs.Prelude.{if◌then◌else◌, List, [], ◌∷◌, ◌++◌, length}
 use Rattle.std.specs.Prelude.{take, drop, slice_index, slice_index_or, All, Option, Some, None}
-use Rattle.board_face.specs.Opened.{unseen}
+use Rattle.board_face.specs.SlotSteps.{next_slot}
 use Rattle.board_face.specs.Holders.{sent_to}
 use Rattle.board_face.specs.Relay.{dealt_entries}
 use Rattle.board_face.specs.Returns.{IsOfLoan}
@@ -37,10 +38,6 @@ module _ {X : Type 0} (width : ℕ) (words_of : X → List ℕ) where
     pub writer_words : writer.seen ≡ true → IsSoFar (slot_of places slots (length written)) writer.words
     pub reader_seen : reader.seen ≡ true → taken < length written
     pub reader_words : reader.seen ≡ true → IsSoFar (slot_of places slots taken) reader.words
-
--- what the card has seen of its next slot for an application
-abbrev pub next_slot : List Slot → ℕ → Slot
-next_slot slots a = slice_index_or slots a unseen
 
 -- ---- refill rings
 
@@ -98,6 +95,22 @@ AreNotes setting words nic app =
 pub record AreRings (setting : Setting) (words : Words) (nic : NicSide) (app : AppSide) : Type 0 where
   pub refills : AreRefills setting words nic app
   pub notes : AreNotes setting words nic app
+
+-- ---- which slot is next
+
+-- the slot into which an application writes its next entry, and the one from which the card takes an entry
+abbrev pub writes_entry_at : Setting → AppSide → ℕ
+writes_entry_at setting app = length app.view.written % setting.places
+
+abbrev pub takes_entry_at : Setting → NicSide → ℕ → ℕ
+takes_entry_at setting nic a = length (dealt_entries a nic) % setting.places
+
+-- the slot into which the card writes its next note to an application, and the one from which that takes a note
+abbrev pub writes_note_at : Setting → NicSide → ℕ → ℕ
+writes_note_at setting nic a = length (sent_to a nic) % setting.places
+
+abbrev pub takes_note_at : Setting → AppSide → ℕ
+takes_note_at setting app = length app.view.taken % setting.places
 
 -- ---- fields, which are numbers of as many bits as their parts of words have
 

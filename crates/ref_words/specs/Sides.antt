@@ -1,5 +1,6 @@
 -- What holds of the sides of all roles between any two steps, whatever the words are.
-use Rattle.std.specs.Prelude.{◌≡◌, ℕ, ◌<◌, ◌≤◌, true, false, List, [], ◌∷◌, length, map, take, All, Option, Some, None, slice_index}
+use Rattle.std.specs.Prelude.{◌≡◌, ℕ, ◌<◌, ◌≤◌, true, false, List, [], ◌∷◌, length, map, take}
+use Rattle.std.specs.Prelude.{All, Option, Some, None, slice_index}
 use Rattle.zr_kinds.specs.declared.ring.Rqe.{Rqe}
 use Rattle.area_layout.specs.Layout.{total, judged}
 use Rattle.board_face.specs.NicCalls.{apps_of}

@@ -1,6 +1,7 @@
 -- The words of a board that threads share, group by group, and how they lie in one table. Counts, bits and slots are those of
 -- docs/WORDS.md; each group is a list, so that a store in one group leaves the others as they are.
-use Rattle.std.specs.Prelude.{◌≡◌, ℕ, zero, suc, ◌+◌, ◌-◌, ◌*◌, ◌/◌, ◌%◌, ◌^◌, ◌<◌, ◌≤◌, Bool, List, [], ◌∷◌}
+use Rattle.std.specs.Prelude.{◌≡◌, ℕ, zero, suc, ◌+◌, ◌-◌, ◌*◌, ◌/◌, ◌%◌, ◌^◌, ◌<◌}
+use Rattle.std.specs.Prelude.{◌≤◌, Bool, List, [], ◌∷◌}
 use Rattle.std.specs.Prelude.{◌++◌, length, min, replicate, slice_index}
 use Rattle.std.specs.Prelude.{slice_index_or, slice_set, ◌==◌, All}
 use Rattle.std.specs.List.{flat_map}
@@ -153,6 +154,26 @@ user_of w a b = slice_index (slice_index_or w.users a []) b
 -- the words with another user count of an application for a buffer
 abbrev pub with_user : Words → ℕ → ℕ → ℕ → Words
 with_user w a b n = record w { users = slice_set w.users a (slice_set (slice_index_or w.users a []) b n) }
+
+-- ---- slots
+
+-- the word i of a slot of an application's ring
+abbrev pub slot_word : List (List (List ℕ)) → ℕ → ℕ → ℕ → ℕ
+slot_word rings a s i = slice_index (slice_index_or (slice_index_or rings a []) s []) i
+
+-- the slots of a ring with another word i in one
+abbrev pub with_word : List (List ℕ) → ℕ → ℕ → ℕ → List (List ℕ)
+with_word slots s i n = slice_set slots s (slice_set (slice_index_or slots s []) i n)
+
+abbrev pub with_slot_word : List (List (List ℕ)) → ℕ → ℕ → ℕ → ℕ → List (List (List ℕ))
+with_slot_word rings a s i n = slice_set rings a (with_word (slice_index_or rings a []) s i n)
+
+-- the words with another word i in a slot of an application's refill ring, or note ring
+abbrev pub with_refill : Words → ℕ → ℕ → ℕ → ℕ → Words
+with_refill w a s i n = record w { refills = with_slot_word w.refills a s i n }
+
+abbrev pub with_note : Words → ℕ → ℕ → ℕ → ℕ → Words
+with_note w a s i n = record w { notes = with_slot_word w.notes a s i n }
 
 -- ---- the beginning
 

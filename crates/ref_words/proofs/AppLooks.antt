@@ -1,0 +1,104 @@
+-- What an application has seen, and what it knows of its slots, are all that changes.
+use Rattle.std.proofs.Common.{◌≡◌, ℕ, true, List, [], set, refl, sym, arith, subst, inr}
+use Rattle.std.specs.Prelude.{All}
+use Rattle.board_face.specs.Sides.{IsApp}
+use Rattle.board_face.specs.AppEvents.{reserve_of}
+use Rattle.board_face.specs.Returns.{IsOfLoan, entries_on_way}
+use Rattle.board_face.specs.Counts.{pool_count, EndedWereReturned}
+use Rattle.board_face.specs.Used.{HasFewPicks}
+use Rattle.board_face.specs.declared.views.parts.Setting.{Setting}
+use Rattle.board_face.specs.declared.views.nic.NicSide.{NicSide}
+use Rattle.board_face.specs.declared.views.app.AppSide.{AppSide}
+use Rattle.board_face.proofs.AppLemmas.{pool_count-app, user_count-app}
+use Rattle.board_face.proofs.ArePlacedLemmas.{ArePlaced-app}
+use Rattle.board_face.proofs.MadeLastLemmas.{IsMadeLast-app}
+use Rattle.board_face.proofs.IsFilledByOneLemmas.{IsFilledByOne-app}
+use Rattle.board_face.proofs.FillingsFitLemmas.{FillingsFit-same}
+use Rattle.ref_words.specs.Words.{Words, listed_in}
+use Rattle.ref_words.specs.Rule.{RefRule}
+use Rattle.ref_words.proofs.RingSteps.{AllRings}
+use Rattle.ref_words.proofs.SlotSteps.{DifferInSlots, RefRule-slot}
+use Rattle.ref_words.proofs.Frees.{AreKept-app, free_places-hands}
+use Rattle.ref_words.proofs.SideSteps.{SidesRule-app, mine}
+
+module _ (setting : Setting) (words : Words) (nic : NicSide) (apps : List AppSide) (a : ℕ) (app : AppSide) (rule : RefRule setting words nic apps)
+    (here : IsApp apps a app) (now : AppSide)
+    (same : now ≡ record {
+      view = record app.view { looks = now.view.looks; settled = now.view.settled; quiet = now.view.quiet };
+      inside = record app.inside {
+        note_slot = now.inside.note_slot;
+        refill_slot = now.inside.refill_slot;
+        free_slots = now.inside.free_slots;
+      };
+    })
+    (settled : now.view.settled ≡ true → All IsOfLoan (entries_on_way nic app))
+    (quiet : now.view.quiet ≡ true → entries_on_way nic app ≡ []) (unscrubbed : app.view.quiet ≡ true → now.view.quiet ≡ true) where
+  abbrev like : AppSide
+  like = record {
+    view = record app.view { looks = now.view.looks; settled = now.view.settled; quiet = now.view.quiet };
+    inside = record app.inside {
+      note_slot = now.inside.note_slot;
+      refill_slot = now.inside.refill_slot;
+      free_slots = now.inside.free_slots;
+    };
+  }
+
+  abbrev apps' : List AppSide
+  apps' = set apps a like
+
+  pools : (b : ℕ) → pool_count b nic apps' ≡ pool_count b nic apps
+  pools b = omega (arith, pool_count-app b nic apps a app like here)
+
+  pub RefRule-app : (words' : Words) → DifferInSlots setting words words' → AllRings setting words' nic apps'
+      → RefRule setting words' nic (set apps a now)
+  RefRule-app words' differ rings =
+      subst (λ x. RefRule setting words' nic (set apps a x)) (sym same)
+      (RefRule-slot setting words words' nic nic apps apps' rule differ (record {
+        sides = SidesRule-app setting nic apps a app rule.sides here like (record {
+          setting = refl;
+          number = refl;
+          took = refl;
+          owes = refl;
+          placed = λ b. ArePlaced-app b nic apps a app like here (λ test. omega arith) (rule.sides.placed b);
+          by_one = λ b. IsFilledByOne-app b nic apps a app like here (omega arith) (omega arith) (rule.sides.by_one b);
+          fit = FillingsFit-same nic apps a app like here refl rule.sides.fit;
+          made = IsMadeLast-app nic apps a app like here (λ b test. omega arith) rule.sides.made;
+          returned = λ b. let r = mine setting nic apps a app rule.sides here (EndedWereReturned b nic) (rule.sides.returned b) in
+              record { ended = r.ended; returning = r.returning };
+          reserve = record { unheld = λ free. omega (arith, pools (reserve_of app.view), (rule.sides.reserves a app here).unheld free) };
+          unheld = λ b past ne none. omega (arith, pools b, none);
+          few = let f = mine setting nic apps a app rule.sides here HasFewPicks rule.sides.few in record { picks = f.picks; spares = f.spares };
+          written = refl;
+          taken = refl;
+          dealt = record { order = (rule.sides.dealt a app here).order };
+          returns = let r = rule.sides.returns a app here in record {
+            written = r.written;
+            owed = r.owed;
+            no_more = r.no_more;
+            clear = r.clear;
+            named = r.named;
+            settled = settled;
+            quiet = quiet;
+            scrubbed = r.scrubbed;
+            strays = r.strays;
+          };
+          scrub = let s = rule.sides.scrub a app here in record {
+            within = s.within;
+            done = s.done;
+            whole = s.whole;
+            taken = s.taken;
+            untaken = s.untaken;
+            quiet = λ some. unscrubbed (s.quiet some);
+            loans = s.loans;
+          };
+          scrubbed = λ done. let none = rule.sides.scrubbed a app here done in record { loans = none.loans; owed = none.owed };
+          way = refl;
+          came_back = λ b. refl;
+          ended = inr (λ b. refl);
+        });
+        pool = pools;
+        users = λ x b. omega (arith, user_count-app x b nic apps a app like here);
+        free = λ b. omega (arith, free_places-hands (listed_in words) b nic apps a app like here);
+        kept = AreKept-app (listed_in words) nic apps a app like here refl rule.kept;
+        rings = rings;
+      }))
