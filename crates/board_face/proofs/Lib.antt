@@ -26,3 +26,6 @@ pub mod AreShownLemmas
 pub mod OpenedLemmas
 pub mod ReturnLemmas
 pub mod OwnBufferLemmas
+pub mod WrittenLemmas
+pub mod DealtLemmas
+pub mod LiesLemmas

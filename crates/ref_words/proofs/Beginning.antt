@@ -74,7 +74,9 @@ module _ (setting : Setting) (words : Words) (nic : NicSide) (apps : List AppSid
       made = IsMadeLast-begun nic apps own n [] out idle (rule.sides.placed own.buffer);
       dealt = refl;
       entry = refl;
-      sent = refl;
+      notes = rule.sides.notes;
+      taken = λ k x here. record { order = (rule.sides.taken k x here).order };
+      proper = rule.sides.proper;
       note_slots = refl;
       refill_slots = refl;
       unheld = λ b past none. omega (arith, more b, none, held b);

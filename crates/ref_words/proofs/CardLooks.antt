@@ -1,25 +1,17 @@
--- What the card has seen, and what it has in hand, are all that changes, and no more was ended by that than before.
-use Rattle.std.proofs.Common.{◌≡◌, ℕ, ◌+◌, ◌-◌, ◌≤◌, List, length, drop, get_or, refl, ap, sym, ◌∙◌, arith, subst}
-use Rattle.std.specs.Prelude.{◌==◌, if◌then◌else◌, Some, Contains}
-use Rattle.std.proofs.lemmas.List.Elements.{All-contains}
-use Rattle.board_face.specs.AppEvents.{reserve_of}
+-- What the card has seen, and what it has in hand, are all that changes, and no more was lowered for that than before.
+use Rattle.std.proofs.Common.{◌≡◌, ℕ, ◌+◌, List, length, drop, refl, ap, sym, arith, subst}
+use Rattle.std.specs.Prelude.{Some}
 use Rattle.board_face.specs.Holders.{lowered_in_hand, returning_in_hand, ended_in, returning_count, returned_in, owed_in}
-use Rattle.board_face.specs.Counts.{pool_count, user_count, EndedWereReturned}
 use Rattle.board_face.specs.declared.views.parts.Setting.{Setting}
 use Rattle.board_face.specs.declared.views.nic.EntryInHand.{EntryInHand}
 use Rattle.board_face.specs.declared.views.nic.NicSide.{NicSide}
 use Rattle.board_face.specs.declared.views.app.AppSide.{AppSide}
-use Rattle.board_face.proofs.Tallies.{total-agree}
-use Rattle.board_face.proofs.Parts.{user_part, user_count-parts, pool_count-parts, app_count, owed_count, returning_in_count, loans_in, came_back_in}
-use Rattle.board_face.proofs.ArePlacedLemmas.{ArePlaced-stretch}
-use Rattle.board_face.proofs.MadeLastLemmas.{IsMadeLast-stretch}
-use Rattle.board_face.proofs.IsFilledByOneLemmas.{IsFilledByOne-fewer}
-use Rattle.ref_words.specs.Words.{Words, listed_in}
-use Rattle.ref_words.specs.Sides.{SidesRule, IsInHand}
+use Rattle.ref_words.specs.Words.{Words}
+use Rattle.ref_words.specs.Sides.{IsInHand}
 use Rattle.ref_words.specs.Rule.{RefRule}
 use Rattle.ref_words.proofs.RingSteps.{AllRings}
-use Rattle.ref_words.proofs.SlotSteps.{DifferInSlots, RefRule-slot}
-use Rattle.ref_words.proofs.Frees.{AreKept-card}
+use Rattle.ref_words.proofs.SlotSteps.{DifferInSlots}
+use Rattle.ref_words.proofs.CardEnds.{RefRule-ended}
 
 module _ (setting : Setting) (words : Words) (nic : NicSide) (apps : List AppSide) (rule : RefRule setting words nic apps) (now : NicSide)
     (same : now ≡ record {
@@ -46,84 +38,23 @@ module _ (setting : Setting) (words : Words) (nic : NicSide) (apps : List AppSid
   returns-same : (c : ℕ) (x : AppSide) → returning_count c like x ≡ returning_count c nic x
   returns-same c x = omega (arith, returning x.view.app c)
 
-  pools : (c : ℕ) → pool_count c like apps ≡ pool_count c nic apps
-  pools c =
-      let each : (x : AppSide) → app_count c like x ≡ app_count c nic x = λ x.
-      let p : owed_count c like x ≡ owed_count c nic x = omega (arith, ends c x) in
-      let q : returning_in_count c like x ≡ returning_in_count c nic x = omega (arith, ends c x, returns-same c x) in
-      omega (arith, p, q) in
-      omega (arith, pool_count-parts c like apps, pool_count-parts c nic apps, total-agree (app_count c like) (app_count c nic) each apps)
-
-  users : (x c : ℕ) → user_count x c like apps ≡ user_count x c nic apps
-  users x c =
-      let each : (y : AppSide) → user_part x c like y ≡ user_part x c nic y = λ y.
-      ap (λ h. if y.view.app == x then loans_in c y + (came_back_in c y - h) else 0) (ends c y) in
-      omega (arith, user_count-parts x c like apps, user_count-parts x c nic apps, total-agree (user_part x c like) (user_part x c nic) each apps)
-
-  small : (c : ℕ) (x : AppSide) → Contains apps x → returning_count c nic x ≤ ended_in c nic x
-  small c x has = (All-contains (EndedWereReturned c nic) apps x (rule.sides.returned c) has).returning
-
-  small-now : (c : ℕ) (x : AppSide) → Contains apps x → returning_count c like x ≤ ended_in c like x
-  small-now c x has = omega (arith, small c x has, ends c x, returns-same c x)
-
-  later : (c : ℕ) (x : AppSide) → Contains apps x → ended_in c nic x + returning_count c like x ≤ ended_in c like x + returning_count c nic x
-  later c x has = omega (arith, ends c x, returns-same c x)
-
-  sides-like : ((it : EntryInHand) → now.inside.entry ≡ Some it → IsInHand like apps it) → SidesRule setting like apps
-  sides-like hand = record {
-    set = record { card = rule.sides.set.card; many = rule.sides.set.many; numbers = rule.sides.set.numbers; others = rule.sides.set.others };
-    lists = rule.sides.lists;
-    placed = λ c. ArePlaced-stretch c nic like apps refl refl refl refl refl (small c) (small-now c) (later c) (rule.sides.placed c);
-    by_one = λ c. IsFilledByOne-fewer c nic like apps apps refl (omega arith) (omega arith) (omega (arith, pools c)) (rule.sides.by_one c);
-    fit = record { of_pool = rule.sides.fit.of_pool; card = rule.sides.fit.card; sides = rule.sides.fit.sides };
-    made = IsMadeLast-stretch nic like apps refl refl refl small small-now later rule.sides.made;
-    returned = λ c k d less. let r = rule.sides.returned c k d less in let x = get_or apps k d in
-        record { ended = omega (arith, ends c x, r.ended); returning = omega (arith, ends c x, returns-same c x, r.returning) };
-    reserves = λ k x here. record { unheld = λ free. pools (reserve_of x.view) ∙ (rule.sides.reserves k x here).unheld free };
-    few = rule.sides.few;
-    returns = λ k x here. let r = rule.sides.returns k x here in
-        let owed : (c : ℕ) → length (owed_in c like x) ≡ length (owed_in c nic x) = λ c. ap (λ h. length (drop h (returned_in c x))) (ends c x) in
-        record {
-          written = r.written;
-          owed = λ c. omega (arith, r.owed c, lowered x.view.app c, owed c);
-          no_more = λ c. omega (arith, r.no_more c, lowered x.view.app c, owed c);
-          clear = r.clear;
-          named = r.named;
-          settled = r.settled;
-          quiet = r.quiet;
-          scrubbed = r.scrubbed;
-          strays = r.strays;
-        };
-    dealt = λ k x here. record { order = (rule.sides.dealt k x here).order };
-    honoured = rule.sides.honoured;
-    slots = record { notes = omega (arith, notes, rule.sides.slots.notes); refills = omega (arith, refills, rule.sides.slots.refills) };
-    entries = rule.sides.entries;
-    notes = rule.sides.notes;
-    taken = λ k x here. record { order = (rule.sides.taken k x here).order };
-    proper = rule.sides.proper;
-    hand = hand;
-    scrub = λ k x here. let s = rule.sides.scrub k x here in record {
-      within = s.within;
-      done = s.done;
-      whole = s.whole;
-      taken = λ c less. omega (arith, s.taken c less, ap (λ h. length (drop h (returned_in c x))) (ends c x));
-      untaken = s.untaken;
-      quiet = s.quiet;
-      loans = s.loans;
-    };
-    scrubbed = λ k x here done. let none = rule.sides.scrubbed k x here done in
-        record { loans = none.loans; owed = λ c. omega (arith, none.owed c, ap (λ h. length (drop h (returned_in c x))) (ends c x)) };
-  }
-
   pub RefRule-card : (words' : Words) → DifferInSlots setting words words'
       → ((it : EntryInHand) → now.inside.entry ≡ Some it → IsInHand like apps it) → AllRings setting words' like apps
       → RefRule setting words' now apps
   RefRule-card words' differ hand rings =
-      subst (λ x. RefRule setting words' x apps) (sym same) (RefRule-slot setting words words' nic like apps apps rule differ (record {
-        sides = sides-like hand;
-        pool = pools;
-        users = users;
-        free = λ c. refl;
-        kept = AreKept-card (listed_in words) nic like apps refl refl refl (λ c. omega arith) rule.kept;
-        rings = rings;
-      }))
+      subst (λ x. RefRule setting words' x apps) (sym same)
+      (RefRule-ended setting words nic apps rule like refl notes refills ends returns-same words' differ
+      (λ k x here. let r = rule.sides.returns k x here in
+      let owed : (c : ℕ) → length (owed_in c like x) ≡ length (owed_in c nic x) = λ c. ap (λ h. length (drop h (returned_in c x))) (ends c x) in
+      record {
+        written = r.written;
+        owed = λ c. omega (arith, r.owed c, lowered x.view.app c, owed c);
+        no_more = λ c. omega (arith, r.no_more c, lowered x.view.app c, owed c);
+        clear = r.clear;
+        named = r.named;
+        settled = r.settled;
+        quiet = r.quiet;
+        scrubbed = r.scrubbed;
+        strays = r.strays;
+      })
+      (λ k x here. record { order = (rule.sides.dealt k x here).order }) rule.sides.honoured hand rings)

@@ -1,5 +1,5 @@
 -- What holds of the sides holds again once the card's side changed, where it dealt with no entry.
-use Rattle.std.proofs.Common.{◌≡◌, ℕ, ◌≤◌, List, ap, sym, ◌∙◌, arith, subst}
+use Rattle.std.proofs.Common.{◌≡◌, ℕ, ◌≤◌, List, length, ap, sym, ◌∙◌, arith, subst}
 use Rattle.std.proofs.lemmas.List.Elements.{All-weaker}
 use Rattle.area_layout.specs.Layout.{pool_buffers}
 use Rattle.board_face.specs.AppEvents.{reserve_of}
@@ -10,7 +10,11 @@ use Rattle.board_face.specs.Returns.{AreReturns}
 use Rattle.board_face.specs.declared.views.parts.Setting.{Setting}
 use Rattle.board_face.specs.declared.views.nic.NicSide.{NicSide}
 use Rattle.board_face.specs.declared.views.app.AppSide.{AppSide}
-use Rattle.ref_words.specs.Sides.{SidesRule}
+use Rattle.board_face.specs.Relay.{IsProper}
+use Rattle.board_face.specs.Sides.{IsApp}
+use Rattle.ref_words.specs.Rings.{NoteFits}
+use Rattle.ref_words.specs.Sides.{SidesRule, IsTakenInOrder}
+use Rattle.std.specs.Prelude.{All}
 
 pub record IsCardStep (nic now : NicSide) (apps : List AppSide) : Type 0 where
   pub setting : now.view.setting ≡ nic.view.setting
@@ -20,9 +24,11 @@ pub record IsCardStep (nic now : NicSide) (apps : List AppSide) : Type 0 where
   pub made : IsMadeLast now apps
   pub dealt : now.view.dealt ≡ nic.view.dealt
   pub entry : now.inside.entry ≡ nic.inside.entry
-  pub sent : now.view.sent ≡ nic.view.sent
-  pub note_slots : now.inside.note_slots ≡ nic.inside.note_slots
-  pub refill_slots : now.inside.refill_slots ≡ nic.inside.refill_slots
+  pub notes : All NoteFits now.view.sent
+  pub taken : (a : ℕ) (app : AppSide) → IsApp apps a app → IsTakenInOrder now app
+  pub proper : All IsProper now.view.sent
+  pub note_slots : length now.inside.note_slots ≡ length nic.inside.note_slots
+  pub refill_slots : length now.inside.refill_slots ≡ length nic.inside.refill_slots
   -- a reserve that nobody had stays so
   pub unheld : (b : ℕ) → pool_buffers nic.view.setting.layout ≤ b → pool_count b nic apps ≡ 0 → pool_count b now apps ≡ 0
 
@@ -57,11 +63,11 @@ SidesRule-card setting nic now apps rule step = record {
       record { unheld = λ free. step.unheld (reserve_of app.view) (omega (arith, pools)) ((rule.reserves a app here).unheld free) };
   few = rule.few;
   honoured = rw step.dealt rule.honoured;
-  slots = record { notes = rw step.note_slots rule.slots.notes; refills = rw step.refill_slots rule.slots.refills };
+  slots = record { notes = step.note_slots ∙ rule.slots.notes; refills = step.refill_slots ∙ rule.slots.refills };
   entries = rule.entries;
-  notes = rw step.sent rule.notes;
-  taken = λ a app here. record { order = rw step.sent (rule.taken a app here).order };
-  proper = rw step.sent rule.proper;
+  notes = step.notes;
+  taken = step.taken;
+  proper = step.proper;
   dealt = λ a app here. record { order = rw step.dealt (rule.dealt a app here).order };
   returns = λ a app here. AreReturns-card nic now app step.dealt step.entry (rule.returns a app here);
   hand = λ inhand is. let h = rule.hand inhand (sym step.entry ∙ is) in record {

@@ -21,6 +21,8 @@ use Rattle.board_face.proofs.IsFilledByOneLemmas.{IsFilledByOne-cut}
 use Rattle.board_face.proofs.FillingsFitLemmas.{FillingsFit-same}
 use Rattle.board_face.proofs.Tallies.{weight}
 use Rattle.ref_words.specs.Words.{Words, pool_of, listed_in}
+use Rattle.std.specs.Prelude.{All}
+use Rattle.ref_words.specs.Rings.{EntryFits}
 use Rattle.ref_words.specs.Rule.{RefRule}
 use Rattle.ref_words.proofs.RingSteps.{rings-app}
 use Rattle.ref_words.proofs.Counting.{weight-same, weight-other}
@@ -74,8 +76,8 @@ module _ (setting : Setting) (words : Words) (nic : NicSide) (apps : List AppSid
       };
       unheld = λ b past ne none. omega (arith, more b, held b, none);
       few = let f = mine setting nic apps a app rule.sides here HasFewPicks rule.sides.few in record { picks = f.picks; spares = f.spares };
-      written = refl;
-      taken = refl;
+      entries = mine setting nic apps a app rule.sides here (λ x. All EntryFits x.view.written) rule.sides.entries;
+      taken = record { order = (rule.sides.taken a app here).order };
       dealt = record { order = (rule.sides.dealt a app here).order };
       returns = let r = rule.sides.returns a app here in record {
         written = r.written;
@@ -98,8 +100,9 @@ module _ (setting : Setting) (words : Words) (nic : NicSide) (apps : List AppSid
         loans = s.loans;
       };
       scrubbed = λ done. let none = rule.sides.scrubbed a app here done in record { loans = none.loans; owed = none.owed };
-      way = refl;
-      came_back = λ b. refl;
+      first = λ entry f. f;
+      raw = λ f. f;
+      came_back = λ b. omega arith;
       ended = inr (λ b. refl);
     });
     here = omega (arith, rule.pool place.buffer there, more place.buffer, weight-same place.buffer);

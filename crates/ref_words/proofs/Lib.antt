@@ -24,10 +24,15 @@ mod SpareLending
 mod UserLowering
 mod SlotWords
 mod SlotSteps
+mod CardEnds
 mod CardLooks
 mod RingMoves
 mod AppLooks
 mod AppSlots
 mod CardSlots
+mod Writing
+mod Giving
+mod Dealing
+mod DealtCases
 mod Judging
 mod ScrubTaking

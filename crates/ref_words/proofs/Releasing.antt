@@ -23,6 +23,8 @@ use Rattle.board_face.proofs.IsFilledByOneLemmas.{IsFilledByOne-app}
 use Rattle.board_face.proofs.FillingsFitLemmas.{FillingsFit-same}
 use Rattle.board_face.proofs.Tallies.{weight}
 use Rattle.ref_words.specs.Words.{Words, pool_of, listed_in}
+use Rattle.std.specs.Prelude.{All}
+use Rattle.ref_words.specs.Rings.{EntryFits}
 use Rattle.ref_words.specs.Rule.{RefRule}
 use Rattle.ref_words.proofs.RingSteps.{rings-app}
 use Rattle.ref_words.proofs.Counting.{count-push, weight-same, weight-other, weight-swap, if_so, if_so-weight, and-true, and-false}
@@ -91,8 +93,8 @@ module _ (setting : Setting) (words : Words) (nic : NicSide) (apps : List AppSid
       reserve = record { unheld = λ free. omega (arith, less (reserve_of app.view), (rule.sides.reserves a app here).unheld free) };
       unheld = λ b past ne none. omega (arith, less b, none);
       few = let f = mine setting nic apps a app rule.sides here HasFewPicks rule.sides.few in record { picks = f.picks; spares = f.spares };
-      written = refl;
-      taken = refl;
+      entries = mine setting nic apps a app rule.sides here (λ x. All EntryFits x.view.written) rule.sides.entries;
+      taken = record { order = (rule.sides.taken a app here).order };
       dealt = record { order = (rule.sides.dealt a app here).order };
       returns = let r = rule.sides.returns a app here in record {
         written = r.written;
@@ -115,8 +117,9 @@ module _ (setting : Setting) (words : Words) (nic : NicSide) (apps : List AppSid
         loans = s.loans;
       };
       scrubbed = λ done. let none = rule.sides.scrubbed a app here done in record { loans = none.loans; owed = none.owed };
-      way = refl;
-      came_back = λ b. refl;
+      first = λ entry f. f;
+      raw = λ f. f;
+      came_back = λ b. omega arith;
       ended = inr (λ b. refl);
     });
     here = let c = counted in omega arith;

@@ -29,6 +29,8 @@ use Rattle.board_face.proofs.FillingsFitLemmas.{FillingsFit-same}
 use Rattle.board_face.proofs.ListLemmas.{eqb_same, not-eqb}
 use Rattle.ref_words.specs.Words.{Words, user_of, listed_in}
 use Rattle.ref_words.specs.Sides.{HasScrubLists}
+use Rattle.std.specs.Prelude.{All}
+use Rattle.ref_words.specs.Rings.{EntryFits}
 use Rattle.ref_words.specs.Rule.{RefRule}
 use Rattle.ref_words.proofs.RingSteps.{rings-app}
 use Rattle.ref_words.proofs.Counting.{if_so}
@@ -220,8 +222,8 @@ module _ (setting : Setting) (words : Words) (nic : NicSide) (apps : List AppSid
       reserve = record { unheld = λ free. same_pool (reserve_of app.view) ∙ (rule.sides.reserves a app here).unheld free };
       unheld = λ c past ne none. same_pool c ∙ none;
       few = let f = mine setting nic apps a app rule.sides here HasFewPicks rule.sides.few in record { picks = f.picks; spares = f.spares };
-      written = refl;
-      taken = refl;
+      entries = mine setting nic apps a app rule.sides here (λ x. All EntryFits x.view.written) rule.sides.entries;
+      taken = record { order = (rule.sides.taken a app here).order };
       dealt = record { order = (rule.sides.dealt a app here).order };
       returns = let r = rule.sides.returns a app here in
           let way : entries_on_way nic app ≡ [] = r.quiet quiet in
@@ -258,8 +260,9 @@ module _ (setting : Setting) (words : Words) (nic : NicSide) (apps : List AppSid
         loans = lent;
         owed = λ c. omega (arith, owed-count c nic now, none-anywhere c (all-below done));
       };
-      way = refl;
-      came_back = λ c. refl;
+      first = λ entry f. f;
+      raw = λ f. f;
+      came_back = λ c. omega arith;
       ended = inl ((rule.sides.returns a app here).quiet quiet);
     });
     here = sym none-now;

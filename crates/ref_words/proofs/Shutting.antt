@@ -83,7 +83,9 @@ module _ (setting : Setting) (words : Words) (nic : NicSide) (apps : List AppSid
       made = let m = IsMadeLast-nic nic (shut nic.view own last) apps refl refl refl rule.sides.made in record { last = m.last };
       dealt = refl;
       entry = refl;
-      sent = refl;
+      notes = rule.sides.notes;
+      taken = λ k x here. record { order = (rule.sides.taken k x here).order };
+      proper = rule.sides.proper;
       note_slots = refl;
       refill_slots = refl;
       unheld = λ b past none. omega (arith, less b, none);

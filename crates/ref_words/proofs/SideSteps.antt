@@ -5,6 +5,7 @@ use Rattle.std.specs.Prelude.{◌≢◌, ◌⊎◌, All}
 use Rattle.std.proofs.lemmas.List.{length-set, get_or-set_same, get_or-set_other}
 use Rattle.std.proofs.lemmas.List.Elements.{All-set}
 use Rattle.std.proofs.lemmas.Bool.Decides.{eqb_tells}
+use Rattle.zr_kinds.specs.declared.ring.Rqe.{Rqe}
 use Rattle.area_layout.specs.Layout.{pool_buffers}
 use Rattle.board_face.specs.AppEvents.{reserve_of}
 use Rattle.board_face.specs.Sides.{IsApp}
@@ -39,13 +40,15 @@ pub record IsAppStep (nic : NicSide) (apps : List AppSide) (a : ℕ) (app now : 
       → pool_count b nic (set apps a now) ≡ 0
   pub few : HasFewPicks now
   pub dealt : IsDealtInOrder nic now
-  pub written : now.view.written ≡ app.view.written
-  pub taken : now.view.taken ≡ app.view.taken
+  pub entries : All EntryFits now.view.written
+  pub taken : IsTakenInOrder nic now
   pub returns : AreReturns nic now
   pub scrub : IsScrubbedSoFar nic now
   pub scrubbed : now.view.scrubbed ≡ true → HasNoneOwed nic now
-  pub way : entries_on_way nic now ≡ entries_on_way nic app
-  pub came_back : (b : ℕ) → returned_in b now ≡ returned_in b app
+  -- the first entry on its way stays the first, and no loan that came back goes away again
+  pub first : (entry : Rqe) → IsFirst entry (entries_on_way nic app) → IsFirst entry (entries_on_way nic now)
+  pub raw : IsFirstRaw (entries_on_way nic app) → IsFirstRaw (entries_on_way nic now)
+  pub came_back : (b : ℕ) → length (returned_in b app) ≤ length (returned_in b now)
   -- no more was ended, but where no entry of it is on its way
   pub ended : (entries_on_way nic app ≡ []) ⊎ ((b : ℕ) → ended_in b nic now ≡ ended_in b nic app)
 
@@ -125,14 +128,14 @@ module _ (setting : Setting) (nic : NicSide) (apps : List AppSide) (a : ℕ) (ap
       honoured = rule.honoured;
       slots = rule.slots;
       entries = All-set (λ x. All EntryFits x.view.written) apps a now
-          (rw step.written (mine (λ x. All EntryFits x.view.written) rule.entries)) rule.entries;
+          step.entries rule.entries;
       notes = rule.notes;
-      taken = λ k. then-now (IsTakenInOrder nic) k (λ x is. rule.taken k x is) (λ e was. record { order = rw (step.number, step.taken) was.order });
+      taken = λ k. then-now (IsTakenInOrder nic) k (λ x is. rule.taken k x is) (λ e was. step.taken);
       proper = rule.proper;
       returns = λ k. then-now (AreReturns nic) k (λ x is. rule.returns k x is) (λ e was. step.returns);
       hand = λ inhand is. let h = rule.hand inhand is in record {
         app = omega (arith, h.app, length-set apps a now);
-        first = then-now (λ x. IsFirst inhand.entry (entries_on_way nic x)) inhand.app h.first (λ e was. rw step.way was);
+        first = then-now (λ x. IsFirst inhand.entry (entries_on_way nic x)) inhand.app h.first (λ e was. step.first inhand.entry was);
         named = h.named;
         owed = λ b judged. (
           (h.owed b judged).0,
@@ -140,11 +143,11 @@ module _ (setting : Setting) (nic : NicSide) (apps : List AppSide) (a : ℕ) (ap
               (λ e was. ⊎_elim
               (λ none. let front = h.first app (subst (λ n. IsApp apps n app) (sym e) here) in
               absurd (let empty : front.first ∷ front.others ≡ [] = sym front.is ∙ none in let no : ⊥ = cc in no))
-              (λ same. rw (same b, step.came_back b) was)
+              (λ same. omega (arith, same b, step.came_back b, was))
               step.ended),
         );
         lowered = h.lowered;
-        stray = λ judged. then-now (λ x. IsFirstRaw (entries_on_way nic x)) inhand.app (h.stray judged) (λ e was. rw step.way was);
+        stray = λ judged. then-now (λ x. IsFirstRaw (entries_on_way nic x)) inhand.app (h.stray judged) (λ e was. step.raw was);
       };
       scrub = λ k. then-now (IsScrubbedSoFar nic) k (λ x is. rule.scrub k x is) (λ e was. step.scrub);
       scrubbed = λ k x is done. then-now (λ y. y.view.scrubbed ≡ true

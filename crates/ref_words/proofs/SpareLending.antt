@@ -25,6 +25,8 @@ use Rattle.board_face.proofs.FreeLemmas.{user_count-le}
 use Rattle.board_face.proofs.ReturnLemmas.{IsClear-of_loans}
 use Rattle.board_face.proofs.Tallies.{weight}
 use Rattle.ref_words.specs.Words.{Words, user_of, listed_in}
+use Rattle.std.specs.Prelude.{All}
+use Rattle.ref_words.specs.Rings.{EntryFits}
 use Rattle.ref_words.specs.Rule.{RefRule}
 use Rattle.ref_words.proofs.RingSteps.{rings-app}
 use Rattle.ref_words.proofs.Counting.{weight-same}
@@ -102,8 +104,8 @@ module _ (setting : Setting) (words : Words) (nic : NicSide) (apps : List AppSid
       reserve = record { unheld = λ free. same_pool (reserve_of app.view) ∙ (rule.sides.reserves a app here).unheld free };
       unheld = λ b past ne none. same_pool b ∙ none;
       few = let f = mine setting nic apps a app rule.sides here HasFewPicks rule.sides.few in record { picks = f.picks; spares = f.spares };
-      written = refl;
-      taken = refl;
+      entries = mine setting nic apps a app rule.sides here (λ x. All EntryFits x.view.written) rule.sides.entries;
+      taken = record { order = (rule.sides.taken a app here).order };
       dealt = record { order = (rule.sides.dealt a app here).order };
       returns = let r = rule.sides.returns a app here in record {
         written = r.written;
@@ -126,8 +128,9 @@ module _ (setting : Setting) (words : Words) (nic : NicSide) (apps : List AppSid
         loans = λ some. absurd (omega (arith, unbegun, some));
       };
       scrubbed = λ done. absurd (let wrong : true ≡ false = sym done ∙ can.counted in let no : ⊥ = cc in no);
-      way = refl;
-      came_back = λ b. refl;
+      first = λ entry f. f;
+      raw = λ f. f;
+      came_back = λ b. omega arith;
       ended = inr (λ b. refl);
     });
     here = omega (arith, rule.users a own.buffer is-app there, more-users a own.buffer, one);

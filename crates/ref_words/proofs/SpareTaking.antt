@@ -28,6 +28,8 @@ use Rattle.board_face.proofs.FillingsFitLemmas.{IsFit, FillingsFit-app, Fillings
 use Rattle.board_face.proofs.TokenLemmas.{FitsBuffer-fresh}
 use Rattle.board_face.proofs.Tallies.{weight}
 use Rattle.ref_words.specs.Words.{Words, pool_of, listed_in}
+use Rattle.std.specs.Prelude.{All}
+use Rattle.ref_words.specs.Rings.{EntryFits}
 use Rattle.ref_words.specs.Rule.{RefRule}
 use Rattle.ref_words.proofs.RingSteps.{rings-app}
 use Rattle.ref_words.proofs.Counting.{weight-same, weight-other}
@@ -95,8 +97,8 @@ module _ (setting : Setting) (words : Words) (nic : NicSide) (apps : List AppSid
                 weight-other b c (λ e. ⊎_elim (λ small. let no : ⊥ = omega (arith, e) in no) (λ mine. ne (sym e ∙ mine)) own),
               );
           few = let f = mine setting nic apps a app rule.sides here HasFewPicks rule.sides.few in record { picks = f.picks; spares = omega (arith, due) };
-          written = refl;
-          taken = refl;
+          entries = mine setting nic apps a app rule.sides here (λ x. All EntryFits x.view.written) rule.sides.entries;
+          taken = record { order = (rule.sides.taken a app here).order };
           dealt = record { order = (rule.sides.dealt a app here).order };
           returns = let r = rule.sides.returns a app here in record {
             written = r.written;
@@ -119,8 +121,9 @@ module _ (setting : Setting) (words : Words) (nic : NicSide) (apps : List AppSid
             loans = s.loans;
           };
           scrubbed = λ done. let none = rule.sides.scrubbed a app here done in record { loans = none.loans; owed = none.owed };
-          way = refl;
-          came_back = λ b. refl;
+          first = λ entry f. f;
+          raw = λ f. f;
+          came_back = λ b. omega arith;
           ended = inr (λ b. refl);
         });
         here = omega (arith, rule.pool b there, more b, weight-same b);

@@ -93,7 +93,9 @@ module _ (setting : Setting) (words : Words) (nic : NicSide) (apps : List AppSid
       made = IsMadeLast-nic nic (took nic.view b) apps refl refl refl rule.sides.made;
       dealt = refl;
       entry = refl;
-      sent = refl;
+      notes = rule.sides.notes;
+      taken = λ k x here. record { order = (rule.sides.taken k x here).order };
+      proper = rule.sides.proper;
       note_slots = refl;
       refill_slots = refl;
       unheld = λ x past none. omega (arith, more x, none, weight-other b x (λ e. absurd (let s = small in omega (arith, e))));

@@ -1,16 +1,24 @@
 -- The laws of steps at the slots of the rings. Each end goes through its slots in turn: the writer looks at the flag until it is 0,
 -- stores the words behind it and then the flag 1, and the reader looks until it is 1, loads the words and stores the flag 0.
-use Rattle.std.specs.Prelude.{◌≡◌, ℕ, ◌+◌, ◌<◌, ◌==◌, true, List, [], ◌∷◌, ◌++◌, length, slice_set, None}
+use Rattle.std.specs.Prelude.{◌≡◌, ℕ, ◌+◌, ◌<◌, ◌==◌, true, false, List, [], ◌∷◌, ◌++◌, length, slice_set, Some, None}
+use Rattle.zr_kinds.specs.declared.place.Place.{Place}
+use Rattle.zr_kinds.specs.declared.ring.Rqe.{Rqe}
+use Rattle.area_layout.specs.Layout.{judged}
+use Rattle.board_face.specs.AppCalls.{HasLoan, NamesNoLoan}
+use Rattle.board_face.specs.AppEvents.{entry_of as loan_entry}
 use Rattle.board_face.specs.NicCalls.{apps_of}
 use Rattle.board_face.specs.Sides.{IsApp}
 use Rattle.board_face.specs.SlotSteps.{next_slot, side_refill_looked, side_refill_stored, side_note_looked, side_note_stored}
 use Rattle.board_face.specs.SlotSteps.{side_entry_looked, side_entry_loaded, side_in_hand, side_slot_looked, side_slot_loaded}
+use Rattle.board_face.specs.SlotSteps.{side_gave, side_pushed, side_dealt}
+use Rattle.board_face.specs.declared.views.nic.Fate.TheVariants.{Honoured, Stray}
+use Rattle.board_face.specs.declared.views.nic.Judged.TheVariants.{Not, Stray as judged_stray, BothLowered}
 use Rattle.board_face.specs.declared.views.parts.Setting.{Setting}
 use Rattle.board_face.specs.declared.views.nic.NicSide.{NicSide}
 use Rattle.board_face.specs.declared.views.app.AppSide.{AppSide}
-use Rattle.word_rings.specs.Slots.{note_width, refill_width, entry_of}
+use Rattle.word_rings.specs.Slots.{note_width, refill_width, entry_of, entry_body}
 use Rattle.ref_words.specs.Words.{Words, slot_word, with_refill, with_note}
-use Rattle.ref_words.specs.Rings.{writes_entry_at, takes_entry_at, writes_note_at, takes_note_at}
+use Rattle.ref_words.specs.Rings.{EntryFits, writes_entry_at, takes_entry_at, writes_note_at, takes_note_at}
 use Rattle.ref_words.specs.Rule.{RefRule}
 
 -- how many words of its next slot a card has loaded or stored, the flag among them
@@ -72,3 +80,35 @@ pub record LoadLaw : Type 0 where
       → 1 + length app.inside.note_slot.words < note_width
       → RefRule setting words nic (slice_set apps app.view.app
       (side_slot_loaded app (slot_word words.notes app.view.app (takes_note_at setting app) (1 + length app.inside.note_slot.words))))
+
+-- ---- handing a slot over
+
+-- The writer stores the flag 1 behind the words of what it writes: an application gives a loan back, or writes a raw entry that names no
+-- buffer where it has a loan; no scrub has begun then.
+pub record PublishLaw : Type 0 where
+  pub loan : (setting : Setting) (words : Words) (nic : NicSide) (apps : List AppSide) (app : AppSide) (place : Place)
+      → RefRule setting words nic apps → IsApp apps app.view.app app → HasLoan app.view place → app.inside.refill_slot.seen ≡ true
+      → app.inside.refill_slot.words ≡ entry_body (loan_entry app.view.setting.layout place)
+      → EntryFits (record { entry = loan_entry app.view.setting.layout place; of_loan = true })
+      → RefRule setting (with_refill words app.view.app (writes_entry_at setting app) 0 1) nic (slice_set apps app.view.app (side_gave app place))
+  pub raw : (setting : Setting) (words : Words) (nic : NicSide) (apps : List AppSide) (app : AppSide) (entry : Rqe)
+      → RefRule setting words nic apps → IsApp apps app.view.app app → NamesNoLoan app.view entry → app.view.scrubbed ≡ false
+      → app.inside.scrub_mark ≡ 0 → app.inside.refill_slot.seen ≡ true → app.inside.refill_slot.words ≡ entry_body entry
+      → EntryFits (record { entry = entry; of_loan = false })
+      → RefRule setting (with_refill words app.view.app (writes_entry_at setting app) 0 1) nic (slice_set apps app.view.app (side_pushed app entry))
+
+-- The reader stores the flag 0 into a slot whose words it loaded: the card dealt with the entry in hand. It gave a reference back for
+-- which both counts were lowered, or it was judged a stray, or it names no buffer.
+pub record FreeLaw : Type 0 where
+  pub honoured : (setting : Setting) (words : Words) (nic : NicSide) (apps : List AppSide) (a : ℕ) (entry : Rqe) (b : ℕ)
+      → RefRule setting words nic apps → a < apps_of setting → (next_slot nic.inside.refill_slots a).seen ≡ true
+      → nic.inside.entry ≡ Some (record { app = a; entry = entry; judged = BothLowered b })
+      → RefRule setting (with_refill words a (takes_entry_at setting nic a) 0 0) (side_dealt nic a entry (Honoured b)) apps
+  pub stray : (setting : Setting) (words : Words) (nic : NicSide) (apps : List AppSide) (a : ℕ) (entry : Rqe)
+      → RefRule setting words nic apps → a < apps_of setting → (next_slot nic.inside.refill_slots a).seen ≡ true
+      → nic.inside.entry ≡ Some (record { app = a; entry = entry; judged = judged_stray })
+      → RefRule setting (with_refill words a (takes_entry_at setting nic a) 0 0) (side_dealt nic a entry Stray) apps
+  pub void : (setting : Setting) (words : Words) (nic : NicSide) (apps : List AppSide) (a : ℕ) (entry : Rqe)
+      → RefRule setting words nic apps → a < apps_of setting → (next_slot nic.inside.refill_slots a).seen ≡ true
+      → nic.inside.entry ≡ Some (record { app = a; entry = entry; judged = Not }) → judged setting.layout entry ≡ None
+      → RefRule setting (with_refill words a (takes_entry_at setting nic a) 0 0) (side_dealt nic a entry Stray) apps

@@ -1,4 +1,4 @@
-ghost use Rattle.ref_words.specs.SlotLaws.{WriterLooksLaw, StoreLaw, ReaderLooksLaw, LoadLaw};
+ghost use Rattle.ref_words.specs.SlotLaws.{WriterLooksLaw, StoreLaw, PublishLaw, ReaderLooksLaw, LoadLaw, FreeLaw};
 
 /// The writer of a ring looks at the flag of its next slot.
 pub fn k13()
@@ -10,6 +10,11 @@ pub fn k14()
     ensures { StoreLaw }
 {}
 
+/// It stores the flag 1 there, and what it wrote is on its way.
+pub fn k15()
+    ensures { PublishLaw }
+{}
+
 /// The reader of a ring looks at the flag of its next slot.
 pub fn k16_flag()
     ensures { ReaderLooksLaw }
@@ -18,4 +23,9 @@ pub fn k16_flag()
 /// It loads a word of a slot that it saw full.
 pub fn k16()
     ensures { LoadLaw }
+{}
+
+/// It stores the flag 0 there, and what it read is dealt with.
+pub fn k17()
+    ensures { FreeLaw }
 {}

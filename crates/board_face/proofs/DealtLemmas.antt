@@ -1,0 +1,53 @@
+-- Entries that the card has dealt with: one more is the next of those written.
+use Rattle.std.proofs.Common.{◌≡◌, ℕ, zero, suc, ◌+◌, Bool, true, false, eqb, List, [], ◌∷◌, ◌++◌, length, map, drop}
+use Rattle.std.proofs.Common.{refl, ap, ◌∙◌, arith}
+use Rattle.std.specs.Prelude.{◌≢◌, filter, count_by, ◌==◌, if◌then◌else◌}
+use Rattle.std.specs.List.{zip}
+use Rattle.std.proofs.lemmas.List.{append-nil}
+use Rattle.std.proofs.lemmas.List.Elements.{filter-append}
+use Rattle.std.proofs.lemmas.List.Sums.{sum_by-cons}
+use Rattle.std.proofs.lemmas.Bool.{eq-eqb}
+use Rattle.board_face.specs.declared.views.nic.Dealt.{Dealt}
+use Rattle.board_face.specs.declared.views.nic.NicView.{NicView}
+use Rattle.board_face.specs.declared.views.nic.NicSide.{NicSide}
+use Rattle.board_face.proofs.ListLemmas.{not-eqb}
+use Rattle.board_face.proofs.Tallies.{weight}
+
+pub count-first : {A : Type 0} (p : A → Bool) (x : A) (xs : List A) → count_by p (x ∷ xs) ≡ weight (p x) + count_by p xs
+count-first p x xs = sum_by-cons (λ y. if p y then 1 else 0) x xs
+
+pub length-mapped : {A B : Type 0} (f : A → B) (xs : List A) → length (map f xs) ≡ length xs
+length-mapped f [] = refl
+length-mapped f (x ∷ xs) = omega (arith, length-mapped f xs)
+
+pub drop-after : {A : Type 0} (n : ℕ) (xs : List A) (x : A) (rest : List A) → drop n xs ≡ x ∷ rest → drop (suc n) xs ≡ rest
+drop-after zero xs x rest e = rw e refl
+drop-after (suc n) [] x rest e = absurd (let none : ⊥ = cc in none)
+drop-after (suc n) (y ∷ xs) x rest e = drop-after n xs x rest e
+
+pub dealt-more : (nic : NicSide) (v : NicView) (a : ℕ) (d : Dealt) → v.dealt ≡ nic.view.dealt ++ d ∷ [] → d.app ≡ a
+    → filter (λ x. x.app == a) v.dealt ≡ filter (λ x. x.app == a) nic.view.dealt ++ d ∷ []
+dealt-more nic v a d deals same =
+    let mine : Dealt → Bool = λ x. x.app == a in
+    let is : eqb d.app a ≡ true = eq-eqb d.app a same in
+    let one : filter mine (d ∷ []) ≡ d ∷ [] = rw is refl in
+    rw deals (filter-append mine nic.view.dealt (d ∷ []) ∙ ap (λ ds. filter mine nic.view.dealt ++ ds) one)
+
+pub dealt-same : (nic : NicSide) (v : NicView) (a : ℕ) (d : Dealt) → v.dealt ≡ nic.view.dealt ++ d ∷ [] → d.app ≢ a
+    → filter (λ x. x.app == a) v.dealt ≡ filter (λ x. x.app == a) nic.view.dealt
+dealt-same nic v a d deals other =
+    let mine : Dealt → Bool = λ x. x.app == a in
+    let no_one : eqb d.app a ≡ false = not-eqb d.app a other in
+    let none : filter mine (d ∷ []) ≡ [] = rw no_one refl in
+    rw deals (filter-append mine nic.view.dealt (d ∷ []) ∙ (ap (λ ds. filter mine nic.view.dealt ++ ds) none ∙ append-nil (filter mine nic.view.dealt)))
+
+zip-nil : {A B : Type 0} (xs : List A) → zip {K = A} {X = B} xs [] ≡ []
+zip-nil [] = refl
+zip-nil (x ∷ xs) = refl
+
+pub zip-push : {A B : Type 0} (xs : List A) (ds : List B) (d : B) (x : A) (rest : List A) → drop (length ds) xs ≡ x ∷ rest
+    → zip xs (ds ++ d ∷ []) ≡ zip xs ds ++ (x, d) ∷ []
+zip-push [] [] d x rest e = absurd (let none : ⊥ = cc in none)
+zip-push [] (z ∷ ds) d x rest e = absurd (let none : ⊥ = cc in none)
+zip-push {A = A} {B = B} (y ∷ ys) [] d x rest e = let same : y ≡ x = cc in let none = zip-nil {B = B} ys in rw (same, none) refl
+zip-push (y ∷ ys) (z ∷ ds) d x rest e = ap (λ ps. (y, z) ∷ ps) (zip-push ys ds d x rest e)
