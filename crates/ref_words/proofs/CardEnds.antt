@@ -3,7 +3,7 @@ use Rattle.std.proofs.Common.{◌≡◌, ℕ, ◌+◌, ◌-◌, ◌≤◌, List,
 use Rattle.std.specs.Prelude.{◌==◌, if◌then◌else◌, Some, Contains, All}
 use Rattle.std.proofs.lemmas.List.Elements.{All-contains}
 use Rattle.board_face.specs.AppEvents.{reserve_of}
-use Rattle.board_face.specs.Holders.{ended_in, returning_count, returned_in, owed_in}
+use Rattle.board_face.specs.Holders.{ended_in, returning_count, returned_in}
 use Rattle.board_face.specs.Counts.{pool_count, user_count, EndedWereReturned}
 use Rattle.board_face.specs.Judged.{IsHonouredAsNamed}
 use Rattle.board_face.specs.Returns.{AreReturns}

@@ -1,5 +1,5 @@
 -- What the card has seen, and what it has in hand, are all that changes, and no more was lowered for that than before.
-use Rattle.std.proofs.Common.{◌≡◌, ℕ, ◌+◌, List, length, drop, refl, ap, sym, arith, subst}
+use Rattle.std.proofs.Common.{◌≡◌, ℕ, List, length, drop, refl, ap, sym, arith, subst}
 use Rattle.std.specs.Prelude.{Some}
 use Rattle.board_face.specs.Holders.{lowered_in_hand, returning_in_hand, ended_in, returning_count, returned_in, owed_in}
 use Rattle.board_face.specs.declared.views.parts.Setting.{Setting}

@@ -1,9 +1,8 @@
 -- The card hands a refill slot over: the entry in hand was dealt with.
-use Rattle.std.proofs.Common.{◌≡◌, ⊎_elim, ℕ, zero, suc, ◌+◌, ◌-◌, ◌<◌, ◌≤◌, Bool, true}
-use Rattle.std.proofs.Common.{false, List, [], ◌∷◌, ◌++◌, length, map, take, drop}
-use Rattle.std.proofs.Common.{set, get_or, refl, ap, sym, ◌∙◌, arith, subst, Some, None, mod-lt, length-drop}
-use Rattle.std.specs.Prelude.{◌≢◌, ◌==◌, ◌&&◌, if◌then◌else◌, All, filter, count_by}
-use Rattle.std.proofs.lemmas.Bool.{cases_Bool}
+use Rattle.std.proofs.Common.{◌≡◌, ⊎_elim, ℕ, zero, suc, ◌+◌, ◌<◌, ◌≤◌, true}
+use Rattle.std.proofs.Common.{List, [], ◌∷◌, ◌++◌, length, map, take, drop}
+use Rattle.std.proofs.Common.{get_or, refl, ap, sym, ◌∙◌, arith, subst, mod-lt}
+use Rattle.std.specs.Prelude.{◌≢◌, ◌==◌, if◌then◌else◌, filter, count_by}
 use Rattle.std.specs.List.{zip}
 use Rattle.std.proofs.lemmas.Bool.Decides.{eqb_tells}
 use Rattle.std.proofs.lemmas.List.{length-set, length_push}
@@ -24,13 +23,13 @@ use Rattle.board_face.specs.declared.views.nic.Fate.{Fate}
 use Rattle.board_face.specs.declared.views.nic.NicSide.{NicSide}
 use Rattle.board_face.specs.declared.views.app.WrittenEntry.{WrittenEntry}
 use Rattle.board_face.specs.declared.views.app.AppSide.{AppSide}
-use Rattle.board_face.proofs.ListLemmas.{not-eqb, eqb_same}
+use Rattle.board_face.proofs.ListLemmas.{not-eqb}
 use Rattle.board_face.proofs.SideLemmas.{IsApp-at}
-use Rattle.board_face.proofs.DealtLemmas.{count-first, length-mapped, drop-after, dealt-more, dealt-same, zip-push}
+use Rattle.board_face.proofs.DealtLemmas.{length-mapped, drop-after, dealt-more, dealt-same, zip-push}
 use Rattle.board_face.proofs.Parts.{count-tally}
 use Rattle.board_face.proofs.Tallies.{weight, tally-push}
 use Rattle.ref_words.specs.Words.{Words, with_refill}
-use Rattle.ref_words.specs.Rings.{AreRings, IsFreeSlot, takes_entry_at}
+use Rattle.ref_words.specs.Rings.{IsFreeSlot, takes_entry_at}
 use Rattle.ref_words.specs.Sides.{IsFirst, IsDealtInOrder}
 use Rattle.ref_words.specs.Rule.{RefRule}
 use Rattle.ref_words.proofs.Ringing as ringing
@@ -43,11 +42,11 @@ use Rattle.ref_words.proofs.CardEnds.{RefRule-ended}
 add-one : (n : ℕ) → n + 1 ≡ suc n
 add-one n = omega arith
 
-map-push : {A B : Type 0} (f : A → B) (xs : List A) (x : A) → map f (xs ++ x ∷ []) ≡ map f xs ++ f x ∷ []
+pub map-push : {A B : Type 0} (f : A → B) (xs : List A) (x : A) → map f (xs ++ x ∷ []) ≡ map f xs ++ f x ∷ []
 map-push f [] x = refl
 map-push f (y ∷ xs) x = ap (λ ys. f y ∷ ys) (map-push f xs x)
 
-take-next : {A B : Type 0} (f : A → B) (n : ℕ) (xs : List A) (x : A) (rest : List A) → drop n xs ≡ x ∷ rest
+pub take-next : {A B : Type 0} (f : A → B) (n : ℕ) (xs : List A) (x : A) (rest : List A) → drop n xs ≡ x ∷ rest
     → take (suc n) (map f xs) ≡ take n (map f xs) ++ f x ∷ []
 take-next f zero xs x rest e = rw e refl
 take-next f (suc n) [] x rest e = absurd (let none : ⊥ = cc in none)

@@ -1,7 +1,6 @@
 -- What the card deals with: an entry that gave a reference back, or a stray.
-use Rattle.std.proofs.Common.{◌≡◌, ⊎_elim, ℕ, ◌+◌, ◌-◌, ◌<◌, ◌≤◌, Bool, true, false, List}
-use Rattle.std.proofs.Common.{[], ◌∷◌, length, refl, ap, sym, ◌∙◌, arith, subst, Some, None}
-use Rattle.std.proofs.Common.{Option}
+use Rattle.std.proofs.Common.{◌≡◌, ⊎_elim, ℕ, ◌+◌, ◌<◌, ◌≤◌, Bool, true, false, List}
+use Rattle.std.proofs.Common.{◌∷◌, length, refl, ap, sym, ◌∙◌, arith, subst, Some, None}
 use Rattle.std.specs.Prelude.{◌==◌, ◌&&◌, if◌then◌else◌, count_by, IsSome}
 use Rattle.std.proofs.lemmas.Bool.{cases_Bool, eq-eqb}
 use Rattle.std.proofs.lemmas.List.Elements.{All-head}
@@ -22,10 +21,10 @@ use Rattle.board_face.proofs.DealtLemmas.{count-first}
 use Rattle.board_face.proofs.Tallies.{weight}
 use Rattle.ref_words.specs.Words.{Words, with_refill}
 use Rattle.ref_words.specs.Rings.{takes_entry_at}
-use Rattle.ref_words.specs.Sides.{IsInHand, IsFirst, IsFirstRaw}
+use Rattle.ref_words.specs.Sides.{IsInHand, IsFirstRaw}
 use Rattle.ref_words.specs.Rule.{RefRule}
 use Rattle.ref_words.proofs.InHand.{in_hand, if-none, if-weight}
-use Rattle.ref_words.proofs.Dealing.{IsDealing, RefRule-dealt}
+use Rattle.ref_words.proofs.Dealing.{RefRule-dealt}
 
 weight-most : (c : Bool) → weight c ≤ 1
 weight-most true = omega arith
@@ -37,7 +36,6 @@ no-honour false = refl
 
 module _ (setting : Setting) (words : Words) (nic : NicSide) (apps : List AppSide) (a : ℕ) (entry : Rqe) (rule : RefRule setting words nic apps)
     (is_app : a < apps_of setting) (saw : (next_slot nic.inside.refill_slots a).seen ≡ true) where
-
   layouts : (app : AppSide) → IsApp apps a app → app.view.setting.layout ≡ setting.layout
   layouts app here = subst (λ x. x.view.setting.layout ≡ setting.layout) here.is (ap (λ s. s.layout) (rule.sides.set.others a app here.there))
 
@@ -181,6 +179,6 @@ module _ (setting : Setting) (words : Words) (nic : NicSide) (apps : List AppSid
             others = front.others;
             is = front.is;
             raw = no-loan front.first.of_loan (λ of_loan.
-            subst (λ e. IsSome (judged setting.layout e)) front.same
-            (subst (λ l. IsSome (judged l front.first.entry)) (layouts app here) (named of_loan)));
+                subst (λ e. IsSome (judged setting.layout e)) front.same
+                (subst (λ l. IsSome (judged l front.first.entry)) (layouts app here) (named of_loan)));
           }

@@ -1,7 +1,6 @@
 -- A loan is given back, or a raw entry written.
-use Rattle.std.proofs.Common.{◌≡◌, ℕ, zero, suc, ◌%◌, ◌<◌, true, false, List, [], ◌∷◌, ◌++◌}
-use Rattle.std.proofs.Common.{length, set, refl, ap, sym, ◌∙◌, arith, subst, Some, None}
-use Rattle.std.specs.Prelude.{All}
+use Rattle.std.proofs.Common.{◌≡◌, ℕ, zero, suc, ◌%◌, ◌<◌, true, false, List, []}
+use Rattle.std.proofs.Common.{length, set, refl, ap, sym, ◌∙◌, arith, Some}
 use Rattle.std.proofs.lemmas.Bool.{cases_Bool}
 use Rattle.std.proofs.Common.{⊎_elim}
 use Rattle.std.proofs.lemmas.List.Elements.{All-push, All-nil}
@@ -12,7 +11,7 @@ use Rattle.area_layout.proofs.Words.{place_judged}
 use Rattle.board_face.specs.AppCalls.{HasLoan, NamesNoLoan}
 use Rattle.board_face.specs.AppEvents.{entry_of}
 use Rattle.board_face.specs.Counts.{EndedWereReturned}
-use Rattle.board_face.specs.Returns.{AreReturns, IsOfLoan}
+use Rattle.board_face.specs.Returns.{IsOfLoan}
 use Rattle.board_face.specs.Sides.{IsApp}
 use Rattle.board_face.specs.SlotSteps.{side_gave, side_pushed}
 use Rattle.board_face.specs.declared.views.parts.Setting.{Setting}
@@ -25,10 +24,10 @@ use Rattle.board_face.proofs.LiesLemmas.{loan-lies}
 use Rattle.board_face.proofs.WrittenLemmas.{AreReturns-gave, AreReturns-pushed, returned-more}
 use Rattle.word_rings.specs.Slots.{entry_body}
 use Rattle.ref_words.specs.Words.{Words, with_refill}
-use Rattle.ref_words.specs.Rings.{EntryFits, IsLastRaw, writes_entry_at}
+use Rattle.ref_words.specs.Rings.{EntryFits, writes_entry_at}
 use Rattle.ref_words.specs.Rule.{RefRule}
 use Rattle.ref_words.proofs.SideSteps.{mine, own-setting}
-use Rattle.ref_words.proofs.Writing.{IsWriting, RefRule-written, last-raw-stays, few}
+use Rattle.ref_words.proofs.Writing.{RefRule-written, last-raw-stays, few}
 
 module _ (setting : Setting) (words : Words) (nic : NicSide) (apps : List AppSide) (app : AppSide) (rule : RefRule setting words nic apps)
     (here : IsApp apps app.view.app app) where

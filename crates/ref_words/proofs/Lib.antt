@@ -34,5 +34,7 @@ mod Writing
 mod Giving
 mod Dealing
 mod DealtCases
+mod Sending
+mod NotesTaken
 mod Judging
 mod ScrubTaking

@@ -1,7 +1,7 @@
 -- An application hands a refill slot over: an entry is on its way.
-use Rattle.std.proofs.Common.{◌≡◌, ℕ, zero, suc, ◌+◌, ◌%◌, ◌<◌, ◌≤◌, Bool, true, false, List}
-use Rattle.std.proofs.Common.{[], ◌∷◌, ◌++◌, length, map, take, set, get_or}
-use Rattle.std.proofs.Common.{refl, ap, sym, ◌∙◌, arith, subst, inr, Option, Some, None, mod-lt}
+use Rattle.std.proofs.Common.{◌≡◌, ℕ, zero, suc, ◌<◌, ◌≤◌, Bool, true, false, List}
+use Rattle.std.proofs.Common.{[], ◌∷◌, ◌++◌, length, map, take, set}
+use Rattle.std.proofs.Common.{refl, ap, sym, ◌∙◌, arith, subst, inr, Some, None, mod-lt}
 use Rattle.std.specs.Prelude.{All}
 use Rattle.std.proofs.lemmas.List.{append_assoc}
 use Rattle.std.proofs.lemmas.List.Elements.{All-push, All-nil}
@@ -10,7 +10,7 @@ use Rattle.board_face.specs.NicCalls.{apps_of}
 use Rattle.board_face.specs.AppEvents.{reserve_of}
 use Rattle.board_face.specs.Opened.{unseen}
 use Rattle.board_face.specs.Holders.{returned_in}
-use Rattle.board_face.specs.Counts.{pool_count, user_count, EndedWereReturned}
+use Rattle.board_face.specs.Counts.{pool_count, EndedWereReturned}
 use Rattle.board_face.specs.Relay.{dealt_entries}
 use Rattle.board_face.specs.Returns.{AreReturns, IsOfLoan, entries_on_way}
 use Rattle.board_face.specs.Sides.{IsApp}
@@ -29,7 +29,7 @@ use Rattle.board_face.proofs.PlaceTallies.{app_places}
 use Rattle.board_face.proofs.WrittenLemmas.{way-written}
 use Rattle.ref_words.specs.Words.{Words, listed_in, with_refill}
 use Rattle.ref_words.specs.Rings.{AreRings, EntryFits, IsLastRaw, words_of_entry, writes_entry_at}
-use Rattle.ref_words.specs.Sides.{IsFirst, IsFirstRaw, IsScrubbedSoFar}
+use Rattle.ref_words.specs.Sides.{IsFirst, IsFirstRaw}
 use Rattle.ref_words.specs.Rule.{RefRule}
 use Rattle.ref_words.proofs.Ringing as ringing
 use Rattle.ref_words.proofs.RingSteps.{AllRings, rings-others}
@@ -38,7 +38,7 @@ use Rattle.ref_words.proofs.SlotSteps.{DifferInSlots, RefRule-slot}
 use Rattle.ref_words.proofs.SideSteps.{SidesRule-app, mine}
 use Rattle.ref_words.proofs.Frees.{AreKept-app, free_places-hands}
 
-take-mapped : {A B : Type 0} (f : A → B) (n : ℕ) (xs : List A) (x : A) → n ≤ length xs → take n (map f (xs ++ x ∷ [])) ≡ take n (map f xs)
+pub take-mapped : {A B : Type 0} (f : A → B) (n : ℕ) (xs : List A) (x : A) → n ≤ length xs → take n (map f (xs ++ x ∷ [])) ≡ take n (map f xs)
 take-mapped f zero xs x few = refl
 take-mapped f (suc n) [] x few = absurd (omega arith)
 take-mapped f (suc n) (y ∷ xs) x few = ap (λ ys. f y ∷ ys) (take-mapped f n xs x (omega arith))
@@ -65,15 +65,15 @@ last-raw-stays places s ws w of_loan l = record {
 -- What is to be known of the side after the event, by which the entry w was written.
 pub record IsWriting (setting : Setting) (nic : NicSide) (app now : AppSide) (w : WrittenEntry) : Type 0 where
   pub same : now ≡ record {
-        view = record app.view {
-          loans = now.view.loans;
-          returned = now.view.returned;
-          written = app.view.written ++ w ∷ [];
-          settled = now.view.settled;
-          quiet = false;
-        };
-        inside = record app.inside { refill_slot = unseen; free_slots = []; raw_slot = now.inside.raw_slot };
-      }
+    view = record app.view {
+      loans = now.view.loans;
+      returned = now.view.returned;
+      written = app.view.written ++ w ∷ [];
+      settled = now.view.settled;
+      quiet = false;
+    };
+    inside = record app.inside { refill_slot = unseen; free_slots = []; raw_slot = now.inside.raw_slot };
+  }
   pub fits : EntryFits w
   pub places : (b : ℕ) (test : Place → Bool) → app_places b test nic now ≤ app_places b test nic app
   pub counts : (b : ℕ) → app_count b nic now ≡ app_count b nic app

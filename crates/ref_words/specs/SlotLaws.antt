@@ -1,24 +1,27 @@
 -- The laws of steps at the slots of the rings. Each end goes through its slots in turn: the writer looks at the flag until it is 0,
 -- stores the words behind it and then the flag 1, and the reader looks until it is 1, loads the words and stores the flag 0.
-use Rattle.std.specs.Prelude.{◌≡◌, ℕ, ◌+◌, ◌<◌, ◌==◌, true, false, List, [], ◌∷◌, ◌++◌, length, slice_set, Some, None}
+use Rattle.std.specs.Prelude.{◌≡◌, ℕ, ◌+◌, ◌<◌, ◌==◌, true, false, List, [], ◌∷◌, ◌++◌, length, take, slice_set, Some, None}
+use Rattle.zr_kinds.specs.declared.place.Note.{Note}
 use Rattle.zr_kinds.specs.declared.place.Place.{Place}
 use Rattle.zr_kinds.specs.declared.ring.Rqe.{Rqe}
 use Rattle.area_layout.specs.Layout.{judged}
 use Rattle.board_face.specs.AppCalls.{HasLoan, NamesNoLoan}
 use Rattle.board_face.specs.AppEvents.{entry_of as loan_entry}
-use Rattle.board_face.specs.NicCalls.{apps_of}
+use Rattle.board_face.specs.NicCalls.{HasPiece, apps_of}
+use Rattle.board_face.specs.NicEvents.{text_at}
+use Rattle.board_face.specs.Texts.{IsSplitNote, IsLinearNote}
 use Rattle.board_face.specs.Sides.{IsApp}
 use Rattle.board_face.specs.SlotSteps.{next_slot, side_refill_looked, side_refill_stored, side_note_looked, side_note_stored}
 use Rattle.board_face.specs.SlotSteps.{side_entry_looked, side_entry_loaded, side_in_hand, side_slot_looked, side_slot_loaded}
-use Rattle.board_face.specs.SlotSteps.{side_gave, side_pushed, side_dealt}
+use Rattle.board_face.specs.SlotSteps.{side_gave, side_pushed, side_dealt, side_sent, side_sent_linear, side_took_note, side_took_linear}
 use Rattle.board_face.specs.declared.views.nic.Fate.TheVariants.{Honoured, Stray}
 use Rattle.board_face.specs.declared.views.nic.Judged.TheVariants.{Not, Stray as judged_stray, BothLowered}
 use Rattle.board_face.specs.declared.views.parts.Setting.{Setting}
 use Rattle.board_face.specs.declared.views.nic.NicSide.{NicSide}
 use Rattle.board_face.specs.declared.views.app.AppSide.{AppSide}
-use Rattle.word_rings.specs.Slots.{note_width, refill_width, entry_of, entry_body}
+use Rattle.word_rings.specs.Slots.{note_width, refill_width, entry_of, entry_body, note_body, note_of, linear_of}
 use Rattle.ref_words.specs.Words.{Words, slot_word, with_refill, with_note}
-use Rattle.ref_words.specs.Rings.{EntryFits, writes_entry_at, takes_entry_at, writes_note_at, takes_note_at}
+use Rattle.ref_words.specs.Rings.{EntryFits, NoteFits, writes_entry_at, takes_entry_at, writes_note_at, takes_note_at}
 use Rattle.ref_words.specs.Rule.{RefRule}
 
 -- how many words of its next slot a card has loaded or stored, the flag among them
@@ -27,6 +30,10 @@ refill_words_at nic a = 1 + length (next_slot nic.inside.refill_slots a).words
 
 abbrev pub note_words_at : NicSide → ℕ → ℕ
 note_words_at nic a = 1 + length (next_slot nic.inside.note_slots a).words
+
+-- the note that the words tell of which an application has loaded from its next slot
+abbrev pub loaded_note : AppSide → Note
+loaded_note app = note_of (1 ∷ app.inside.note_slot.words)
 
 -- ---- the writer
 
@@ -97,6 +104,19 @@ pub record PublishLaw : Type 0 where
       → EntryFits (record { entry = entry; of_loan = false })
       → RefRule setting (with_refill words app.view.app (writes_entry_at setting app) 0 1) nic (slice_set apps app.view.app (side_pushed app entry))
 
+-- The card sends a note with the piece at its place, or with the bytes that travel in it.
+pub record PublishNoteLaw : Type 0 where
+  pub split : (setting : Setting) (words : Words) (nic : NicSide) (apps : List AppSide) (a : ℕ) (note : Note)
+      → RefRule setting words nic apps → a < apps_of setting → HasPiece nic.view note.place → IsSplitNote note
+      → (next_slot nic.inside.note_slots a).seen ≡ true → (next_slot nic.inside.note_slots a).words ≡ note_body note [] 0
+      → NoteFits (record { app = a; note = note; bytes = text_at nic.view note.place })
+      → RefRule setting (with_note words a (writes_note_at setting nic a) 0 1) (side_sent nic a note) apps
+  pub linear : (setting : Setting) (words : Words) (nic : NicSide) (apps : List AppSide) (a : ℕ) (note : Note) (bytes : List ℕ)
+      → RefRule setting words nic apps → a < apps_of setting → IsLinearNote note → note.total ≡ length bytes
+      → (next_slot nic.inside.note_slots a).seen ≡ true → (next_slot nic.inside.note_slots a).words ≡ note_body note bytes 0
+      → NoteFits (record { app = a; note = note; bytes = bytes })
+      → RefRule setting (with_note words a (writes_note_at setting nic a) 0 1) (side_sent_linear nic a note bytes) apps
+
 -- The reader stores the flag 0 into a slot whose words it loaded: the card dealt with the entry in hand. It gave a reference back for
 -- which both counts were lowered, or it was judged a stray, or it names no buffer.
 pub record FreeLaw : Type 0 where
@@ -112,3 +132,18 @@ pub record FreeLaw : Type 0 where
       → RefRule setting words nic apps → a < apps_of setting → (next_slot nic.inside.refill_slots a).seen ≡ true
       → nic.inside.entry ≡ Some (record { app = a; entry = entry; judged = Not }) → judged setting.layout entry ≡ None
       → RefRule setting (with_refill words a (takes_entry_at setting nic a) 0 0) (side_dealt nic a entry Stray) apps
+
+-- The note that an application takes is the one that the slot's words tell of: its piece is held from then on, or the bytes that
+-- travelled in it are taken.
+pub record TakeNoteLaw : Type 0 where
+  pub split : (setting : Setting) (words : Words) (nic : NicSide) (apps : List AppSide) (app : AppSide)
+      → RefRule setting words nic apps → IsApp apps app.view.app app → app.inside.note_slot.seen ≡ true
+      → 1 + length app.inside.note_slot.words ≡ note_width → (loaded_note app).split ≡ true
+      → IsSplitNote (loaded_note app) × RefRule setting (with_note words app.view.app (takes_note_at setting app) 0 0) nic
+      (slice_set apps app.view.app (side_took_note app (loaded_note app)))
+  pub linear : (setting : Setting) (words : Words) (nic : NicSide) (apps : List AppSide) (app : AppSide)
+      → RefRule setting words nic apps → IsApp apps app.view.app app → app.inside.note_slot.seen ≡ true
+      → 1 + length app.inside.note_slot.words ≡ note_width → (loaded_note app).split ≡ false
+      → IsLinearNote (loaded_note app) × RefRule setting (with_note words app.view.app (takes_note_at setting app) 0 0) nic
+      (slice_set apps app.view.app (side_took_linear app (loaded_note app)
+      (take (loaded_note app).total (linear_of (1 ∷ app.inside.note_slot.words)))))

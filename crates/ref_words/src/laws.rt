@@ -9,6 +9,6 @@ mod words;
 
 pub use pool::{k4, k5, k6};
 pub use roles::{k1, k2, k3, opened, side_moves};
-pub use slots::{k13, k14, k15, k16, k16_flag, k17};
+pub use slots::{k13, k14, k15, k15_note, k16, k16_flag, k17, k17_note};
 pub use users::{in_hand_is_in_use, k7, k8, k9, k10};
 pub use words::groups_are_apart;

@@ -1,4 +1,4 @@
-ghost use Rattle.ref_words.specs.SlotLaws.{WriterLooksLaw, StoreLaw, PublishLaw, ReaderLooksLaw, LoadLaw, FreeLaw};
+ghost use Rattle.ref_words.specs.SlotLaws.{WriterLooksLaw, StoreLaw, PublishLaw, PublishNoteLaw, ReaderLooksLaw, LoadLaw, FreeLaw, TakeNoteLaw};
 
 /// The writer of a ring looks at the flag of its next slot.
 pub fn k13()
@@ -10,9 +10,14 @@ pub fn k14()
     ensures { StoreLaw }
 {}
 
-/// It stores the flag 1 there, and what it wrote is on its way.
+/// It stores the flag 1 into a refill slot, and the entry is on its way.
 pub fn k15()
     ensures { PublishLaw }
+{}
+
+/// It stores the flag 1 into a note slot, and the note is on its way.
+pub fn k15_note()
+    ensures { PublishNoteLaw }
 {}
 
 /// The reader of a ring looks at the flag of its next slot.
@@ -25,7 +30,12 @@ pub fn k16()
     ensures { LoadLaw }
 {}
 
-/// It stores the flag 0 there, and what it read is dealt with.
+/// It stores the flag 0 into a refill slot, and the entry in hand is dealt with.
 pub fn k17()
     ensures { FreeLaw }
+{}
+
+/// It stores the flag 0 into a note slot, and the note whose words it loaded is taken.
+pub fn k17_note()
+    ensures { TakeNoteLaw }
 {}

@@ -1,0 +1,305 @@
+-- An application hands a note slot over: a note is taken.
+use Rattle.std.proofs.Common.{◌≡◌, ℕ, zero, suc, ◌+◌, ◌<◌, ◌≤◌, Bool, true, false, List}
+use Rattle.std.proofs.Common.{[], ◌∷◌, ◌++◌, length, map, take, drop}
+use Rattle.std.proofs.Common.{set, get_or, refl, ap, sym, ◌∙◌, arith, subst, inr, mod-lt}
+use Rattle.std.specs.Prelude.{◌==◌, All, filter, if◌then◌else◌}
+use Rattle.std.proofs.lemmas.List.{length_push}
+use Rattle.std.proofs.lemmas.List.Elements.{All-nil, All-cons, All-head, All-tail}
+use Rattle.std.proofs.lemmas.List.Sums.{sum_by-cons}
+use Rattle.board_face.specs.Texts.{unsplit_bytes, IsSplitNote, IsLinearNote}
+use Rattle.zr_kinds.specs.declared.place.Note.{Note}
+use Rattle.zr_kinds.specs.declared.place.Place.{Place}
+use Rattle.board_face.specs.NicCalls.{apps_of}
+use Rattle.board_face.specs.AppEvents.{reserve_of}
+use Rattle.board_face.specs.Holders.{sent_to, on_way}
+use Rattle.board_face.specs.Counts.{pool_count, EndedWereReturned}
+use Rattle.board_face.specs.Opened.{unseen}
+use Rattle.board_face.specs.Relay.{IsProper, as_taken}
+use Rattle.board_face.specs.Sides.{IsApp}
+use Rattle.board_face.specs.SlotSteps.{side_took_note, side_took_linear}
+use Rattle.board_face.specs.Used.{HasFewPicks}
+use Rattle.board_face.specs.declared.views.parts.Setting.{Setting}
+use Rattle.board_face.specs.declared.views.nic.NicSide.{NicSide}
+use Rattle.board_face.specs.declared.views.nic.SentNote.{SentNote}
+use Rattle.board_face.specs.declared.views.app.TakenNote.{TakenNote}
+use Rattle.board_face.specs.declared.views.app.AppSide.{AppSide}
+use Rattle.board_face.proofs.AppLemmas.{IsNext, pool_count-app, user_count-app, app_count-took_note, app_count-took_linear}
+use Rattle.board_face.proofs.ArePlacedLemmas.{ArePlaced-app}
+use Rattle.board_face.proofs.FillingsFitLemmas.{FillingsFit-same}
+use Rattle.board_face.proofs.IsFilledByOneLemmas.{IsFilledByOne-app}
+use Rattle.board_face.proofs.MadeLastLemmas.{IsMadeLast-app}
+use Rattle.board_face.proofs.Parts.{app_count}
+use Rattle.board_face.proofs.PlaceTallies.{app_places}
+use Rattle.board_face.proofs.PlacesByEvent.{app_places-took_note, app_places-took_linear}
+use Rattle.word_rings.specs.Slots.{note_width, note_of, linear_of, words_of, bytes_of, pair, flags_of}
+use Rattle.word_rings.proofs.NoteSlots.{note_back}
+use Rattle.word_rings.proofs.Words.{padded_words, text_back}
+use Rattle.ref_words.specs.Words.{Words, listed_in, with_note}
+use Rattle.ref_words.specs.Rings.{AreRings, EntryFits, NoteFits, words_of_note, linear_bytes, takes_note_at}
+use Rattle.ref_words.specs.Rule.{RefRule}
+use Rattle.ref_words.proofs.Ringing as ringing
+use Rattle.ref_words.proofs.RingSteps.{AllRings, rings-others}
+use Rattle.ref_words.proofs.SlotWords.{ring-here, ring-other, sizes-note}
+use Rattle.ref_words.proofs.SlotSteps.{DifferInSlots, RefRule-slot}
+use Rattle.ref_words.proofs.SideSteps.{SidesRule-app, mine}
+use Rattle.ref_words.proofs.Frees.{AreKept-app, free_places-hands}
+use Rattle.ref_words.proofs.CardSlots.{drop-at}
+use Rattle.ref_words.proofs.Dealing.{take-next, map-push}
+
+-- ---- what the words of a slot tell
+
+-- the note of a slot is the one whose words it has
+note-read : (s : SentNote) → NoteFits s → note_of (1 ∷ words_of_note s) ≡ s.note
+note-read s fits =
+    let n = s.note in
+    let f1 = fits.frame in let f2 = fits.base in let f3 = fits.at in let f4 = fits.buffer in let f5 = fits.len in
+    note_back n (pair n.frame n.flow) (pair n.base n.seq) (pair n.at n.total) (pair n.place.buffer n.place.offset) (pair n.place.len (flags_of n)) 0
+    (words_of 32 (linear_bytes s)) (omega arith) (omega arith) (omega arith) (omega arith) (omega arith) (omega arith) (omega arith) (omega arith)
+    (omega arith) (omega arith)
+
+-- the bytes of a slot begin with those that travel in its note
+bytes-read : (xs : List ℕ) → length xs ≤ 256 → All (λ byte. byte < 256) xs → take (length xs) (bytes_of (words_of 32 xs)) ≡ xs
+bytes-read xs few small =
+    ap (λ ws. take (length xs) (bytes_of ws)) (sym (padded_words 32 256 (length xs) xs))
+    ∙ text_back xs 256 32 few (omega arith) (λ i. below xs small i)
+  where
+    below : (xs : List ℕ) → All (λ byte. byte < 256) xs → (i : ℕ) → get_or xs i 0 < 256
+    below [] small i = omega arith
+    below (x ∷ xs) small zero = small 0 0 (omega arith)
+    below (x ∷ xs) small (suc i) = below xs (λ k d less. small (suc k) d (omega arith)) i
+
+-- a note more has no fewer bytes
+bytes-more : (ns : List Note) (n : Note) → unsplit_bytes ns ≤ unsplit_bytes (ns ++ n ∷ [])
+bytes-more [] n = omega arith
+bytes-more (m ∷ ns) n =
+    omega (
+      arith,
+      sum_by-cons (λ (x : Note). if x.split then 0 else x.total) m ns,
+      sum_by-cons (λ (x : Note). if x.split then 0 else x.total) m (ns ++ n ∷ []),
+      bytes-more ns n,
+    )
+
+left-one : {A : Type 0} (P : A → Type 0) (test : A → Bool) (x : A) (xs : List A) (c : Bool) → test x ≡ c → P x → All P (filter test xs)
+    → All P (filter test (x ∷ xs))
+left-one P test x xs true is one all = rw is (All-cons P x (filter test xs) one all)
+left-one P test x xs false is one all = rw is all
+
+-- what holds of all holds of those that are left of them
+All-left : {A : Type 0} (P : A → Type 0) (test : A → Bool) (xs : List A) → All P xs → All P (filter test xs)
+All-left P test [] all = All-nil P
+All-left P test (x ∷ xs) all = left-one P test x xs (test x) refl (All-head P x xs all) (All-left P test xs (All-tail P x xs all))
+
+abbrev note_with : Note → List ℕ → TakenNote
+note_with n bytes = record { note = n; bytes = bytes }
+
+-- What is to be known of the side after the event, by which the note t was taken.
+pub record IsTaking (nic : NicSide) (app now : AppSide) (t : TakenNote) : Type 0 where
+  pub same : now ≡ record {
+    view = record app.view { helds = now.view.helds; taken = app.view.taken ++ t ∷ [] };
+    inside = record app.inside { note_slot = unseen };
+  }
+  pub places : (b : ℕ) (test : Place → Bool) → app_places b test nic now ≤ app_places b test nic app
+  pub counts : (b : ℕ) → app_count b nic now ≡ app_count b nic app
+
+module _ (setting : Setting) (words : Words) (nic : NicSide) (apps : List AppSide) (app : AppSide) (rule : RefRule setting words nic apps)
+    (here : IsApp apps app.view.app app) (saw : app.inside.note_slot.seen ≡ true) where
+  abbrev a : ℕ
+  a = app.view.app
+
+  rings : AreRings setting words nic app
+  rings = rule.rings a app here
+
+  is-app : a < apps_of setting
+  is-app = let h = here.there in omega (arith, rule.sides.set.many)
+
+  abbrev k : ℕ
+  k = length app.view.taken
+
+  abbrev none_sent : SentNote
+  none_sent = record { app = a; note = note_of []; bytes = [] }
+
+  -- the note that is next
+  abbrev next : SentNote
+  next = get_or (sent_to a nic) k none_sent
+
+  there : k < length (sent_to a nic)
+  there = rings.notes.reader_seen saw
+
+  way : on_way nic app ≡ next ∷ drop (suc k) (sent_to a nic)
+  way = drop-at (sent_to a nic) k none_sent there
+
+  module _ (now : AppSide) (t : TakenNote) (taking : IsTaking nic app now t) (is_next : as_taken next ≡ t) where
+    abbrev like : AppSide
+    like = record {
+      view = record app.view { helds = now.view.helds; taken = app.view.taken ++ t ∷ [] };
+      inside = record app.inside { note_slot = unseen };
+    }
+
+    is : IsTaking nic app like t
+    is = subst (λ x. IsTaking nic app x t) taking.same taking
+
+    abbrev apps' : List AppSide
+    apps' = set apps a like
+
+    abbrev s : ℕ
+    s = takes_note_at setting app
+
+    abbrev words' : Words
+    words' = with_note words a s 0 0
+
+    pools : (b : ℕ) → pool_count b nic apps' ≡ pool_count b nic apps
+    pools b = omega (arith, pool_count-app b nic apps a app like here, is.counts b)
+
+    many : length (app.view.taken ++ t ∷ []) ≡ suc k
+    many = length_push app.view.taken t ∙ add-one k
+      where
+        add-one : (n : ℕ) → n + 1 ≡ suc n
+        add-one n = omega arith
+
+    rings-then : AllRings setting words' nic apps'
+    rings-then =
+        let inside : a < length words.notes = let small = is-app in omega (arith, rule.sizes.notes) in
+        rings-others setting words' nic apps a app like here
+        (record {
+          refills = rings.refills;
+          notes = rw (ring-here words.notes a s 0 0 inside, many) (ringing.frees _ _ _ _ _ _ _ _ rings.notes saw);
+        })
+        (λ j x it ne. let all = rule.rings j x it in record {
+          refills = all.refills;
+          notes = rw (ring-other words.notes a s 0 0 x.view.app (λ e. ne (sym it.number ∙ e))) all.notes;
+        })
+
+    -- it has more bytes in unsplit notes than before, if any
+    few-still : HasFewPicks app → HasFewPicks like
+    few-still f = let more = bytes-more (map (λ (y : TakenNote). y.note) app.view.taken) t.note in record {
+      picks = omega (arith, f.picks, ap unsplit_bytes (map-push (λ (y : TakenNote). y.note) app.view.taken t), more);
+      spares = omega (arith, f.spares, ap unsplit_bytes (map-push (λ (y : TakenNote). y.note) app.view.taken t), more);
+    }
+
+    pub RefRule-taken : RefRule setting words' nic (set apps a now)
+    RefRule-taken =
+        let differ : DifferInSlots setting words words' = record {
+          sizes = sizes-note setting words rule.sizes a s 0 0 is-app (mod-lt k rings.notes.some);
+          pool = refl;
+          users = refl;
+          free = refl;
+        } in
+        subst (λ x. RefRule setting words' nic (set apps a x)) (sym taking.same)
+        (RefRule-slot setting words words' nic nic apps apps' rule differ (record {
+          sides = SidesRule-app setting nic apps a app rule.sides here like (record {
+            setting = refl;
+            number = refl;
+            took = refl;
+            owes = refl;
+            placed = λ b. ArePlaced-app b nic apps a app like here (is.places b) (rule.sides.placed b);
+            by_one = λ b. IsFilledByOne-app b nic apps a app like here (omega arith) (omega (arith, is.counts b)) (rule.sides.by_one b);
+            fit = FillingsFit-same nic apps a app like here refl rule.sides.fit;
+            made = IsMadeLast-app nic apps a app like here is.places rule.sides.made;
+            returned = λ b. let r = mine setting nic apps a app rule.sides here (EndedWereReturned b nic) (rule.sides.returned b) in
+                record { ended = r.ended; returning = r.returning };
+            reserve = record { unheld = λ free. omega (arith, pools (reserve_of app.view), (rule.sides.reserves a app here).unheld free) };
+            unheld = λ b past ne none. omega (arith, pools b, none);
+            few = few-still (mine setting nic apps a app rule.sides here HasFewPicks rule.sides.few);
+            entries = mine setting nic apps a app rule.sides here (λ x. All EntryFits x.view.written) rule.sides.entries;
+            taken = record {
+              order = rw many (take-next as_taken k (sent_to a nic) next (drop (suc k) (sent_to a nic)) way
+                  ∙ (ap (λ ts. ts ++ as_taken next ∷ []) (rule.sides.taken a app here).order ∙ ap (λ y. app.view.taken ++ y ∷ []) is_next));
+            };
+            dealt = record { order = (rule.sides.dealt a app here).order };
+            returns = let r = rule.sides.returns a app here in record {
+              written = r.written;
+              owed = r.owed;
+              no_more = r.no_more;
+              clear = r.clear;
+              named = r.named;
+              settled = r.settled;
+              quiet = r.quiet;
+              scrubbed = r.scrubbed;
+              strays = r.strays;
+            };
+            scrub = let sc = rule.sides.scrub a app here in record {
+              within = sc.within;
+              done = sc.done;
+              whole = sc.whole;
+              taken = sc.taken;
+              untaken = sc.untaken;
+              quiet = sc.quiet;
+              loans = sc.loans;
+            };
+            scrubbed = λ done. let none = rule.sides.scrubbed a app here done in record { loans = none.loans; owed = none.owed };
+            first = λ entry f. f;
+            raw = λ f. f;
+            came_back = λ b. omega arith;
+            ended = inr (λ b. refl);
+          });
+          pool = pools;
+          users = λ x b. omega (arith, user_count-app x b nic apps a app like here);
+          free = λ b. omega (arith, free_places-hands (listed_in words) b nic apps a app like here);
+          kept = AreKept-app (listed_in words) nic apps a app like here refl rule.kept;
+          rings = rings-then;
+        }))
+
+  -- ---- what the words that were loaded tell of
+
+  module _ (all : 1 + length app.inside.note_slot.words ≡ note_width) where
+    fits : NoteFits next
+    fits = All-left NoteFits (λ (s : SentNote). s.app == a) nic.view.sent rule.sides.notes k none_sent there
+
+    proper : IsProper next
+    proper = All-left IsProper (λ (s : SentNote). s.app == a) nic.view.sent rule.sides.proper k none_sent there
+
+    words-are : app.inside.note_slot.words ≡ words_of_note next
+    words-are = ringing.has-next _ _ _ _ _ _ _ _ rings.notes none_sent saw all
+
+    abbrev note : Note
+    note = note_of (1 ∷ app.inside.note_slot.words)
+
+    note-is : note ≡ next.note
+    note-is = ap (λ ws. note_of (1 ∷ ws)) words-are ∙ note-read next fits
+
+    is-next : IsNext nic app note
+    is-next = record { next = next; rest = drop (suc k) (sent_to a nic); way = way; same = sym note-is }
+
+    pub is-split : note.split ≡ true → IsSplitNote note
+    is-split split = subst IsSplitNote (sym note-is) (proper.split (ap (λ (n : Note). n.split) (sym note-is) ∙ split))
+
+    pub is-linear : note.split ≡ false → IsLinearNote note
+    is-linear split = subst IsLinearNote (sym note-is) (proper.linear (ap (λ (n : Note). n.split) (sym note-is) ∙ split)).0
+
+    pub takes-note : note.split ≡ true → RefRule setting (with_note words a (takes_note_at setting app) 0 0) nic (set apps a (side_took_note app note))
+    takes-note split =
+        let theirs : next.note.split ≡ true = ap (λ (n : Note). n.split) (sym note-is) ∙ split in
+        RefRule-taken (side_took_note app note) (record { note = note; bytes = [] }) (record {
+          same = refl;
+          places = λ b test. omega (arith, app_places-took_note b test nic app note is-next split);
+          counts = λ b. app_count-took_note b nic app note is-next split;
+        }) (taken-split next note (sym note-is) theirs)
+      where
+        taken-split : (sent : SentNote) (n : Note) → sent.note ≡ n → sent.note.split ≡ true → as_taken sent ≡ note_with n []
+        taken-split sent n e split' = ap (λ c. note_with sent.note (if c then [] else sent.bytes)) split' ∙ ap (λ (m : Note). note_with m []) e
+
+    pub takes-linear : note.split ≡ false → RefRule setting (with_note words a (takes_note_at setting app) 0 0) nic
+        (set apps a (side_took_linear app note (take note.total (linear_of (1 ∷ app.inside.note_slot.words)))))
+    takes-linear split =
+        let theirs : next.note.split ≡ false = ap (λ (n : Note). n.split) (sym note-is) ∙ split in
+        let tells = proper.linear theirs in
+        let small = fits.bytes theirs in
+        let travels : linear_bytes next ≡ next.bytes = ap (λ c. if c then [] else next.bytes) theirs in
+        let read : take note.total (linear_of (1 ∷ app.inside.note_slot.words)) ≡ next.bytes =
+        ap (λ (n : Note). take n.total (linear_of (1 ∷ app.inside.note_slot.words))) note-is
+        ∙ (ap (λ ws. take next.note.total (linear_of (1 ∷ ws))) words-are
+        ∙ (ap (λ xs. take next.note.total (bytes_of (words_of 32 xs))) travels
+        ∙ (ap (λ m. take m (bytes_of (words_of 32 next.bytes))) (sym tells.1)
+        ∙ bytes-read next.bytes (let most = tells.0.few_bytes in omega (arith, tells.1)) small))) in
+        let bytes = take note.total (linear_of (1 ∷ app.inside.note_slot.words)) in
+        RefRule-taken (side_took_linear app note bytes) (record { note = note; bytes = bytes }) (record {
+          same = refl;
+          places = λ b test. omega (arith, app_places-took_linear b test nic app note bytes is-next split);
+          counts = λ b. app_count-took_linear b nic app note bytes is-next split;
+        }) (taken-linear next note bytes (sym note-is) (sym read) theirs)
+      where
+        taken-linear : (sent : SentNote) (n : Note) (bytes : List ℕ) → sent.note ≡ n → sent.bytes ≡ bytes → sent.note.split ≡ false
+            → as_taken sent ≡ note_with n bytes
+        taken-linear sent n bytes e f split' =
+            ap (λ c. note_with sent.note (if c then [] else sent.bytes)) split'
+            ∙ (ap (λ bs. note_with sent.note bs) f ∙ ap (λ (m : Note). note_with m bytes) e)
