@@ -12,6 +12,7 @@ use Rattle.board_face.specs.declared.views.parts.Setting.{Setting}
 use Rattle.ref_words.specs.Words.{Words, HasSizes, AreSlots, groups, group_sizes, begins, begin_at, joined, table_of}
 use Rattle.word_rings.specs.Slots.{note_width, refill_width}
 use Rattle.ref_words.specs.Words.{pool_at, pool_of, with_pool, user_at, user_of, with_user, role_at, with_role, table_words}
+use Rattle.ref_words.specs.Words.{slot_word, with_word, with_slot_word, refill_at, with_refill}
 
 -- ---- lists that lie one behind another
 
@@ -86,6 +87,67 @@ slots-length places width (ring ∷ rings) all =
       suc-mul (length rings) (places * width),
     )
 
+-- a word of a slot lies in its ring
+inside-ring : (places width : ℕ) (ring : List (List ℕ)) (s i : ℕ) → AreSlots places width ring → s < places → i < width
+    → begins (map length ring) s + i < length (joined ring)
+inside-ring places width ring s i here small less =
+    omega (
+      arith,
+      begins-rows width ring s here.wide (omega (arith, small, here.many)),
+      joined-length width ring here.wide,
+      ap (λ n. n * width) here.many,
+      row-bound width s i places small less,
+    )
+
+module _ (places width : ℕ) where
+  -- a word of a slot
+  pub ring-word : (rings : List (List (List ℕ))) (a s i : ℕ) → All (AreSlots places width) rings → a < length rings → s < places → i < width
+      → get_or (flat_map joined rings) (a * (places * width) + (s * width + i)) 0 ≡ slot_word rings a s i
+  ring-word [] a s i all there small less = absurd (omega arith)
+  ring-word (ring ∷ rings) zero s i all there small less =
+      let here = All-head (AreSlots places width) ring rings all in
+      let at : 0 * (places * width) + (s * width + i) ≡ begins (map length ring) s + i =
+      omega (arith, begins-rows width ring s here.wide (omega (arith, small, here.many))) in
+      ap (λ n. get_or (joined ring ++ flat_map joined rings) n 0) at
+      ∙ (get_or_append_left (joined ring) (flat_map joined rings) 0 (begins (map length ring) s + i) (inside-ring places width ring s i here small less)
+      ∙ joined-word ring s i (omega (arith, small, here.many)) (omega (arith, less, here.wide s [] (omega (arith, small, here.many)))))
+  ring-word (ring ∷ rings) (suc a) s i all there small less =
+      let here = All-head (AreSlots places width) ring rings all in
+      let at : suc a * (places * width) + (s * width + i) ≡ length (joined ring) + (a * (places * width) + (s * width + i)) =
+      omega (arith, suc-mul a (places * width), joined-length width ring here.wide, ap (λ n. n * width) here.many) in
+      ap (λ n. get_or (joined ring ++ flat_map joined rings) n 0) at
+      ∙ (get_or-append-add (joined ring) (flat_map joined rings) (a * (places * width) + (s * width + i)) 0
+      ∙ ring-word rings a s i (All-tail (AreSlots places width) ring rings all) (omega arith) small less)
+
+  -- another word there
+  pub ring-set : (rings : List (List (List ℕ))) (a s i n : ℕ) → All (AreSlots places width) rings → a < length rings → s < places → i < width
+      → set (flat_map joined rings) (a * (places * width) + (s * width + i)) n ≡ flat_map joined (with_slot_word rings a s i n)
+  ring-set [] a s i n all there small less = absurd (omega arith)
+  ring-set (ring ∷ rings) zero s i n all there small less =
+      let here = All-head (AreSlots places width) ring rings all in
+      let at : 0 * (places * width) + (s * width + i) ≡ begins (map length ring) s + i =
+      omega (arith, begins-rows width ring s here.wide (omega (arith, small, here.many))) in
+      ap (λ m. set (joined ring ++ flat_map joined rings) m n) at
+      ∙ (set-append_left (joined ring) (flat_map joined rings) (begins (map length ring) s + i) n (inside-ring places width ring s i here small less)
+      ∙ ap (λ xs. xs ++ flat_map joined rings)
+      (joined-set ring s i n (omega (arith, small, here.many)) (omega (arith, less, here.wide s [] (omega (arith, small, here.many))))))
+  ring-set (ring ∷ rings) (suc a) s i n all there small less =
+      let here = All-head (AreSlots places width) ring rings all in
+      let at : suc a * (places * width) + (s * width + i) ≡ length (joined ring) + (a * (places * width) + (s * width + i)) =
+      omega (arith, suc-mul a (places * width), joined-length width ring here.wide, ap (λ n. n * width) here.many) in
+      ap (λ m. set (joined ring ++ flat_map joined rings) m n) at
+      ∙ (set-append-add (joined ring) (flat_map joined rings) (a * (places * width) + (s * width + i)) n
+      ∙ ap (λ xs. joined ring ++ xs) (ring-set rings a s i n (All-tail (AreSlots places width) ring rings all) (omega arith) small less))
+
+slot-inside-of : (places width : ℕ) (rings : List (List (List ℕ))) (a s i : ℕ) → All (AreSlots places width) rings → a < length rings → s < places
+    → i < width → a * (places * width) + (s * width + i) < length (flat_map joined rings)
+slot-inside-of places width rings a s i all there small less =
+    omega (
+      arith,
+      slots-length places width rings all,
+      row-bound (places * width) a (s * width + i) (length rings) there (row-bound width s i places small less),
+    )
+
 -- ---- the groups
 
 module _ (setting : Setting) (w : Words) (sizes : HasSizes setting w) where
@@ -143,6 +205,20 @@ module _ (setting : Setting) (w : Words) (sizes : HasSizes setting w) where
       ∙ ap (λ us. joined (set (groups w) 3 us))
       (ap (λ m. set (joined w.users) (m + b) n) (sym (begins-rows t w.users a sizes.rows there))
       ∙ joined-set w.users a b n there (omega (arith, row-length a there)))
+
+  pub refill-word : (a s i : ℕ) → a < length w.refills → s < setting.places → i < refill_width
+      → get_or (table_of w) (refill_at setting a s i) 0 ≡ slot_word w.refills a s i
+  refill-word a s i there small less =
+      group-word 7 (a * (setting.places * refill_width) + (s * refill_width + i)) (omega arith)
+      (slot-inside-of setting.places refill_width w.refills a s i sizes.refill_slots there small less)
+      ∙ ring-word setting.places refill_width w.refills a s i sizes.refill_slots there small less
+
+  pub refill-set : (a s i n : ℕ) → a < length w.refills → s < setting.places → i < refill_width
+      → set (table_of w) (refill_at setting a s i) n ≡ table_of (with_refill w a s i n)
+  refill-set a s i n there small less =
+      group-set 7 (a * (setting.places * refill_width) + (s * refill_width + i)) n (omega arith)
+      (slot-inside-of setting.places refill_width w.refills a s i sizes.refill_slots there small less)
+      ∙ ap (λ rs. joined (set (groups w) 7 rs)) (ring-set setting.places refill_width w.refills a s i n sizes.refill_slots there small less)
 
   pub table-length : length (table_of w) ≡ table_words setting
   table-length = joined-all (groups w) ∙ ap (λ ls. begins ls 8) lengths
