@@ -11,10 +11,12 @@ use Rattle.board_face.specs.declared.views.nic.NicSide.{NicSide}
 use Rattle.board_face.specs.declared.views.app.AppSide.{AppSide}
 use Rattle.ref_words.specs.declared.view.View.{View}
 use Rattle.ref_words.specs.Words.{Words, table_of, pool_at, pool_of, with_pool, user_at, user_of, with_user}
+use Rattle.ref_words.specs.Words.{refill_at, slot_word, with_refill}
+use Rattle.word_rings.specs.Slots.{refill_width}
 use Rattle.ref_words.specs.Seated.{Seated, card_view, app_view}
 use Rattle.ref_words.specs.Rule.{RefRule}
 use Rattle.ref_words.proofs.Roles.{card-is, card-moves, app-is, app-moves}
-use Rattle.ref_words.proofs.Laying.{pool-word, pool-set, user-word, user-set}
+use Rattle.ref_words.proofs.Laying.{pool-word, pool-set, user-word, user-set, refill-word, refill-set}
 use Rattle.word_board.specs.Board.{IsBoard}
 
 -- What a step on the word i makes of the board, where it leaves m there: words that stand by the rule to the sides.
@@ -171,3 +173,28 @@ module _ (setting : Setting) (words : Words) (a b i : ℕ) (at : i ≡ user_at s
   pub of-user : {nic : NicSide} {apps : List AppSide} → RefRule setting words nic apps → (P : ℕ → Type 0) → P (user_of words a b)
       → P (get_or (table_of words) i 0)
   of-user rule P p = subst P (sym (found-user rule)) p
+
+-- ---- a refill slot
+
+module _ (setting : Setting) (words : Words) (a s i x : ℕ) (at : x ≡ refill_at setting a s i) (few : a < apps_of setting) (small : s < setting.places)
+    (less : i < refill_width) where
+  pub found-refill : {nic : NicSide} {apps : List AppSide} → RefRule setting words nic apps
+      → get_or (table_of words) x 0 ≡ slot_word words.refills a s i
+  found-refill rule = ap (λ y. get_or (table_of words) y 0) at
+      ∙ refill-word setting words rule.sizes a s i (omega (arith, few, rule.sizes.refills)) small less
+
+  -- where a law stores a word there, storing it does
+  pub stores-refill : {nic now : NicSide} {apps apps' : List AppSide} → RefRule setting words nic apps → (n : ℕ)
+      → RefRule setting (with_refill words a s i n) now apps' → Makes setting words x n now apps'
+  stores-refill rule n after = record {
+    words' = with_refill words a s i n;
+    laid = ap (λ y. set (table_of words) y n) at
+        ∙ refill-set setting words rule.sizes a s i n (omega (arith, few, rule.sizes.refills)) small less;
+    roles = refl;
+    rule = after;
+  }
+
+-- where a law changes no word, loading one does
+pub loads : (setting : Setting) (words : Words) (x : ℕ) {now : NicSide} {apps' : List AppSide} → RefRule setting words now apps'
+    → Makes setting words x (get_or (table_of words) x 0) now apps'
+loads setting words x after = record { words' = words; laid = set-get_or (table_of words) x 0; roles = refl; rule = after }
