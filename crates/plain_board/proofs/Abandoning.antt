@@ -22,7 +22,7 @@ use Rattle.plain_board.proofs.AppFrames.{AreFlags-kept, AreFreeOnce-app, AreKept
 use Rattle.plain_board.proofs.AppFrames.{was-booked_filled, was-booked_raw, ArePhased-app, was-phased, was-own, OwnBuffers-app}
 use Rattle.plain_board.proofs.Users.{loans-there, user-other, user-lowered}
 use Rattle.plain_board.proofs.TokensLie.{loan-some, loan-none, loan-lies}
-use Rattle.plain_board.proofs.Owing.{loans-fewer, returned-more, owed-more, IsClear-fewer}
+use Rattle.board_face.proofs.WrittenLemmas.{loans-fewer, returned-more, owed-more, IsClear-fewer}
 
 module _ (board : Board) (a : ℕ) (x : AppSide) (place : Place) (sound : IsSound board) (here : IsApp board.apps a x) (out : HasLoan x.view place) where
   abbrev now : AppSide

@@ -1,12 +1,11 @@
 -- The entry that is next in an application's ring is dealt with.
-use Rattle.std.proofs.Common.{◌≡◌, ℕ, zero, suc, ◌+◌, ◌-◌, ◌≤◌, Bool, true, false, eqb, List, [], ◌∷◌, ◌++◌, length, map, drop}
+use Rattle.std.proofs.Common.{◌≡◌, ℕ, suc, ◌+◌, ◌-◌, ◌≤◌, Bool, true, false, List, [], ◌∷◌, ◌++◌, length, map, drop}
 use Rattle.std.proofs.Common.{refl, ap, sym, ◌∙◌, arith, length-append, length-drop}
 use Rattle.std.specs.Prelude.{◌≢◌, filter, count_by, ◌==◌, nat_lt, if◌then◌else◌}
 use Rattle.std.specs.List.{zip}
-use Rattle.std.proofs.lemmas.List.{append-nil, drop-map}
-use Rattle.std.proofs.lemmas.List.Elements.{filter-append, All-tail, All-push, All-weaker}
-use Rattle.std.proofs.lemmas.List.Sums.{sum_by-cons}
-use Rattle.std.proofs.lemmas.Bool.{eq-eqb, ltb-false}
+use Rattle.std.proofs.lemmas.List.{drop-map}
+use Rattle.std.proofs.lemmas.List.Elements.{All-tail, All-push, All-weaker}
+use Rattle.std.proofs.lemmas.Bool.{ltb-false}
 use Rattle.std.proofs.Math.Seq.{drop-append_seam}
 use Rattle.zr_kinds.specs.declared.ring.Rqe.{Rqe}
 use Rattle.board_face.specs.Sides.{nic_at}
@@ -18,15 +17,11 @@ use Rattle.board_face.specs.declared.views.nic.NicSide.{NicSide}
 use Rattle.board_face.specs.declared.views.app.TakenNote.{TakenNote}
 use Rattle.board_face.specs.declared.views.app.WrittenEntry.{WrittenEntry}
 use Rattle.board_face.specs.declared.views.app.AppSide.{AppSide}
-use Rattle.board_face.proofs.ListLemmas.{not-eqb}
 use Rattle.board_face.proofs.NicLemmas.{ended_in-push}
 use Rattle.board_face.proofs.Parts.{returned_in-count, owed_count}
-use Rattle.board_face.proofs.Tallies.{weight}
+pub use Rattle.board_face.proofs.DealtLemmas.{count-first, length-mapped, drop-after, dealt-more, dealt-same, zip-push}
 use Rattle.plain_board.specs.Returns.{entries_on_way, returns, abandoned_in, reach_of, IsNamed, IsOfLoan, AreReturns}
 use Rattle.plain_board.specs.Sound.{IsPhased, ArePhased}
-
-pub count-first : {A : Type 0} (p : A → Bool) (x : A) (xs : List A) → count_by p (x ∷ xs) ≡ weight (p x) + count_by p xs
-count-first p x xs = sum_by-cons (λ y. if p y then 1 else 0) x xs
 
 -- ---- the front
 
@@ -36,10 +31,6 @@ pub record HasFront (nic : NicSide) (app : AppSide) (e : Rqe) : Type 0 where
   pub others : List WrittenEntry
   pub way : entries_on_way nic app ≡ first ∷ others
   pub entry : first.entry ≡ e
-
-pub length-mapped : {A B : Type 0} (f : A → B) (xs : List A) → length (map f xs) ≡ length xs
-length-mapped f [] = refl
-length-mapped f (x ∷ xs) = omega (arith, length-mapped f xs)
 
 front-case : (nic : NicSide) (app : AppSide) (e : Rqe) (es : List Rqe) (q : List WrittenEntry) → entries_on_way nic app ≡ q
     → map (λ w. w.entry) q ≡ e ∷ es → HasFront nic app e
@@ -57,39 +48,7 @@ entries-relayed nic app ns es relayed =
 pub HasFront-relayed : (nic : NicSide) (app : AppSide) (ns : List TakenNote) (e : Rqe) (es : List Rqe) → Relayed nic app ns (e ∷ es) → HasFront nic app e
 HasFront-relayed nic app ns e es relayed = front-case nic app e es (entries_on_way nic app) refl (entries-relayed nic app ns (e ∷ es) relayed)
 
-drop-after : {A : Type 0} (n : ℕ) (xs : List A) (x : A) (rest : List A) → drop n xs ≡ x ∷ rest → drop (suc n) xs ≡ rest
-drop-after zero xs x rest e = rw e refl
-drop-after (suc n) [] x rest e = absurd (let none : ⊥ = cc in none)
-drop-after (suc n) (y ∷ xs) x rest e = drop-after n xs x rest e
-
 -- ---- what the card has dealt with
-
-pub dealt-more : (nic : NicSide) (v : NicView) (a : ℕ) (d : Dealt) → v.dealt ≡ nic.view.dealt ++ d ∷ [] → d.app ≡ a
-    → filter (λ x. x.app == a) v.dealt ≡ filter (λ x. x.app == a) nic.view.dealt ++ d ∷ []
-dealt-more nic v a d deals same =
-    let mine : Dealt → Bool = λ x. x.app == a in
-    let is : eqb d.app a ≡ true = eq-eqb d.app a same in
-    let one : filter mine (d ∷ []) ≡ d ∷ [] = rw is refl in
-    rw deals (filter-append mine nic.view.dealt (d ∷ []) ∙ ap (λ ds. filter mine nic.view.dealt ++ ds) one)
-
-pub dealt-same : (nic : NicSide) (v : NicView) (a : ℕ) (d : Dealt) → v.dealt ≡ nic.view.dealt ++ d ∷ [] → d.app ≢ a
-    → filter (λ x. x.app == a) v.dealt ≡ filter (λ x. x.app == a) nic.view.dealt
-dealt-same nic v a d deals other =
-    let mine : Dealt → Bool = λ x. x.app == a in
-    let no_one : eqb d.app a ≡ false = not-eqb d.app a other in
-    let none : filter mine (d ∷ []) ≡ [] = rw no_one refl in
-    rw deals (filter-append mine nic.view.dealt (d ∷ []) ∙ (ap (λ ds. filter mine nic.view.dealt ++ ds) none ∙ append-nil (filter mine nic.view.dealt)))
-
-zip-nil : {A B : Type 0} (xs : List A) → zip {K = A} {X = B} xs [] ≡ []
-zip-nil [] = refl
-zip-nil (x ∷ xs) = refl
-
-zip-push : {A B : Type 0} (xs : List A) (ds : List B) (d : B) (x : A) (rest : List A) → drop (length ds) xs ≡ x ∷ rest
-    → zip xs (ds ++ d ∷ []) ≡ zip xs ds ++ (x, d) ∷ []
-zip-push [] [] d x rest e = absurd (let none : ⊥ = cc in none)
-zip-push [] (z ∷ ds) d x rest e = absurd (let none : ⊥ = cc in none)
-zip-push {A = A} {B = B} (y ∷ ys) [] d x rest e = let same : y ≡ x = cc in let none = zip-nil {B = B} ys in rw (same, none) refl
-zip-push (y ∷ ys) (z ∷ ds) d x rest e = ap (λ ps. (y, z) ∷ ps) (zip-push ys ds d x rest e)
 
 -- ---- the application whose entry it is
 

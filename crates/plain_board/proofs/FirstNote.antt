@@ -24,7 +24,8 @@ use Rattle.board_face.proofs.IsFilledByOneLemmas.{fillings-alone}
 use Rattle.board_face.proofs.ApartLemmas.{AreApart-all}
 use Rattle.plain_board.specs.Board.{Board, setting_of}
 use Rattle.plain_board.specs.Sound.{IsSound, IsProper}
-use Rattle.plain_board.proofs.Lists.{All-none, total-at}
+use Rattle.plain_board.proofs.Lists.{All-none}
+use Rattle.board_face.proofs.LiesLemmas.{total-at}
 use Rattle.plain_board.proofs.AppFrames.{has-setting}
 
 -- ---- one among many

@@ -1,9 +1,9 @@
 -- A loan is given back by an entry behind all on their way: it is out no more, and owed until the card deals with the entry.
-use Rattle.std.proofs.Common.{◌≡◌, ℕ, ◌-◌, ◌<◌, true, false, List, [], ◌∷◌, ◌++◌, length, map, set, get_or, refl, ap, sym, ◌∙◌}
+use Rattle.std.proofs.Common.{◌≡◌, ℕ, ◌-◌, ◌<◌, true, List, [], ◌∷◌, ◌++◌, length, map, set, get_or, refl, ap, sym, ◌∙◌}
 use Rattle.std.proofs.Common.{subst, arith, inl}
-use Rattle.std.specs.Prelude.{All, Some, count_by}
+use Rattle.std.specs.Prelude.{All, Some}
 use Rattle.std.proofs.lemmas.List.{length-set, get_or-set_same, get_or-set_other}
-use Rattle.std.proofs.lemmas.List.Elements.{All-set, All-push}
+use Rattle.std.proofs.lemmas.List.Elements.{All-set}
 use Rattle.circular_buffer.specs.Buffer.{Buffer, buffer}
 use Rattle.zr_kinds.specs.declared.place.Place.{Place}
 use Rattle.zr_kinds.specs.declared.ring.Rqe.{Rqe}
@@ -15,7 +15,6 @@ use Rattle.board_face.specs.AppCalls.{HasLoan}
 use Rattle.board_face.specs.Relay.{Relayed}
 use Rattle.board_face.specs.declared.views.app.WrittenEntry.{WrittenEntry}
 use Rattle.board_face.specs.declared.views.app.AppSide.{AppSide}
-use Rattle.board_face.proofs.Tallies.{weight}
 use Rattle.board_face.proofs.AppLemmas.{app_count-gave, user_part-gave, EndedWereReturned-abandoned}
 use Rattle.board_face.proofs.RelayLemmas.{Relayed-wrote}
 use Rattle.board_face.proofs.IsFilledByOneLemmas.{IsFilledByOne-gave}
@@ -25,7 +24,7 @@ use Rattle.board_face.proofs.AreShownLemmas.{AreShown-gave}
 use Rattle.plain_parts.specs.Rings.{ring_in, pushed}
 use Rattle.plain_parts.specs.Counts.{user_at}
 use Rattle.plain_board.specs.Board.{Arrays, Board, byte_of}
-use Rattle.plain_board.specs.Returns.{AreReturns, entries_on_way, loans_out, reach_of, returns, IsClear, IsOfLoan, IsNamed}
+use Rattle.plain_board.specs.Returns.{AreReturns, entries_on_way, reach_of}
 use Rattle.plain_board.proofs.RingSlots.{IsRing-at, IsRing-pushed}
 use Rattle.plain_board.specs.Sound.{IsRing, IsSound, notes_of, refills_of, taken_of}
 use Rattle.plain_board.proofs.AppFrames.{IsSet-app, was-at_rest, has-setting, AreCounted-app, was-returned, AreRelayed-app, was-relayed, returns-app}
@@ -33,9 +32,9 @@ use Rattle.plain_board.proofs.AppFrames.{was-returns, AreFlags-kept, AreFreeOnce
 use Rattle.plain_board.proofs.AppFrames.{was-booked_filled, was-booked_raw, ArePhased-app, was-phased, was-own, OwnBuffers-app}
 use Rattle.plain_board.proofs.Users.{user-other}
 use Rattle.plain_board.proofs.TokensLie.{loan-none, loan-lies}
-use Rattle.plain_board.proofs.Owing.{loans-fewer, returned-more, owed-more}
 use Rattle.plain_board.proofs.Abandoning.{loans-rest}
-use Rattle.plain_board.proofs.Writing.{way-longer, strays-written, reach-longer, returns-one, returns-longer, IsClear-longer}
+use Rattle.board_face.proofs.WrittenLemmas.{AreReturns-gave}
+use Rattle.plain_board.proofs.Writing.{way-longer, reach-longer, dealt-within}
 
 module _ (board : Board) (a : ℕ) (x : AppSide) (place : Place) (sound : IsSound board) (here : IsApp board.apps a x) (out : HasLoan x.view place) where
   abbrev now : AppSide
@@ -94,45 +93,9 @@ module _ (board : Board) (a : ℕ) (x : AppSide) (place : Place) (sound : IsSoun
 
   returns-then : AreReturns board.nic now
   returns-then =
-      let was = was-returns board a x now sound here in
-      let layout = x.view.setting.layout in
-      let ws = entries_on_way board.nic x in
       let phase = was-phased board a x now sound here in
-      record {
-        written = λ b. omega (
-          arith,
-          was.written b,
-          returned-more b x place,
-          returns-longer layout b x.view.written written,
-          ap weight (returns-one layout b place.buffer written refl names-own),
-        );
-        owed = λ b. omega (
-          arith,
-          was.owed b,
-          owed-more b board.nic x place (was-returned board a x now sound here b),
-          ap (count_by (returns layout b)) way-then,
-          returns-longer layout b ws written,
-          ap weight (returns-one layout b place.buffer written refl names-own),
-        );
-        no_more = λ b. omega (
-          arith,
-          was.written b,
-          was.no_more b,
-          owed-more b board.nic x place (was-returned board a x now sound here b),
-          returned-more b x place,
-          ap (count_by (returns layout b)) way-then,
-          returns-longer layout b ws written,
-          returns-longer layout b x.view.written written,
-          ap weight (returns-one layout b place.buffer written refl names-own),
-        );
-        clear = λ b. subst (IsClear layout b (loans_out b now)) (sym way-then)
-            (IsClear-longer layout b place.buffer (loans_out b x) (loans_out b now) ws written refl names-own (loans-fewer b x place out) (was.clear b));
-        named = subst (All (IsNamed layout)) (sym way-then) (All-push (IsNamed layout) ws written was.named (λ of_loan. rw names-own refl));
-        settled = λ e. subst (All IsOfLoan) (sym way-then) (All-push IsOfLoan ws written (was.settled e) refl);
-        quiet = λ e. absurd (let wrong : false ≡ true = e in cc);
-        scrubbed = λ e. absurd (loan-none board a x sound here place out (phase.scrubbed e).0);
-        strays = strays-written board.nic x _ _ written (was-relayed board a x now sound here) was.strays;
-      }
+      AreReturns-gave board.nic x (dealt-within board.nic x _ _ (was-relayed board a x now sound here)) place out names-own
+      (was-returned board a x now sound here) (λ e. (phase.scrubbed e).0) (was-returns board a x now sound here)
 
   pub IsSound-gave : (e : Rqe) (n : ℕ) → e ≡ entry → n ≡ get_or board.arrays.loans user 0 - 1
       → length (ring_in board.arrays.refills a).items < (ring_in board.arrays.refills a).capacity

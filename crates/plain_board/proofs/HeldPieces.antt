@@ -26,7 +26,7 @@ use Rattle.board_face.proofs.FillingsFitLemmas.{FillingsFit-same}
 use Rattle.plain_parts.specs.Free.{listed_in}
 use Rattle.plain_board.specs.Board.{Arrays, Board, byte_of}
 use Rattle.plain_board.specs.Sound.{IsSound, IsAtRest}
-use Rattle.plain_board.proofs.Lists.{total-at}
+use Rattle.board_face.proofs.LiesLemmas.{total-at}
 use Rattle.plain_board.proofs.FirstNote.{in-own}
 use Rattle.plain_board.proofs.AppFrames.{IsSet-app, was-at_rest, AreCounted-app, was-returned, AreRelayed-kept, was-relayed, returns-app, was-returns}
 use Rattle.plain_board.proofs.AppFrames.{AreFlags-kept, AreKept-app, AreDue-app, was-given, was-due, AreBooked-app, was-booked_loans, was-booked_filled}

@@ -35,7 +35,6 @@ pub mod Scrubbing
 pub mod Ending
 pub mod Users
 pub mod TokensLie
-pub mod Owing
 pub mod Abandoning
 pub mod OnLoan
 pub mod Lending

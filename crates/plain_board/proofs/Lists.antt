@@ -1,5 +1,5 @@
 -- Lists of counts, and the cache.
-use Rattle.std.proofs.Common.{◌≡◌, ℕ, zero, suc, ◌+◌, ◌-◌, ◌*◌, ◌<◌, ◌≤◌, Bool, true, false, List, [], ◌∷◌, ◌++◌}
+use Rattle.std.proofs.Common.{◌≡◌, ℕ, zero, suc, ◌+◌, ◌-◌, ◌*◌, ◌<◌, Bool, true, false, List, [], ◌∷◌, ◌++◌}
 use Rattle.std.proofs.Common.{length, take, set, get_or, refl, ap, sym, ◌∙◌, arith, inl, inr, ⊎_elim, subst, Some}
 use Rattle.std.specs.Prelude.{◌≢◌, ◌⊎◌, ◌/◌, nat_eq, count_by, ◌==◌, slice_get, All, if◌then◌else◌}
 use Rattle.std.proofs.lemmas.List.{get_or-set_same, get_or-set_other}
@@ -8,7 +8,7 @@ use Rattle.std.proofs.lemmas.Nat.{div-mul-add}
 use Rattle.std.proofs.lemmas.Bool.Decides.{eqb_tells}
 use Rattle.circular_buffer.specs.Buffer.{last_item}
 use Rattle.board_face.proofs.ListLemmas.{eqb_same, not-eqb}
-use Rattle.board_face.proofs.Tallies.{weight, tally, total, tally-append, tally-push}
+use Rattle.board_face.proofs.Tallies.{weight, tally, tally-append, tally-push}
 use Rattle.board_face.proofs.Parts.{count-tally}
 
 -- ---- one count raised or lowered
@@ -84,16 +84,6 @@ pub same-user : (t a a' b b' : ℕ) → b < t → b' < t → a * t + b ≡ a' * 
 same-user t a a' b b' less less' e =
     let same : a ≡ a' = sym (div-mul-add a t b less) ∙ (ap (λ n. n / t) e ∙ div-mul-add a' t b' less') in
     (same, omega (arith, ap (λ x. x * t) same, e))
-
--- ---- one among many
-
-pub total-of : {A : Type 0} (f : A → ℕ) (xs : List A) (k : ℕ) (d : A) → k < length xs → f (get_or xs k d) ≤ total f xs
-total-of f [] k d there = absurd (omega arith)
-total-of f (x ∷ xs) zero d there = omega arith
-total-of f (x ∷ xs) (suc k) d there = omega (arith, total-of f xs k d (omega arith))
-
-pub total-at : {A : Type 0} (f : A → ℕ) (xs : List A) (i : ℕ) (v : A) → i < length xs → get_or xs i v ≡ v → f v ≤ total f xs
-total-at f xs i v there is = omega (arith, total-of f xs i v there, ap f is)
 
 -- ---- the last item
 

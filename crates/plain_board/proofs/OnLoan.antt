@@ -1,10 +1,9 @@
 -- What was held or filled is on loan: one user more, and no holder more or less.
-use Rattle.std.proofs.Common.{◌≡◌, ℕ, ◌+◌, ◌<◌, ◌^◌, true, false, List, [], ◌∷◌, length, set, get_or, refl, sym, ◌∙◌, arith}
+use Rattle.std.proofs.Common.{◌≡◌, ℕ, ◌+◌, ◌<◌, ◌^◌, true, false, List, length, set, get_or, refl, sym, ◌∙◌, arith}
 use Rattle.std.proofs.Common.{inl}
 use Rattle.std.specs.Prelude.{◌==◌, All}
 use Rattle.std.proofs.lemmas.List.{length-set}
-use Rattle.std.proofs.lemmas.List.Elements.{All-head, All-tail}
-use Rattle.area_layout.specs.Layout.{Shape, total}
+use Rattle.area_layout.specs.Layout.{total}
 use Rattle.board_face.specs.Sides.{IsApp, app_at}
 use Rattle.board_face.specs.AppCalls.{CanLend}
 use Rattle.board_face.specs.Fillings.{FillingsFit, IsFilledByOne}
@@ -13,7 +12,6 @@ use Rattle.board_face.specs.Shown.{AreShown}
 use Rattle.board_face.specs.declared.views.app.HeldPiece.{HeldPiece}
 use Rattle.board_face.specs.declared.views.app.LentPiece.{LentPiece}
 use Rattle.board_face.specs.declared.views.app.SpareOwn.{SpareOwn}
-use Rattle.board_face.specs.declared.views.app.WrittenEntry.{WrittenEntry}
 use Rattle.board_face.specs.declared.views.app.AppSide.{AppSide}
 use Rattle.board_face.proofs.Tallies.{weight}
 use Rattle.board_face.proofs.Parts.{app_count, user_part, count-tally}
@@ -21,7 +19,7 @@ use Rattle.board_face.proofs.FreeLemmas.{user_count-le}
 use Rattle.board_face.proofs.RelayLemmas.{Relayed-app}
 use Rattle.plain_parts.specs.Counts.{user_at}
 use Rattle.plain_board.specs.Board.{Arrays, Board, byte_of}
-use Rattle.plain_board.specs.Returns.{IsClear, IsOfLoan, loans_out}
+use Rattle.plain_board.specs.Returns.{loans_out}
 use Rattle.plain_board.specs.Sound.{IsSound}
 use Rattle.plain_board.proofs.AppFrames.{IsSet-app, was-at_rest, AreCounted-app, was-returned, AreRelayed-kept, was-relayed, returns-app, was-returns}
 use Rattle.plain_board.proofs.AppFrames.{AreFlags-kept, AreFreeOnce-app, AreKept-app, AreDue-app, was-given, was-due, AreBooked-app, was-booked_loans}

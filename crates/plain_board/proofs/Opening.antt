@@ -1,28 +1,26 @@
 -- A board that was just opened.
-use Rattle.std.proofs.Common.{◌≡◌, ℕ, zero, suc, ◌*◌, ◌<◌, ◌≤◌, Bool, true, false, List, [], ◌∷◌, length, map, get_or, replicate}
+use Rattle.std.proofs.Common.{◌≡◌, ℕ, zero, suc, ◌*◌, ◌<◌, ◌≤◌, true, false, List, [], ◌∷◌, length, map, get_or, replicate}
 use Rattle.std.proofs.Common.{refl, ap, sym, ◌∙◌, subst, arith, length-drop}
-use Rattle.std.specs.Prelude.{nat_eq, count_by, ◌==◌, if◌then◌else◌, All}
-use Rattle.std.specs.List.{flat_map}
+use Rattle.std.specs.Prelude.{◌==◌, All}
 use Rattle.std.proofs.lemmas.Bool.{false≢true}
 use Rattle.std.proofs.lemmas.List.{length-replicate, get_or-replicate}
 use Rattle.std.proofs.Math.ListN.{get_or-eq_default}
-use Rattle.std.proofs.lemmas.List.Elements.{All-nil, All-cons, All-replicate}
+use Rattle.std.proofs.lemmas.List.Elements.{All-nil, All-replicate}
 use Rattle.circular_buffer.specs.Buffer.{Buffer, buffer}
 use Rattle.area_layout.specs.Layout.{Shape, IsLayout, pool_buffers, total}
 use Rattle.board_face.specs.Opened.{new_nic, new_app}
-use Rattle.board_face.specs.Sides.{IsApp, AreNumbered}
+use Rattle.board_face.specs.Sides.{IsApp}
 use Rattle.board_face.specs.Holders.{ended_in}
 use Rattle.zr_kinds.specs.declared.place.Place.{Place}
-use Rattle.board_face.specs.Counts.{pool_count, user_count, EndedWereReturned}
+use Rattle.board_face.specs.Counts.{EndedWereReturned}
 use Rattle.board_face.specs.Relay.{Relayed}
 use Rattle.board_face.specs.OwnBuffers.{AppLiesInOwn}
 use Rattle.board_face.specs.Judged.{IsHonouredAsNamed}
 use Rattle.board_face.specs.Used.{HasFewPicks, PicksAreGiven}
 use Rattle.board_face.specs.declared.views.parts.Setting.{Setting}
 use Rattle.board_face.specs.declared.views.app.AppSide.{AppSide}
-use Rattle.board_face.proofs.Parts.{app_count, user_part, pool_count-parts, user_count-parts}
-use Rattle.board_face.proofs.Tallies.{weight, total as sum_of}
-use Rattle.board_face.proofs.OpenedLemmas.{length-new_apps, numbered-new_apps, All-new, hands-new, picked-new, count-new, users-new}
+use Rattle.board_face.proofs.Tallies.{weight}
+use Rattle.board_face.proofs.OpenedLemmas.{length-new_apps, numbered-new_apps, All-new, hands-new, count-new, users-new}
 use Rattle.board_face.proofs.OpenedLemmas.{all-alike, IsNew, FillingsFit-opened, IsFilledByOne-opened, AreShown-opened}
 use Rattle.zr_kinds.specs.declared.ring.Rqe.{Rqe}
 use Rattle.plain_parts.specs.declared.slots.NoteSlot.{NoteSlot}

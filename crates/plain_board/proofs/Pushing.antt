@@ -1,38 +1,32 @@
 -- A raw entry is the last on its way: it came from no loan, and names no buffer in which one is out.
-use Rattle.std.proofs.Common.{◌≡◌, ℕ, suc, ◌+◌, ◌<◌, ◌≤◌, Bool, true, false, List, [], ◌∷◌, ◌++◌, length, map, set, get_or}
-use Rattle.std.proofs.Common.{refl, ap, sym, ◌∙◌, subst, arith, ⊎_elim, Option, Some, None, length-append, length-drop}
-use Rattle.std.specs.Prelude.{◌≢◌, ◌==◌, All, Contains, IfSome, count_by, filter}
-use Rattle.std.specs.List.{zip}
-use Rattle.std.proofs.lemmas.List.{drop-append-le, length-set, length-map, get_or-set_same, get_or-set_other}
-use Rattle.std.proofs.lemmas.List.Elements.{All-push, All-set}
+use Rattle.std.proofs.Common.{◌≡◌, ℕ, suc, ◌+◌, ◌<◌, ◌≤◌, Bool, false, List, [], ◌∷◌, ◌++◌, length, set, get_or}
+use Rattle.std.proofs.Common.{refl, ap, ◌∙◌, arith, length-append, length-drop}
+use Rattle.std.specs.Prelude.{◌≢◌}
+use Rattle.std.proofs.lemmas.List.{length-set, length-map, get_or-set_same, get_or-set_other}
+use Rattle.std.proofs.lemmas.List.Elements.{All-set}
 use Rattle.std.proofs.lemmas.Bool.{lt-ltb}
-use Rattle.std.proofs.lemmas.Bool.Decides.{eqb_tells}
 use Rattle.circular_buffer.specs.Buffer.{Buffer, buffer}
 use Rattle.zr_kinds.specs.declared.ring.Rqe.{Rqe}
-use Rattle.area_layout.specs.Layout.{Shape, judged}
 use Rattle.board_face.specs.Sides.{IsApp, app_at}
-use Rattle.board_face.specs.AppCalls.{IsLive, NamesNoLoan}
+use Rattle.board_face.specs.AppCalls.{NamesNoLoan}
 use Rattle.board_face.specs.AppEvents.{app_gist, app_saw, pushed_raw}
 use Rattle.board_face.specs.Looks.{AppTold}
-use Rattle.board_face.specs.Relay.{Relayed, dealt_entries, IsNoLoanStray}
-use Rattle.board_face.specs.declared.views.nic.Dealt.{Dealt}
+use Rattle.board_face.specs.Relay.{Relayed, dealt_entries}
 use Rattle.board_face.specs.declared.views.nic.NicSide.{NicSide}
 use Rattle.board_face.specs.declared.views.app.AppLook.TheVariants.{RefillInUse}
-use Rattle.board_face.specs.declared.views.app.LentPiece.{LentPiece}
 use Rattle.board_face.specs.declared.views.app.TakenNote.{TakenNote}
 use Rattle.board_face.specs.declared.views.app.WrittenEntry.{WrittenEntry}
 use Rattle.board_face.specs.declared.views.app.AppSide.{AppSide}
-use Rattle.board_face.proofs.Parts.{count-tally}
-use Rattle.board_face.proofs.Tallies.{weight, tally, tally-push}
 use Rattle.board_face.proofs.LookLemmas.{AppTold-one}
 use Rattle.board_face.proofs.AppLemmas.{SameHoldings, app_count-same, user_part-same}
 use Rattle.board_face.proofs.RelayLemmas.{Relayed-wrote}
 use Rattle.board_face.proofs.IsFilledByOneLemmas.{IsFilledByOne-same}
 use Rattle.board_face.proofs.FillingsFitLemmas.{FillingsFit-same}
 use Rattle.board_face.proofs.AreShownLemmas.{AreShown-same}
+use Rattle.board_face.proofs.WrittenLemmas.{way-written, AreReturns-pushed}
 use Rattle.plain_parts.specs.Rings.{ring_in, pushed}
 use Rattle.plain_board.specs.Board.{Board, byte_of, others_of}
-use Rattle.plain_board.specs.Returns.{AreReturns, entries_on_way, names, is_some_of, returns, loans_out, reach_of, IsClear, IsNamed}
+use Rattle.plain_board.specs.Returns.{AreReturns, entries_on_way, reach_of}
 use Rattle.plain_board.specs.Seen.{IsSeenBy}
 use Rattle.plain_board.proofs.RingSlots.{IsRing-pushed}
 use Rattle.plain_board.specs.Sound.{IsRing, IsSound, refills_of}
@@ -40,27 +34,6 @@ use Rattle.plain_board.proofs.AppFrames.{has-setting, IsSet-app, was-at_rest, Ar
 use Rattle.plain_board.proofs.AppFrames.{was-returns, AreFlags-kept, AreFreeOnce-app, AreKept-app, AreDue-app, was-given, was-due, AreBooked-app}
 use Rattle.plain_board.proofs.AppFrames.{was-booked_loans, was-booked_filled, ArePhased-app, was-phased, OwnBuffers-kept}
 use Rattle.plain_board.proofs.Settling.{reach_with}
-
--- ---- lists that grow by one at the end
-
-zip-within : {A B : Type 0} (xs : List A) (ys : List B) (x : A) → length ys ≤ length xs → zip (xs ++ x ∷ []) ys ≡ zip xs ys
-zip-within [] [] x few = refl
-zip-within [] (y ∷ ys) x few = absurd (omega arith)
-zip-within (z ∷ xs) [] x few = refl
-zip-within (z ∷ xs) (y ∷ ys) x few = ap (λ ps. (z, y) ∷ ps) (zip-within xs ys x (omega arith))
-
-returns-raw : (layout : Shape) (b : ℕ) (ws : List WrittenEntry) (w : WrittenEntry) → w.of_loan ≡ false
-    → count_by (returns layout b) (ws ++ w ∷ []) ≡ count_by (returns layout b) ws
-returns-raw layout b ws w raw =
-    let none : weight (returns layout b w) ≡ 0 = rw raw refl in
-    omega (arith, none, count-tally (returns layout b) (ws ++ w ∷ []), count-tally (returns layout b) ws, tally-push (returns layout b) ws w)
-
--- an entry that came from no loan is clear where none is out, and leaves those before it clear
-IsClear-push : (layout : Shape) (b loans : ℕ) (ws : List WrittenEntry) (w : WrittenEntry) → w.of_loan ≡ false
-    → (names layout b w ≡ true → loans ≡ 0) → IsClear layout b loans ws → IsClear layout b loans (ws ++ w ∷ [])
-IsClear-push layout b loans [] w raw idle clear = (λ is named. (idle named, refl), tt)
-IsClear-push layout b loans (v ∷ ws) w raw idle clear =
-    (λ is named. let was = clear.0 is named in (was.0, returns-raw layout b ws w raw ∙ was.1), IsClear-push layout b loans ws w raw idle clear.1)
 
 reach-front : (of_loan : Bool) (r : ℕ) → 0 < r → reach_with of_loan r ≡ suc r
 reach-front of_loan r some = rw (lt-ltb 0 r some) refl
@@ -71,24 +44,6 @@ reach-push [] w raw = rw raw refl
 reach-push (v ∷ ws) w raw =
     let rest = reach-push ws w raw in
     reach-front v.of_loan (reach_of (ws ++ w ∷ [])) (omega (arith, rest)) ∙ ap suc rest
-
--- ---- no loan is out where the entry points
-
-none-out : (b : ℕ) (ls : List LentPiece) → (Contains (map (λ l. l.place.buffer) ls) b → ⊥) → tally (λ l. l.place.buffer == b) ls ≡ 0
-none-out b [] idle = refl
-none-out b (l ∷ ls) idle =
-    ⊎_elim
-    (λ t. absurd (idle (0, omega arith, t.1)))
-    (λ t. omega (arith, ap weight t.0, none-out b ls (λ live. idle (suc live.0, omega (arith, live.1), live.2))))
-    (eqb_tells l.place.buffer b)
-
-idle-case : (o : Option ℕ) (x : AppSide) (b : ℕ) → IfSome o (λ buffer. IsLive x.view buffer → ⊥) → is_some_of o b ≡ true → loans_out b x ≡ 0
-idle-case None x b idle named = absurd (let wrong : false ≡ true = named in cc)
-idle-case (Some i) x b idle named =
-    ⊎_elim
-    (λ t. count-tally (λ (l : LentPiece). l.place.buffer == b) x.view.loans ∙ none-out b x.view.loans (subst (λ c. IsLive x.view c → ⊥) t.1 idle))
-    (λ t. absurd (let wrong : true ≡ false = sym named ∙ t.0 in cc))
-    (eqb_tells i b)
 
 -- ---- what is on its way
 
@@ -113,8 +68,7 @@ module _ (board : Board) (a : ℕ) (x : AppSide) (entry : Rqe) (sound : IsSound 
   ring_then = pushed (ring_in board.arrays.refills a) entry
 
   way-then : entries_on_way board.nic raw_then ≡ entries_on_way board.nic x ++ one ∷ []
-  way-then = drop-append-le (length (dealt_entries x.view.app board.nic)) x.view.written (one ∷ [])
-      (omega (arith, dealt-within board.nic x _ _ (was-relayed board a x x sound here)))
+  way-then = way-written board.nic x (omega (arith, dealt-within board.nic x _ _ (was-relayed board a x x sound here))) one
 
   same : SameHoldings x.view (pushed_raw x.view entry)
   same = record { app = refl; taken = refl; helds = refl; owns = refl; loans = refl; returned = refl }
@@ -136,36 +90,10 @@ module _ (board : Board) (a : ℕ) (x : AppSide) (entry : Rqe) (sound : IsSound 
   refills-others : (k : ℕ) → k ≢ a → (get_or (set board.arrays.refills a ring_then) k (buffer [] 0)).items ≡ refills_of board.arrays k
   refills-others k ne = ap (λ (r : Buffer Rqe). r.items) (get_or-set_other board.arrays.refills a k ring_then (buffer [] 0) ne)
 
-  strays-then : All IsNoLoanStray (zip (x.view.written ++ one ∷ []) (filter (λ (d : Dealt). d.app == x.view.app) board.nic.view.dealt))
-  strays-then =
-      let mine = filter (λ (d : Dealt). d.app == x.view.app) board.nic.view.dealt in
-      rw (zip-within x.view.written mine one (omega (
-        arith,
-        length-map mine (λ d. d.entry),
-        dealt-within board.nic x _ _ (was-relayed board a x x sound here),
-      ))) (was-returns board a x x sound here).strays
-
   AreReturns-raw : NamesNoLoan x.view entry → x.view.scrubbed ≡ false → AreReturns board.nic raw_then
   AreReturns-raw idle counted =
-      let layout = x.view.setting.layout in
-      let was = was-returns board a x x sound here in
-      record {
-        written = λ b. omega (arith, was.written b, returns-raw layout b x.view.written one refl);
-        owed = λ b. rw way-then (omega (arith, was.owed b, returns-raw layout b (entries_on_way board.nic x) one refl));
-        no_more = λ b. rw way-then (omega (
-          arith,
-          was.no_more b,
-          returns-raw layout b (entries_on_way board.nic x) one refl,
-          returns-raw layout b x.view.written one refl,
-        ));
-        clear = λ b. rw way-then (IsClear-push layout b (loans_out b x) (entries_on_way board.nic x) one refl (idle-case (judged layout entry) x b idle)
-            (was.clear b));
-        named = rw way-then (All-push (IsNamed layout) (entries_on_way board.nic x) one was.named (λ e. absurd (let wrong : false ≡ true = e in cc)));
-        settled = λ e. absurd (let wrong : false ≡ true = e in cc);
-        quiet = λ e. absurd (let wrong : false ≡ true = e in cc);
-        scrubbed = λ e. absurd (let wrong : false ≡ true = sym counted ∙ e in cc);
-        strays = strays-then;
-      }
+      AreReturns-pushed board.nic x (omega (arith, dealt-within board.nic x _ _ (was-relayed board a x x sound here))) entry idle counted
+      (was-returns board a x x sound here)
 
   reach-then : (n : ℕ) → n ≡ length ring_then.items → n ≡ reach_of (entries_on_way board.nic raw_then)
   reach-then n many =

@@ -27,7 +27,7 @@ use Rattle.plain_board.proofs.AppFrames.{has-setting, IsSet-app, was-at_rest, Ar
 use Rattle.plain_board.proofs.AppFrames.{was-returns, AreFlags-kept, free_places-side, AreKept-app, AreDue-app, was-given, was-due, AreBooked-app}
 use Rattle.plain_board.proofs.AppFrames.{was-booked_loans, was-booked_filled, was-booked_raw, ArePhased-app, was-phased, OwnBuffers-kept}
 use Rattle.plain_board.proofs.Card.{none-lowered}
-use Rattle.plain_board.proofs.Lists.{total-of}
+use Rattle.board_face.proofs.LiesLemmas.{total-of}
 
 -- the user counts of an application
 abbrev pub took_of : Shape → ℕ → List ℕ → List ℕ

@@ -28,7 +28,8 @@ use Rattle.board_face.proofs.AreShownLemmas.{AreShown-filled}
 use Rattle.plain_parts.specs.Area.{stored}
 use Rattle.plain_board.specs.Board.{Arrays, Board, byte_of}
 use Rattle.plain_board.specs.Sound.{IsSound}
-use Rattle.plain_board.proofs.Lists.{weight-same, All-none, total-of}
+use Rattle.board_face.proofs.LiesLemmas.{total-of}
+use Rattle.plain_board.proofs.Lists.{weight-same, All-none}
 use Rattle.plain_board.proofs.Storing.{length-stored, stored_then, IsShown-stored, StoresAt-last, AreShown-before}
 use Rattle.plain_board.proofs.AppFrames.{IsSet-app, was-at_rest, AreCounted-app, was-returned, AreRelayed-kept, was-relayed, returns-app, was-returns}
 use Rattle.plain_board.proofs.AppFrames.{AreFlags-kept, AreFreeOnce-app, AreKept-app, AreDue-app, was-given, was-due, AreBooked-app, was-booked_loans}

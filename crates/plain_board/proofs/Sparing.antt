@@ -33,7 +33,8 @@ use Rattle.plain_parts.specs.Free.{listed_in, HasNoneListed, IsPicked}
 use Rattle.plain_board.specs.Board.{Arrays, Board, setting_of, others_of, byte_of}
 use Rattle.plain_board.specs.Seen.{IsSeenBy}
 use Rattle.plain_board.specs.Sound.{IsSound, IsAtRest}
-use Rattle.plain_board.proofs.Lists.{weight-other, weight-swap, count-push, once-taken, same-or-other, All-none, total-at, raised}
+use Rattle.plain_board.proofs.Lists.{weight-other, weight-swap, count-push, once-taken, same-or-other, All-none, raised}
+use Rattle.board_face.proofs.LiesLemmas.{total-at}
 use Rattle.plain_board.proofs.OwnSide.{seen-count, seen-users, nothing-listed}
 use Rattle.plain_board.proofs.Reserves.{reserve-own}
 use Rattle.plain_board.proofs.AppFrames.{has-setting, IsSet-app, was-at_rest, AreCounted-app, was-returned, AreRelayed-kept, was-relayed, returns-app}

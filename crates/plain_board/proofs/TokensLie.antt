@@ -1,49 +1,29 @@
 -- Where tokens lie: a buffer in which an application holds something has a holder, and no place is empty or ends behind it.
-use Rattle.std.proofs.Common.{◌≡◌, ℕ, zero, suc, ◌+◌, ◌<◌, ◌≤◌, Bool, true, false, List, [], ◌∷◌, map, ap, sym, ◌∙◌, arith}
+use Rattle.std.proofs.Common.{◌≡◌, ℕ, zero, suc, ◌<◌, ◌≤◌, Bool, true, false, List, [], ◌∷◌, map, ap, sym, ◌∙◌, arith}
 use Rattle.std.proofs.Common.{⊎_elim}
-use Rattle.std.specs.Prelude.{◌==◌, ◌&&◌, ◌↔◌, count_by, nat_lt, Contains, IsTrue}
+use Rattle.std.specs.Prelude.{◌==◌, ◌↔◌, nat_lt, Contains, IsTrue}
 use Rattle.std.proofs.lemmas.Bool.{cases_lt, lt-ltb, ltb-true, eq-eqb}
 use Rattle.std.proofs.lemmas.Bool.Decides.{eqb_tells}
 use Rattle.zr_kinds.specs.declared.place.Place.{Place}
-use Rattle.area_layout.specs.Layout.{total as all_buffers, size_of, LiesIn}
-use Rattle.board_face.specs.Lists.{same_place}
+use Rattle.area_layout.specs.Layout.{total as all_buffers, LiesIn}
 use Rattle.board_face.specs.Sides.{IsApp}
 use Rattle.board_face.specs.AppCalls.{HasHeld, HasLoan, HasSpare, IsLive}
 use Rattle.board_face.specs.Counts.{pool_count}
-use Rattle.board_face.specs.Places.{places_of, is_empty, ends_behind}
 use Rattle.board_face.specs.declared.views.parts.Filling.{Filling}
-use Rattle.board_face.specs.declared.views.app.HeldPiece.{HeldPiece}
 use Rattle.board_face.specs.declared.views.app.LentPiece.{LentPiece}
 use Rattle.board_face.specs.declared.views.app.AppSide.{AppSide}
-use Rattle.board_face.proofs.ListLemmas.{eqb_same, same_place-is, same_place-refl}
-use Rattle.board_face.proofs.Tallies.{weight, tally, tally-without}
+use Rattle.board_face.proofs.ListLemmas.{eqb_same}
+use Rattle.board_face.proofs.Tallies.{weight, tally}
 use Rattle.board_face.proofs.Parts.{app_count, count-tally, pool_count-parts}
-use Rattle.board_face.proofs.PlaceTallies.{in_buffer, app_places, places-parts}
+use Rattle.board_face.proofs.PlaceTallies.{in_buffer, app_places}
 use Rattle.board_face.proofs.AppLemmas.{owns-without}
 use Rattle.board_face.proofs.FewLemmas.{pool_count-few}
+use Rattle.board_face.proofs.LiesLemmas.{total-at, helds-at, loans-at, lies-by as place-lies}
 use Rattle.plain_board.specs.Board.{Board}
 use Rattle.plain_board.specs.Returns.{loans_out}
 use Rattle.plain_board.specs.Sound.{IsSound}
-use Rattle.plain_board.proofs.Lists.{total-at}
 
 -- ---- one among many
-
--- what a token shows meets a test as often as its element does
-helds-at : (v : List HeldPiece) (place : Place) (test : Place → Bool) → Contains (map (λ h. h.place) v) place
-    → weight (test place) ≤ tally (λ h. test h.place) v
-helds-at v place test out = omega (
-  arith,
-  tally-without (λ (h : HeldPiece). h.place) (same_place place) place (same_place-is place)
-      (same_place-refl place) test v out,
-)
-
-loans-at : (v : List LentPiece) (place : Place) (test : Place → Bool) → Contains (map (λ l. l.place) v) place
-    → weight (test place) ≤ tally (λ l. test l.place) v
-loans-at v place test out = omega (
-  arith,
-  tally-without (λ (l : LentPiece). l.place) (same_place place) place (same_place-is place)
-      (same_place-refl place) test v out,
-)
 
 -- a list has a number where something in it shows the number
 live-from : (b : ℕ) (xs : List LentPiece) → 0 < tally (λ l. l.place.buffer == b) xs → Contains (map (λ l. l.place.buffer) xs) b
@@ -78,42 +58,14 @@ module _ (board : Board) (a : ℕ) (x : AppSide) (sound : IsSound board) (here :
       let most = sound.sizes.layout.size.most in
       omega (arith, few, layout, most)
 
-  -- a test that no place of a buffer meets
-  met-none : (b : ℕ) (test : Place → Bool) → count_by test (places_of b board.nic board.apps) ≡ 0 → app_places b test board.nic x ≡ 0
-  met-none b test none =
-      omega (
-        arith,
-        none,
-        count-tally test (places_of b board.nic board.apps),
-        places-parts b test board.nic board.apps,
-        total-at (app_places b test board.nic) board.apps a x here.there here.is,
-      )
-
-  in-own : (p : Place) (test : Place → Bool) → weight (in_buffer p.buffer test p) ≡ weight (test p)
-  in-own p test = ap (λ c. weight (c && test p)) (eqb_same p.buffer)
-
   -- where the place is one of its buffer's, it lies in the area and has a byte
   lies-by : (p : Place) → 0 < app_count p.buffer board.nic x
       → ((test : Place → Bool) → weight (in_buffer p.buffer test p) ≤ app_places p.buffer test board.nic x)
       → LiesIn board.arrays.layout p × (0 < p.len)
   lies-by p held met =
-      let placed = sound.shown.places p.buffer in
-      let size = size_of board.nic.view.setting.layout p.buffer in
-      let short : weight (ends_behind size p) ≡ 0 = omega (
-        arith,
-        met (ends_behind size),
-        met-none p.buffer (ends_behind size) placed.within,
-        in-own p (ends_behind size),
-      ) in
-      let full : weight (is_empty p) ≡ 0 = omega (arith, met is_empty, met-none p.buffer is_empty placed.some_bytes, in-own p is_empty) in
-      let layout = ap (λ s. s.layout.size) sound.set.card in (
-        record {
-          buffer = part-within p.buffer held;
-          bytes = ⊎_elim (λ behind. absurd (omega (arith, short, ap weight (lt-ltb size (p.offset + p.len) behind))))
-              (λ in_time. omega (arith, in_time, layout)) (cases_lt size (p.offset + p.len));
-        },
-        ⊎_elim (λ some. some) (λ none. absurd (let e : p.len ≡ 0 = omega arith in omega (arith, full, ap weight (eq-eqb p.len 0 e)))) (cases_lt 0 p.len),
-      )
+      let layouts : board.nic.view.setting.layout ≡ board.arrays.layout = ap (λ s. s.layout) sound.set.card in
+      rw (← layouts) (place-lies board.nic board.apps a x here p (sound.shown.places p.buffer)
+      (λ past. sound.counted.beyond p.buffer (rw (← layouts) past)) held met)
 
   pub held-some : (p : Place) → HasHeld x.view p → 0 < app_count p.buffer board.nic x
   held-some p out = omega (arith, helds-at x.view.helds p (λ q. q.buffer == p.buffer) out, ap weight (eqb_same p.buffer))

@@ -1,4 +1,4 @@
-ghost use Rattle.std.specs.Prelude.{◌≡◌, ◌+◌, ◌<◌, [], true, length};
+ghost use Rattle.std.specs.Prelude.{◌≡◌, ◌+◌, ◌<◌, [], true, false, length, if◌then◌else◌};
 ghost use Rattle.board_face.specs.NicCalls.{apps_of};
 ghost use Rattle.board_face.specs.AppCalls.{HasLoan};
 ghost use Rattle.board_face.specs.AppEvents.{entry_of};
@@ -12,7 +12,8 @@ use crate::rule::{SharedWords, WordSeat};
 use crate::steps::{load_as, swap_as};
 use ref_words::laws;
 use std::marker::Brand;
-use zr_kinds::Place;
+use word_rings::refill_words;
+use zr_kinds::{Place, Rqe};
 
 /// An application looks at the flag of its next refill slot. `true` says that the slot is free.
 pub(crate) fn look_refill(words: &SharedWords, seat: &mut WordSeat, app: u32, slot: u32) -> bool
@@ -83,4 +84,39 @@ pub(crate) fn publish_loan(
     let word = words.map.refill(app, slot, 0);
     let table = &words.table;
     swap_as::<Brand, Place>(table, seat, word, 1, place);
+}
+
+/// An application gives the loan at the place back, by an entry: it looks at the flag of its next refill slot, stores the
+/// words of the entry, and hands the slot over. `false` says that the slot was seen in use.
+pub(crate) fn give_entry(
+    words: &SharedWords,
+    seat: &mut WordSeat,
+    app: u32,
+    slot: u32,
+    place: Place,
+    entry: Rqe,
+) -> bool
+    requires table { seat.old.table_id ≡ words.now.table.shared.table_id }
+    requires app { seat.old.me ≡ (app_view (app_of seat.old.me.0), []) }
+    requires number { (app_of seat.old.me.0).view.app ≡ app }
+    requires few { app < apps_of words.now.map }
+    requires within { slot < words.now.map.places }
+    requires next { slot ≡ writes_entry_at words.now.map (app_of seat.old.me.0) }
+    requires out { HasLoan (app_of seat.old.me.0).view place }
+    requires entry { entry ≡ entry_of (app_of seat.old.me.0).view.setting.layout place }
+    ensures table { seat.new.table_id ≡ seat.old.table_id }
+    ensures event { seat.new.me ≡ (
+      app_view (if result then side_gave (app_of seat.old.me.0) place
+          else side_refill_looked (app_of seat.old.me.0) false),
+      [],
+    ) }
+{
+    if !look_refill(words, seat, app, slot) {
+        return false;
+    }
+    let body = refill_words(&entry);
+    store_refill(words, seat, app, slot, 1, body[1]);
+    store_refill(words, seat, app, slot, 2, body[2]);
+    publish_loan(words, seat, app, slot, place);
+    true
 }

@@ -1,15 +1,12 @@
-use Rattle.std.proofs.Common.{◌≡◌, ℕ, ◌+◌, ◌<◌, Bool, true, false, List, length, set, get_or, refl, ap, sym, ◌∙◌, subst, arith}
-use Rattle.std.specs.Prelude.{◌==◌}
+use Rattle.std.proofs.Common.{◌≡◌, ◌<◌, refl, ap, sym, ◌∙◌, subst, arith}
 use Rattle.board_face.specs.NicCalls.{apps_of}
 use Rattle.board_face.specs.SlotSteps.{side_gave}
 use Rattle.board_face.specs.declared.views.parts.Setting.{Setting}
-use Rattle.board_face.specs.declared.views.app.AppSide.{AppSide}
-use Rattle.ref_words.specs.Words.{refill_at, slot_word}
+use Rattle.ref_words.specs.Words.{refill_at}
 use Rattle.ref_words.specs.Rings.{writes_entry_at}
-use Rattle.ref_words.specs.Rule.{RefRule}
 use Rattle.ref_words.specs.Seated.{app_view}
 use Rattle.word_board.specs.Board.{app_of}
-use Rattle.word_board.proofs.Stepping.{app-step, loads, found-refill, stores-refill}
+use Rattle.word_board.proofs.Stepping.{app-step, stores-refill}
 use Rattle.word_board.proofs.kinds.entries.publish_loan.Goals as goal
 
 pub swap_as-requires-clause-allows : goal.swap_as-requires-clause-allows
@@ -23,8 +20,10 @@ swap_as-requires-clause-allows c =
     let at : c.refill-word.result ≡ refill_at setting a s 0 = c.refill-word.ensures.value
     ∙ (ap (λ k. refill_at k c.args.app c.args.slot 0) words.keyed
     ∙ (ap (λ k. refill_at setting k c.args.slot 0) (sym c.requires.number) ∙ ap (λ k. refill_at setting a k 0) next_slot)) in
-    let few : a < apps_of setting = subst (λ k. k < apps_of setting) (sym c.requires.number) (subst (λ k. c.args.app < apps_of k) words.keyed c.requires.few) in
-    let within : s < setting.places = subst (λ k. k < setting.places) next_slot (subst (λ (k : Setting). c.args.slot < k.places) words.keyed c.requires.within) in
+    let few : a < apps_of setting = subst (λ k. k < apps_of setting) (sym c.requires.number) (subst
+    (λ k. c.args.app < apps_of k) words.keyed c.requires.few) in
+    let within : s < setting.places = subst (λ k. k < setting.places) next_slot (subst (λ
+    (k : Setting). c.args.slot < k.places) words.keyed c.requires.within) in
     app-step setting words.table.shared.table_id.slots c.args.seat.now.id c.refill-word.result (λ _. 1) (λ _. Unit {0}) mine
     (λ _. side_gave mine c.args.place) (λ n. refl)
     (λ ws nic apps rule here small.

@@ -1,5 +1,4 @@
 -- What the step leaves the seat, by the number that it found.
-use Rattle.std.specs.Prelude.{◌==◌}
 use Rattle.board_face.specs.SlotSteps.{side_refill_stored}
 use Rattle.ref_words.specs.Seated.{app_view}
 use Rattle.word_board.specs.Board.{app_of}
