@@ -18,7 +18,7 @@ use Rattle.app_worker.specs.declared.turn.Why.TheVariants.{NoNote, NotQuiet as n
 use Rattle.app_worker.specs.Core.{total}
 use Rattle.app_worker.specs.State.{State, Common, Bare, held_len, app_steps, one_if}
 use Rattle.app_worker.specs.Turns.{Because, Turns}
-use Rattle.app_worker.proofs.Moving.{looks-more, same-leaked}
+use Rattle.app_worker.proofs.Moving.{looks-more, same-leaked, reaps-same}
 use Rattle.app_worker.proofs.Seeing.{goes-none, goes-saw, common-saw}
 use Rattle.app_worker.proofs.Noting.{TookView, common-noted, steps-noted, moves-noted, ends-kept, shelves-kept, fronts-kept}
 use Rattle.app_worker.proofs.TurnLemmas.{stands-bare, as-before, idle-for}
@@ -228,6 +228,8 @@ module _ (st : State) (old : AppView) (bare : Bare st old) (is_bare : st.bare 鈮
           keeps = 位 n r before live. record { lent = (before live).lent; kept = 位 notes. absurd (cc) };
           stays = 位 _. refl;
           leaked = same-leaked st (record st { ended = true }) refl refl;
+          abandons = 位 f. omega arith;
+          reaps = reaps-same st (record st { ended = true }) old (told_end old) refl refl refl refl refl;
           bytes = 位 n. omega arith;
         };
         shelved = 位 _ begin shelved. record { flows = shelved.flows; others = shelved.others };

@@ -1,22 +1,27 @@
 -- The end of an application.
-use Rattle.std.proofs.Common.{◌≡◌, ℕ, ◌<◌, ◌≤◌, ◌-◌, true, false, List, [], ◌∷◌, ◌++◌, Option, None, length, refl}
+use Rattle.std.proofs.Common.{◌≡◌, ◌≢◌, ℕ, ◌+◌, ◌<◌, ◌≤◌, ◌-◌, min, true, false, List, [], ◌∷◌, ◌++◌, Option}
+use Rattle.std.proofs.Common.{None, length, drop, refl}
 use Rattle.std.proofs.Common.{sym, ap, subst}
-use Rattle.std.proofs.Common.{◌∙◌, arith, inl, inr}
+use Rattle.std.proofs.Common.{◌∙◌, arith, inl, inr, ⊎_elim}
+use Rattle.std.proofs.Math.Seq.{drop-append_seam}
+use Rattle.std.proofs.lemmas.Bool.{cases_lt, ne_eqb}
 use Rattle.std.specs.Prelude.{◌==◌, if◌then◌else◌}
 use Rattle.zr_kinds.specs.CopyingReceiver.{nothing_placed, next_missing, values_from}
 use Rattle.tcp_reorder.proofs.Holding.{next_missing-held}
 use Rattle.board_face.specs.AppCalls.{AppOnlySaw}
-use Rattle.board_face.specs.AppEvents.{app_saw, fell_quiet, scrubbed, left_board}
+use Rattle.board_face.specs.AppEvents.{app_saw, fell_quiet, scrubbed, left_board, reserve_of}
 use Rattle.board_face.specs.declared.views.app.AppLook.{AppLook}
 use Rattle.board_face.specs.declared.views.app.AppLook.TheVariants.{NotQuiet}
+use Rattle.board_face.specs.declared.views.app.LentPiece.{LentPiece}
 use Rattle.board_face.specs.declared.views.app.TakenNote.{TakenNote}
 use Rattle.board_face.specs.declared.views.app.AppView.{AppView}
 use Rattle.app_worker.specs.declared.stack.FlowQueue.{FlowQueue}
 use Rattle.app_worker.specs.declared.stack.Lending.{Lending}
 use Rattle.zr_kinds.specs.declared.ring.Completion.{Completion}
 use Rattle.app_worker.specs.declared.turn.Turn.TheVariants.{Did, Finished}
-use Rattle.app_worker.specs.Core.{total, Each, own_notes, received_notes, placed_of, marks_of_waiting, FlowStands}
-use Rattle.app_worker.specs.State.{State, IsAtRest, Working, Common, Bare, lent_len, due_one, app_steps}
+use Rattle.app_worker.specs.Core.{total, Each, own_notes, received_notes, placed_of, marks_of_waiting, lent_piece, over_read, read_out, FlowStands}
+use Rattle.app_worker.specs.Entries.{lies_in}
+use Rattle.app_worker.specs.State.{State, IsAtRest, Working, Common, Bare, lent_len, returned_aside, loan_entries, app_steps}
 use Rattle.app_worker.specs.Moves.{Goes}
 use Rattle.app_worker.specs.Letting.{FlowFacts, facts_of, LetGo}
 use Rattle.app_worker.specs.Stages.{Through}
@@ -26,9 +31,10 @@ use Rattle.app_worker.proofs.Placing.{values-length}
 use Rattle.app_worker.proofs.Standing.{each-map}
 use Rattle.app_worker.proofs.EachBoth.{each-both}
 use Rattle.app_worker.proofs.LetGone.{each-facts, total-facts}
-use Rattle.app_worker.proofs.Moving.{total-one, looks-same, same-leaked, no-write}
+use Rattle.app_worker.proofs.Moving.{total-one, looks-same, same-leaked, reaps-same, reserve-same, no-write}
 use Rattle.app_worker.proofs.Seeing.{common-saw, goes-saw}
-use Rattle.app_worker.proofs.Measure.{one-most, read-one}
+use Rattle.app_worker.proofs.Measure.{one-most}
+use Rattle.app_worker.proofs.Tokens.{total-append}
 use Rattle.app_worker.proofs.Through.{goes-then}
 use Rattle.app_worker.proofs.TurnLemmas.{stands-bare, no-poll, no-rest, bare-over, bare-flushes}
 
@@ -54,6 +60,69 @@ empty-list : {A : Type 0} (xs : List A) → length xs ≤ 0 → xs ≡ []
 empty-list [] few = refl
 empty-list (x ∷ xs) few = absurd (omega arith)
 
+-- each that is kept to the end lies outside the reserve
+abbrev outside : ℕ → LentPiece → ℕ
+outside reserve l = if l.place.buffer == reserve then 0 else 1
+
+outside-all : (reserve : ℕ) (taken : List TakenNote) (leaked : List Lending) → Each (λ (l : Lending). l.loan.buffer ≢ reserve) leaked
+    → (over_read taken (outside reserve) leaked ≡ length leaked) × (over_read taken (lies_in reserve) leaked ≡ 0)
+outside-all reserve taken [] each = (refl, refl)
+outside-all reserve taken (l ∷ leaked) each =
+    let rest = outside-all reserve taken leaked each.1 in
+    let no : (l.loan.buffer == reserve) ≡ false = ne_eqb l.loan.buffer reserve each.0 in
+    let one : outside reserve (lent_piece taken l) ≡ 1 = rw no refl in
+    let none : lies_in reserve (lent_piece taken l) ≡ 0 = rw no refl in
+    (omega (arith, rest.0, one), omega (arith, rest.1, none))
+
+-- those that are kept to the end are abandoned, and no others
+closed-abandoned : (b c : State) (v w : AppView) → Working b v → b.unread ++ b.posted.entries ≡ [] → b.due ≡ None → Common b v → LetGo b c v w
+    → (length w.returned ≡ loan_entries w + min c.how.leak (returned_aside w))
+    × (total (lies_in (reserve_of w)) (drop (loan_entries w) w.returned) ≡ 0)
+closed-abandoned b c v w works none due common gone =
+    let reserve : reserve_of w ≡ reserve_of v = reserve-same v w gone.moves.same.0 gone.moves.same.1 in
+    let aside : returned_aside w ≡ total (outside (reserve_of v)) w.returned = ap (λ n. total (outside n) w.returned) reserve in
+    let lent : (f : LentPiece → ℕ) → total f v.loans ≡ over_read v.taken f b.leaked.items = λ f. omega (
+      arith,
+      works.stands.tokens.loans f,
+      ap (total (λ (p : Completion × Lending). f (lent_piece v.taken p.1))) none,
+      ap (λ d. over_read v.taken f (read_out d b.leaked.items)) due,
+    ) in
+    let kept = outside-all (reserve_of v) v.taken b.leaked.items common.leak_aside in
+    let count : length w.returned ≡ length v.returned + length b.leaked.items = omega (
+      arith,
+      gone.back (λ _. 1),
+      lent (λ _. 1),
+      total-one w.returned,
+      total-one v.returned,
+      total-one b.leaked.items,
+    ) in
+    let all_aside : returned_aside w ≡ returned_aside v + length b.leaked.items = omega (
+      arith,
+      aside,
+      gone.back (outside (reserve_of v)),
+      lent (outside (reserve_of v)),
+      kept.0,
+    ) in
+    let leak : c.how.leak ≡ b.how.leak = ap (λ (s : State). s.how.leak) gone.same in
+    let (more, behind) = gone.behind in
+    let rest : drop (loan_entries w) w.returned ≡ more = ap (λ n. drop n w.returned) gone.entries ∙ ap (drop (length v.returned)) behind
+    ∙ drop-append_seam v.returned more in
+    let lies : LentPiece → ℕ = lies_in (reserve_of v) in
+    let inside : total lies more ≡ 0 = omega (
+      arith,
+      gone.back lies,
+      lent lies,
+      kept.1,
+      ap (total lies) behind,
+      total-append lies v.returned more,
+    ) in (
+      ⊎_elim
+          (λ (some : 0 < returned_aside v). omega (arith, count, all_aside, leak, gone.entries, works.keeps_first some))
+          (λ (no : returned_aside v ≤ 0). omega (arith, count, all_aside, leak, gone.entries, no, common.leaks))
+          (cases_lt 0 (returned_aside v)),
+      ap (λ n. total (lies_in n) (drop (loan_entries w) w.returned)) reserve ∙ ap (total lies) rest ∙ inside,
+    )
+
 -- all is given up once all is read
 pub closed-bare : (b c : State) (v w : AppView) → Working b v → b.ended ≡ true → length b.unread ≤ 0 → b.posted.entries ≡ [] → b.due ≡ None
     → Common b v → LetGo b c v w → Bare c w
@@ -70,20 +139,7 @@ closed-bare b c v w works ended few reaped due common gone =
       leaked = ap (λ (s : State). s.leaked.items) gone.same;
       none_left = gone.none_left;
       given = gone.given;
-      abandoned = λ going. omega (
-        arith,
-        gone.entries,
-        gone.back (λ _. 1),
-        total-one w.returned,
-        total-one v.returned,
-        works.stands.tokens.loans (λ _. 1),
-        ap (total (λ (p : Completion × Lending). 1)) none,
-        read-one v.taken b.due b.leaked.items,
-        ap due_one due,
-        gone.common.leaks,
-        common.leaks,
-        ap (λ (s : State). s.how.leak) gone.same,
-      );
+      abandoned = λ going. closed-abandoned b c v w works none due common gone;
       unread = ap (λ (s : State). s.unread) gone.same;
       flows = gone.ends;
       distinct = gone.distinct;
@@ -181,6 +237,8 @@ goes-gone st v kept = record {
     keeps = λ n r before live. (let k = before live in record { lent = k.lent; kept = k.kept });
     stays = λ _. refl;
     leaked = same-leaked st st refl refl;
+    abandons = λ f. omega arith;
+    reaps = reaps-same st st v (left_board (scrubbed (fell_quiet v))) refl refl refl refl refl;
     bytes = λ n. omega arith;
   };
   shelved = λ _ begin shelved. record { flows = shelved.flows; others = shelved.others };

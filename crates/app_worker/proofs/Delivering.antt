@@ -3,7 +3,7 @@ use Rattle.std.proofs.Common.{◌≡◌, ◌≢◌, ℕ, suc, ◌+◌, ◌-◌, 
 use Rattle.std.proofs.Common.{slice_get, Some}
 use Rattle.std.proofs.lemmas.Option.{slice_get-get_or}
 use Rattle.std.proofs.Common.{◌∷◌, ◌++◌, Option, length}
-use Rattle.std.proofs.Common.{set, get_or, refl, sym, ap, subst, ◌∙◌, arith, append_assoc, length-append}
+use Rattle.std.proofs.Common.{set, get_or, refl, sym, ap, subst, ◌∙◌, arith, append-nil, append_assoc, length-append}
 use Rattle.zr_kinds.specs.declared.ring.Completion.{Completion}
 use Rattle.completion_ring.specs.Ring.{Ring, ring}
 use Rattle.tcp_reorder.specs.Queue.{Queue}
@@ -23,6 +23,7 @@ use Rattle.app_worker.specs.Flushing.{loans_so_far}
 use Rattle.app_worker.proofs.Flushing.{lies-away}
 use Rattle.std.proofs.Common.{◌⊎◌, ⊎_elim}
 use Rattle.app_worker.specs.Moves.{reads_of, Moves, KeptSince, reserve_loans, lies_in}
+use Rattle.app_worker.specs.Entries.{lies_in}
 use Rattle.board_face.specs.declared.views.app.LentPiece.{LentPiece}
 use Rattle.board_face.specs.declared.views.app.AppLook.TheVariants.{RawOnItsWay}
 use Rattle.app_worker.specs.declared.stack.Delivery.{Delivery}
@@ -35,12 +36,13 @@ use Rattle.app_worker.specs.Whole.{LentOne, KeepsShelves, Lends}
 use Rattle.app_worker.proofs.Tokens.{some-bytes}
 use Rattle.app_worker.proofs.Standing.{At, split-at, each-join, each-right, each-left, stands-lent, total-changed, many-same}
 use Rattle.app_worker.proofs.Moving.{total-one, lies-not, aside-same, leaked-aside, same-leaked, strays-same, entries-same, names-same, most-same}
+use Rattle.app_worker.proofs.Moving.{abandons-same, gone-same}
 use Rattle.app_worker.proofs.Resting.{rest-set, rest-too}
 use Rattle.app_worker.proofs.Indexing.{index-set}
 use Rattle.app_worker.proofs.Accounts.{sound-same}
 use Rattle.app_worker.proofs.Origins.{origins-same}
 use Rattle.app_worker.specs.Entries.{Gives}
-use Rattle.app_worker.proofs.Written.{gives-same, blocks-same}
+use Rattle.app_worker.proofs.Written.{gives-same, blocks-moved}
 use Rattle.app_worker.proofs.Seeing.{Left, left-none, left-saw, left-no-spare}
 
 -- what the shelf has of a flow doesn't look at what its queue keeps
@@ -230,7 +232,8 @@ lent-bundle was own now then old new loans copied flush more count within value 
         entries = entries-same old new (ap (λ (v : AppView). v.written) step.view) returned common.entries;
         names = names-same was.stray old new setting common.names;
         sound = sound-same old new returned setting common.sound;
-        blocks = blocks-same was.how.stray old new was.stray (ap (λ (v : AppView). v.written) step.view) common.blocks;
+        blocks = blocks-moved was.how.stray old new was.stray [] (ap (λ (v : AppView). v.written) step.view) setting
+            (returned ∙ sym (append-nil old.returned)) (λ f. omega (arith, step.loans f)) common.entries common.blocks;
         bound = omega (arith, one_more, ap length returned, step.helds held_len, shorts, step.len, some, common.bound, ap (total taken_len) taken);
       };
       moves = record {
@@ -253,6 +256,15 @@ lent-bundle was own now then old new loans copied flush more count within value 
             };
         stays = λ _. refl;
         leaked = same-leaked was (with_lent was now then loans copied flush) refl refl;
+        abandons = abandons-same was (with_lent was now then loans copied flush) old new refl refl (ap (λ (v : AppView). v.written) step.view) returned;
+        reaps = record {
+          read = [];
+          more = p ∷ [];
+          in_order = sym all;
+          lent = λ f. omega (arith, step.loans (λ l. f l.place), ap (total (λ (l : LentPiece). f l.place)) returned);
+          tells = (step.tells, tt);
+          gone = λ f. omega (arith, gone-same was (with_lent was now then loans copied flush) old new returned refl refl f);
+        };
         bytes = λ n. omega (
           arith,
           ap (bytes_of n) (at.set_is now),

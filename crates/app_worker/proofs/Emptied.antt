@@ -1,6 +1,6 @@
 -- All that an application has out is given up: what is left.
 use Rattle.std.proofs.Common.{zero, suc, get_or, ◌∷◌, ◌≡◌, ℕ, ◌+◌, ◌<◌, ◌≤◌, true, false, List, [], Option, None, IsSome}
-use Rattle.std.proofs.Common.{map, length, refl, sym, ap, subst, ◌≢◌, ◌∙◌, arith, ◌++◌, append_assoc}
+use Rattle.std.proofs.Common.{map, length, drop, refl, sym, ap, subst, ◌≢◌, ◌∙◌, arith, ◌++◌, append-nil, append_assoc}
 use Rattle.std.specs.Prelude.{◌==◌, if◌then◌else◌}
 use Rattle.zr_kinds.specs.declared.ring.Completion.{Completion}
 use Rattle.zr_kinds.specs.CopyingReceiver.{nothing_placed, values_from}
@@ -16,6 +16,7 @@ use Rattle.app_worker.specs.Core.{total, many, Each, over_due, over_read, read_o
 use Rattle.app_worker.specs.Core.{AreReadAt, most_at_once, is_copy, IsIn}
 use Rattle.app_worker.proofs.Indexing.{by-place}
 use Rattle.app_worker.specs.State.{State, IsIndex, place_in, Common, FlowEnds, capped, held_len, taken_len, unsplit_len, due_one, app_steps, one_if, read_of}
+use Rattle.app_worker.specs.State.{loan_entries}
 use Rattle.app_worker.specs.Shelves.{IsShelved, AreShelved, AreOfOneLoan, ReadsFront, IsFrontShelved, AreFronts}
 use Rattle.std.proofs.Math.Nat.{mul-le-mul_left}
 use Rattle.std.proofs.Common.{◌*◌, ◌-◌}
@@ -23,7 +24,10 @@ use Rattle.board_face.specs.declared.views.app.WrittenEntry.{WrittenEntry}
 use Rattle.app_worker.proofs.Moving.{strays-same, names-same}
 use Rattle.app_worker.proofs.Accounts.{sound-gone}
 use Rattle.app_worker.proofs.Origins.{origins-more, gone-origins}
-use Rattle.app_worker.proofs.Written.{gives-gone, gives-same, gives-count, blocks-same}
+use Rattle.app_worker.proofs.Written.{gives-gone, gives-same, gives-count, blocks-moved}
+use Rattle.zr_kinds.specs.declared.place.Place.{Place}
+use Rattle.std.proofs.Math.Seq.{drop-append_seam}
+use Rattle.app_worker.specs.Moves.{over_leaked}
 use Rattle.app_worker.specs.Whole.{Torn}
 use Rattle.app_worker.specs.Letting.{FlowFacts, facts_of, Abandons, LetGo}
 use Rattle.circular_buffer.specs.Buffer.{buffer}
@@ -252,6 +256,31 @@ gone-all was now old v1 v2 v3 new reaped not_yet pushed torn common first second
       third.loans f,
       ap (total f) (total-none v3.loans none),
     ) in
+    let count_entries : loan_entries new ≡ length old.returned = gives-count new old.returned
+    (gives-same old new old.returned written setting torn.given) in
+    let rest : drop (loan_entries new) new.returned ≡ more = ap (λ n. drop n new.returned) count_entries ∙ ap (drop (length old.returned)) behind
+    ∙ drop-append_seam old.returned more in
+    let read_still : (f : LentPiece → ℕ) → over_read old.taken f (read_of was) ≡ over_due old.taken f was.due
+    + over_read old.taken f was.leaked.items = λ f. read-parts old.taken f was.due was.leaked.items in
+    let all_leaked : (f : Place → ℕ) → over_leaked f was old ≤ total (λ l. f l.place) (drop (loan_entries new) new.returned) = λ f. omega (
+      arith,
+      ap (λ b. if b then total (λ (l : LentPiece). f l.place) (drop (loan_entries old) old.returned) else total (λ (l : Lending). f l.loan) was.leaked.items)
+          not_yet,
+      ap (total (λ (l : LentPiece). f l.place)) rest,
+      back (λ l. f l.place),
+      ap (total (λ (l : LentPiece). f l.place)) behind,
+      total-append (λ (l : LentPiece). f l.place) old.returned more,
+      torn.tokens.loans (λ l. f l.place),
+      read_still (λ l. f l.place),
+    ) in
+    let all_gone : (f : Place → ℕ) → total (λ l. f l.place) old.returned + total (λ l. f l.loan) (read_of was)
+    + total (λ (p : Completion × Lending). f p.1.loan) was.unread ≡ total (λ l. f l.place) new.returned + 0 = λ f. omega (
+      arith,
+      back (λ l. f l.place),
+      torn.tokens.loans (λ l. f l.place),
+      total-append (λ (p : Completion × Lending). f p.1.loan) was.unread was.posted.entries,
+      ap (total (λ (p : Completion × Lending). f p.1.loan)) reaped,
+    ) in
     let bare : one_if was.bare ≡ 0 = ap one_if not_yet in
     let few : due + kept ≤ length old.loans = omega (arith, all, total-one old.loans) in
     let due_few : due ≤ 1 = due-most was.due in
@@ -263,6 +292,7 @@ gone-all was now old v1 v2 v3 new reaped not_yet pushed torn common first second
       helds = helds;
       loans = no_loan;
       back = back;
+      behind = (more, behind);
       given = gives-gone old new more written setting behind torn.given;
       entries = gives-count new old.returned (gives-same old new old.returned written setting torn.given);
       same = refl;
@@ -295,7 +325,8 @@ gone-all was now old v1 v2 v3 new reaped not_yet pushed torn common first second
             (sym (ap (λ (v : AppView). v.written) view)) (omega (arith, common.entries, count));
         names = names-same was.stray old new (ap (λ (v : AppView). v.setting) view) common.names;
         sound = sound-gone old new (ap (λ (v : AppView). v.setting) view) torn.tokens.apart back common.sound;
-        blocks = blocks-same was.how.stray old new was.stray (ap (λ (v : AppView). v.written) view) common.blocks;
+        blocks = blocks-moved was.how.stray old new was.stray more (ap (λ (v : AppView). v.written) view) setting behind
+            (λ f. omega (arith, back f, ap (total f) behind, total-append f old.returned more)) common.entries common.blocks;
         bound = omega (arith, count, no_more, ap (total held_len) helds, no_bytes, common.bound, ap (total taken_len) taken);
       };
       moves = record {
@@ -312,6 +343,15 @@ gone-all was now old v1 v2 v3 new reaped not_yet pushed torn common first second
         keeps = λ n r before live. absurd (cc);
         stays = λ _. refl;
         leaked = λ live. absurd (cc);
+        abandons = λ f. all_leaked f;
+        reaps = record {
+          read = was.unread;
+          more = [];
+          in_order = append-nil (was.unread ++ was.posted.entries);
+          lent = λ f. omega (arith, back (λ l. f l.place), ap (total (λ (l : LentPiece). f l.place)) no_loan);
+          tells = tt;
+          gone = λ f. all_gone f;
+        };
         bytes = λ n. omega (arith, total-facts (λ x. if x.number == n then x.bytes else 0) was.flows now facts);
       };
       steps = steps;

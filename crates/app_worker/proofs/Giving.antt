@@ -1,7 +1,7 @@
 -- A loan is given back: all that is kept then.
 use Rattle.std.proofs.Common.{◌≡◌, ◌≢◌, ℕ, ◌+◌, ◌<◌, ◌≤◌, ⊎_elim, true, false, Bool, [], ◌∷◌, ◌++◌, Option}
 use Rattle.std.proofs.Common.{Some, None, length, refl, sym, ap, subst}
-use Rattle.std.proofs.Common.{◌∙◌, arith, length-append}
+use Rattle.std.proofs.Common.{◌∙◌, arith, append-nil, length-append}
 use Rattle.std.specs.Prelude.{◌==◌, if◌then◌else◌}
 use Rattle.std.proofs.lemmas.Bool.{cases_eq, eq-eqb}
 use Rattle.board_face.specs.declared.views.parts.Setting.{Setting}
@@ -27,12 +27,14 @@ use Rattle.app_worker.proofs.Standing2.{given-stands}
 use Rattle.app_worker.proofs.Accounts.{sound-gave}
 use Rattle.app_worker.proofs.Origins.{origins-more}
 use Rattle.app_worker.proofs.Written.{gives-gave, blocks-loan}
-use Rattle.app_worker.proofs.Moving.{total-one, looks-same, kept-same, no-write, reserve-same, leaked-aside, same-leaked}
+use Rattle.app_worker.proofs.Moving.{total-one, looks-same, kept-same, no-write, reserve-same, leaked-aside, same-leaked, abandons-live, reaps-none}
 use Rattle.app_worker.proofs.Tokens.{total-append}
 use Rattle.app_worker.proofs.Standing.{each-join}
-use Rattle.app_worker.specs.Moves.{reads_of, reserve_loans, lies_in}
+use Rattle.app_worker.specs.Moves.{reads_of, reserve_loans, lies_in, over_lent, over_gone}
 use Rattle.app_worker.specs.Flushing.{Flushes}
 use Rattle.app_worker.proofs.Flushing.{flushes-same, flushes-none}
+use Rattle.app_worker.specs.Entries.{lies_in, WasLive, AreBlocks}
+use Rattle.zr_kinds.specs.declared.place.Place.{Place}
 use Rattle.board_face.specs.declared.views.app.LentPiece.{LentPiece}
 use Rattle.app_worker.proofs.Seeing.{Left, left-none, left-saw}
 
@@ -111,6 +113,18 @@ gave-left was l stray old new due step follow enough works common =
     ∙ mul-one was.how.stray (length old.returned) in
     let steps : app_steps (with_due was None stray) new ≡ app_steps was old + 2 = omega
     (arith, ap length taken, one_less, one_more, one_due, more, left_is, no_left, ap one_if ended, ap one_if left) in
+    let all_lent : (f : Place → ℕ) → over_lent f new ≡ over_lent f old = λ f. omega (
+      arith,
+      step.loans (λ x. f x.place),
+      ap (total (λ (x : LentPiece). f x.place)) step.returned,
+      total-append (λ (x : LentPiece). f x.place) old.returned (lent_piece old.taken l ∷ []),
+    ) in
+    let all_gone : (f : Place → ℕ) → over_gone f (with_due was None stray) new ≡ over_gone f was old = λ f. omega (
+      arith,
+      ap (total (λ (x : LentPiece). f x.place)) step.returned,
+      total-append (λ (x : LentPiece). f x.place) old.returned (lent_piece old.taken l ∷ []),
+      ap (λ d. total (λ (x : Lending). f x.loan) (read_out d was.leaked.items)) due,
+    ) in
     let stood : Stands was.notes was.flows (was.unread ++ was.posted.entries) (l ∷ was.leaked.items) old = subst
     (λ d. Stands was.notes was.flows (was.unread ++ was.posted.entries) (read_out d was.leaked.items) old) due works.stands in (
       record {
@@ -167,8 +181,9 @@ gave-left was l stray old new due step follow enough works common =
           entries = omega (arith, entries, one_more, common.entries);
           names = λ _. subst (λ (s : Setting). judged s.layout stray.entry ≡ Some stray.buffer) (sym setting) follow.names;
           sound = sound-gave old new (lent_piece old.taken l) step.returned setting works.stands.tokens.apart step.loans common.sound;
-          blocks = blocks-loan was.how.stray old new was.stray.entry was.stray.left (entry_of old.setting.layout l.loan) stray written
-              (ap (λ (s : Stray). s.entry) follow.is) left_is common.blocks;
+          blocks = blocks-loan was.how.stray old new was.stray.entry (entry_of old.setting.layout l.loan) stray (lent_piece old.taken l) written
+              (ap (λ (s : Stray). s.entry) follow.is) left_is setting step.returned step.loans common.entries
+              (subst (AreBlocks was.how.stray (WasLive old) old.written was.stray.entry) no_left common.blocks);
           bound = omega (arith, one_less, one_more, ap (total held_len) helds, common.bound, ap (total taken_len) taken);
         };
         goes = λ kept. record {
@@ -181,6 +196,8 @@ gave-left was l stray old new due step follow enough works common =
             keeps = kept-same was (with_due was None stray) old new refl refl refl refl read_count lent (omega arith);
             stays = λ _. refl;
             leaked = same-leaked was (with_due was None stray) refl refl;
+            abandons = abandons-live was (with_due was None stray) old new works.live works.live [] (sym (append-nil was.leaked.items));
+            reaps = reaps-none was (with_due was None stray) old new refl all_lent all_gone;
             bytes = λ n. omega arith;
           };
           shelved = λ _ first shelved. record {
@@ -244,6 +261,13 @@ kept-left was rest leaked v step works common =
       keeps = kept-same was now v v refl refl refl refl (omega (arith, one_due, longer)) refl (omega arith);
       stays = λ _. refl;
       leaked = λ live. (live, (l ∷ [], items));
+      abandons = abandons-live was now v v works.live works.live (l ∷ []) items;
+      reaps = reaps-none was now v v refl (λ f. refl) (λ f. omega (
+        arith,
+        ap (total (λ (x : Lending). f x.loan)) items,
+        total-append (λ (x : Lending). f x.loan) was.leaked.items (l ∷ []),
+        ap (λ d. total (λ (x : Lending). f x.loan) (read_out d was.leaked.items)) step.due,
+      ));
       bytes = λ n. omega arith;
     } in
     rw step.none (

@@ -101,6 +101,16 @@ through-reaped b c v w did end_by kept lent =
               };
           stays = goes.moves.stays;
           leaked = goes.moves.leaked;
+          abandons = goes.moves.abandons;
+          reaps = record {
+            read = goes.moves.reaps.read;
+            more = goes.moves.reaps.more;
+            in_order = goes.moves.reaps.in_order
+                ∙ ap (λ es. goes.moves.reaps.read ++ es) (sym (append-nil (c.unread ++ c.posted.entries)));
+            lent = goes.moves.reaps.lent;
+            tells = goes.moves.reaps.tells;
+            gone = goes.moves.reaps.gone;
+          };
           bytes = goes.moves.bytes;
         };
         shelved = goes.shelved;

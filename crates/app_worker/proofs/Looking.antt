@@ -21,9 +21,9 @@ use Rattle.app_worker.proofs.Flushing.{flushes-same, flushes-then}
 use Rattle.app_worker.specs.Stages.{Through, HasQuit, WriteStopped, LendsAll, LeavesInUse}
 use Rattle.app_worker.proofs.LentAll.{leaves-none, leaves-after}
 use Rattle.app_worker.specs.Turns.{Turns, MayPoll, Polled, turn_after}
-use Rattle.app_worker.proofs.Moving.{looks-more, same-leaked, moves-none, moves-then, no-write, quit-no-write}
+use Rattle.app_worker.proofs.Moving.{looks-more, same-leaked, reaps-same, moves-none, moves-then, no-write, quit-no-write}
 use Rattle.app_worker.proofs.Seeing.{working-saw, common-saw, goes-saw, working-rested, common-rested, goes-rested}
-use Rattle.app_worker.proofs.Through.{goes-then, through-none, bare-stopped, common-stopped}
+use Rattle.app_worker.proofs.Through.{goes-then, through-none, bare-stopped, common-stopped, moves-stopped}
 use Rattle.app_worker.proofs.TurnLemmas.{stands-working, stands-bare, no-look, no-rest, bare-over, bare-flushes, Begins, turns-later}
 
 -- a note may be taken at once
@@ -228,6 +228,8 @@ ended-begins st v mid kept f works common here more told =
           keeps = λ n r before live. record { lent = (before live).lent; kept = λ notes. absurd (cc) };
           stays = λ _. refl;
           leaked = same-leaked st (record st { ended = true }) refl refl;
+          abandons = λ f. omega arith;
+          reaps = reaps-same st (record st { ended = true }) v (told_end v) refl refl refl refl refl;
           bytes = λ n. omega arith;
         };
         shelved = λ _ begin shelved. record { flows = shelved.flows; others = shelved.others };
@@ -273,17 +275,7 @@ module _ (a b c : State) (u v w : AppView) (k : ℕ → Option (List ℕ)) (f : 
         (ap (λ (s : State). s.stopped) gone.same ∙ ap (λ (s : State). s.stopped) took.same ∙ works.going) (λ e. absurd (cc)) gone.common)
         reaped-both (ap (λ (s : State). s.bare) gone.same);
     goes = record {
-      moves = record {
-        same = moves-both.same;
-        how = moves-both.how;
-        places = moves-both.places;
-        steps = moves-both.steps;
-        looks = moves-both.looks;
-        keeps = λ n r before live. (let k = moves-both.keeps n r before live in record { lent = k.lent; kept = k.kept });
-        stays = λ other. absurd (other works.going);
-        leaked = moves-both.leaked;
-        bytes = moves-both.bytes;
-      };
+      moves = moves-stopped a c u w stop.Memory works.going moves-both;
       shelved = λ _ begin shelved. gone.shelved begin k (took.shelved begin k shelved);
       failed = λ is. absurd (cc);
     };
@@ -294,17 +286,7 @@ module _ (a b c : State) (u v w : AppView) (k : ℕ → Option (List ℕ)) (f : 
     flushes = bare-flushes a (record c { stopped = stop.Memory }) u w (ap (λ (s : State). s.bare) gone.same);
     here = λ _. gone.left ∙ took.left;
     polled = λ _ _. polled-now a (record c { stopped = stop.Memory }) u w works may
-        (record {
-          same = moves-both.same;
-          how = moves-both.how;
-          places = moves-both.places;
-          steps = moves-both.steps;
-          looks = moves-both.looks;
-          keeps = λ n r before live. (let k = moves-both.keeps n r before live in record { lent = k.lent; kept = k.kept });
-          stays = λ other. absurd (other works.going);
-          leaked = moves-both.leaked;
-          bytes = moves-both.bytes;
-        });
+        (moves-stopped a c u w stop.Memory works.going moves-both);
     cause = λ _ is. absurd (cc);
     rests = no-rest a (record c { stopped = stop.Memory }) u w k k works.live;
     looks = no-look a (record c { stopped = stop.Memory }) u w (Failed fault.Memory) works.live;

@@ -1,6 +1,6 @@
 -- From one moment to a later one.
 use Rattle.std.proofs.Common.{◌≡◌, ◌≢◌, ℕ, ◌*◌, ◌<◌, ◌≤◌, ◌+◌, true, false, ⊎_elim, Option, Some, None, List, []}
-use Rattle.std.proofs.Common.{◌∷◌, ◌++◌, length, refl, sym, ap, subst}
+use Rattle.std.proofs.Common.{◌∷◌, ◌++◌, drop, length, refl, sym, ap, subst}
 use Rattle.std.proofs.Common.{◌∙◌, arith, append-nil, append_assoc}
 use Rattle.std.specs.Prelude.{◌==◌, if◌then◌else◌}
 use Rattle.area_layout.specs.Layout.{pool_buffers, judged}
@@ -16,10 +16,15 @@ use Rattle.board_face.specs.Looks.{AppLooksStay, AppRose, app_looks, times, same
 use Rattle.board_face.specs.declared.views.app.AppLook.{AppLook}
 use Rattle.board_face.specs.declared.views.app.AppView.{AppView}
 use Rattle.board_face.specs.declared.views.app.TakenNote.{TakenNote}
-use Rattle.app_worker.specs.Core.{total, Each, over_due}
-use Rattle.app_worker.specs.State.{State, due_one, returned_aside, raw_entries, loan_entries}
-use Rattle.app_worker.specs.Moves.{Moves, KeepsLeaked, KeptSince, reads_of, reserve_loans, lies_in}
+use Rattle.app_worker.specs.Core.{total, Each, over_due, read_out}
+use Rattle.zr_kinds.specs.declared.place.Place.{Place}
+use Rattle.zr_kinds.specs.declared.ring.Completion.{Completion}
+use Rattle.app_worker.specs.State.{State, TellsOf, due_one, returned_aside, raw_entries, loan_entries}
+use Rattle.app_worker.specs.Entries.{lies_in}
+use Rattle.app_worker.specs.Moves.{Moves, Reaps, KeepsLeaked, KeptSince, reads_of, reserve_loans, over_lent, over_gone, over_leaked}
 use Rattle.std.proofs.lemmas.Bool.{cases_Bool}
+use Rattle.app_worker.proofs.Tokens.{total-append}
+use Rattle.app_worker.proofs.Standing.{each-join}
 
 pub total-one : {A : Type 0} (xs : List A) → total (λ _. 1) xs ≡ length xs
 total-one [] = refl
@@ -121,6 +126,78 @@ kept-same was now old new bare ended flush how reads lent unread n r before live
           (flush ∙ kept.0, λ read. omega (arith, kept.1 (omega (arith, read, reads)), ap (λ h. h.hold) how, unread));
     }
 
+-- ---- what is abandoned
+
+-- it has something out before and after, and kept more
+pub abandons-live : (was now : State) (old new : AppView) → was.bare ≡ false → now.bare ≡ false → (more : List Lending)
+    → now.leaked.items ≡ was.leaked.items ++ more → (f : Place → ℕ) → over_leaked f was old ≤ over_leaked f now new
+abandons-live was now old new live still more items f =
+    let kept : List Lending → ℕ = λ ls. total (λ (l : Lending). f l.loan) ls in
+    let gone : AppView → ℕ = λ v. total (λ (l : LentPiece). f l.place) (drop (loan_entries v) v.returned) in
+    let before : over_leaked f was old ≡ kept was.leaked.items = ap (λ b. if b then gone old else kept was.leaked.items) live in
+    let after : over_leaked f now new ≡ kept now.leaked.items = ap (λ b. if b then gone new else kept now.leaked.items) still in
+    omega (arith, before, after, ap kept items, total-append (λ (l : Lending). f l.loan) was.leaked.items more)
+
+-- all this is as before
+pub abandons-same : (was now : State) (old new : AppView) → now.bare ≡ was.bare → now.leaked.items ≡ was.leaked.items → new.written ≡ old.written
+    → new.returned ≡ old.returned → (f : Place → ℕ) → over_leaked f was old ≤ over_leaked f now new
+abandons-same was now old new bare items written returned f =
+    let kept : List Lending → ℕ = λ ls. total (λ (l : Lending). f l.loan) ls in
+    let gone : List WrittenEntry → List LentPiece → ℕ = λ ws ls.
+    total (λ (l : LentPiece). f l.place) (drop (total (λ (w : WrittenEntry). if w.of_loan then 1 else 0) ws) ls) in
+    let same : over_leaked f now new ≡ over_leaked f was old =
+    ap (λ b. if b then gone new.written new.returned else kept now.leaked.items) bare
+    ∙ ap (λ ls. if was.bare then gone new.written new.returned else kept ls) items
+    ∙ ap (λ ws. if was.bare then gone ws new.returned else kept was.leaked.items) written
+    ∙ ap (λ ls. if was.bare then gone old.written ls else kept was.leaked.items) returned in
+    omega (arith, same)
+
+-- ---- what is posted and read
+
+-- nothing is
+pub reaps-none : (was now : State) (old new : AppView) → was.unread ++ was.posted.entries ≡ now.unread ++ now.posted.entries
+    → ((f : Place → ℕ) → over_lent f new ≡ over_lent f old) → ((f : Place → ℕ) → over_gone f now new ≡ over_gone f was old)
+    → Reaps was now old new
+reaps-none was now old new unread lent gone = record {
+  read = [];
+  more = [];
+  in_order = append-nil (was.unread ++ was.posted.entries) ∙ unread;
+  lent = λ f. omega (arith, lent f);
+  tells = tt;
+  gone = λ f. omega (arith, gone f);
+}
+
+pub lent-same : (old new : AppView) → new.loans ≡ old.loans → new.returned ≡ old.returned → (f : Place → ℕ)
+    → over_lent f new ≡ over_lent f old
+lent-same old new loans returned f =
+    ap (λ ls. total (λ (l : LentPiece). f l.place) ls + total (λ (l : LentPiece). f l.place) new.returned) loans
+    ∙ ap (λ ls. total (λ (l : LentPiece). f l.place) old.loans + total (λ (l : LentPiece). f l.place) ls) returned
+
+pub gone-same : (was now : State) (old new : AppView) → new.returned ≡ old.returned → now.due ≡ was.due → now.leaked.items ≡ was.leaked.items
+    → (f : Place → ℕ) → over_gone f now new ≡ over_gone f was old
+gone-same was now old new returned due items f =
+    ap (λ ls. total (λ (l : LentPiece). f l.place) ls + total (λ (l : Lending). f l.loan) (read_out now.due now.leaked.items)) returned
+    ∙ ap (λ d. total (λ (l : LentPiece). f l.place) old.returned + total (λ (l : Lending). f l.loan) (read_out d now.leaked.items)) due
+    ∙ ap (λ ls. total (λ (l : LentPiece). f l.place) old.returned + total (λ (l : Lending). f l.loan) (read_out was.due ls)) items
+
+pub reaps-same : (was now : State) (old new : AppView) → was.unread ++ was.posted.entries ≡ now.unread ++ now.posted.entries → new.loans ≡ old.loans
+    → new.returned ≡ old.returned → now.due ≡ was.due → now.leaked.items ≡ was.leaked.items → Reaps was now old new
+reaps-same was now old new unread loans returned due items =
+    reaps-none was now old new unread (lent-same old new loans returned) (gone-same was now old new returned due items)
+
+reaps-then : (a b c : State) (u v w : AppView) → v.setting ≡ u.setting → Reaps a b u v → Reaps b c v w → Reaps a c u w
+reaps-then a b c u v w setting first second = record {
+  read = first.read ++ second.read;
+  more = first.more ++ second.more;
+  in_order = sym (append_assoc (a.unread ++ a.posted.entries) first.more second.more) ∙ ap (λ es. es ++ second.more) first.in_order
+      ∙ append_assoc first.read (b.unread ++ b.posted.entries) second.more ∙ ap (λ es. first.read ++ es) second.in_order
+      ∙ sym (append_assoc first.read second.read (c.unread ++ c.posted.entries));
+  lent = λ f. omega (arith, first.lent f, second.lent f, total-append (λ (p : Completion × Lending). f p.1.loan) first.more second.more);
+  tells = each-join (TellsOf u.setting.layout) first.more second.more first.tells
+      (subst (λ (s : Setting). Each (TellsOf s.layout) second.more) setting second.tells);
+  gone = λ f. omega (arith, first.gone f, second.gone f, total-append (λ (p : Completion × Lending). f p.1.loan) first.read second.read);
+}
+
 -- ---- steps one after another
 
 pub moves-none : (st : State) (v : AppView) → Moves st st v v
@@ -133,6 +210,8 @@ moves-none st v = record {
   keeps = λ n r before. before;
   stays = λ _. refl;
   leaked = same-leaked st st refl refl;
+  abandons = λ f. omega arith;
+  reaps = reaps-same st st v v refl refl refl refl refl;
   bytes = λ n. omega arith;
 }
 
@@ -146,6 +225,8 @@ moves-then a b c u v w first second = record {
   keeps = λ n r before. second.keeps n r (first.keeps n r before);
   stays = λ other. (let e : b.stopped ≡ a.stopped = first.stays other in second.stays (λ is. other (sym e ∙ is)) ∙ e);
   leaked = λ live. (let later = second.leaked live in leaked-then a b c (first.leaked later.0) later);
+  abandons = λ f. omega (arith, first.abandons f, second.abandons f);
+  reaps = reaps-then a b c u v w first.same.0 first.reaps second.reaps;
   bytes = λ n. omega (arith, first.bytes n, second.bytes n);
 }
 

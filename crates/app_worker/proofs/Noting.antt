@@ -33,7 +33,8 @@ use Rattle.app_worker.proofs.EachBoth.{each-both}
 use Rattle.app_worker.proofs.Accounts.{sound-same}
 use Rattle.app_worker.proofs.Origins.{origins-noted}
 use Rattle.app_worker.proofs.Written.{blocks-same}
-use Rattle.app_worker.proofs.Moving.{looks-same, kept-same, leaked-aside, same-leaked, strays-same, entries-same, names-same, most-same}
+use Rattle.app_worker.proofs.Moving.{looks-same, kept-same, leaked-aside, same-leaked, abandons-same, reaps-same}
+use Rattle.app_worker.proofs.Moving.{strays-same, entries-same, names-same, most-same}
 
 -- ---- one flow
 
@@ -318,7 +319,8 @@ module _ (was : State) (old new : AppView) (t : TakenNote) (took : TookView old 
         entries = entries-same old new (ap (λ (v : AppView). v.written) took.view) (ap (λ (v : AppView). v.returned) took.view) common.entries;
         names = names-same was.stray old new (ap (λ (v : AppView). v.setting) took.view) common.names;
         sound = sound-same old new (ap (λ (v : AppView). v.returned) took.view) (ap (λ (v : AppView). v.setting) took.view) common.sound;
-        blocks = blocks-same was.how.stray old new was.stray (ap (λ (v : AppView). v.written) took.view) common.blocks;
+        blocks = blocks-same was.how.stray old new was.stray (ap (λ (v : AppView). v.written) took.view) (ap (λ (v : AppView). v.setting) took.view)
+            (ap (λ (v : AppView). v.loans) took.view) (ap (λ (v : AppView). v.returned) took.view) common.entries common.blocks;
         bound = omega (
           arith,
           ap length (ap (λ (v : AppView). v.loans) took.view),
@@ -358,6 +360,10 @@ module _ (was : State) (old new : AppView) (t : TakenNote) (took : TookView old 
         (ap (λ (v : AppView). length v.returned + due_one was.due + length was.leaked.items) took.view) (rw took.view refl) (omega arith);
     stays = λ _. refl;
     leaked = same-leaked was (with_note was notes flows index active) refl refl;
+    abandons = abandons-same was (with_note was notes flows index active) old new refl refl (ap (λ (v : AppView). v.written) took.view)
+        (ap (λ (v : AppView). v.returned) took.view);
+    reaps = reaps-same was (with_note was notes flows index active) old new refl (ap (λ (v : AppView). v.loans) took.view)
+        (ap (λ (v : AppView). v.returned) took.view) refl refl;
     bytes = grow;
   }
 

@@ -1,6 +1,7 @@
 -- The oldest loan is read: all that is kept then.
 use Rattle.std.proofs.Common.{◌≡◌, ◌≢◌, ℕ, ◌+◌, ◌-◌, ◌^◌, ◌<◌, ◌≤◌, min, Bool, true, false, List, [], ◌∷◌}
 use Rattle.std.proofs.Common.{◌++◌, Option, Some, None}
+use Rattle.board_face.specs.declared.views.app.LentPiece.{LentPiece}
 use Rattle.std.proofs.Common.{IsSome, length, drop, set, get_or, refl, sym, ap, subst, ◌∙◌, arith, ◌⊎◌, ⊎_elim, append-nil, length-append}
 use Rattle.std.proofs.Common.{inl, inr}
 use Rattle.std.specs.Prelude.{slice_get, ◌==◌, if◌then◌else◌}
@@ -39,6 +40,7 @@ use Rattle.app_worker.proofs.ReadLemmas.{all-grow, read-append, marks-split}
 use Rattle.app_worker.proofs.Placing.{values-split, values-length}
 use Rattle.app_worker.proofs.EachBoth.{each-both}
 use Rattle.app_worker.proofs.Moving.{total-one, looks-same, no-write, aside-same, leaked-aside, same-leaked, strays-same, entries-same, names-same, most-same}
+use Rattle.app_worker.proofs.Moving.{abandons-same, lent-same}
 use Rattle.app_worker.proofs.Indexing.{index-set}
 use Rattle.app_worker.proofs.Accounts.{sound-same}
 use Rattle.app_worker.proofs.Origins.{origins-same}
@@ -235,7 +237,8 @@ module _ (was : State) (i : ℕ) (own : FlowQueue) (p : Completion × Lending) (
         entries = entries-same old new (ap (λ (v : AppView). v.written) only.view) same_returned common.entries;
         names = names-same was.stray old new same_setting common.names;
         sound = sound-same old new same_returned same_setting common.sound;
-        blocks = blocks-same was.how.stray old new was.stray (ap (λ (v : AppView). v.written) only.view) common.blocks;
+        blocks = blocks-same was.how.stray old new was.stray (ap (λ (v : AppView). v.written) only.view) (ap (λ (v : AppView). v.setting) only.view)
+            (ap (λ (v : AppView). v.loans) only.view) (ap (λ (v : AppView). v.returned) only.view) common.entries common.blocks;
         bound = omega (
           arith,
           ap length (ap (λ (v : AppView). v.loans) only.view),
@@ -336,6 +339,20 @@ module _ (was : State) (i : ℕ) (own : FlowQueue) (p : Completion × Lending) (
         };
     stays = λ _. refl;
     leaked = same-leaked was (with_read was i own bytes ps p.1 written flush) refl refl;
+    abandons = abandons-same was (with_read was i own bytes ps p.1 written flush) old new refl refl
+        (ap (λ (v : AppView). v.written) only.view) same_returned;
+    reaps = record {
+      read = p ∷ [];
+      more = [];
+      in_order = append-nil (was.unread ++ was.posted.entries) ∙ all;
+      lent = λ f. omega (arith, lent-same old new (ap (λ (v : AppView). v.loans) only.view) same_returned f);
+      tells = tt;
+      gone = λ f. omega (
+        arith,
+        ap (total (λ (l : LentPiece). f l.place)) same_returned,
+        ap (λ d. total (λ (l : Lending). f l.loan) (read_out d was.leaked.items)) due,
+      );
+    };
     bytes = λ n. (let later : FlowQueue = record own { bytes = bytes } in omega (
       arith,
       ap (bytes_of n) (at.set_is later),
@@ -526,6 +543,9 @@ module _ (was : State) (i : ℕ) (own : FlowQueue) (p : Completion × Lending) (
               (let k = (moves-read (own.bytes + most) written (omega arith)).keeps n r before live in record { lent = k.lent; kept = k.kept });
           stays = λ other. absurd (other works.going);
           leaked = (moves-read (own.bytes + most) written (omega arith)).leaked;
+          abandons = (moves-read (own.bytes + most) written (omega arith)).abandons;
+          reaps = (let r = (moves-read (own.bytes + most) written (omega arith)).reaps in
+              record { read = r.read; more = r.more; in_order = r.in_order; lent = r.lent; tells = r.tells; gone = r.gone });
           bytes = (moves-read (own.bytes + most) written (omega arith)).bytes;
         };
         shelved = λ first shelved. subst (λ (fs : List FlowQueue). AreShelved first kept_now fs new) (sym (at.set_is later))

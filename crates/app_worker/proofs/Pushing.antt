@@ -1,16 +1,18 @@
 -- The entries that follow a loan are written.
-use Rattle.std.proofs.Common.{◌≡◌, ◌≢◌, ℕ, zero, suc, ◌+◌, ◌-◌, ◌*◌, ◌<◌, ◌≤◌, Bool, false, List, [], ◌∷◌}
+use Rattle.std.proofs.Common.{◌≡◌, ◌≢◌, ℕ, zero, suc, ◌+◌, ◌-◌, ◌*◌, ◌<◌, ◌≤◌, Bool, true, false, List, [], ◌∷◌, map}
 use Rattle.std.proofs.Common.{◌++◌, Option, Some, None}
 use Rattle.std.proofs.Common.{length, refl, sym, ap, subst, ◌∙◌, arith, ◌⊎◌, inl, inr, append-nil, append_assoc}
-use Rattle.std.specs.Prelude.{if◌then◌else◌}
+use Rattle.std.specs.Prelude.{if◌then◌else◌, ◌==◌, Contains}
+use Rattle.std.proofs.lemmas.Bool.{eq-eqb}
 use Rattle.std.proofs.Math.Nat.{mul-le-mul_left}
 use Rattle.zr_kinds.specs.declared.ring.Rqe.{Rqe}
 use Rattle.zr_kinds.specs.declared.ring.Completion.{Completion}
 use Rattle.area_layout.specs.Layout.{judged}
-use Rattle.board_face.specs.AppCalls.{AppOnlySaw}
+use Rattle.board_face.specs.AppCalls.{IsLive, AppOnlySaw}
 use Rattle.board_face.specs.AppEvents.{app_saw, pushed_raw}
 use Rattle.board_face.specs.declared.views.app.AppLook.{AppLook}
 use Rattle.board_face.specs.declared.views.app.AppLook.TheVariants.{RefillInUse}
+use Rattle.board_face.specs.declared.views.app.LentPiece.{LentPiece}
 use Rattle.board_face.specs.declared.views.app.WrittenEntry.{WrittenEntry}
 use Rattle.board_face.specs.declared.views.app.AppView.{AppView}
 use Rattle.app_worker.specs.declared.stack.Lending.{Lending}
@@ -26,19 +28,28 @@ use Rattle.app_worker.specs.Steps.{PushedSome, Pushes, raw_copies}
 use Rattle.app_worker.specs.declared.straying.Gave.{Gave}
 use Rattle.app_worker.specs.declared.straying.Gave.TheVariants as gave
 use Rattle.app_worker.specs.Whole.{GaveOne, GaveBack, GivesBack, PushesLeft}
-use Rattle.app_worker.specs.Entries.{Gives, AreBlocks}
+use Rattle.app_worker.specs.Entries.{loans_of, lies_in, Gives, WasLive, AreBlocks}
 use Rattle.app_worker.proofs.Written.{gives-raw, blocks-raw}
 use Rattle.app_worker.proofs.Tokens.{total-append}
 use Rattle.board_face.specs.Looks.{AppRose}
 use Rattle.app_worker.specs.Flushing.{Flushes, loans_so_far}
 use Rattle.app_worker.proofs.Flushing.{flushes-same, flushes-none, flushes-then, flushes-saw}
-use Rattle.app_worker.proofs.Moving.{looks-same, looks-more, looks-trans, kept-same, same-leaked, no-write, rose-after}
+use Rattle.app_worker.proofs.Moving.{looks-same, looks-more, looks-trans, kept-same, same-leaked, no-write, rose-after, abandons-live, reaps-same}
 use Rattle.app_worker.proofs.Seeing.{Left, left-none, left-saw}
 
 -- ---- one by one
 
 pub pushed-none : (v : AppView) (s : Stray) → PushedSome v v s s
-pushed-none v s = record { view = refl; count = 0; written = sym (append-nil v.written); same = refl; fits = omega arith; looks = looks-same v v refl }
+pushed-none v s = record {
+  view = refl;
+  count = 0;
+  written = sym (append-nil v.written);
+  dropped = 0;
+  live = λ some. absurd (omega (arith, some));
+  same = refl;
+  all = omega arith;
+  looks = looks-same v v refl;
+}
 
 copies-push : (n : ℕ) (e : Rqe) → raw_copies n e ++ record { entry = e; of_loan = false } ∷ [] ≡ raw_copies (suc n) e
 copies-push zero e = refl
@@ -56,18 +67,23 @@ pushed-one u v was now some left =
           ∙ append_assoc u.written (raw_copies some.count was.entry) (one now.entry ∷ [])
           ∙ ap (λ e. u.written ++ (raw_copies some.count was.entry ++ one e ∷ [])) entry
           ∙ ap (λ ws. u.written ++ ws) (copies-push some.count was.entry);
+      dropped = some.dropped;
+      live = some.live;
       same = ap (λ (s : Stray). record s { left = now.left - 1 }) some.same;
-      fits = omega (arith, some.fits, left);
+      all = omega (arith, some.all, left);
       looks = looks-trans u v (pushed_raw v now.entry) some.looks (looks-same v (pushed_raw v now.entry) refl);
     }
 
-pub pushed-dropped : (u v : AppView) (was now : Stray) → PushedSome u v was now → PushedSome u v was (record now { left = now.left - 1 })
-pushed-dropped u v was now some = record {
+pub pushed-dropped : (u v : AppView) (was now : Stray) → PushedSome u v was now → 0 < now.left → IsLive v now.buffer
+    → PushedSome u v was (record now { left = now.left - 1 })
+pushed-dropped u v was now some left live = record {
   view = some.view;
   count = some.count;
   written = some.written;
+  dropped = suc some.dropped;
+  live = λ _. subst (IsLive u) (ap (λ (s : Stray). s.buffer) some.same) (subst (λ x. IsLive x now.buffer) some.view live);
   same = ap (λ (s : Stray). record s { left = now.left - 1 }) some.same;
-  fits = omega (arith, some.fits);
+  all = omega (arith, some.all, left);
   looks = some.looks;
 }
 
@@ -76,14 +92,16 @@ pushed-saw u v w was now some saw = rw saw.event (record {
   view = ap (λ (x : AppView). app_saw x RefillInUse) some.view;
   count = some.count;
   written = some.written;
+  dropped = some.dropped;
+  live = some.live;
   same = some.same;
-  fits = some.fits;
+  all = some.all;
   looks = looks-trans u v (app_saw v RefillInUse) some.looks (looks-more v (app_saw v RefillInUse) RefillInUse refl);
 })
 
-pub pushed-either : (u v w : AppView) (was now : Stray) → PushedSome u v was now → 0 < now.left → ((w ≡ v) ⊎ (w ≡ pushed_raw v now.entry))
-    → PushedSome u w was (record now { left = now.left - 1 })
-pushed-either u v w was now some left (inl same) = rw same (pushed-dropped u v was now some)
+pub pushed-either : (u v w : AppView) (was now : Stray) → PushedSome u v was now → 0 < now.left
+    → (((w ≡ v) × IsLive v now.buffer) ⊎ (w ≡ pushed_raw v now.entry)) → PushedSome u w was (record now { left = now.left - 1 })
+pushed-either u v w was now some left (inl same) = rw same.0 (pushed-dropped u v was now some left same.1)
 pushed-either u v w was now some left (inr pushed) = rw pushed (pushed-one u v was now some left)
 
 -- ---- all that is kept then
@@ -101,6 +119,14 @@ raws-copies (suc n) e = omega (arith, raws-copies n e)
 loans-copies : (n : ℕ) (e : Rqe) → total (λ (w : WrittenEntry). if w.of_loan then 1 else 0) (raw_copies n e) ≡ 0
 loans-copies zero e = refl
 loans-copies (suc n) e = omega (arith, loans-copies n e)
+
+-- a loan lies there
+live-some : (buffer : ℕ) (loans : List LentPiece) → Contains (map (λ (l : LentPiece). l.place.buffer) loans) buffer
+    → 0 < total (lies_in buffer) loans
+live-some buffer [] live = absurd (omega (arith, live.1))
+live-some buffer (l ∷ loans) (zero, within, is) = let yes : (l.place.buffer == buffer) ≡ true = eq-eqb l.place.buffer buffer is in
+    let one : lies_in buffer l ≡ 1 = rw yes refl in omega (arith, one)
+live-some buffer (l ∷ loans) (suc k, within, is) = omega (arith, live-some buffer loans (k, omega (arith, within), is))
 
 abbrev pub with_stray : State → Stray → State
 with_stray was stray = record was { stray = stray }
@@ -146,7 +172,8 @@ module _ (old : AppView) (settled quiet : Bool) (written : List WrittenEntry) (l
   }
 
   common-view : (was : State) (now : Stray) → raw_entries seen + now.left ≤ was.how.stray * loan_entries seen → loan_entries seen ≤ length old.returned
-      → (0 < now.left → judged old.setting.layout now.entry ≡ Some now.buffer) → AreBlocks was.how.stray written now.entry now.left → Common was old
+      → (0 < now.left → judged old.setting.layout now.entry ≡ Some now.buffer) → AreBlocks was.how.stray (WasLive old) written now.entry now.left
+      → Common was old
       → Common (with_stray was now) seen
   common-view was now strays entries names blocks common = record {
     app = common.app;
@@ -200,6 +227,11 @@ pushed-left was now old new some fewer works common =
       ap (λ (v : AppView). one_if v.ended) some.view,
       ap (λ (v : AppView). one_if v.left) some.view,
     ) in
+    let may_drop : 0 < some.dropped → WasLive old (length (loans_of old.written)) was.stray.entry = λ gone. (
+      was.stray.buffer,
+      common.names (omega (arith, gone, some.all)),
+      omega (arith, live-some was.stray.buffer old.loans (some.live gone)),
+    ) in
     let entry : now.entry ≡ was.stray.entry = ap (λ (s : Stray). s.entry) some.same in
     let buffer : now.buffer ≡ was.stray.buffer = ap (λ (s : Stray). s.buffer) some.same in
     let before : 0 < now.left → 0 < was.stray.left = λ left. omega (arith, left, fewer) in
@@ -210,10 +242,12 @@ pushed-left was now old new some fewer works common =
             (working-view old new.settled new.quiet new.written new.looks was now (λ left. works.waits (before left))
             (gives-raw old.setting.layout old.written new.written some.count was.stray.entry old.returned some.written works.given) works);
         common = subst (Common (with_stray was now)) (sym some.view)
-            (common-view old new.settled new.quiet new.written new.looks was now (omega (arith, raws, may, some.fits, common.strays))
+            (common-view old new.settled new.quiet new.written new.looks was now (omega (arith, raws, may, some.all, common.strays))
             (omega (arith, loans, common.entries)) names
-            (subst (λ e. AreBlocks was.how.stray new.written e now.left) (sym entry) (subst (λ ws. AreBlocks was.how.stray ws was.stray.entry now.left)
-            (sym some.written) (blocks-raw was.how.stray was.stray.left now.left some.count old.written was.stray.entry some.fits common.blocks))) common);
+            (subst (λ e. AreBlocks was.how.stray (WasLive old) new.written e now.left) (sym entry)
+            (subst (λ ws. AreBlocks was.how.stray (WasLive old) ws was.stray.entry now.left) (sym some.written)
+            (blocks-raw was.how.stray was.stray.left now.left some.count some.dropped (WasLive old) old.written was.stray.entry some.all
+            may_drop common.blocks))) common);
         goes = λ kept. record {
           moves = record {
             same = (
@@ -230,6 +264,8 @@ pushed-left was now old new some fewer works common =
                 (ap (λ (v : AppView). reads_of was v) some.view) (ap reserve_loans some.view) (omega arith);
             stays = λ _. refl;
             leaked = same-leaked was (with_stray was now) refl refl;
+            abandons = abandons-live was (with_stray was now) old new works.live works.live [] (sym (append-nil was.leaked.items));
+            reaps = reaps-same was (with_stray was now) old new refl (ap (λ (v : AppView). v.loans) some.view) returned refl refl;
             bytes = λ n. omega arith;
           };
           shelved = λ _ first shelved. subst (λ v. AreShelved first kept was.flows v) (sym some.view)

@@ -10,7 +10,7 @@ use Rattle.app_worker.specs.State.{State, read_of, Working, Common}
 use Rattle.app_worker.specs.Moves.{Moves, Goes}
 use Rattle.app_worker.specs.Whole.{KeepsShelves}
 use Rattle.app_worker.proofs.Standing.{stands-saw}
-use Rattle.app_worker.proofs.Moving.{looks-more, moves-none, same-leaked}
+use Rattle.app_worker.proofs.Moving.{looks-more, moves-none, same-leaked, reaps-same}
 
 pub working-saw : (st : State) (v : AppView) (look : AppLook) → Working st v → Working st (app_saw v look)
 working-saw st v look works = record {
@@ -66,6 +66,8 @@ moves-saw st v look = record {
   keeps = λ n r before live. (let k = before live in record { lent = k.lent; kept = k.kept });
   stays = λ _. refl;
   leaked = same-leaked st st refl refl;
+  abandons = λ f. omega arith;
+  reaps = reaps-same st st v (app_saw v look) refl refl refl refl refl;
   bytes = λ n. omega arith;
 }
 
@@ -152,6 +154,8 @@ goes-rested st v look kept = record {
     keeps = λ n r before live. (let k = before live in record { lent = k.lent; kept = k.kept });
     stays = λ _. refl;
     leaked = same-leaked st st refl refl;
+    abandons = λ f. omega arith;
+    reaps = reaps-same st st v (app_saw (came_to_rest v) look) refl refl refl refl refl;
     bytes = λ n. omega arith;
   };
   shelved = λ _ first shelved. record { flows = shelved.flows; others = shelved.others };

@@ -170,7 +170,7 @@ common-stopped st v cause none other common = record {
   bound = common.bound;
 }
 
-moves-stopped : (was st : State) (old v : AppView) (cause : Stopped) → was.stopped ≡ stop.No → Moves was st old v
+pub moves-stopped : (was st : State) (old v : AppView) (cause : Stopped) → was.stopped ≡ stop.No → Moves was st old v
     → Moves was (stopped_by st cause) old v
 moves-stopped was st old v cause none moves = record {
   same = moves.same;
@@ -181,6 +181,8 @@ moves-stopped was st old v cause none moves = record {
   keeps = λ n r before live. (let k = moves.keeps n r before live in record { lent = k.lent; kept = k.kept });
   stays = λ other. absurd (other none);
   leaked = moves.leaked;
+  abandons = moves.abandons;
+  reaps = (let r = moves.reaps in record { read = r.read; more = r.more; in_order = r.in_order; lent = r.lent; tells = r.tells; gone = r.gone });
   bytes = moves.bytes;
 }
 

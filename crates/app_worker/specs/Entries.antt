@@ -1,10 +1,13 @@
 -- The refill entries that an application wrote.
-use Rattle.std.specs.Prelude.{◌≡◌, ℕ, suc, true, false, if◌then◌else◌, List, [], ◌∷◌, ◌++◌, map}
+use Rattle.std.specs.Prelude.{◌≡◌, ℕ, suc, ◌+◌, ◌<◌, ◌==◌, true, false, if◌then◌else◌, List, [], ◌∷◌, ◌++◌, map}
+use Rattle.std.specs.Prelude.{length, drop, Some}
 use Rattle.zr_kinds.specs.declared.ring.Rqe.{Rqe}
+use Rattle.area_layout.specs.Layout.{judged}
 use Rattle.board_face.specs.AppEvents.{entry_of}
 use Rattle.board_face.specs.declared.views.app.LentPiece.{LentPiece}
 use Rattle.board_face.specs.declared.views.app.WrittenEntry.{WrittenEntry}
 use Rattle.board_face.specs.declared.views.app.AppView.{AppView}
+use Rattle.app_worker.specs.Core.{total}
 
 -- those that gave loans back
 abbrev pub loans_of : List WrittenEntry → List Rqe
@@ -15,12 +18,23 @@ loans_of (w ∷ ws) = (if w.of_loan then w.entry ∷ [] else []) ++ loans_of ws
 abbrev pub Gives : AppView → List LentPiece → Type 0
 Gives v loans = loans_of v.written ≡ map (λ l. entry_of v.setting.layout l.place) loans
 
--- Each entry of a loan is followed by at most so many raw ones, and each of these is the same as it. With them the entry of
--- the last loan, and how many may still follow.
-pub data AreBlocks (most : ℕ) : List WrittenEntry → Rqe → ℕ → Type 0 where
-  none : (entry : Rqe) → AreBlocks most [] entry 0
-  loan : {written : List WrittenEntry} {last : Rqe} {left : ℕ} → AreBlocks most written last left → (entry : Rqe)
-      → AreBlocks most (written ++ record { entry = entry; of_loan = true } ∷ []) entry most
-  raw : {written : List WrittenEntry} {entry : Rqe} {left : ℕ} → AreBlocks most written entry (suc left)
-      → AreBlocks most (written ++ record { entry = entry; of_loan = false } ∷ []) entry left
-  dropped : {written : List WrittenEntry} {entry : Rqe} {left : ℕ} → AreBlocks most written entry (suc left) → AreBlocks most written entry left
+-- 1 where the loan lies in this buffer
+abbrev pub lies_in : ℕ → LentPiece → ℕ
+lies_in buffer l = if l.place.buffer == buffer then 1 else 0
+
+-- A loan in the entry's buffer was out when so many had been given back: it still is, or went later.
+abbrev pub WasLive : AppView → ℕ → Rqe → Type 0
+WasLive v given entry = (buffer : ℕ) × (judged v.setting.layout entry ≡ Some buffer)
+    × (0 < total (lies_in buffer) v.loans + total (lies_in buffer) (drop given v.returned))
+
+-- Each entry of a loan is followed by so many more before the next one: each of these was written raw, the same as it, or
+-- dropped, which needs this cause, by how many loans had been given back and by the entry. With them the entry of the last
+-- loan, and how many still follow.
+pub data AreBlocks (most : ℕ) (MayDrop : ℕ → Rqe → Type 0) : List WrittenEntry → Rqe → ℕ → Type 0 where
+  none : (entry : Rqe) → AreBlocks most MayDrop [] entry 0
+  loan : {written : List WrittenEntry} {last : Rqe} → AreBlocks most MayDrop written last 0 → (entry : Rqe)
+      → AreBlocks most MayDrop (written ++ record { entry = entry; of_loan = true } ∷ []) entry most
+  raw : {written : List WrittenEntry} {entry : Rqe} {left : ℕ} → AreBlocks most MayDrop written entry (suc left)
+      → AreBlocks most MayDrop (written ++ record { entry = entry; of_loan = false } ∷ []) entry left
+  dropped : {written : List WrittenEntry} {entry : Rqe} {left : ℕ} → AreBlocks most MayDrop written entry (suc left)
+      → MayDrop (length (loans_of written)) entry → AreBlocks most MayDrop written entry left

@@ -39,6 +39,7 @@ pub record LetGo (was now : State) (old new : AppView) : Type 0 where
   pub helds : new.helds ≡ []
   pub loans : new.loans ≡ []
   pub back : (f : LentPiece → ℕ) → total f new.returned ≡ total f old.returned + total f old.loans
+  pub behind : (more : List LentPiece) × (new.returned ≡ old.returned ++ more)
   pub given : Gives new (take (loan_entries new) new.returned)
   pub entries : loan_entries new ≡ length old.returned
   pub same : now ≡ record was { flows = now.flows; unread = []; due = None; leaked = buffer [] was.leaked.capacity; bare = true }

@@ -1,13 +1,15 @@
 -- From one moment of an application to a later one.
-use Rattle.std.specs.Prelude.{◌≡◌, ◌≢◌, ℕ, ◌+◌, ◌<◌, ◌≤◌, ◌==◌, if◌then◌else◌, false, List, ◌++◌, length, Option}
+use Rattle.std.specs.Prelude.{◌≡◌, ◌≢◌, ℕ, ◌+◌, ◌<◌, ◌≤◌, if◌then◌else◌, false, List, ◌++◌, length, drop, Option}
+use Rattle.zr_kinds.specs.declared.place.Place.{Place}
+use Rattle.zr_kinds.specs.declared.ring.Completion.{Completion}
 use Rattle.zr_kinds.specs.declared.behaviour.Stopped.TheVariants as stop
 use Rattle.board_face.specs.Looks.{AppLooksStay}
 use Rattle.board_face.specs.declared.views.app.AppView.{AppView}
 use Rattle.board_face.specs.AppEvents.{reserve_of}
-use Rattle.board_face.specs.declared.views.app.LentPiece.{LentPiece}
 use Rattle.app_worker.specs.declared.stack.Lending.{Lending}
-use Rattle.app_worker.specs.Core.{total}
-use Rattle.app_worker.specs.State.{State, bytes_of, due_one, app_steps}
+use Rattle.app_worker.specs.Core.{total, Each}
+use Rattle.app_worker.specs.Entries.{lies_in}
+use Rattle.app_worker.specs.State.{State, TellsOf, read_of, loan_entries, bytes_of, due_one, app_steps}
 use Rattle.app_worker.specs.Shelves.{AreShelved, AreFronts}
 
 -- Until all is given up, what is kept to the end stays.
@@ -19,10 +21,6 @@ KeepsLeaked was now = (was.bare ≡ false) × ((more : List Lending) × (now.lea
 abbrev pub reads_of : State → AppView → ℕ
 reads_of st v = length v.returned + due_one st.due + length st.leaked.items
 
--- 1 where the loan lies in this buffer
-abbrev pub lies_in : ℕ → LentPiece → ℕ
-lies_in buffer l = if l.place.buffer == buffer then 1 else 0
-
 -- how many loans lay in the reserve so far
 abbrev pub reserve_loans : AppView → ℕ
 reserve_loans v = total (lies_in (reserve_of v)) v.loans + total (lies_in (reserve_of v)) v.returned
@@ -33,6 +31,34 @@ pub record KeptSince (n r : ℕ) (st : State) (v : AppView) : Type 0 where
   pub lent : r ≤ reserve_loans v
   pub kept : st.ended ≡ false → reserve_loans v ≡ r
       → (st.flush ≡ false) × (n < reads_of st v → st.how.hold ≤ length (st.unread ++ st.posted.entries))
+
+-- ---- completions
+
+-- over the loans that it has lent
+abbrev pub over_lent : (Place → ℕ) → AppView → ℕ
+over_lent f v = total (λ l. f l.place) v.loans + total (λ l. f l.place) v.returned
+
+-- over those that were read: it doesn't have them any more, one is to be given back, and some are kept to the end
+abbrev pub over_gone : (Place → ℕ) → State → AppView → ℕ
+over_gone f st v = total (λ l. f l.place) v.returned + total (λ l. f l.loan) (read_of st)
+
+-- Completions are read in the order in which they were posted, whatever flow they are of, each once. Once it is stopped,
+-- those that are unread go with the others.
+pub record Reaps (was now : State) (old new : AppView) : Type 0 where
+  pub read : List (Completion × Lending)
+  pub more : List (Completion × Lending)
+  pub in_order : (was.unread ++ was.posted.entries) ++ more ≡ read ++ (now.unread ++ now.posted.entries)
+  -- each loan that was lent was posted once, by what tells of it, and nothing else was
+  pub lent : (f : Place → ℕ) → over_lent f old + total (λ p. f p.1.loan) more ≡ over_lent f new
+  pub tells : Each (TellsOf old.setting.layout) more
+  -- the loans of those that were read are kept, or to be given back, or gone, and no others are
+  pub gone : (f : Place → ℕ) → over_gone f was old + total (λ p. f p.1.loan) read ≡ over_gone f now new
+
+-- over the loans that are kept to the end, and then over those that were abandoned
+abbrev pub over_leaked : (Place → ℕ) → State → AppView → ℕ
+over_leaked f st v = if st.bare then total (λ l. f l.place) (drop (loan_entries v) v.returned) else total (λ l. f l.loan) st.leaked.items
+
+-- ---- all together
 
 -- What some steps did: nothing goes back.
 pub record Moves (was now : State) (old new : AppView) : Type 0 where
@@ -46,6 +72,9 @@ pub record Moves (was now : State) (old new : AppView) : Type 0 where
   -- what stopped it first stays
   pub stays : was.stopped ≢ stop.No → now.stopped ≡ was.stopped
   pub leaked : now.bare ≡ false → KeepsLeaked was now
+  -- each loan that is kept to the end is one of those that are abandoned then
+  pub abandons : (f : Place → ℕ) → over_leaked f was old ≤ over_leaked f now new
+  pub reaps : Reaps was now old new
   -- no flow's count of bytes falls
   pub bytes : (number : ℕ) → bytes_of number was.flows ≤ bytes_of number now.flows
 

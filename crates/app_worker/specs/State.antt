@@ -3,7 +3,7 @@ use mir.Syntax.{w32}
 use Rattle.std.specs.Int.{cast_signed}
 use Rattle.std.specs.Prelude.{◌≡◌, ◌≢◌, ◌↔◌, ℕ, zero, suc, ◌+◌, ◌-◌, ◌*◌, ◌^◌, ◌<◌, ◌≤◌, ◌==◌, min}
 use Rattle.std.specs.Prelude.{Bool, true, false, if◌then◌else◌}
-use Rattle.std.specs.Prelude.{List, [], ◌∷◌, ◌++◌, length, take, Option, Some, None, MatchBool, MatchOption, IsSome, slice_index_or}
+use Rattle.std.specs.Prelude.{List, [], ◌∷◌, ◌++◌, length, take, drop, Option, Some, None, MatchBool, MatchOption, IsSome, slice_index_or}
 use Rattle.std.specs.Map.{lookup}
 use Rattle.std.specs.Ordering.{is_eq, nat_cmp}
 use Rattle.zr_kinds.specs.declared.behaviour.Behaviour.{Behaviour}
@@ -23,7 +23,7 @@ use Rattle.board_face.specs.declared.views.app.AppView.{AppView}
 use Rattle.app_worker.specs.declared.stack.Lending.{Lending}
 use Rattle.app_worker.specs.declared.stack.Stray.{Stray}
 use Rattle.app_worker.specs.declared.stack.FlowQueue.{FlowQueue}
-use Rattle.app_worker.specs.Entries.{Gives, AreBlocks}
+use Rattle.app_worker.specs.Entries.{Gives, lies_in, WasLive, AreBlocks}
 use Rattle.app_worker.specs.Core.{total, is_odd, is_copy, IsOfTaken, Each, many, read_out, own_notes, BeginAt, placed_of, short_bytes, Stands}
 
 pub record State : Type 0 where
@@ -159,9 +159,10 @@ pub record Bare (st : State) (v : AppView) : Type 0 where
   pub leaked : st.leaked.items ≡ []
   pub none_left : st.stray.left ≡ 0
   -- the first loans were given back by entries of their own, in order, and then the others abandoned: where nothing stopped
-  -- it, no more than were kept to the end
+  -- it, as many as were to be kept to the end, or all outside the reserve where these are fewer, and none in it
   pub given : Gives v (take (loan_entries v) v.returned)
-  pub abandoned : st.stopped ≡ No → length v.returned ≤ loan_entries v + st.how.leak
+  pub abandoned : st.stopped ≡ No → (length v.returned ≡ loan_entries v + min st.how.leak (returned_aside v))
+      × (total (lies_in (reserve_of v)) (drop (loan_entries v) v.returned) ≡ 0)
   pub unread : st.unread ≡ []
   pub flows : Each (FlowEnds v.taken) st.flows
   pub distinct : (number : ℕ) → many number st.flows ≤ 1
@@ -224,8 +225,9 @@ pub record Common (st : State) (v : AppView) : Type 0 where
   pub entries : loan_entries v ≤ length v.returned
   -- each loan that it doesn't have any more had a byte
   pub sound : odd_loans v.setting.layout v.returned ≡ 0
-  -- each of these is the same as the entry of the loan that was given back last before it
-  pub blocks : AreBlocks st.how.stray v.written st.stray.entry st.stray.left
+  -- each of these is the same as the entry of the loan that was given back last before it, and one is dropped only where a
+  -- loan in its buffer was out
+  pub blocks : AreBlocks st.how.stray (WasLive v) v.written st.stray.entry st.stray.left
   pub names : 0 < st.stray.left → judged v.setting.layout st.stray.entry ≡ Some st.stray.buffer
   -- each loan was of a byte that was taken, and is of one that it doesn't keep any more
   pub bound : length v.loans + length v.returned + total held_len v.helds + total (λ f. short_bytes f.queue) st.flows ≤ total taken_len v.taken

@@ -19,7 +19,7 @@ use Rattle.area_layout.specs.Layout.{Shape, off_of}
 use Rattle.tcp_reorder.specs.Gaps.{LosesFirst}
 use Rattle.circular_buffer.specs.Buffer.{Buffer, buffer}
 use Rattle.completion_ring.specs.Ring.{Ring, ring, IsFull}
-use Rattle.board_face.specs.AppCalls.{AppOnlySaw}
+use Rattle.board_face.specs.AppCalls.{IsLive, AppOnlySaw}
 use Rattle.area_layout.specs.Layout.{Shape, judged}
 use Rattle.zr_kinds.specs.declared.ring.Rqe.{Rqe}
 use Rattle.board_face.specs.declared.views.app.WrittenEntry.{WrittenEntry}
@@ -190,13 +190,15 @@ abbrev pub raw_copies : ℕ → Rqe → List WrittenEntry
 raw_copies zero entry = []
 raw_copies (suc n) entry = record { entry = entry; of_loan = false } ∷ raw_copies n entry
 
--- Some of the entries that were left were written, and others dropped.
+-- Some of the entries that were left were written, and others dropped, since a loan in their buffer is out.
 pub record PushedSome (old new : AppView) (was now : Stray) : Type 0 where
   pub view : new ≡ record old { settled = new.settled; quiet = new.quiet; written = new.written; looks = new.looks }
   pub count : ℕ
   pub written : new.written ≡ old.written ++ raw_copies count was.entry
+  pub dropped : ℕ
+  pub live : 0 < dropped → IsLive old was.buffer
   pub same : now ≡ record was { left = now.left }
-  pub fits : count + now.left ≤ was.left
+  pub all : count + dropped + now.left ≡ was.left
   pub looks : AppLooksStay old new
 
 abbrev pub Pushes : AppView → AppView → Stray → Stray → Pushed → Type 0

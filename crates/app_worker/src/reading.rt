@@ -4,7 +4,7 @@ ghost use Rattle.std.specs.Prelude.{◌≤◌, List, length, IfSome, OnOk, OnErr
 ghost use Rattle.area_layout.specs.Layout.{judged};
 ghost use Rattle.std.specs.Io.KnownBytes.{Keeps};
 ghost use Rattle.zr_io.specs.Moved.{Gained, Rose};
-ghost use Rattle.board_face.specs.AppCalls.{IsHere, AppOnlySaw};
+ghost use Rattle.board_face.specs.AppCalls.{IsHere, IsLive, AppOnlySaw};
 ghost use Rattle.app_worker.specs.Core.{LieApart, IsIn, lent_piece, OnlyReads, IsReadOf};
 ghost use Rattle.board_face.specs.AppEvents.{app_gist, pushed_raw};
 ghost use Rattle.board_face.specs.declared.views.app.AppLook.TheVariants.{RefillInUse};
@@ -150,7 +150,8 @@ fn push_stray<F: AppFace>(face: &mut F, stray: &Stray) -> bool
     requires counted { (F.seen face.old).scrubbed ≡ false }
     requires names { judged (F.seen face.old).setting.layout stray.now.entry ≡ Some stray.now.buffer }
     ensures view { MatchBool result
-        ((F.seen face.new ≡ F.seen face.old) ⊎ (F.seen face.new ≡ pushed_raw (F.seen face.old) stray.now.entry))
+        (((F.seen face.new ≡ F.seen face.old) × IsLive (F.seen face.old) stray.now.buffer)
+        ⊎ (F.seen face.new ≡ pushed_raw (F.seen face.old) stray.now.entry))
         (AppOnlySaw RefillInUse (F.seen face.old) (F.seen face.new)) }
     ensures told { result ≡ false → F.tells RefillInUse (app_gist (F.seen face.new)) (F.beside face.new) }
     ensures beside { F.beside face.new ≡ F.beside face.old }

@@ -12,9 +12,25 @@ use Rattle.app_worker.proofs.Pushing.{back-did}
 use Rattle.app_worker.proofs.Moving.{looks-trans, rose-after}
 use Rattle.board_face.specs.declared.views.app.AppLook.TheVariants.{RefillInUse}
 use Rattle.app_worker.specs.Stages.{Through, kept_of}
-use Rattle.app_worker.proofs.Through.{write-stopped, write-later, read-did, through-then, through-read, through-gave, through-in-use}
+use Rattle.app_worker.proofs.Through.{write-stopped, write-later, read-did, through-none, through-then, through-read, through-gave, through-in-use}
 use Rattle.app_worker.proofs.Quitting.{has-quit, quit-later}
 use Rattle.app_worker.proofs.stages.drain.Goals as goal
+
+pub loop-face-init : goal.loop-face-init
+loop-face-init g c = (
+  through-none (state_of c.args.st.now) (g.F.AppFace.seen c.args.face.now) (g.T.Shelf.kept c.args.shelf.now) c.requires.working c.requires.common
+      c.requires.reaped,
+  c.requires.due,
+  λ yes. absurd (cc),
+  λ _. record { state = refl; view = refl; kept_is = refl },
+  omega arith,
+  refl,
+  c.least_kept-least.ensures,
+  λ yes. absurd (cc),
+  λ on. (on, λ yes. absurd (cc)),
+  λ off. inl off,
+  c.requires.pushed,
+)
 
 pub returns-in-Failed-clause-reads : goal.returns-in-Failed-clause-reads
 returns-in-Failed-clause-reads g c =

@@ -8,6 +8,16 @@ use Rattle.app_worker.specs.declared.reading.Pushed.TheVariants as pushed
 use Rattle.app_worker.proofs.Through.{goes-then}
 use Rattle.app_worker.proofs.straying.give_back.Goals as goal
 
+pub returns-then-not-give_one-clause-goes : goal.returns-then-not-give_one-clause-goes
+returns-then-not-give_one-clause-goes g c = λ kept.
+    let a : State = state_of c.args.st.now in
+    let b : State = state_of c.push_left.new.st in
+    let d : State = state_of c.give_one.new.st in
+    let u : AppView = g.F.AppFace.seen c.args.face.now in
+    let v : AppView = g.F.AppFace.seen c.push_left.new.face in
+    let w : AppView = g.F.AppFace.seen c.give_one.new.face in
+    goes-then a b d u v w kept kept kept (c.push_left.ensures.goes kept) (c.give_one.ensures.goes kept)
+
 pub returns-in-Part-push_left-clause-goes : goal.returns-in-Part-push_left-clause-goes
 returns-in-Part-push_left-clause-goes g c = λ kept.
     let a : State = state_of c.args.st.now in

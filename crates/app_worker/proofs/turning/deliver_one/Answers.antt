@@ -11,6 +11,7 @@ use Rattle.app_worker.proofs.Standing2.{own-stands}
 use Rattle.app_worker.proofs.Delivering.{lent-bundle, none-lent}
 use Rattle.app_worker.proofs.Moving.{no-write}
 use Rattle.app_worker.proofs.Resting.{rest-none}
+use Rattle.app_worker.proofs.Seeing.{goes-none}
 use Rattle.app_worker.proofs.turning.deliver_one.Goals as goal
 
 pub deliver-delivery-requires-clause-out : goal.deliver-delivery-requires-clause-out
@@ -54,6 +55,9 @@ deliver-delivery-requires-clause-spare g c =
     let within : st.active < length st.flows = search rules in
     let at : At st.flows st.active own = split-at st.flows st.active own within c.index_mut-own.ensures.value in
     omega (arith, c.requires.common.spares, ap (total (λ f. short_bytes f.queue)) at.is, total-append (λ f. short_bytes f.queue) at.before (own ∷ at.after))
+
+pub returns-then-st-len-clause-goes : goal.returns-then-st-len-clause-goes
+returns-then-st-len-clause-goes g c = λ kept. goes-none (state_of c.args.st.now) (g.F.AppFace.seen c.args.face.now) kept
 
 pub returns-then-st-len-clause-lends : goal.returns-then-st-len-clause-lends
 returns-then-st-len-clause-lends g c = (refl, refl, rest-none c.args.st.now.active c.args.st.now.flows.items (search rules) c.requires.working.rest)
