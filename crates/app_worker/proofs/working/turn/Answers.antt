@@ -5,8 +5,6 @@ use Rattle.app_worker.specs.StateOf.{state_of}
 use Rattle.app_worker.specs.declared.turn.Turn.TheVariants.{Idle}
 use Rattle.app_worker.specs.declared.turn.Why.TheVariants.{RefillFull}
 use Rattle.app_worker.specs.Turns.{Turns, turn_after}
-use Rattle.app_worker.specs.declared.turn.Turn.TheVariants.{Idle}
-use Rattle.app_worker.specs.declared.turn.Why.TheVariants.{RefillFull}
 use Rattle.app_worker.proofs.TurnLemmas.{turns-saw, turns-gave, turns-later, begins-gave}
 use Rattle.app_worker.proofs.working.turn.Goals as goal
 
