@@ -18,11 +18,11 @@ above-from : (n m : ℕ) (os : List Offered) → n < m → RiseFrom m os → Are
 above-from n m [] less rise = tt
 above-from n m (o ∷ os) less rise = (omega (arith, less, rise.0), above-from n _ os (omega (arith, less, rise.0)) rise.1)
 
-ascends : (n : ℕ) (os : List Offered) → RiseFrom n os → Ascend os
+pub ascends : (n : ℕ) (os : List Offered) → RiseFrom n os → Ascend os
 ascends n [] rise = tt
 ascends n (o ∷ os) rise = (above-from o.frame _ os (omega arith) rise.1, ascends _ os rise.1)
 
-HaveBytes-filter : (p : Offered → Bool) (os : List Offered) → HaveBytes os → HaveBytes (filter p os)
+pub HaveBytes-filter : (p : Offered → Bool) (os : List Offered) → HaveBytes os → HaveBytes (filter p os)
 HaveBytes-filter p [] have = tt
 HaveBytes-filter p (o ∷ os) have = ⊎_elim
     (λ (is : p o ≡ true). rw is (have.0, HaveBytes-filter p os have.1))
@@ -33,7 +33,7 @@ some_byte : (payload : List ℕ) → not (length payload == 0) ≡ true → 0 < 
 some_byte [] some = absurd (true≢false (sym some))
 some_byte (b ∷ bs) some = omega arith
 
-payloads : (os : List Offered) → HaveBytes (filter has_payload os)
+pub payloads : (os : List Offered) → HaveBytes (filter has_payload os)
 payloads [] = tt
 payloads (o ∷ os) = ⊎_elim
     (λ (is : has_payload o ≡ true). rw is (some_byte o.payload is, payloads os))

@@ -14,3 +14,6 @@ pub mod Bridge
 pub mod Standing
 pub mod Beginning
 pub mod Sharing
+pub mod WholeNotes
+pub mod OwnFlows
+pub mod SentNotes

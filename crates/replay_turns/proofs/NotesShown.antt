@@ -76,7 +76,7 @@ abbrev pub AreOf : Offered → List SentNote → Type 0
 AreOf o [] = Unit {0}
 AreOf o (s ∷ ss) = IsNoteOf o s × AreOf o ss
 
-rest-of : (o : Offered) (at : ℕ) (mine : List SentNote) → ShowRest o at mine → AreOf o mine
+pub rest-of : (o : Offered) (at : ℕ) (mine : List SentNote) → ShowRest o at mine → AreOf o mine
 rest-of o at [] show = tt
 rest-of o at (s ∷ ss) show = (show.0.of_frame, rest-of o (at + s.note.place.len) ss show.1)
 

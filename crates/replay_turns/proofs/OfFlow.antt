@@ -46,7 +46,7 @@ are-steered ports frames = steered-from ports 1 (segments_of frames)
 
 -- ---- a flow stays what it is
 
-there : {A : Type 0} (xs : List A) (i : ℕ) → i < length xs → (x : A) × (slice_get xs i ≡ Some x)
+pub there : {A : Type 0} (xs : List A) (i : ℕ) → i < length xs → (x : A) × (slice_get xs i ≡ Some x)
 there [] i within = absurd (omega arith)
 there (y ∷ xs) zero within = (y, refl)
 there (y ∷ xs) (suc i) within = there xs i (omega arith)
@@ -85,7 +85,7 @@ of_flow ports flows (s ∷ ss) number flow have are last =
       of_flow ports after ss number flow (flows_with-apps ports flows s are.0 have) are.1 last,
     )
 
-no_apps : (ports : List ℕ) → HaveApps ports []
+pub no_apps : (ports : List ℕ) → HaveApps ports []
 no_apps ports = λ i flow at. absurd (cc)
 
 pub flow-frames : (ports : List ℕ) (frames : List (List ℕ)) (number : ℕ) (flow : Flow) → slice_get

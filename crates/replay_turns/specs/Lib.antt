@@ -8,3 +8,4 @@ pub mod Turns
 pub mod Parts
 pub mod Outcomes
 pub mod Account
+pub mod Sent

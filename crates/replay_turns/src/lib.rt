@@ -12,7 +12,11 @@ mod steps;
 mod turn;
 
 pub use feed::Feed;
-pub use laws::{accounts_give_streams, closed_feeds_show, new_feeds_stand};
+pub use laws::{
+    accounts_give_streams, closed_feeds_show, feeds_send_own, feeds_send_whole,
+    first_notes_are_whole, new_feeds_stand, offers_have_apps, own_notes_mark_no_other,
+    shown_notes_are_own, shown_notes_are_whole,
+};
 pub use outcome::Outcome;
 pub use plan::Plan;
 pub use steps::{app_step, card_step};
