@@ -9,7 +9,7 @@ no_pairs : AllPairs (λ m n. m < n) []
 no_pairs = λ i j d lt none. absurd (grind (arith, none))
 
 pub feeds_stand : {S : Type 0} (left : S → Option (List ℕ)) (faults : S → ℕ) → NewFeedsStand left faults
-feeds_stand left faults source ports split v none =
+feeds_stand left faults source ports split v none none_dealt =
     let nothing = steered-nothing ports in
     record {
       ports_are = refl;
@@ -23,4 +23,5 @@ feeds_stand left faults source ports split v none =
         refused_are = record { rise = no_pairs; each = All-nil _ };
         shown = rw none refl;
       };
+      counted = rw (nothing, none_dealt) (record { searches = omega arith; empty = refl; strays = refl });
     }

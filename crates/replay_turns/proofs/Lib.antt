@@ -5,6 +5,7 @@ pub mod PlayLemmas
 pub mod Lines
 pub mod OffersRise
 pub mod Settling
+pub mod Counting
 pub mod Turning
 pub mod NotesShown
 pub mod MarksStreamed

@@ -102,7 +102,7 @@ module _ (was pool now : PoolState) (old mid new : NicView) (count : ℕ) (stood
 
 -- ---- a frame that was settled
 
-closed-dealt : (current : Option Filling) (old new : NicView) → ClosesCurrent current old new → new.dealt ≡ old.dealt
+pub closed-dealt : (current : Option Filling) (old new : NicView) → ClosesCurrent current old new → new.dealt ≡ old.dealt
 closed-dealt None old new same = ap (λ (v : NicView). v.dealt) same
 closed-dealt (Some own) old new closed = ap (λ (v : NicView). v.dealt) closed.event
 

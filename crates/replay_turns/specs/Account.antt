@@ -1,6 +1,6 @@
 -- The account of a run: what the roles of a board did, read off once the card has ended and all have left, says where each
 -- byte of each stream came from. It is over the sides of the roles alone, so it is the same for every board.
-use Rattle.std.specs.Prelude.{◌≡◌, ℕ, ◌-◌, ◌^◌, ◌==◌, min, true, List, ◌++◌, length, map, filter, All, Option, Some}
+use Rattle.std.specs.Prelude.{◌≡◌, ℕ, ◌==◌, true, List, ◌++◌, length, map, filter, All, Option, Some}
 use Rattle.std.specs.Prelude.{◌≢◌, ◌<◌, option_and_then}
 use Rattle.std.specs.List.{slice_get}
 use Rattle.std.specs.Io.KnownBytes.{Keeps}
@@ -22,6 +22,7 @@ use Rattle.page_pool.specs.Dealing.{strays_in}
 use Rattle.app_worker.specs.Marks.{marks_of}
 use Rattle.app_worker.specs.Streams.{IsFront}
 use Rattle.replay_turns.specs.Offered.{offers_of, without}
+pub use Rattle.replay_turns.specs.Counts.{capped}
 use Rattle.replay_turns.specs.Feed.{FeedState, FeedStands, IsReady}
 use Rattle.replay_turns.specs.declared.plan.Plan.{Plan}
 use Rattle.replay_turns.specs.Plan.{layout_of}
@@ -35,10 +36,6 @@ offered_to a left_out steered = filter (λ o. o.app == a) (without left_out (off
 -- what the shelf of an application keeps of a flow
 abbrev pub kept_in : {T : Type 0} → (T → ℕ → Option (List ℕ)) → List T → ℕ → ℕ → Option (List ℕ)
 kept_in kept shelves app flow = option_and_then (λ shelf. kept shelf flow) (slice_get shelves app)
-
--- a count that stays at the end of its type
-abbrev pub capped : ℕ → ℕ
-capped n = min n (2 ^ 64 - 1)
 
 -- The bytes of a flow are those at its marks, from the first on, and all of them where its application wasn't stopped.
 pub record IsFlowRead (app : AppSide) (stopped : Stopped) (number : ℕ) (bytes : List ℕ) : Type 0 where

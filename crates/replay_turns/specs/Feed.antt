@@ -13,6 +13,7 @@ use Rattle.replay_turns.specs.declared.intake.Stage.{Stage}
 use Rattle.replay_turns.specs.declared.intake.Stage.TheVariants as stage
 use Rattle.replay_turns.specs.Coming.{ComesTo, is_over}
 use Rattle.replay_turns.specs.Offered.{offers_of, AreSettled, WantsRoom}
+use Rattle.replay_turns.specs.Counts.{AreCounted}
 
 pub record FeedState : Type 0 where
   pub ports : List ℕ
@@ -67,8 +68,8 @@ pub record IsReady (feed : FeedState) (v : NicView) : Type 0 where
   pub fits : Fits feed v
   pub waits : feed.at_hand ≢ None → 0 < pending_count feed.pool
 
--- These frames were read since the source was as at first. They are counted, their flows are known, and the notes that were
--- sent and those that are pending show what was offered of them.
+-- These frames were read since the source was as at first. They are counted, their flows are known, the notes that were
+-- sent and those that are pending show what was offered of them, and the pool's counts say how that went.
 pub record FeedStands {S : Type 0} (left : S → Option (List ℕ)) (faults : S → ℕ) (first now : S) (ports : List ℕ) (split : ℕ)
     (frames : List (List ℕ)) (feed : FeedState) (v : NicView) : Type 0 where
   pub ports_are : feed.ports ≡ ports
@@ -77,11 +78,12 @@ pub record FeedStands {S : Type 0} (left : S → Option (List ℕ)) (faults : S 
   pub tally_is : feed.tally ≡ tally_of ports frames
   pub flows_are : feed.flows ≡ flows_of (steered_in ports frames)
   pub settled : AreSettled split (offers_of (steered_in ports frames)) feed.refused feed.at_hand (all_notes feed.pool v)
+  pub counted : AreCounted split (offers_of (steered_in ports frames)) feed.refused feed.at_hand v.dealt feed.pool.stats
 
 -- A new feed has read nothing.
 abbrev pub NewFeedsStand : {S : Type 0} → (S → Option (List ℕ)) → (S → ℕ) → Type 0
 NewFeedsStand {S} left faults =
-    (source : S) (ports : List ℕ) (split : ℕ) (v : NicView) → v.sent ≡ []
+    (source : S) (ports : List ℕ) (split : ℕ) (v : NicView) → v.sent ≡ [] → v.dealt ≡ []
     → FeedStands left faults source source ports split [] (new_feed ports split) v
 
 -- ---- how far the card has come

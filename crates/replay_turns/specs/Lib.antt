@@ -3,6 +3,7 @@ pub mod Coming
 pub mod Offered
 pub mod Hand
 pub mod Intake
+pub mod Counts
 pub mod Feed
 pub mod Turns
 pub mod Parts

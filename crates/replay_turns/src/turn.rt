@@ -32,5 +32,7 @@ pub fn nic_turn<S: Source, F: NicFace>(feed: &mut Feed, source: &mut S, face: &m
         feed.intake.read(source);
     }
     let plays = play(&mut feed.intake, &mut feed.pool, &mut feed.closed, face);
+    // Its answer says that each count fits its type.
+    let _ = feed.pool.stats();
     reads || plays
 }
