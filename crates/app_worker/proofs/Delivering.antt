@@ -22,7 +22,7 @@ use Rattle.app_worker.specs.Shelves.{IsShelved}
 use Rattle.app_worker.specs.Flushing.{loans_so_far}
 use Rattle.app_worker.proofs.Flushing.{lies-away}
 use Rattle.std.proofs.Common.{◌⊎◌, ⊎_elim}
-use Rattle.app_worker.specs.Moves.{reads_of, Moves, KeptSince, reserve_loans, lies_in}
+use Rattle.app_worker.specs.Moves.{reads_of, Moves, KeptSince, reserve_loans}
 use Rattle.app_worker.specs.Entries.{lies_in}
 use Rattle.board_face.specs.declared.views.app.LentPiece.{LentPiece}
 use Rattle.board_face.specs.declared.views.app.AppLook.TheVariants.{RawOnItsWay}

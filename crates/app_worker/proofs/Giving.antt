@@ -30,7 +30,7 @@ use Rattle.app_worker.proofs.Written.{gives-gave, blocks-loan}
 use Rattle.app_worker.proofs.Moving.{total-one, looks-same, kept-same, no-write, reserve-same, leaked-aside, same-leaked, abandons-live, reaps-none}
 use Rattle.app_worker.proofs.Tokens.{total-append}
 use Rattle.app_worker.proofs.Standing.{each-join}
-use Rattle.app_worker.specs.Moves.{reads_of, reserve_loans, lies_in, over_lent, over_gone}
+use Rattle.app_worker.specs.Moves.{reads_of, reserve_loans, over_lent, over_gone}
 use Rattle.app_worker.specs.Flushing.{Flushes}
 use Rattle.app_worker.proofs.Flushing.{flushes-same, flushes-none}
 use Rattle.app_worker.specs.Entries.{lies_in, WasLive, AreBlocks}

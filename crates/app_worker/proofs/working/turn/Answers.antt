@@ -11,18 +11,6 @@ use Rattle.app_worker.proofs.working.turn.Goals as goal
 pub returns-then-st-clause-turns : goal.returns-then-st-clause-turns
 returns-then-st-clause-turns g c = c.bare_turn.ensures.turns (g.T.Shelf.kept c.args.shelf.now) (g.T.Shelf.faults c.args.shelf.now)
 
-pub returns-in-InUse-clause-turns : goal.returns-in-InUse-clause-turns
-returns-in-InUse-clause-turns g c =
-    let a : State = state_of c.args.st.now in
-    let u : AppView = g.F.AppFace.seen c.args.face.now in
-    let v : AppView = g.F.AppFace.seen c.give_back.new.face in
-    let k : ℕ → Option (List ℕ) = g.T.Shelf.kept c.args.shelf.now in
-    let f : ℕ = g.T.Shelf.faults c.args.shelf.now in
-    let works : Working a u = search rules in
-    let gives = c.in-InUse.ensures.gives in
-    subst (λ (s : State). Turns a s u v k k f f (Idle RefillFull)) (sym gives.0)
-    (turns-saw a u v k f f RefillFull gives.1 works c.requires.stands.common c.requires.stands.reaped (λ is. absurd (cc)))
-
 pub returns-in-Part-clause-turns : goal.returns-in-Part-clause-turns
 returns-in-Part-clause-turns g c =
     let a : State = state_of c.args.st.now in
