@@ -1,6 +1,8 @@
 //! The card's part of a replay: what it keeps from turn to turn.
 
-ghost use Rattle.std.specs.Prelude.{◌≡◌, ◌<◌, ◌≤◌, true, length, get_or, IfOk, vec_len};
+ghost use Rattle.std.specs.Prelude.{◌≡◌, ◌<◌, ◌≤◌, true, length, get_or, IfOk, Some, option_map, vec_len};
+ghost use Rattle.std.specs.List.{slice_get};
+ghost use Rattle.flow_table.specs.Flows.{Flow};
 ghost use Rattle.replay_turns.specs.Plan.{IsPlan};
 ghost use Rattle.board_face.specs.NicCalls.{apps_of, IsOpen, HasNoToken};
 ghost use Rattle.board_face.specs.declared.views.nic.NicView.{NicView};
@@ -76,6 +78,15 @@ impl Feed {
         ensures most { result ≤ 65535 }
     {
         self.intake.table.count()
+    }
+
+    /// The application that a flow goes to.
+    pub fn flow_app(&self, flow: u32) -> u32
+        requires { flow < length self.now.flows }
+        ensures app { option_map (λ (f : Flow). f.app) (slice_get self.now.flows flow) ≡ Some result }
+        ensures port { result < length self.now.ports }
+    {
+        self.intake.table.line(flow).app
     }
 
     /// Puts the outcome together: `apps` are the lines of the applications, one for each port and in their order, and

@@ -1,6 +1,6 @@
 //! Turns at the board for one thread: it goes into a role's hands for a turn, and back.
 
-ghost use Rattle.std.specs.Prelude.{◌≡◌, ◌≢◌, ℕ, ◌<◌, ◌≤◌, List, length, Option, MatchBool, false};
+ghost use Rattle.std.specs.Prelude.{◌≡◌, ◌≢◌, ℕ, ◌<◌, ◌≤◌, List, length, Option, MatchBool, false, true};
 ghost use Rattle.zr_kinds.specs.declared.behaviour.Stopped.TheVariants.{No};
 ghost use Rattle.board_face.specs.AppCalls.{IsHere};
 ghost use Rattle.board_face.specs.AppEvents.{app_gist};
@@ -88,6 +88,8 @@ pub fn app_step<T: Shelf>(
         → reserve_loans (side_of result.0 app).view ≡ reserve_loans (side_of board app).view
         → reads_of st.old (side_of board app).view < reads_of st.new (side_of result.0 app).view
         → st.new.how.hold ≤ length st.new.unread }
+    ensures copies { st.new.copied ≤ st.new.loans }
+    ensures counts { st.new.bare ≡ true → st.new.stopped ≡ No → st.new.loans ≤ st.new.written }
     ensures later { T.faults shelf.old ≤ T.faults shelf.new }
     // Why it did nothing is so.
     ensures told { (why : Why) → result.1 ≡ Idle why

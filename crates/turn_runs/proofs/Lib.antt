@@ -1,1 +1,16 @@
-pub mod Opening
+pub mod Ports
+pub mod FlowSums
+pub mod Counted
+pub mod AppLines
+pub mod Gone
+pub mod OwnReads
+pub mod Accounting
+pub mod Written
+pub mod Tellable
+pub mod Ended
+pub mod Telling
+pub mod Places
+pub mod Workers
+pub mod Turns
+pub mod News
+pub mod WholeRun

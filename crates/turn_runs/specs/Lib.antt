@@ -1,1 +1,4 @@
-pub mod Scene
+pub mod Running
+pub mod Ran
+pub mod Schedule
+pub mod Laws

@@ -1,8 +1,16 @@
-//! Runs of the card and one application at the board for one thread, turn by turn, by a text and then by rounds.
+//! Runs over the board for one thread: the turns of a text, and then rounds until all have left.
 #![tactic(auto)]
 
-mod scene;
-#[cfg(test)]
-mod tests;
+mod ending;
+mod laws;
+mod opening;
+mod playing;
+mod role;
+mod run;
+mod running;
+mod stepping;
 
-pub use scene::{Scene, play, turn_step};
+pub use laws::{runs_are_told, runs_end_well};
+pub use role::Role;
+pub use run::{Run, Worker};
+pub use running::run_turns;

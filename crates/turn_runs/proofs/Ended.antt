@@ -1,0 +1,222 @@
+-- What is told of a run that is over is how it went.
+use Rattle.std.proofs.Common.{◌≡◌, ◌≢◌, ℕ, zero, suc, ◌+◌, ◌-◌, ◌<◌, ◌≤◌, List, [], ◌∷◌, length, drop}
+use Rattle.std.proofs.Common.{true, Option, Some, None}
+use Rattle.std.proofs.Common.{refl, sym, ap, subst, ◌∙◌, arith, ⊎_elim}
+use Rattle.std.specs.Prelude.{option_map, option_and_then}
+use Rattle.std.specs.List.{slice_get}
+use Rattle.std.specs.Io.KnownBytes.{Keeps}
+use Rattle.std.proofs.KnownBytes.{Keeps-refl}
+use Rattle.std.proofs.lemmas.Bool.{cases_lt, true≢false}
+use Rattle.std.proofs.lemmas.Option.{slice_get_within}
+use Rattle.zr_kinds.specs.declared.behaviour.Behaviour.{Behaviour}
+use Rattle.zr_kinds.specs.declared.outcome.PoolStats.{PoolStats}
+use Rattle.zr_io.specs.Moved.{Gained}
+use Rattle.flow_table.specs.Flows.{Flow, flows_of}
+use Rattle.flow_table.specs.Stream.{stream_of}
+use Rattle.frames_read.specs.Ending.{steered_in}
+use Rattle.frames_read.specs.Reading.{HasEnded}
+use Rattle.board_face.specs.Sides.{IsApp}
+use Rattle.board_face.specs.declared.views.app.AppSide.{AppSide}
+use Rattle.plain_board.specs.Board.{Board, side_of}
+use Rattle.app_worker.specs.Kept.{flow_bytes}
+use Rattle.app_worker.specs.State.{Quits}
+use Rattle.replay_turns.specs.Account.{AccountsFor, IsStreamedTo, kept_in}
+use Rattle.replay_turns.specs.Coming.{ComesTo, is_over}
+use Rattle.replay_turns.specs.Feed.{end_of}
+use Rattle.replay_turns.specs.Offered.{AreRefused, AreSettled, offers_of}
+use Rattle.replay_turns.specs.Outcomes.{AreLinesOf, line_of as flow_line_of}
+use Rattle.replay_turns.specs.declared.intake.Stage.{Stage}
+use Rattle.replay_turns.specs.declared.intake.Stage.TheVariants as stage
+use Rattle.replay_turns.specs.declared.plan.Plan.{Plan}
+use Rattle.replay_turns.proofs.Bridge.{give_streams}
+use Rattle.turn_runs.specs.Laws.{RunsAreTold, RunsEndWell}
+use Rattle.turn_runs.specs.Ran.{There, IsLineOf, IsStreamed, IsAppLine, line_of, lines_of, AreCounts, Ran, Told, told_of}
+use Rattle.turn_runs.specs.Running.{Fits, Running, AreOver, losses_in}
+use Rattle.turn_runs.specs.declared.run.Run.{Run}
+use Rattle.turn_runs.specs.declared.run.Worker.{Worker}
+use Rattle.turn_runs.proofs.AppLines.{there, is-there, line-at, many-lines, ports-of-lines}
+use Rattle.turn_runs.proofs.Gone.{IsGone, is-over, side-is}
+use Rattle.turn_runs.proofs.Accounting.{told, gone-at, accounts}
+use Rattle.turn_runs.proofs.Counted.{IsCounted, gained-both, flow-counted}
+use Rattle.turn_runs.proofs.Ports.{flows-have-apps}
+use Rattle.turn_runs.proofs.Tellable.{Tells, all-told, all-tells}
+use Rattle.turn_runs.proofs.Written.{app-below, flow-line, queues-own, written-is}
+
+-- ---- small steps
+
+-- a reading that is over has ended
+comes-over : {S : Type 0} (Wants : List (List ℕ) → List ℕ → Type 0) (left : S → Option (List ℕ)) (faults : S → ℕ) (first now : S)
+    (ports : List ℕ) (at : Stage) (frames : List (List ℕ)) → is_over at ≡ true → ComesTo Wants left faults first now ports at frames
+    → HasEnded Wants (left first) (left now) (faults first) (faults now) ports frames (end_of at)
+comes-over Wants left faults first now ports stage.Unopened frames over comes = absurd (true≢false (sym over))
+comes-over Wants left faults first now ports (stage.Open capture) frames over comes = absurd (true≢false (sym over))
+comes-over Wants left faults first now ports (stage.Over end) frames over comes = comes
+
+slice-drop : {A : Type 0} (n : ℕ) (xs : List A) (i : ℕ) → slice_get (drop n xs) i ≡ slice_get xs (n + i)
+slice-drop zero xs i = let same : i ≡ 0 + i = omega arith in ap (slice_get xs) same
+slice-drop (suc n) [] i = refl
+slice-drop (suc n) (x ∷ xs) i = let same : suc (n + i) ≡ suc n + i = omega arith in slice-drop n xs i ∙ ap (slice_get (x ∷ xs)) same
+
+-- what follows so many is the same, so each of it is
+same-beyond : {A : Type 0} (n : ℕ) (xs ys : List A) (i : ℕ) → drop n xs ≡ drop n ys → n ≤ i → slice_get xs i ≡ slice_get ys i
+same-beyond n xs ys i same behind =
+    let place : n + (i - n) ≡ i = omega (arith, behind) in
+    ap (slice_get xs) (sym place) ∙ sym (slice-drop n xs (i - n)) ∙ ap (λ zs. slice_get zs (i - n)) same ∙ slice-drop n ys (i - n)
+    ∙ ap (slice_get ys) place
+
+module _ {S T : Type 0} (left : S → Option (List ℕ)) (faults : S → ℕ) (kept : T → ℕ → Option (List ℕ)) (losses : T → ℕ)
+    (source source_now : S) (shelves shelves_now : List T) (plan : Plan) (board : Board) (run : Run) (told_is : Told)
+    (fits : Fits board run (length shelves_now))
+    (runs : Running left faults kept losses source source_now shelves shelves_now plan board run) (over : AreOver run)
+    (tells : Tells run plan.ports.items told_is) where
+  accounts-told : AccountsFor kept shelves shelves_now plan runs.frames told_is.refused board.nic board.apps told_is.apps
+      told_is.pool.strays
+  accounts-told =
+      subst (λ refused. AccountsFor kept shelves shelves_now plan runs.frames refused board.nic board.apps told_is.apps told_is.pool.strays)
+      (sym tells.refused)
+      (subst (λ lines. AccountsFor kept shelves shelves_now plan runs.frames run.feed.refused board.nic board.apps lines told_is.pool.strays)
+      (sym tells.apps_are)
+      (subst (λ (stats : PoolStats). AccountsFor kept shelves shelves_now plan runs.frames run.feed.refused board.nic board.apps
+      (lines_of plan.ports.items run.workers.items) stats.strays) (sym tells.pool)
+      (accounts left faults kept losses source source_now shelves shelves_now plan board run fits runs over)))
+
+  counts-are : AreCounts (flows_of (steered_in plan.ports.items runs.frames)) run.workers.items tells.counts
+  counts-are = subst (λ flows. AreCounts flows run.workers.items tells.counts) runs.feed.flows_are tells.are
+
+  lines-are : AreLinesOf (flows_of (steered_in plan.ports.items runs.frames)) tells.counts told_is.flows
+  lines-are = subst (λ flows. AreLinesOf flows tells.counts told_is.flows) runs.feed.flows_are
+      (tells.flows (ports-of-lines plan.ports.items run.workers.items runs.many ∙ sym runs.feed.ports_are))
+
+  app-line-at : (a port : ℕ) (w : Worker) → slice_get plan.ports.items a ≡ Some port → slice_get run.workers.items a ≡ Some w
+      → slice_get told_is.apps a ≡ Some (line_of port w)
+  app-line-at a port w port_at w_at = ap (λ lines. slice_get lines a) tells.apps_are
+      ∙ line-at plan.ports.items run.workers.items a port w port_at w_at
+
+  refused-are : AreRefused plan.split (offers_of (steered_in plan.ports.items runs.frames)) told_is.refused
+  refused-are =
+      let settled : AreSettled plan.split (offers_of (steered_in plan.ports.items runs.frames)) run.feed.refused None _ =
+      rw (fits.ready.fits.none over.card) at runs.feed.settled in
+      subst (AreRefused plan.split (offers_of (steered_in plan.ports.items runs.frames))) (sym tells.refused)
+      (subst (λ offers. AreRefused plan.split offers run.feed.refused) settled.awaits settled.refused_are)
+
+  one-stream : (number port : ℕ) (flow : Flow) (w : Worker) → slice_get (flows_of (steered_in plan.ports.items runs.frames)) number ≡ Some flow
+      → slice_get plan.ports.items flow.app ≡ Some port → slice_get run.workers.items flow.app ≡ Some w
+      → IsApp board.apps flow.app (side_of board flow.app)
+      → Gained (kept_in kept shelves flow.app number) (kept_in kept shelves_now flow.app number)
+      (λ bytes. IsStreamed w.state.stopped (stream_of (steered_in plan.ports.items runs.frames) told_is.refused number) bytes
+      (flow_bytes number w.state.flows))
+  one-stream number port flow w at port_at w_at here =
+      let app : AppSide = side_of board flow.app in
+      let own = runs.worker flow.app w w_at in
+      let went : IsGone w app.view = gone-at left faults kept losses source source_now shelves shelves_now plan board run fits runs over
+      flow.app app w here w_at in
+      let stream : List ℕ = stream_of (steered_in plan.ports.items runs.frames) told_is.refused number in
+      let count : ℕ = flow_bytes number w.state.flows in
+      let streamed = give_streams kept shelves shelves_now plan runs.frames told_is.refused board.nic board.apps told_is.apps
+      told_is.pool.strays accounts-told number flow app (line_of port w) at here (app-line-at flow.app port w port_at w_at)
+      (told left faults kept losses source source_now shelves shelves_now plan board run fits runs over flow.app app here).reads in
+      let counted = flow-counted (kept_in kept shelves flow.app) (kept_in kept shelves_now flow.app) app.view w.state.flows number w.state.stopped
+      went.bare.flows own.shelved own.failed in
+      gained-both (kept_in kept shelves flow.app number) (kept_in kept shelves_now flow.app number)
+      (IsStreamedTo w.state.stopped stream) (IsCounted w.state.stopped count) (λ bytes. IsStreamed w.state.stopped stream bytes count)
+      (λ bytes s c. record { rest = s.rest; front = s.front; whole = s.whole; counted = c.counted; at_least = c.at_least })
+      streamed counted
+
+  streams : (number : ℕ) (flow : Flow) → slice_get (flows_of (steered_in plan.ports.items runs.frames)) number ≡ Some flow
+      → There (slice_get told_is.flows number) (λ line. There (slice_get told_is.apps flow.app) (λ app.
+      IsLineOf flow line × Gained (kept_in kept shelves flow.app number) (kept_in kept shelves_now flow.app number)
+      (λ bytes. IsStreamed app.stopped (stream_of (steered_in plan.ports.items runs.frames) told_is.refused number) bytes line.bytes)))
+  streams number flow at =
+      let have = flows-have-apps plan.ports.items runs.frames in
+      let below : flow.app < length plan.ports.items = app-below plan.ports.items _ have number flow at in
+      let within : flow.app < length run.workers.items = omega (arith, below, runs.many) in
+      let (port, port_at) = there plan.ports.items flow.app below in
+      let (w, w_at) = there run.workers.items flow.app within in
+      let gained = one-stream number port flow w at port_at w_at (side-is board run (length shelves_now) fits flow.app within) in
+      is-there (slice_get told_is.flows number) (flow_line_of flow (flow_bytes number w.state.flows)) _
+      (flow-line plan.ports.items _ run.workers.items tells.counts told_is.flows have counts-are lines-are number flow w at w_at)
+      (is-there (slice_get told_is.apps flow.app) (line_of port w) _ (app-line-at flow.app port w port_at w_at)
+      (record { port = refl; base = refl; fin = refl }, gained))
+
+  others : (a number : ℕ) → option_map (λ (flow : Flow). flow.app) (slice_get (flows_of (steered_in plan.ports.items runs.frames)) number) ≢ Some a
+      → Keeps (kept_in kept shelves a number) (kept_in kept shelves_now a number)
+  others a number other = ⊎_elim
+      (λ (below : a < length plan.ports.items). accounts-told.others a number (omega (arith, below, accounts-told.many_apps))
+      (λ flow at same. other (ap (option_map (λ (f : Flow). f.app)) at ∙ ap Some same)))
+      (λ (past : length plan.ports.items ≤ a).
+      let same : kept_in kept shelves_now a number ≡ kept_in kept shelves a number =
+      ap (option_and_then (λ (shelf : T). kept shelf number)) (same-beyond (length plan.ports.items) shelves_now shelves a runs.beyond past) in
+      subst (λ now. Keeps (kept_in kept shelves a number) now) (sym same) (Keeps-refl (kept_in kept shelves a number)))
+      (cases_lt a (length plan.ports.items))
+
+  one-app : (a port : ℕ) (w : Worker) → slice_get plan.ports.items a ≡ Some port → slice_get run.workers.items a ≡ Some w
+      → IsApp board.apps a (side_of board a)
+      → IsAppLine plan.how port (losses_in losses shelves a) (losses_in losses shelves_now a) told_is.flows (line_of port w)
+  one-app a port w port_at w_at here =
+      let app : AppSide = side_of board a in
+      let own = runs.worker a w w_at in
+      let went : IsGone w app.view = gone-at left faults kept losses source source_now shelves shelves_now plan board run fits runs over
+      a app w here w_at in
+      let has = told left faults kept losses source source_now shelves shelves_now plan board run fits runs over a app here in
+      let queues = queues-own (flows_of (steered_in plan.ports.items runs.frames)) a app.view.taken _ has.taken has.own w.state.flows went.bare.flows in
+      record {
+        port_is = refl;
+        written = written-is plan.ports.items (flows_of (steered_in plan.ports.items runs.frames)) run.workers.items tells.counts told_is.flows
+            (flows-have-apps plan.ports.items runs.frames) counts-are lines-are runs.plan_is.distinct runs.many a port w port_at w_at queues
+            went.bare.distinct went.common.written;
+        copies = own.copies;
+        loans = own.counts went.left;
+        quits = subst (λ (how : Behaviour). Quits how.quit w.state.written w.state.stopped) own.how_is went.common.quits;
+        later = own.later;
+        cause = own.cause;
+      }
+
+  app-lines : (a port : ℕ) → slice_get plan.ports.items a ≡ Some port
+      → There (slice_get told_is.apps a) (IsAppLine plan.how port (losses_in losses shelves a) (losses_in losses shelves_now a) told_is.flows)
+  app-lines a port port_at =
+      let within : a < length run.workers.items = omega (arith, slice_get_within plan.ports.items a port port_at, runs.many) in
+      let (w, w_at) = there run.workers.items a within in
+      is-there (slice_get told_is.apps a) (line_of port w) _ (app-line-at a port w port_at w_at)
+      (one-app a port w port_at w_at (side-is board run (length shelves_now) fits a within))
+
+  ran : Ran left faults kept losses source source_now shelves shelves_now plan told_is board
+  ran = record {
+    before = runs.frames;
+    ended = subst (HasEnded _ (left source) (left source_now) (faults source) (faults source_now) plan.ports.items runs.frames) (sym tells.end)
+        (comes-over _ left faults source source_now plan.ports.items run.feed.stage runs.frames (fits.ready.fits.over over.card) runs.feed.comes);
+    tally = tells.tally ∙ runs.feed.tally_is;
+    refused = refused-are;
+    flow = streams;
+    many_flows = lines-are.many;
+    others = others;
+    app = app-lines;
+    many_apps = ap length tells.apps_are ∙ many-lines plan.ports.items run.workers.items runs.many;
+    many_shelves = runs.many_shelves;
+    beyond = runs.beyond;
+    sound = fits.sound;
+    over = is-over board run (length shelves_now) fits over;
+    accounts = accounts-told;
+  }
+
+-- Once all are gone, the outcome that is told is that of the run.
+pub end-well : {S T : Type 0} (left : S → Option (List ℕ)) (faults : S → ℕ) (kept : T → ℕ → Option (List ℕ)) (losses : T → ℕ)
+    → RunsEndWell left faults kept losses
+end-well left faults kept losses source source_now shelves shelves_now plan board run outcome fits runs over tells =
+    ran left faults kept losses source source_now shelves shelves_now plan board run (told_of outcome) fits runs over
+    (record {
+      counts = tells.counts;
+      are = tells.are;
+      tally = tells.is.tally;
+      apps_are = tells.is.apps_are;
+      flows = tells.is.flows;
+      refused = tells.is.refused;
+      pool = tells.is.pool;
+      end = tells.is.end;
+    })
+
+-- And there is something to tell, whether there is memory for it or not.
+pub end-told : {S T : Type 0} (left : S → Option (List ℕ)) (faults : S → ℕ) (kept : T → ℕ → Option (List ℕ)) (losses : T → ℕ)
+    → RunsAreTold left faults kept losses
+end-told left faults kept losses source source_now shelves shelves_now plan board run fits runs over =
+    let told_is = all-told run plan.ports.items in
+    (told_is, ran left faults kept losses source source_now shelves shelves_now plan board run told_is fits runs over (all-tells run plan.ports.items))

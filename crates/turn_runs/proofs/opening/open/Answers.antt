@@ -1,0 +1,51 @@
+-- Nobody has taken a turn.
+use Rattle.std.proofs.Common.{◌≡◌, ℕ, ◌<◌, length, Option, Some, IfSome, [], refl, sym, ap, ◌∙◌, subst, arith}
+use Rattle.area_layout.specs.Layout.{Shape}
+use Rattle.board_face.specs.Opened.{new_app_view}
+use Rattle.plain_board.specs.Board.{Board, side_of}
+use Rattle.replay_turns.specs.Plan.{layout_of}
+use Rattle.turn_runs.specs.declared.run.Worker.{Worker}
+use Rattle.turn_runs.proofs.Places.{get-within}
+use Rattle.turn_runs.proofs.News.{begun, new-fits, new-runs}
+use Rattle.turn_runs.proofs.opening.open.Goals as goal
+
+pub returns-clause-many : goal.returns-clause-many
+returns-clause-many g c = c.in_ok-workers.ensures.many
+
+pub returns-clause-fits : goal.returns-clause-fits
+returns-clause-fits g c shelves enough =
+    let layout_is : c.unwrap-layout.result ≡ layout_of c.args.plan.now =
+        subst (λ (r : Option Shape). IfSome r (λ l. l ≡ layout_of c.args.plan.now)) c.unwrap-layout.ensures c.layout.ensures.value in
+    let reserves : c.unwrap-layout.result.reserves ≡ length c.args.plan.now.ports.items = ap (λ (s : Shape). s.reserves) layout_is in
+    let many = c.in_ok-workers.ensures.many in
+    let board_reserves : c.in_ok-board.board.arrays.layout.reserves ≡ c.unwrap-layout.result.reserves =
+        ap (λ (b : Board). b.arrays.layout.reserves) c.in_ok-board.ensures in
+    record {
+      sound = c.sound.ensures;
+      ready = rw c.in_ok-board.ensures (c.in_ok-feed.ensures.ready _ refl (record { owns = refl; pieces = refl }) (sym reserves));
+      many = many ∙ sym reserves ∙ sym board_reserves;
+      shelves_enough = omega (arith, many, enough);
+      worker = λ a w is. let within = get-within c.in_ok-workers.workers.items a w is in
+          new-fits c.args.plan.now _ a _ w (begun c.in_ok-board.board c.unwrap-layout.result c.args.plan.now.ring a c.in_ok-board.ensures
+          (omega (arith, within, many, reserves))) (c.in_ok-workers.ensures.each a w is);
+    }
+
+pub returns-clause-runs : goal.returns-clause-runs
+returns-clause-runs g c source shelves enough =
+    let layout_is : c.unwrap-layout.result ≡ layout_of c.args.plan.now =
+        subst (λ (r : Option Shape). IfSome r (λ l. l ≡ layout_of c.args.plan.now)) c.unwrap-layout.ensures c.layout.ensures.value in
+    let reserves : c.unwrap-layout.result.reserves ≡ length c.args.plan.now.ports.items = ap (λ (s : Shape). s.reserves) layout_is in
+    let many = c.in_ok-workers.ensures.many in
+    record {
+      plan_is = c.requires;
+      frames = [];
+      feed = rw c.in_ok-feed.ensures.value (c.new_feeds_stand.ensures source c.args.plan.now.ports.items c.args.plan.now.split
+          c.in_ok-board.board.nic.view (ap (λ (b : Board). b.nic.view.sent) c.in_ok-board.ensures) (ap (λ (b : Board). b.nic.view.dealt) c.in_ok-board.ensures));
+      setting = rw c.in_ok-board.ensures (rw layout_is refl);
+      many = many;
+      worker = λ a w is. let within = get-within c.in_ok-workers.workers.items a w is in
+          new-runs c.args.plan.now _ a _ w (begun c.in_ok-board.board c.unwrap-layout.result c.args.plan.now.ring a c.in_ok-board.ensures
+          (omega (arith, within, many, reserves))) (c.in_ok-workers.ensures.each a w is) _ _;
+      many_shelves = refl;
+      beyond = refl;
+    }

@@ -1,0 +1,8 @@
+-- What was played so far goes on with the run.
+use Rattle.turn_runs.specs.Running.{Plays}
+use Rattle.turn_runs.proofs.playing.play_rounds.Given as goal
+
+abbrev pub invariant-loop : goal.invariant-loop
+invariant-loop g l =
+    Plays g.S.Source.left g.S.Source.faults g.T.Shelf.kept g.T.Shelf.faults l.initial.source l.source l.initial.shelves l.shelves
+    l.initial.board l.board l.initial.run l.run

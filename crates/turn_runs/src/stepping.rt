@@ -1,0 +1,55 @@
+//! One turn of a role.
+
+ghost use Rattle.std.specs.Prelude.{◌<◌, length};
+ghost use Rattle.turn_runs.specs.Running.{Fits, Plays};
+ghost use Rattle.turn_runs.specs.Schedule.{IsRole};
+
+use crate::{Role, Run};
+use app_worker::Turn;
+use plain_board::PlainBoard;
+use replay_turns::{app_step, card_step};
+use std::alloc::Global;
+use zr_io::{Shelf, Source};
+
+/// A turn of an application, unless it has left.
+fn app_turn<S: Source, T: Shelf>(
+    alloc: Global,
+    board: PlainBoard,
+    run: &mut Run,
+    shelves: &mut [T],
+    app: u32,
+) -> PlainBoard
+    requires fits { Fits board run.old (length shelves.old) }
+    requires app { app < length run.old.workers.items }
+    ensures plays { (source : S) → Plays S.left S.faults T.kept T.faults source source shelves.old shelves.new board result run.old run.new }
+{
+    if run.workers[app as usize].left {
+        return board;
+    }
+    let worker = &mut run.workers[app as usize];
+    let (board, turn) = app_step(alloc, board, app, &mut worker.state, &mut shelves[app as usize]);
+    worker.left = matches!(turn, Turn::Finished);
+    board
+}
+
+/// A turn of a role. An application that has left does nothing in it.
+pub fn step<S: Source, T: Shelf>(
+    alloc: Global,
+    board: PlainBoard,
+    run: &mut Run,
+    source: &mut S,
+    shelves: &mut [T],
+    role: Role,
+) -> PlainBoard
+    requires fits { Fits board run.old (length shelves.old) }
+    requires role { IsRole (length run.old.workers.items) role }
+    ensures plays { Plays S.left S.faults T.kept T.faults source.old source.new shelves.old shelves.new board result run.old run.new }
+{
+    match role {
+        Role::Card => {
+            let (board, _) = card_step(board, &mut run.feed, source);
+            board
+        }
+        Role::App(app) => app_turn::<S, T>(alloc, board, run, shelves, app),
+    }
+}
