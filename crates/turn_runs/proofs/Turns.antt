@@ -1,5 +1,6 @@
 -- A turn goes on with the run: one of the card, and one of an application.
-use Rattle.std.proofs.Common.{◌≡◌, ◌≢◌, ℕ, ◌<◌, ◌≤◌, List, [], ◌∷◌, All, length, drop, set, Option, Some, sym, ap, ◌∙◌, subst, arith}
+use Rattle.std.proofs.Common.{◌≡◌, ◌≢◌, ℕ, ◌<◌, ◌≤◌, List, [], ◌∷◌, All, length, drop, set, Option, Some, sym, ap, ◌∙◌}
+use Rattle.std.proofs.Common.{subst, arith}
 use Rattle.std.proofs.lemmas.List.{length-set, drop-set-lt}
 use Rattle.std.specs.List.{slice_get}
 use Rattle.board_face.specs.declared.views.app.AppSide.{AppSide}
@@ -55,8 +56,8 @@ module _ (board board_now : Board) (was now : Run) (workers : now.workers.items 
       → (more : List (List ℕ)) → FeedStands left faults first source_now plan.ports.items plan.split more now.feed board_now.nic.view
       → Running left faults kept losses first source_now firsts shelves plan board_now now
   card-runs left faults kept losses first source source_now firsts shelves plan fits runs more stands =
-      let some : 0 < length board.apps = let many = runs.many in let workers_many = fits.many in let apps_many : length board.apps ≡ board.arrays.layout.reserves = fits.sound.set.many in
-          let ports = runs.plan_is.some in omega (arith, many, workers_many, apps_many, ports) in
+      let some : 0 < length board.apps =
+          omega (arith, runs.many, fits.many, fits.sound.set.many, runs.plan_is.some) in
       record {
         plan_is = runs.plan_is;
         frames = more;
@@ -64,7 +65,8 @@ module _ (board board_now : Board) (was now : Run) (workers : now.workers.items 
         setting = setting-same board board_now fits.sound sound_now apps some ∙ runs.setting;
         many = ap length workers ∙ runs.many;
         worker = λ a w is. subst
-            (λ all. WorkerRuns (kept_in kept firsts a) (kept_in kept shelves a) (losses_in losses firsts a) (losses_in losses shelves a) plan.how (side_in all a).view w)
+            (λ all. WorkerRuns (kept_in kept firsts a) (kept_in kept shelves a) (losses_in losses firsts a) (losses_in losses shelves a) plan.how
+                (side_in all a).view w)
             (sym apps) (runs.worker a w (ap (λ items. slice_get items a) (sym workers) ∙ is));
         many_shelves = runs.many_shelves;
         beyond = runs.beyond;
@@ -90,7 +92,8 @@ module _ (board board_now : Board) (was now : Run) (app : ℕ) (w_was w_now : Wo
     many = many-now ∙ fits.many ∙ sym (reserves-same board board_now fits.sound sound_now many_apps);
     shelves_enough = let same = many-now in omega (arith, same, fits.shelves_enough);
     worker = λ a w is. elim (get-now a w is) [
-      here at same ↦ subst (λ b. WorkerFits (side_of board_now b).view w) (sym at) (subst (λ x. WorkerFits (side_of board_now app).view x) (sym same) worker_now)
+      here at same ↦ subst (λ b. WorkerFits (side_of board_now b).view w) (sym at)
+          (subst (λ x. WorkerFits (side_of board_now app).view x) (sym same) worker_now)
       | there other is_there ↦ subst (λ side. WorkerFits side.view w) (sym (others a other)) (fits.worker a w is_there)
     ];
   }
@@ -104,13 +107,14 @@ module _ (board board_now : Board) (was now : Run) (app : ℕ) (w_was w_now : Wo
   app-runs left faults kept losses first source firsts shelves plan shelf shelf_now shelf_is runs goes =
       let later = set shelves app shelf_now in
       let within : app < length shelves = get-within shelves app shelf shelf_is in
-      let below : app < length plan.ports.items = let mine = get-within was.workers.items app w_was is_was in let many = runs.many in omega (arith, mine, many) in
+      let below : app < length plan.ports.items = omega (arith, get-within was.workers.items app w_was is_was, runs.many) in
       let here_is = get-set_same shelves app shelf_now within in
       let was_runs = subst (λ k. WorkerRuns (kept_in kept firsts app) k (losses_in losses firsts app) (losses shelf) plan.how (side_of board app).view w_was)
           (kept-here kept shelves app shelf shelf_is)
           (subst (λ n. WorkerRuns (kept_in kept firsts app) (kept_in kept shelves app) (losses_in losses firsts app) n plan.how (side_of board app).view w_was)
           (losses-here losses shelves app shelf shelf_is) (runs.worker app w_was is_was)) in
-      let now_runs = subst (λ k. WorkerRuns (kept_in kept firsts app) k (losses_in losses firsts app) (losses_in losses later app) plan.how (side_of board_now app).view w_now)
+      let now_runs = subst (λ k. WorkerRuns (kept_in kept firsts app) k (losses_in losses firsts app) (losses_in losses later app) plan.how
+          (side_of board_now app).view w_now)
           (sym (kept-here kept later app shelf_now here_is))
           (subst (λ n. WorkerRuns (kept_in kept firsts app) (kept shelf_now) (losses_in losses firsts app) n plan.how (side_of board_now app).view w_now)
           (sym (losses-here losses later app shelf_now here_is)) (goes was_runs)) in
@@ -122,7 +126,8 @@ module _ (board board_now : Board) (was now : Run) (app : ℕ) (w_was w_now : Wo
         setting = ap (λ nic. nic.view.setting) nic_is ∙ runs.setting;
         many = many-now ∙ runs.many;
         worker = λ a w is. elim (get-now a w is) [
-          here at same ↦ subst (λ b. WorkerRuns (kept_in kept firsts b) (kept_in kept later b) (losses_in losses firsts b) (losses_in losses later b) plan.how
+          here at same ↦ subst (λ b. WorkerRuns (kept_in kept firsts b) (kept_in kept later b) (losses_in losses firsts b)
+              (losses_in losses later b) plan.how
               (side_of board_now b).view w) (sym at)
               (subst (λ x. WorkerRuns (kept_in kept firsts app) (kept_in kept later app) (losses_in losses firsts app) (losses_in losses later app) plan.how
               (side_of board_now app).view x) (sym same) now_runs)
@@ -132,7 +137,8 @@ module _ (board board_now : Board) (was now : Run) (app : ℕ) (w_was w_now : Wo
               (sym (kept-there kept shelves later a shelf_there))
               (subst (λ n. WorkerRuns (kept_in kept firsts a) (kept_in kept shelves a) (losses_in losses firsts a) n plan.how (side_of board_now a).view w)
               (sym (losses-there losses shelves later a shelf_there))
-              (subst (λ side. WorkerRuns (kept_in kept firsts a) (kept_in kept shelves a) (losses_in losses firsts a) (losses_in losses shelves a) plan.how side.view w)
+              (subst (λ side. WorkerRuns (kept_in kept firsts a) (kept_in kept shelves a) (losses_in losses firsts a)
+                  (losses_in losses shelves a) plan.how side.view w)
               (sym (others a other)) (runs.worker a w is_there)))
         ];
         many_shelves = length-set shelves app shelf_now ∙ runs.many_shelves;

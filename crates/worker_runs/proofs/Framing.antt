@@ -1,5 +1,6 @@
 -- The notes of a flow from one on, and the marks of a note, one by one.
-use Rattle.std.proofs.Common.{◌≡◌, ℕ, zero, suc, ◌+◌, ◌-◌, ◌<◌, List, [], ◌∷◌, ◌++◌, length, drop, map, get_or, refl, sym, ap, ◌∙◌}
+use Rattle.std.proofs.Common.{◌≡◌, ℕ, zero, suc, ◌+◌, ◌-◌, ◌<◌, List, [], ◌∷◌, ◌++◌, length, drop, map, get_or, refl, sym, ap}
+use Rattle.std.proofs.Common.{◌∙◌}
 use Rattle.std.proofs.Common.{Bool, true, false, ◌==◌, append_assoc, arith, drop-cons}
 use Rattle.board_face.specs.declared.views.app.TakenNote.{TakenNote}
 use Rattle.app_worker.specs.Marks.{Mark, marks_from, numbered, of_flow, Numbered, with_note, frames_of, base_of}

@@ -1,5 +1,6 @@
 -- A list of marks at positions against the values placed by the definition.
-use Rattle.std.proofs.Common.{◌≡◌, ℕ, zero, suc, ◌+◌, ◌-◌, ◌^◌, ◌<◌, ◌≤◌, List, [], ◌∷◌, ◌++◌, length, take, map, get_or}
+use Rattle.std.proofs.Common.{◌≡◌, ℕ, zero, suc, ◌+◌, ◌-◌, ◌^◌, ◌<◌, ◌≤◌, List, [], ◌∷◌, ◌++◌, length, take, map}
+use Rattle.std.proofs.Common.{get_or}
 use Rattle.std.proofs.Common.{Option, Some, None, Bool, true, false, is_some, find, option_map, if◌then◌else◌, ◌==◌, refl, sym, ap, ◌∙◌}
 use Rattle.std.proofs.Common.{⊎_elim, arith, length-take-le, append_assoc}
 use Rattle.std.proofs.lemmas.Bool.{cases_lt, cond-false, le-ltb, lt-ltb, ne_eqb}
@@ -28,11 +29,13 @@ length-map (x ∷ marks) = ap suc (length-map marks)
 
 -- ---- going on by one position
 
-there_is : {A B : Type 0} (f : A → B) (o : Option A) (here : Option B) → option_map f o ≡ here → is_some o ≡ true → (value : A) × (here ≡ Some (f value))
+there_is : {A B : Type 0} (f : A → B) (o : Option A) (here : Option B) → option_map f o ≡ here → is_some o ≡ true → (value : A) ×
+    (here ≡ Some (f value))
 there_is f None here is some = cc
 there_is f (Some value) here is some = (value, sym is)
 
-pub missing_within-more : {A : Type 0} (at : ℕ → Option Mark) (top p : ℕ) (f : A → Mark) (o : Option A) → p < top → option_map f o ≡ at p → is_some o ≡ true
+pub missing_within-more : {A : Type 0} (at : ℕ → Option Mark) (top p : ℕ) (f : A → Mark) (o : Option A) → p < top → option_map f o ≡ at p
+    → is_some o ≡ true
     → missing_within at (top - p) p ≡ missing_within at (top - (p + 1)) (p + 1)
 missing_within-more at top p f o below is some =
     let (value, here) = there_is f o (at p) is some in

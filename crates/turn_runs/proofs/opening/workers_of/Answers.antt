@@ -7,8 +7,12 @@ use Rattle.turn_runs.proofs.Places.{here, there, in-push, length-push}
 use Rattle.turn_runs.proofs.opening.workers_of.Goals as goal
 
 pub loop-app-init : goal.loop-app-init
-loop-app-init c = record { many = ap length c.in_ok-workers.ensures.items; each = λ a w is. let none = ap (λ items. slice_get items a) c.in_ok-workers.ensures.items in
-    let not : None ≡ Some w = sym none ∙ is in absurd (cc) }
+loop-app-init c = record {
+  many = ap length c.in_ok-workers.ensures.items;
+  each = λ a w is.
+      let not : None ≡ Some w = sym (ap (λ items. slice_get items a) c.in_ok-workers.ensures.items) ∙ is in
+      absurd (cc);
+}
 
 pub loop-app-preserved : goal.loop-app-preserved
 loop-app-preserved c =
