@@ -45,6 +45,7 @@ pub fn read_loan<F: AppFace, T: Shelf>(
         (λ (read : List ℕ). IsReadOf (F.seen face.old).taken (F.seen face.new).reads lending.now most most read)) }
     ensures others { (other : ℕ) → other ≢ flow → Keeps (T.kept shelf.old other) (T.kept shelf.new other) }
     ensures later { T.faults shelf.old ≤ T.faults shelf.new }
+    ensures still { OnOk result (T.faults shelf.new ≡ T.faults shelf.old) }
     ensures cause { OnErr result (Rose (T.faults shelf.old) (T.faults shelf.new)) }
     ensures beside { F.beside face.new ≡ F.beside face.old }
 {

@@ -1,5 +1,5 @@
 //! The stages of a turn: lending what is in order, and reading what is more than it keeps unread.
-ghost use Rattle.std.specs.Prelude.{◌≡◌, false, true, ℕ, ◌+◌, ◌≤◌, [], ◌++◌, List, Option, None, length};
+ghost use Rattle.std.specs.Prelude.{◌≡◌, ◌≢◌, false, true, ℕ, ◌+◌, ◌≤◌, [], ◌++◌, List, Option, None, length};
 ghost use Rattle.completion_ring.specs.Ring.{ring};
 ghost use Rattle.board_face.specs.AppCalls.{IsHere, CanLeave};
 ghost use Rattle.board_face.specs.AppEvents.{app_gist};
@@ -83,6 +83,7 @@ pub fn drain<F: AppFace, T: Shelf>(
     ensures reads { ReadsTo keep (state_of st.old) (state_of st.new) (F.seen face.old) (F.seen face.new) (T.kept shelf.old) (T.kept shelf.new)
         (T.faults shelf.old) (T.faults shelf.new) result }
     ensures later { T.faults shelf.old ≤ T.faults shelf.new }
+    ensures still { result ≢ Drained.Failed → T.faults shelf.new ≡ T.faults shelf.old }
     ensures beside { F.beside face.new ≡ F.beside face.old }
 {
     let least = least_kept(st, keep);
@@ -146,6 +147,7 @@ pub fn lend_all<F: AppFace, T: Shelf>(face: &mut F, st: &mut Stack, shelf: &mut 
     ensures told { result ≡ Lent.Stuck → F.tells RawOnItsWay (app_gist (F.seen face.new)) (F.beside face.new) }
     ensures no_spare { result ≡ Lent.NoSpare → F.tells NoSpare (app_gist (F.seen face.new)) (F.beside face.new) }
     ensures later { T.faults shelf.old ≤ T.faults shelf.new }
+    ensures still { result ≢ Lent.Failed → T.faults shelf.new ≡ T.faults shelf.old }
     ensures beside { F.beside face.new ≡ F.beside face.old }
 {
     let mut did = false;

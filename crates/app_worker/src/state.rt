@@ -1,10 +1,11 @@
 //! What an application keeps between its turns, and its turn.
-ghost use Rattle.std.specs.Prelude.{◌≡◌, false, true, ℕ, ◌+◌, ◌<◌, ◌≤◌, List, length, Option, IfOk};
+ghost use Rattle.std.specs.Prelude.{◌≡◌, ◌≢◌, false, true, ℕ, ◌+◌, ◌<◌, ◌≤◌, List, length, Option, IfOk};
 ghost use Rattle.board_face.specs.AppCalls.{IsHere};
 ghost use Rattle.board_face.specs.AppEvents.{app_gist};
 ghost use Rattle.board_face.specs.declared.views.app.AppView.{AppView};
 ghost use Rattle.app_worker.specs.declared.turn.Why.{Why};
-ghost use Rattle.app_worker.specs.declared.turn.Turn.TheVariants.{Idle, Finished};
+ghost use Rattle.app_worker.specs.declared.turn.Turn.TheVariants.{Idle, Failed, Finished};
+ghost use Rattle.zr_kinds.specs.declared.fault.Fault.TheVariants.{Write};
 ghost use Rattle.zr_kinds.specs.declared.behaviour.Stopped.TheVariants.{No};
 ghost use Rattle.app_worker.specs.Marks.{AreWholeFrames};
 ghost use Rattle.app_worker.specs.Shelves.{AreShelved, AreFronts};
@@ -179,13 +180,15 @@ pub fn app_turn<F: AppFace, T: Shelf>(
     ensures keeps { st.old.flush ≡ false → st.new.bare ≡ false → st.new.ended ≡ false
         → reserve_loans (F.seen face.new) ≡ reserve_loans (F.seen face.old)
         → reads_of st.old (F.seen face.old) < reads_of st.new (F.seen face.new) → st.new.how.hold ≤ length st.new.unread }
-    // What it saw is so, on a board for one thread.
     // At most as many loans were copies as were lent.
     ensures copies { st.new.copied ≤ st.new.loans }
     // One that came to its end without being stopped has written at least as many bytes as loans.
     ensures counts { st.new.bare ≡ true → st.new.stopped ≡ No → st.new.loans ≤ st.new.written }
+    // What it saw is so, on a board for one thread.
     ensures told { (why : Why) → result ≡ Idle why → F.tells (look_of why) (app_gist (F.seen face.new)) (F.beside face.new) }
     ensures later { T.faults shelf.old ≤ T.faults shelf.new }
+    // No call of the shelf failed where that didn't stop it in this turn.
+    ensures still { result ≢ Failed Write → T.faults shelf.new ≡ T.faults shelf.old }
     ensures beside { F.beside face.new ≡ F.beside face.old }
 {
     turn(alloc, face, &mut st.stack, shelf)

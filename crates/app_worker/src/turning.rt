@@ -130,6 +130,7 @@ pub fn read_one<F: AppFace, T: Shelf>(face: &mut F, st: &mut Stack, shelf: &mut 
     ensures reads { Reads (state_of st.old) (state_of st.new) (F.seen face.old) (F.seen face.new) (T.kept shelf.old) (T.kept shelf.new) (T.faults shelf.old)
         (T.faults shelf.new) result }
     ensures later { T.faults shelf.old ≤ T.faults shelf.new }
+    ensures still { result ≢ Read.Failed → T.faults shelf.new ≡ T.faults shelf.old }
     ensures beside { F.beside face.new ≡ F.beside face.old }
 {
     let Some((completion, lending)) = st.unread.pop_front() else {

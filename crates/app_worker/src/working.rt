@@ -3,7 +3,8 @@ ghost use Rattle.std.specs.Prelude.{◌≡◌, ◌≢◌, false, true, ℕ, ◌+
 ghost use Rattle.board_face.specs.AppCalls.{IsHere};
 ghost use Rattle.board_face.specs.AppEvents.{app_gist};
 ghost use Rattle.app_worker.specs.declared.turn.Why.{Why};
-ghost use Rattle.app_worker.specs.declared.turn.Turn.TheVariants.{Did, Idle};
+ghost use Rattle.app_worker.specs.declared.turn.Turn.TheVariants.{Did, Idle, Failed};
+ghost use Rattle.zr_kinds.specs.declared.fault.Fault.TheVariants.{Write};
 ghost use Rattle.app_worker.specs.Core.{Each};
 ghost use Rattle.app_worker.specs.State.{Working, Common, Bare, AppStands, IsAtRest};
 ghost use Rattle.app_worker.specs.StateOf.{state_of};
@@ -82,6 +83,7 @@ fn close<F: AppFace, T: Shelf>(face: &mut F, st: &mut Stack, shelf: &mut T) -> T
     ensures busy { (why : Why) → result ≢ Idle why }
     ensures same { (F.seen face.new).taken ≡ (F.seen face.old).taken }
     ensures later { T.faults shelf.old ≤ T.faults shelf.new }
+    ensures still { result ≢ Failed Write → T.faults shelf.new ≡ T.faults shelf.old }
     ensures beside { F.beside face.new ≡ F.beside face.old }
 {
     match drain(face, st, shelf, 0) {
@@ -114,6 +116,7 @@ fn look<F: AppFace, T: Shelf>(alloc: Global, face: &mut F, st: &mut Stack, shelf
         (T.faults shelf.new) result }
     ensures told { (why : Why) → result ≡ Idle why → F.tells (look_of why) (app_gist (F.seen face.new)) (F.beside face.new) }
     ensures later { T.faults shelf.old ≤ T.faults shelf.new }
+    ensures still { result ≢ Failed Write → T.faults shelf.new ≡ T.faults shelf.old }
     ensures beside { F.beside face.new ≡ F.beside face.old }
 {
     match take_note(alloc, face, st) {
@@ -149,6 +152,7 @@ fn go_on<F: AppFace, T: Shelf>(alloc: Global, face: &mut F, st: &mut Stack, shel
         (T.faults shelf.new) result }
     ensures told { (why : Why) → result ≡ Idle why → F.tells (look_of why) (app_gist (F.seen face.new)) (F.beside face.new) }
     ensures later { T.faults shelf.old ≤ T.faults shelf.new }
+    ensures still { result ≢ Failed Write → T.faults shelf.new ≡ T.faults shelf.old }
     ensures beside { F.beside face.new ≡ F.beside face.old }
 {
     match lend_all(face, st, shelf) {
@@ -173,6 +177,7 @@ fn work<F: AppFace, T: Shelf>(alloc: Global, face: &mut F, st: &mut Stack, shelf
         (T.faults shelf.new) result }
     ensures told { (why : Why) → result ≡ Idle why → F.tells (look_of why) (app_gist (F.seen face.new)) (F.beside face.new) }
     ensures later { T.faults shelf.old ≤ T.faults shelf.new }
+    ensures still { result ≢ Failed Write → T.faults shelf.new ≡ T.faults shelf.old }
     ensures beside { F.beside face.new ≡ F.beside face.old }
 {
     if st.ended {
@@ -203,6 +208,7 @@ pub fn turn<F: AppFace, T: Shelf>(
         (T.faults shelf.new) result }
     ensures told { (why : Why) → result ≡ Idle why → F.tells (look_of why) (app_gist (F.seen face.new)) (F.beside face.new) }
     ensures later { T.faults shelf.old ≤ T.faults shelf.new }
+    ensures still { result ≢ Failed Write → T.faults shelf.new ≡ T.faults shelf.old }
     ensures beside { F.beside face.new ≡ F.beside face.old }
 {
     if st.bare {

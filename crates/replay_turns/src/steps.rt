@@ -2,6 +2,7 @@
 
 ghost use Rattle.std.specs.Prelude.{◌≡◌, ◌≢◌, ℕ, ◌<◌, ◌≤◌, List, length, Option, MatchBool, false, true};
 ghost use Rattle.zr_kinds.specs.declared.behaviour.Stopped.TheVariants.{No};
+ghost use Rattle.zr_kinds.specs.declared.fault.Fault.TheVariants.{Write};
 ghost use Rattle.board_face.specs.AppCalls.{IsHere};
 ghost use Rattle.board_face.specs.AppEvents.{app_gist};
 ghost use Rattle.plain_board.specs.Board.{side_of, others_of};
@@ -13,7 +14,7 @@ ghost use Rattle.app_worker.specs.Shelves.{AreShelved, AreFronts};
 ghost use Rattle.app_worker.specs.State.{AppStands, app_steps, furthest};
 ghost use Rattle.app_worker.specs.Streams.{HasFronts, HasAll};
 ghost use Rattle.app_worker.specs.Turns.{Turns, look_of};
-ghost use Rattle.app_worker.specs.declared.turn.Turn.TheVariants.{Idle, Finished};
+ghost use Rattle.app_worker.specs.declared.turn.Turn.TheVariants.{Idle, Failed, Finished};
 ghost use Rattle.app_worker.specs.declared.turn.Why.{Why};
 ghost use Rattle.replay_turns.specs.Feed.{IsReady, FeedStands, WantsRecord, feed_steps};
 ghost use Rattle.replay_turns.specs.Turns.{FeedTurns, IsIdle};
@@ -91,6 +92,7 @@ pub fn app_step<T: Shelf>(
     ensures copies { st.new.copied ≤ st.new.loans }
     ensures counts { st.new.bare ≡ true → st.new.stopped ≡ No → st.new.loans ≤ st.new.written }
     ensures later { T.faults shelf.old ≤ T.faults shelf.new }
+    ensures still { result.1 ≢ Failed Write → T.faults shelf.new ≡ T.faults shelf.old }
     // Why it did nothing is so.
     ensures told { (why : Why) → result.1 ≡ Idle why
         → IsSeenBy (look_of why) (app_gist (side_of result.0 app).view) (others_of result.0 app) }

@@ -30,6 +30,7 @@ use Rattle.replay_turns.specs.declared.intake.Stage.TheVariants as stage
 use Rattle.replay_turns.specs.declared.plan.Plan.{Plan}
 use Rattle.replay_turns.proofs.Bridge.{give_streams}
 use Rattle.turn_runs.specs.Laws.{RunsAreTold, RunsEndWell}
+use Rattle.replay_turns.specs.Counts.{AreCounted, capped, long_in, searches_in}
 use Rattle.turn_runs.specs.Ran.{There, IsLineOf, IsStreamed, IsAppLine, line_of, lines_of, AreCounts, Ran, Told, told_of}
 use Rattle.turn_runs.specs.Running.{Fits, Running, AreOver, losses_in}
 use Rattle.turn_runs.specs.declared.run.Run.{Run}
@@ -98,6 +99,21 @@ module _ {S T : Type 0} (left : S → Option (List ℕ)) (faults : S → ℕ) (k
       rw (fits.ready.fits.none over.card) at runs.feed.settled in
       subst (AreRefused plan.split (offers_of (steered_in plan.ports.items runs.frames))) (sym tells.refused)
       (subst (λ offers. AreRefused plan.split offers run.feed.refused) settled.awaits settled.refused_are)
+
+  counted : AreCounted plan.split (offers_of (steered_in plan.ports.items runs.frames)) told_is.refused None board.nic.view.dealt told_is.pool
+  counted =
+      let pool : AreCounted plan.split (offers_of (steered_in plan.ports.items runs.frames)) run.feed.refused None board.nic.view.dealt _ =
+      rw (fits.ready.fits.none over.card) at runs.feed.counted in
+      subst (λ refused. AreCounted plan.split (offers_of (steered_in plan.ports.items runs.frames)) refused None board.nic.view.dealt told_is.pool)
+      (sym tells.refused)
+      (subst (λ (stats : PoolStats). AreCounted plan.split (offers_of (steered_in plan.ports.items runs.frames)) run.feed.refused None
+      board.nic.view.dealt stats) (sym tells.pool) pool)
+
+  searched : searches_in told_is.pool ≤ long_in plan.split (offers_of (steered_in plan.ports.items runs.frames))
+  searched = omega (arith, counted.searches)
+
+  found-none : told_is.pool.empty ≡ capped (length told_is.refused)
+  found-none = counted.empty
 
   one-stream : (number port : ℕ) (flow : Flow) (w : Worker) → slice_get (flows_of (steered_in plan.ports.items runs.frames)) number ≡ Some flow
       → slice_get plan.ports.items flow.app ≡ Some port → slice_get run.workers.items flow.app ≡ Some w
@@ -169,6 +185,7 @@ module _ {S T : Type 0} (left : S → Option (List ℕ)) (faults : S → ℕ) (k
         quits = subst (λ (how : Behaviour). Quits how.quit w.state.written w.state.stopped) own.how_is went.common.quits;
         later = own.later;
         cause = own.cause;
+        still = own.still;
       }
 
   app-lines : (a port : ℕ) → slice_get plan.ports.items a ≡ Some port
@@ -186,6 +203,8 @@ module _ {S T : Type 0} (left : S → Option (List ℕ)) (faults : S → ℕ) (k
         (comes-over _ left faults source source_now plan.ports.items run.feed.stage runs.frames (fits.ready.fits.over over.card) runs.feed.comes);
     tally = tells.tally ∙ runs.feed.tally_is;
     refused = refused-are;
+    searches = searched;
+    empty = found-none;
     flow = streams;
     many_flows = lines-are.many;
     others = others;

@@ -10,7 +10,7 @@ use Rattle.board_face.specs.declared.views.parts.Setting.{Setting}
 use Rattle.board_face.specs.declared.views.app.AppSide.{AppSide}
 use Rattle.board_face.specs.declared.views.app.AppView.{AppView}
 use Rattle.plain_board.specs.Board.{Board, new_board, side_in, side_of}
-use Rattle.app_worker.specs.Kept.{IsFresh, is_nothing, new_state}
+use Rattle.app_worker.specs.Kept.{IsFresh, is_nothing}
 use Rattle.replay_turns.specs.declared.plan.Plan.{Plan}
 use Rattle.turn_runs.specs.Running.{IsNew, WorkerFits, WorkerRuns}
 use Rattle.turn_runs.specs.declared.run.Worker.{Worker}
@@ -67,6 +67,7 @@ module _ (plan : Plan) (s : Setting) (a : ℕ) (v : AppView) (w : Worker) (is : 
     failed = λ is_write. absurd (writes is_write);
     later = omega arith;
     cause = λ is_write. absurd (writes is_write);
+    still = λ not. refl;
     fronts = λ are flow. gained-nothing (kept flow) _ (record { read = []; rest = _; parts = refl; are = tt });
     whole = λ left. absurd (stays left);
     copies = let none = ap (λ st. st.copied) new.state_is in omega (arith, none);

@@ -4,16 +4,17 @@ use Rattle.std.proofs.Common.{◌∙◌, subst, min, arith}
 use Rattle.zr_kinds.specs.declared.behaviour.Behaviour.{Behaviour}
 use Rattle.zr_kinds.specs.declared.behaviour.Stopped.{Stopped}
 use Rattle.zr_kinds.specs.declared.behaviour.Stopped.TheVariants as stop
+use Rattle.zr_kinds.specs.declared.fault.Fault.TheVariants as fault
 use Rattle.zr_io.specs.Moved.{Rose}
 use Rattle.board_face.specs.declared.views.app.AppView.{AppView}
 use Rattle.app_worker.specs.Marks.{AreWholeFrames}
 use Rattle.app_worker.specs.Shelves.{AreShelved, AreFronts}
-use Rattle.app_worker.specs.State.{State, AppStands}
+use Rattle.app_worker.specs.State.{State}
 use Rattle.app_worker.specs.Streams.{HasFronts, HasAll}
-use Rattle.app_worker.specs.Turns.{Turns}
+use Rattle.app_worker.specs.Turns.{Answers, Turns}
 use Rattle.app_worker.specs.declared.turn.Turn.{Turn}
-use Rattle.app_worker.specs.declared.turn.Turn.TheVariants.{Finished}
-use Rattle.turn_runs.specs.Running.{WorkerFits, WorkerRuns}
+use Rattle.app_worker.specs.declared.turn.Turn.TheVariants.{Failed, Finished}
+use Rattle.turn_runs.specs.Running.{WorkerRuns}
 use Rattle.turn_runs.specs.declared.run.Worker.{Worker}
 
 -- its shelf failed, or it didn't
@@ -44,7 +45,7 @@ module _ (first kept kept_now : ℕ → Option (List ℕ)) (losses losses_old lo
     (result : Turn) (runs : WorkerRuns first kept losses losses_old how old was)
     (turns : Turns was.state now.state old new kept kept_now losses_old losses_now result) (later : losses_old ≤ losses_now)
     (is_left : now.left ≡ true → result ≡ Finished) (tells : Tells first kept_now new now.state (result ≡ Finished))
-    (gone : now.left ≡ true → now.state.bare ≡ true) where
+    (gone : now.left ≡ true → now.state.bare ≡ true) (still : result ≢ Failed fault.Write → losses_now ≡ losses_old) where
 
   -- its shelf hadn't failed before, where it hasn't now
   before : now.state.stopped ≢ stop.Write → was.state.stopped ≢ stop.Write
@@ -62,6 +63,10 @@ module _ (first kept kept_now : ℕ → Option (List ℕ)) (losses losses_old lo
     | inr not ↦ rose-before losses losses_old losses_now runs.later (turns.cause not is)
   ]
 
+  -- the turn didn't stop it by its shelf, where that hadn't failed
+  no-failure : now.state.stopped ≢ stop.Write → result ≢ Failed fault.Write
+  no-failure not is = not (subst (λ turn. Answers was.state now.state old new losses_old losses_now turn) is turns.answer).1
+
   fronts : AreWholeFrames new.taken → HasFronts first kept_now new
   fronts are = elim (is-write now.state.stopped) [
     inl is ↦ tells.failed are (failed is)
@@ -78,6 +83,7 @@ module _ (first kept kept_now : ℕ → Option (List ℕ)) (losses losses_old lo
     failed = failed;
     later = omega (arith, runs.later, later);
     cause = cause;
+    still = λ not. still (no-failure not) ∙ runs.still (before not);
     fronts = fronts;
     whole = λ left none are. tells.whole (is_left left) none are (shelved (not-write none));
     copies = tells.copies;

@@ -24,6 +24,7 @@ use Rattle.plain_board.specs.Sound.{IsSound}
 use Rattle.app_worker.specs.Kept.{flow_bytes}
 use Rattle.app_worker.specs.State.{Quits}
 use Rattle.replay_turns.specs.Account.{AccountsFor, kept_in}
+use Rattle.replay_turns.specs.Counts.{capped, long_in, searches_in}
 use Rattle.replay_turns.specs.Offered.{AreRefused, WantsRoom, offers_of}
 use Rattle.replay_turns.specs.Outcomes.{IsOutcomeOf}
 use Rattle.replay_turns.specs.declared.outcome.Outcome.{Outcome}
@@ -67,8 +68,9 @@ pub record IsAppLine (how : Behaviour) (port losses losses_now : ℕ) (flows : L
   -- it quits exactly where it has written so many bytes
   pub quits : Quits how.quit app.written app.stopped
   pub later : losses ≤ losses_now
-  -- the shelf stopped it only where that failed
+  -- its shelf failed, and otherwise none of the shelf's calls did
   pub cause : app.stopped ≡ stop.Write → Rose losses losses_now
+  pub still : app.stopped ≢ stop.Write → losses_now ≡ losses
 
 -- the line of an application, as its state has it
 abbrev pub line_of : ℕ → Worker → AppLine
@@ -128,6 +130,9 @@ pub record Ran {S T : Type 0} (left : S → Option (List ℕ)) (faults : S → �
   pub tally : told.tally ≡ tally_of plan.ports.items before
   -- the frames that were refused: in order, each a steered one with a payload longer than `split`
   pub refused : AreRefused plan.split (offers_of (steered_in plan.ports.items before)) told.refused
+  -- the searches for fresh buffers: no more than payloads longer than `split`, and as many found too few as frames were refused
+  pub searches : searches_in told.pool ≤ long_in plan.split (offers_of (steered_in plan.ports.items before))
+  pub empty : told.pool.empty ≡ capped (length told.refused)
   -- The stream theorem: each flow's shelf gained a front of what the copying receiver gives of the flow's payloads but those
   -- that were refused, and all of it where the flow's application wasn't stopped.
   pub flow : (number : ℕ) (flow : Flow) → slice_get (flows_of (steered_in plan.ports.items before)) number ≡ Some flow →

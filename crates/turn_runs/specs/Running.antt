@@ -67,6 +67,7 @@ pub record WorkerRuns (first kept : ℕ → Option (List ℕ)) (losses losses_no
   pub failed : w.state.stopped ≡ stop.Write → AreFronts first kept w.state.flows v
   pub later : losses ≤ losses_now
   pub cause : w.state.stopped ≡ stop.Write → Rose losses losses_now
+  pub still : w.state.stopped ≢ stop.Write → losses_now ≡ losses
   pub fronts : AreWholeFrames v.taken → HasFronts first kept v
   pub whole : w.left ≡ true → w.state.stopped ≡ stop.No → AreWholeFrames v.taken → HasAll first kept v
   pub copies : w.state.copied ≤ w.state.loans

@@ -23,7 +23,7 @@ loop-face-init g c = (
   c.requires.due,
   λ yes. absurd (cc),
   λ _. record { state = refl; view = refl; kept_is = refl },
-  omega arith,
+  refl,
   refl,
   c.least_kept-least.ensures,
   λ yes. absurd (cc),
@@ -49,7 +49,7 @@ returns-in-Failed-clause-reads g c =
     let f1 : ℕ = g.T.Shelf.faults c.loop-face.shelf in
     let f2 : ℕ = g.T.Shelf.faults c.read_one.new.shelf in
     let inv = c.loop-face.invariant in
-    write-later a b (record e { stopped = Write }) u v x k l m f f1 f2 inv.4 inv.0
+    write-later a b (record e { stopped = Write }) u v x k l m f f1 f2 (omega (arith, inv.4)) inv.0
     (write-stopped b d e v w x l m f1 f2 inv.0.working.going inv.0.reaped c.in-Failed.ensures.reads c.let_go.ensures.done)
 
 pub returns-in-Quit-clause-reads : goal.returns-in-Quit-clause-reads
@@ -196,7 +196,7 @@ loop-face-preserved g c =
       gave.1,
       λ _. omega (arith, inv.0.goes.moves.steps, read.steps, (c.give_back.ensures.goes m).moves.steps),
       λ no. absurd (cc),
-      omega (arith, inv.4, c.read_one.ensures.later),
+      c.read_one.ensures.still other ∙ inv.4,
       c.give_back.ensures.beside ∙ c.read_one.ensures.beside ∙ inv.5,
       inv.6,
       λ _. omega (arith, c.loop-face-test.true, c.len.ensures.len, read.unread, ap (λ (s : State). length s.unread) gave.0.same),

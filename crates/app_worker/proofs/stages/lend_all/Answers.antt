@@ -119,7 +119,7 @@ returns-in-Failed-clause-lends g c =
     let first : Through b d v w l l = subst (λ s. Through b s v w l l) (sym reaped) (through-reaped b cs v w true c.lend_some-lent.result.1 l lent) in
     let to_d : Through a d u w k l = through-then a b d u v w k l l inv.0 first in
     let steps_d : app_steps d w ≡ app_steps cs w = ap (λ (s : State). app_steps s w) reaped in
-    write-later a d e u w x k l m f f1 f2 inv.4 to_d c.in-Failed.ensures.reads
+    write-later a d e u w x k l m f f1 f2 (omega (arith, inv.4)) to_d c.in-Failed.ensures.reads
 
 pub loop-end-preserved : goal.loop-end-preserved
 loop-end-preserved g c =
@@ -155,7 +155,7 @@ loop-end-preserved g c =
       then.1,
       λ _. omega (arith, inv.0.goes.moves.steps, lent.steps refl, steps_d, then.0.goes.moves.steps),
       λ no. absurd (cc),
-      omega (arith, inv.4, c.drain.ensures.later),
+      c.drain.ensures.still c.in_default-drain.not-Failed ∙ inv.4,
       c.drain.ensures.beside ∙ c.lend_some-lent.ensures.beside ∙ inv.5,
       omega (arith, then.2, ap (λ h. h.hold) then.0.goes.moves.how.1),
       then.4,

@@ -12,7 +12,7 @@ invariant-loop-end g l =
     × (l.did ≡ true → app_steps (state_of l.fn.st) (g.F.AppFace.seen l.fn.face) < app_steps (state_of l.st) (g.F.AppFace.seen l.face))
     × (l.did ≡ false → Untouched (state_of l.fn.st) (state_of l.st) (g.F.AppFace.seen l.fn.face) (g.F.AppFace.seen l.face) (g.T.Shelf.kept l.fn.shelf)
     (g.T.Shelf.kept l.shelf))
-    × (g.T.Shelf.faults l.fn.shelf ≤ g.T.Shelf.faults l.shelf)
+    × (g.T.Shelf.faults l.shelf ≡ g.T.Shelf.faults l.fn.shelf)
     × (g.F.AppFace.beside l.face ≡ g.F.AppFace.beside l.fn.face)
     × (length l.st.unread.items ≤ l.st.how.hold)
     × (l.st.stray.left ≡ 0)

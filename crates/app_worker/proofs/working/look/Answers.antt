@@ -77,6 +77,7 @@ returns-in_default g c =
           c.lend_all.ensures.lends;
       told = λ why is. absurd (cc);
       later = c.lend_all.ensures.later;
+      still = λ other. c.lend_all.ensures.still c.in_default.not-Failed;
       beside = c.lend_all.ensures.beside ∙ c.take_note.ensures.beside;
     }
 

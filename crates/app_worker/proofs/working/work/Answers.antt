@@ -1,8 +1,9 @@
-use Rattle.std.proofs.Common.{rules, ◌≡◌, ℕ, true, List, Option, sym, subst}
+use Rattle.std.proofs.Common.{rules, ◌≡◌, ℕ, true, List, Option, sym, ap, ◌∙◌, subst}
 use Rattle.board_face.specs.declared.views.app.AppView.{AppView}
 use Rattle.app_worker.specs.State.{State}
 use Rattle.app_worker.specs.StateOf.{state_of}
 use Rattle.app_worker.specs.Turns.{Turns, turn_after}
+use Rattle.app_worker.specs.declared.stages.Drained.TheVariants.{Did, Failed}
 use Rattle.app_worker.proofs.TurnLemmas.{turns-did, turns-later, turns-first, begins-through}
 use Rattle.app_worker.proofs.working.work.Goals as goal
 
@@ -49,3 +50,8 @@ returns-in-InUse-clause-turns g c =
     let reads = c.in-InUse.ensures.reads in
     turns-did a b u v (g.T.Shelf.kept c.args.shelf.now) (g.T.Shelf.kept c.drain.new.shelf) (g.T.Shelf.faults c.args.shelf.now)
     (g.T.Shelf.faults c.drain.new.shelf) c.requires.working.live reads.0 reads.1 (λ _. reads.3)
+
+pub returns-in-Did-clause-still : goal.returns-in-Did-clause-still
+returns-in-Did-clause-still g c other =
+    let is : c.after.result ≡ turn_after true c.go_on-turn.result = search rules in
+    c.go_on-turn.ensures.still (λ same. other (is ∙ ap (turn_after true) same)) ∙ c.drain.ensures.still (λ e. let f : Did ≡ Failed = sym c.in-Did.is ∙ e in absurd (cc))

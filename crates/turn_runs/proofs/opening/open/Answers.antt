@@ -1,10 +1,8 @@
 -- Nobody has taken a turn.
-use Rattle.std.proofs.Common.{◌≡◌, ℕ, ◌<◌, length, Option, Some, IfSome, [], refl, sym, ap, ◌∙◌, subst, arith}
+use Rattle.std.proofs.Common.{◌≡◌, length, Option, IfSome, [], refl, sym, ap, ◌∙◌, subst, arith}
 use Rattle.area_layout.specs.Layout.{Shape}
-use Rattle.board_face.specs.Opened.{new_app_view}
-use Rattle.plain_board.specs.Board.{Board, side_of}
+use Rattle.plain_board.specs.Board.{Board}
 use Rattle.replay_turns.specs.Plan.{layout_of}
-use Rattle.turn_runs.specs.declared.run.Worker.{Worker}
 use Rattle.turn_runs.proofs.Places.{get-within}
 use Rattle.turn_runs.proofs.News.{begun, new-fits, new-runs}
 use Rattle.turn_runs.proofs.opening.open.Goals as goal

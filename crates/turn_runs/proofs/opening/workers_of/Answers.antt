@@ -1,5 +1,5 @@
 -- One more application, which has taken no turn.
-use Rattle.std.proofs.Common.{◌≡◌, ℕ, length, Some, None, false, refl, sym, ap, ◌∙◌, subst, arith}
+use Rattle.std.proofs.Common.{◌≡◌, length, Some, None, false, refl, sym, ap, ◌∙◌, subst, arith}
 use Rattle.std.specs.List.{slice_get}
 use Rattle.turn_runs.specs.Running.{IsNew}
 use Rattle.turn_runs.specs.declared.run.Worker.{Worker}

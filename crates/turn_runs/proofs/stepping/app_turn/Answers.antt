@@ -71,6 +71,6 @@ returns g c =
             (losses_in g.T.Shelf.faults firsts c.args.app) (g.T.Shelf.faults shelf) (g.T.Shelf.faults shelf_now) plan.how old new w_was w_now
             c.app_step-board.result.1 was_runs step.turns step.later is_left
             (record { fronts = step.fronts _; failed = step.failed _; whole = step.whole _; copies = step.copies; counts = step.counts })
-            (λ left. (finished left).2));
+            (λ left. (finished left).2) step.still);
       };
     }
