@@ -54,4 +54,5 @@ returns-in-InUse-clause-turns g c =
 pub returns-in-Did-clause-still : goal.returns-in-Did-clause-still
 returns-in-Did-clause-still g c other =
     let is : c.after.result ≡ turn_after true c.go_on-turn.result = search rules in
-    c.go_on-turn.ensures.still (λ same. other (is ∙ ap (turn_after true) same)) ∙ c.drain.ensures.still (λ e. let f : Did ≡ Failed = sym c.in-Did.is ∙ e in absurd (cc))
+    c.go_on-turn.ensures.still (λ same. other (is ∙ ap (turn_after true) same))
+    ∙ c.drain.ensures.still (λ e. let f : Did ≡ Failed = sym c.in-Did.is ∙ e in absurd (cc))
