@@ -10,7 +10,9 @@ mod users;
 
 pub(crate) use app_counts::{cut_piece, lower_scrubbed, release_held, take_picked, take_reserve};
 pub(crate) use card_counts::{begin_piece, lower_returned, shut_own, take_buffer};
-pub(crate) use entries::{give_entry, look_refill, publish_loan, store_refill};
+pub(crate) use entries::{
+    give_entry, look_refill, publish_loan, publish_raw, push_raw, store_refill,
+};
 pub(crate) use returns::give_back;
 pub(crate) use roles::{deal_role, join_seats, take_app_role, take_card_role};
 pub(crate) use scrubs::{scrub_counts, scrub_one};
