@@ -12,7 +12,7 @@ use Rattle.board_face.specs.declared.views.parts.Setting.{Setting}
 use Rattle.ref_words.specs.Words.{Words, HasSizes, AreSlots, groups, group_sizes, begins, begin_at, joined, table_of}
 use Rattle.word_rings.specs.Slots.{note_width, refill_width}
 use Rattle.ref_words.specs.Words.{pool_at, pool_of, with_pool, user_at, user_of, with_user, role_at, with_role, table_words}
-use Rattle.ref_words.specs.Words.{slot_word, with_word, with_slot_word, refill_at, with_refill}
+use Rattle.ref_words.specs.Words.{slot_word, with_word, with_slot_word, note_at, with_note, refill_at, with_refill}
 
 -- ---- lists that lie one behind another
 
@@ -205,6 +205,20 @@ module _ (setting : Setting) (w : Words) (sizes : HasSizes setting w) where
       ∙ ap (λ us. joined (set (groups w) 3 us))
       (ap (λ m. set (joined w.users) (m + b) n) (sym (begins-rows t w.users a sizes.rows there))
       ∙ joined-set w.users a b n there (omega (arith, row-length a there)))
+
+  pub note-word : (a s i : ℕ) → a < length w.notes → s < setting.places → i < note_width
+      → get_or (table_of w) (note_at setting a s i) 0 ≡ slot_word w.notes a s i
+  note-word a s i there small less =
+      group-word 6 (a * (setting.places * note_width) + (s * note_width + i)) (omega arith)
+      (slot-inside-of setting.places note_width w.notes a s i sizes.note_slots there small less)
+      ∙ ring-word setting.places note_width w.notes a s i sizes.note_slots there small less
+
+  pub note-set : (a s i n : ℕ) → a < length w.notes → s < setting.places → i < note_width
+      → set (table_of w) (note_at setting a s i) n ≡ table_of (with_note w a s i n)
+  note-set a s i n there small less =
+      group-set 6 (a * (setting.places * note_width) + (s * note_width + i)) n (omega arith)
+      (slot-inside-of setting.places note_width w.notes a s i sizes.note_slots there small less)
+      ∙ ap (λ rs. joined (set (groups w) 6 rs)) (ring-set setting.places note_width w.notes a s i n sizes.note_slots there small less)
 
   pub refill-word : (a s i : ℕ) → a < length w.refills → s < setting.places → i < refill_width
       → get_or (table_of w) (refill_at setting a s i) 0 ≡ slot_word w.refills a s i

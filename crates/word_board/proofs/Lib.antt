@@ -2,3 +2,4 @@ mod Stepping
 mod Dealing
 mod OpenedTable
 mod Scrubs
+mod EntryTaken

@@ -1,8 +1,12 @@
 -- What holds of the table between any two steps, and what its seats are.
-use Rattle.std.specs.Prelude.{◌≡◌, ℕ, Bool, true, false, if◌then◌else◌, List, [], ◌∷◌, length, slice_index_or, slice_set, replicate}
+use Rattle.std.specs.Prelude.{◌≡◌, ℕ, Bool, true, false, if◌then◌else◌, List, [], ◌∷◌, length, slice_index_or, slice_set, replicate, Option, Some, None}
 use Rattle.atomic_table.specs.Table.{State}
 use Rattle.atomic_table.specs.Seated.{TableId}
 use Rattle.area_layout.specs.Layout.{shape_of}
+use Rattle.zr_kinds.specs.declared.ring.Rqe.{Rqe}
+use Rattle.board_face.specs.SlotSteps.{seen_with, side_entry_looked}
+use Rattle.board_face.specs.declared.views.nic.Judged.TheVariants.{Not}
+use Rattle.word_rings.specs.Slots.{entry_body}
 use Rattle.board_face.specs.Opened.{new_nic, new_app}
 use Rattle.board_face.specs.Steps.{side_user_taken, side_owes_lowered}
 use Rattle.board_face.specs.declared.views.parts.Setting.{Setting}
@@ -49,6 +53,18 @@ pub record ScrubbedOne (old new : AppSide) (b : ℕ) (last : Bool) : Type 0 wher
   pub took : ℕ
   pub event : new ≡ side_owes_lowered (side_user_taken old b took) b last
   pub none : took ≡ 0 → last ≡ false
+
+-- ---- an entry
+
+-- The card looked at the next slot of an application, and where it was full it has the entry in hand whose words it loaded.
+abbrev pub side_entry_taken : NicSide → ℕ → Option Rqe → NicSide
+side_entry_taken nic a None = side_entry_looked nic a false
+side_entry_taken nic a (Some entry) = record nic {
+  inside = record nic.inside {
+    refill_slots = slice_set nic.inside.refill_slots a (seen_with (entry_body entry));
+    entry = Some (record { app = a; entry = entry; judged = Not });
+  };
+}
 
 -- ---- what callers see
 

@@ -2,6 +2,7 @@
 
 mod app_counts;
 mod card_counts;
+mod card_entries;
 mod entries;
 mod returns;
 mod roles;
@@ -10,6 +11,9 @@ mod users;
 
 pub(crate) use app_counts::{cut_piece, lower_scrubbed, release_held, take_picked, take_reserve};
 pub(crate) use card_counts::{begin_piece, lower_returned, shut_own, take_buffer};
+pub(crate) use card_entries::{
+    free_honoured, free_stray, free_void, load_entry, load_last, look_entry, take_entry,
+};
 pub(crate) use entries::{
     give_entry, look_refill, publish_loan, publish_raw, push_raw, store_refill,
 };
