@@ -3,3 +3,4 @@ mod Dealing
 mod OpenedTable
 mod Scrubs
 mod EntryTaken
+mod NoteFilled

@@ -11,12 +11,12 @@ use Rattle.board_face.specs.declared.views.nic.NicSide.{NicSide}
 use Rattle.board_face.specs.declared.views.app.AppSide.{AppSide}
 use Rattle.ref_words.specs.declared.view.View.{View}
 use Rattle.ref_words.specs.Words.{Words, table_of, pool_at, pool_of, with_pool, user_at, user_of, with_user}
-use Rattle.ref_words.specs.Words.{refill_at, slot_word, with_refill}
-use Rattle.word_rings.specs.Slots.{refill_width}
+use Rattle.ref_words.specs.Words.{note_at, with_note, refill_at, slot_word, with_refill}
+use Rattle.word_rings.specs.Slots.{note_width, refill_width}
 use Rattle.ref_words.specs.Seated.{Seated, card_view, app_view}
 use Rattle.ref_words.specs.Rule.{RefRule}
 use Rattle.ref_words.proofs.Roles.{card-is, card-moves, app-is, app-moves}
-use Rattle.ref_words.proofs.Laying.{pool-word, pool-set, user-word, user-set, refill-word, refill-set}
+use Rattle.ref_words.proofs.Laying.{pool-word, pool-set, user-word, user-set, note-word, note-set, refill-word, refill-set}
 use Rattle.word_board.specs.Board.{IsBoard}
 
 -- What a step on the word i makes of the board, where it leaves m there: words that stand by the rule to the sides.
@@ -190,6 +190,25 @@ module _ (setting : Setting) (words : Words) (a s i x : ℕ) (at : x ≡ refill_
     words' = with_refill words a s i n;
     laid = ap (λ y. set (table_of words) y n) at
         ∙ refill-set setting words rule.sizes a s i n (omega (arith, few, rule.sizes.refills)) small less;
+    roles = refl;
+    rule = after;
+  }
+
+-- ---- a note slot
+
+module _ (setting : Setting) (words : Words) (a s i x : ℕ) (at : x ≡ note_at setting a s i) (few : a < apps_of setting) (small : s < setting.places)
+    (less : i < note_width) where
+  pub found-note : {nic : NicSide} {apps : List AppSide} → RefRule setting words nic apps
+      → get_or (table_of words) x 0 ≡ slot_word words.notes a s i
+  found-note rule = ap (λ y. get_or (table_of words) y 0) at
+      ∙ note-word setting words rule.sizes a s i (omega (arith, few, rule.sizes.notes)) small less
+
+  pub stores-note : {nic now : NicSide} {apps apps' : List AppSide} → RefRule setting words nic apps → (n : ℕ)
+      → RefRule setting (with_note words a s i n) now apps' → Makes setting words x n now apps'
+  stores-note rule n after = record {
+    words' = with_note words a s i n;
+    laid = ap (λ y. set (table_of words) y n) at
+        ∙ note-set setting words rule.sizes a s i n (omega (arith, few, rule.sizes.notes)) small less;
     roles = refl;
     rule = after;
   }

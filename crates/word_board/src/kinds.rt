@@ -4,6 +4,7 @@ mod app_counts;
 mod card_counts;
 mod card_entries;
 mod entries;
+mod notes;
 mod returns;
 mod roles;
 mod scrubs;
@@ -16,6 +17,9 @@ pub(crate) use card_entries::{
 };
 pub(crate) use entries::{
     give_entry, look_refill, publish_loan, publish_raw, push_raw, store_refill,
+};
+pub(crate) use notes::{
+    look_note, publish_linear, publish_note, send_linear, send_note, store_note,
 };
 pub(crate) use returns::give_back;
 pub(crate) use roles::{deal_role, join_seats, take_app_role, take_card_role};
