@@ -1,0 +1,48 @@
+use Rattle.std.proofs.Common.{◌≡◌, ℕ, ◌<◌, Bool, true, false, set, refl, ap, sym, ◌∙◌, subst, arith}
+use Rattle.std.specs.Prelude.{◌==◌}
+use Rattle.board_face.specs.NicCalls.{apps_of}
+use Rattle.board_face.specs.SlotSteps.{side_slot_looked}
+use Rattle.board_face.specs.declared.views.parts.Setting.{Setting}
+use Rattle.board_face.specs.declared.views.app.AppSide.{AppSide}
+use Rattle.ref_words.specs.Words.{note_at}
+use Rattle.ref_words.specs.Rings.{takes_note_at}
+use Rattle.ref_words.specs.Rule.{RefRule}
+use Rattle.ref_words.specs.Seated.{app_view}
+use Rattle.word_board.specs.Board.{app_of}
+use Rattle.word_board.proofs.Stepping.{app-step, loads, found-note}
+use Rattle.word_board.proofs.kinds.taken_notes.look_slot.Goals as goal
+
+same-number : (app : AppSide) (full : Bool) → (side_slot_looked app full).view.app ≡ app.view.app
+same-number app true = refl
+same-number app false = refl
+
+pub load_as-requires-clause-allows : goal.load_as-requires-clause-allows
+load_as-requires-clause-allows c =
+    let words = c.args.words.now in
+    let setting = words.table.shared.key in
+    let mine = app_of c.args.seat.now.me.0 in
+    let a = mine.view.app in
+    let s = takes_note_at setting mine in
+    let i : ℕ = 0 in
+    let next_slot = subst (λ (k : Setting). c.args.slot ≡ takes_note_at k mine) words.keyed c.requires.next in
+    let at : c.note-word.result ≡ note_at setting a s i = c.note-word.ensures.value
+    ∙ (ap (λ k. note_at k c.args.app c.args.slot 0) words.keyed
+    ∙ (ap (λ k. note_at setting k c.args.slot 0) (sym c.requires.number) ∙ ap (λ k. note_at setting a k 0) next_slot)) in
+    let few : a < apps_of setting = subst (λ k. k < apps_of setting) (sym c.requires.number) (subst
+    (λ k. c.args.app < apps_of k) words.keyed c.requires.few) in
+    let within : s < setting.places = subst (λ k. k < setting.places) next_slot (subst
+    (λ (k : Setting). c.args.slot < k.places) words.keyed c.requires.within) in
+    let next : ℕ → AppSide = λ n. side_slot_looked mine (n == 1) in
+    app-step setting words.table.shared.table_id.slots c.args.seat.now.id c.note-word.result (λ n. n) (λ _. Unit {0}) mine next
+    (λ n. same-number mine (n == 1))
+    (λ ws nic apps rule here small.
+    let law = c.k16_flag.ensures.note setting ws nic apps mine rule here in (
+      loads setting ws c.note-word.result
+          (subst (λ n. RefRule setting ws nic (set apps a (next n)))
+          (sym (found-note setting ws a s i c.note-word.result at few within (omega arith) rule)) law),
+      tt,
+    ))
+    c.args.seat.now.me c.requires.app
+
+pub returns-clause-event : goal.returns-clause-event
+returns-clause-event c = c.load_as.ensures.me ∙ ap (λ xs. (app_view (side_slot_looked (app_of c.args.seat.now.me.0) (c.load_as.result == 1)), xs)) (ap (λ me. me.1) c.requires.app)
