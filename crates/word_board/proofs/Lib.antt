@@ -4,3 +4,4 @@ mod OpenedTable
 mod Scrubs
 mod EntryTaken
 mod NoteFilled
+mod NoteLoaded

@@ -1,10 +1,11 @@
 -- What holds of the table between any two steps, and what its seats are.
-use Rattle.std.specs.Prelude.{◌≡◌, ℕ, Bool, true, false, if◌then◌else◌, List, [], ◌∷◌, length, slice_index_or, slice_set, replicate, Option, Some, None}
+use Rattle.std.specs.Prelude.{◌≡◌, ℕ, Bool, true, false, if◌then◌else◌, List, [], ◌∷◌, length, slice_index_or, slice_set, replicate, take, Option, Some, None}
 use Rattle.atomic_table.specs.Table.{State}
 use Rattle.atomic_table.specs.Seated.{TableId}
 use Rattle.area_layout.specs.Layout.{shape_of}
+use Rattle.zr_kinds.specs.declared.place.Note.{Note}
 use Rattle.zr_kinds.specs.declared.ring.Rqe.{Rqe}
-use Rattle.board_face.specs.SlotSteps.{seen_with, side_entry_looked}
+use Rattle.board_face.specs.SlotSteps.{seen_with, side_entry_looked, side_took_note, side_took_linear}
 use Rattle.board_face.specs.declared.views.nic.Judged.TheVariants.{Not}
 use Rattle.word_rings.specs.Slots.{entry_body}
 use Rattle.board_face.specs.Opened.{new_nic, new_app}
@@ -65,6 +66,14 @@ side_entry_taken nic a (Some entry) = record nic {
     entry = Some (record { app = a; entry = entry; judged = Not });
   };
 }
+
+-- ---- a note
+
+-- The application looked at its next slot, and where it was full it took the note, with the first of these bytes where they travelled in
+-- it.
+abbrev pub side_note_taken : AppSide → Option Note → List ℕ → AppSide
+side_note_taken app None bytes = app
+side_note_taken app (Some note) bytes = if note.split then side_took_note app note else side_took_linear app note (take note.total bytes)
 
 -- ---- what callers see
 

@@ -25,5 +25,5 @@ pub(crate) use notes::{
 pub(crate) use returns::give_back;
 pub(crate) use roles::{deal_role, join_seats, take_app_role, take_card_role};
 pub(crate) use scrubs::{scrub_counts, scrub_one};
-pub(crate) use taken_notes::{free_linear, free_note, load_slot, look_slot};
+pub(crate) use taken_notes::{free_linear, free_note, load_slot, look_slot, take_note};
 pub(crate) use users::{lend_held, lend_spare, look_user, lower_user, scrub_user};

@@ -1,17 +1,19 @@
-ghost use Rattle.std.specs.Prelude.{◌≡◌, ◌+◌, ◌<◌, [], ◌∷◌, true, false, length, take};
+ghost use Rattle.std.specs.Prelude.{◌≡◌, ◌+◌, ◌<◌, [], ◌∷◌, true, false, length, take, drop, IfSome, MatchBool};
 ghost use Rattle.board_face.specs.NicCalls.{apps_of};
 ghost use Rattle.board_face.specs.Texts.{IsSplitNote, IsLinearNote};
-ghost use Rattle.board_face.specs.SlotSteps.{side_slot_looked, side_slot_loaded, side_took_note, side_took_linear};
+ghost use Rattle.board_face.specs.SlotSteps.{seen_with, at_slot, side_slot_looked, side_slot_loaded, side_took_note, side_took_linear};
 ghost use Rattle.word_rings.specs.Slots.{note_width, linear_of};
 ghost use Rattle.ref_words.specs.Rings.{takes_note_at};
 ghost use Rattle.ref_words.specs.SlotLaws.{loaded_note};
 ghost use Rattle.ref_words.specs.Seated.{app_view};
-ghost use Rattle.word_board.specs.Board.{app_of};
+ghost use Rattle.word_board.specs.Board.{app_of, side_note_taken};
 
 use crate::rule::{SharedWords, WordSeat};
 use crate::steps::{load_as, swap_as};
 use ref_words::laws;
 use std::marker::Brand;
+use word_rings::{NOTE_WORDS, note_read};
+use zr_kinds::Note;
 
 /// An application looks at the flag of its next note slot. `true` says that the slot is full.
 pub(crate) fn look_slot(words: &SharedWords, seat: &mut WordSeat, app: u32, slot: u32) -> bool
@@ -54,6 +56,27 @@ pub(crate) fn load_slot(
     let word = words.map.note(app, slot, at);
     let table = &words.table;
     load_as::<Brand, ()>(table, seat, word, ())
+}
+
+/// It loads all words of the slot, which it saw full, and answers the slot.
+fn load_note(words: &SharedWords, seat: &mut WordSeat, app: u32, slot: u32) -> [u64; 39]
+    requires table { seat.old.table_id ≡ words.now.table.shared.table_id }
+    requires app { seat.old.me ≡ (app_view (app_of seat.old.me.0), []) }
+    requires number { (app_of seat.old.me.0).view.app ≡ app }
+    requires few { app < apps_of words.now.map }
+    requires within { slot < words.now.map.places }
+    requires next { slot ≡ takes_note_at words.now.map (app_of seat.old.me.0) }
+    requires seen { (app_of seat.old.me.0).inside.note_slot ≡ seen_with [] }
+    ensures table { seat.new.table_id ≡ seat.old.table_id }
+    ensures event { seat.new.me ≡ (app_view (at_slot (app_of seat.old.me.0) (seen_with (drop 1 result))), []) }
+    ensures full { result ≡ 1 ∷ drop 1 result }
+    ensures many { 1 + length (drop 1 result) ≡ note_width }
+{
+    let mut body = [1; NOTE_WORDS];
+    for k in 0..NOTE_WORDS - 1 {
+        body[1 + k] = load_slot(words, seat, app, slot, 1 + k as u32);
+    }
+    body
 }
 
 /// It frees the slot: the note that the words tell of is taken, and its piece is held.
@@ -100,4 +123,37 @@ pub(crate) fn free_linear(words: &SharedWords, seat: &mut WordSeat, app: u32, sl
     let word = words.map.note(app, slot, 0);
     let table = &words.table;
     swap_as::<Brand, ()>(table, seat, word, 0, ());
+}
+
+/// An application takes the next note sent to it: it looks at the flag of its next slot, and where the slot is full it loads
+/// the words and frees the slot. The bytes that travelled in an unsplit note are the first of `linear`. `None` says that the
+/// slot was free.
+pub(crate) fn take_note(
+    words: &SharedWords,
+    seat: &mut WordSeat,
+    app: u32,
+    slot: u32,
+    linear: &mut [u8; 256],
+) -> Option<Note>
+    requires table { seat.old.table_id ≡ words.now.table.shared.table_id }
+    requires app { seat.old.me ≡ (app_view (app_of seat.old.me.0), []) }
+    requires number { (app_of seat.old.me.0).view.app ≡ app }
+    requires few { app < apps_of words.now.map }
+    requires within { slot < words.now.map.places }
+    requires next { slot ≡ takes_note_at words.now.map (app_of seat.old.me.0) }
+    ensures table { seat.new.table_id ≡ seat.old.table_id }
+    ensures event { seat.new.me ≡ (app_view (side_note_taken (app_of seat.old.me.0) result linear.new), []) }
+    ensures fields { IfSome result (λ note. MatchBool note.split (IsSplitNote note) (IsLinearNote note)) }
+{
+    if !look_slot(words, seat, app, slot) {
+        return None;
+    }
+    let body = load_note(words, seat, app, slot);
+    let note = note_read(&body, linear);
+    if note.split {
+        free_note(words, seat, app, slot);
+    } else {
+        free_linear(words, seat, app, slot);
+    }
+    Some(note)
 }
