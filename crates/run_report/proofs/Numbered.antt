@@ -17,3 +17,15 @@ more_from line first (x ∷ items) (suc i) n d is within =
 pub numbered_more : {T : Type 0} (line : ℕ → T → List ℕ) (items : List T) (i : ℕ) (d : T) → i < length items
     → numbered line (take i items) ++ line i (get_or items i d) ≡ numbered line (take (i + 1) items)
 numbered_more line items i d within = rw (add-one i) (more_from line 0 items i i d (omega arith) within)
+
+more : {T : Type 0} (line : T → List ℕ) (items : List T) (i : ℕ) (d : T) → i < length items
+    → flat_map line (take i items) ++ line (get_or items i d) ≡ flat_map line (take (suc i) items)
+more line [] i d within = absurd (omega (arith, within))
+more line (x ∷ items) zero d within = sym (append-nil (line x))
+more line (x ∷ items) (suc i) d within =
+    append_assoc (line x) _ _ ∙ ap (λ rest. line x ++ rest) (more line items i d (omega (arith, within)))
+
+-- the lines of the first i items and the line of the next, without numbers
+pub mapped_more : {T : Type 0} (line : T → List ℕ) (items : List T) (i : ℕ) (d : T) → i < length items
+    → flat_map line (take i items) ++ line (get_or items i d) ≡ flat_map line (take (i + 1) items)
+mapped_more line items i d within = rw (add-one i) (more line items i d within)

@@ -8,6 +8,7 @@ use Rattle.zr_kinds.specs.declared.behaviour.Stopped.TheVariants as stopped
 use Rattle.zr_kinds.specs.declared.outcome.Tally.{Tally}
 use Rattle.zr_kinds.specs.declared.outcome.AppLine.{AppLine}
 use Rattle.zr_kinds.specs.declared.outcome.FlowLine.{FlowLine}
+use Rattle.zr_kinds.specs.declared.outcome.PoolStats.{PoolStats}
 use Rattle.zr_io.specs.Moved.{Rose, Gained}
 use Rattle.run_report.specs.declared.report.Unreported.{Unreported}
 use Rattle.run_report.specs.declared.report.Unreported.TheVariants as unreported
@@ -42,6 +43,16 @@ flow_line number flow =
     codes "flow " ++ decimal number ++ codes " port " ++ decimal flow.port ++ codes " base " ++ decimal flow.base ++ codes " bytes " ++ decimal flow.bytes
     ++ codes " fin " ++ yes_or_no flow.fin ++ 10 ∷ []
 
+-- the frame with this number was refused
+abbrev pub refused_line : ℕ → List ℕ
+refused_line frame = codes "refused " ++ decimal frame ++ 10 ∷ []
+
+-- the searches of the pool by where they ended
+unfoldable pub pool_line : PoolStats → List ℕ
+pool_line pool =
+    codes "pool fast " ++ decimal pool.fast ++ codes " refill " ++ decimal pool.refill ++ codes " slow " ++ decimal pool.slow ++ codes " empty "
+    ++ decimal pool.empty ++ codes " strays " ++ decimal pool.strays ++ 10 ∷ []
+
 abbrev pub status_line : ℕ → List ℕ
 status_line status = codes "status " ++ decimal status ++ 10 ∷ []
 
@@ -50,8 +61,9 @@ abbrev pub numbered : {T : Type 0} → (ℕ → T → List ℕ) → List T → L
 numbered line items = flat_map (λ e. line e.0 e.1) (enumerate_from 0 items)
 
 -- the whole text
-abbrev pub report_of : Tally → List AppLine → List FlowLine → ℕ → List ℕ
-report_of tally apps flows status = capture_line tally ++ numbered app_line apps ++ numbered flow_line flows ++ status_line status
+abbrev pub report_of : Tally → List AppLine → List FlowLine → List ℕ → PoolStats → ℕ → List ℕ
+report_of tally apps flows refused pool status =
+    capture_line tally ++ numbered app_line apps ++ numbered flow_line flows ++ flat_map refused_line refused ++ pool_line pool ++ status_line status
 
 -- The whole text went out; or nothing, for want of memory; or a front of it, where the sink failed.
 abbrev pub Reports : Option (List ℕ) → Option (List ℕ) → ℕ → ℕ → List ℕ → Result (Unit {0}) Unreported → Type 0

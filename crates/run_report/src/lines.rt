@@ -1,9 +1,10 @@
 //! The lines of a report.
 ghost use Rattle.std.specs.Prelude.{◌≡◌, Some};
-ghost use Rattle.run_report.specs.Report.{app_line, capture_line, flow_line, numbered, stopped_word, yes_or_no};
+ghost use Rattle.std.specs.List.{flat_map};
+ghost use Rattle.run_report.specs.Report.{app_line, capture_line, flow_line, numbered, pool_line, refused_line, stopped_word, yes_or_no};
 
 use std::fmt;
-use zr_kinds::{AppLine, FlowLine, Stopped, Tally};
+use zr_kinds::{AppLine, FlowLine, PoolStats, Stopped, Tally};
 
 /// How many records there were, in all and of each class.
 #[derive(Clone, Copy)]
@@ -107,6 +108,55 @@ impl fmt::Display for FlowLines<'_> {
             write!(f, "{line}")?;
         }
         Ok(())
+    }
+}
+
+/// That the frame with this number was refused.
+#[derive(Clone, Copy)]
+pub(crate) struct RefusedLine(pub(crate) u32);
+
+impl fmt::Display for RefusedLine {
+    ghost output = { λ line. Some (refused_line line.0) };
+
+    fn fmt<W: fmt::Write>(&self, f: &mut fmt::Formatter<W>) -> fmt::Result {
+        let frame = self.0;
+        writeln!(f, "refused {frame}")
+    }
+}
+
+/// A line for each frame that was refused.
+#[derive(Clone, Copy)]
+pub(crate) struct RefusedLines<'a>(pub(crate) &'a [u32]);
+
+impl fmt::Display for RefusedLines<'_> {
+    ghost output = { λ lines. Some (flat_map refused_line lines.0.now) };
+
+    fn fmt<W: fmt::Write>(&self, f: &mut fmt::Formatter<W>) -> fmt::Result {
+        for frame in self.0 {
+            let line = RefusedLine(*frame);
+            write!(f, "{line}")?;
+        }
+        Ok(())
+    }
+}
+
+/// How the pool's searches for fresh buffers ended, and how many refill entries gave nothing back.
+#[derive(Clone, Copy)]
+pub(crate) struct PoolLine<'a>(pub(crate) &'a PoolStats);
+
+impl fmt::Display for PoolLine<'_> {
+    ghost output = { λ line. Some (pool_line line.0.now) };
+
+    fn fmt<W: fmt::Write>(&self, f: &mut fmt::Formatter<W>) -> fmt::Result {
+        let PoolStats {
+            fast,
+            refill,
+            slow,
+            empty,
+            strays,
+        } = *self.0;
+        write!(f, "pool fast {fast} refill {refill} slow {slow}")?;
+        writeln!(f, " empty {empty} strays {strays}")
     }
 }
 

@@ -2,7 +2,7 @@ use crate::{Report, Unreported, answer, write_report};
 use std::alloc::Global;
 use std::test::*;
 use zr_io::MemSink;
-use zr_kinds::{AppLine, FlowLine, Stopped, Tally};
+use zr_kinds::{AppLine, FlowLine, PoolStats, Stopped, Tally};
 
 /// More bytes than any report here has.
 const ROOM: usize = 1000;
@@ -20,7 +20,7 @@ const TALLY: Tally = Tally {
 const APP: AppLine = AppLine {
     port: 9000,
     written: 5,
-    loans: 0,
+    loans: 1,
     copied: 0,
     stopped: Stopped::No,
 };
@@ -30,6 +30,14 @@ const FLOW: FlowLine = FlowLine {
     base: 1001,
     bytes: 5,
     fin: true,
+};
+
+const POOL: PoolStats = PoolStats {
+    fast: 0,
+    refill: 0,
+    slow: 1,
+    empty: 0,
+    strays: 0,
 };
 
 /// Writes the report of one application and one flow to a sink whose first call fails, if `fails` names it.
@@ -42,6 +50,8 @@ fn write_small(
         tally: &TALLY,
         apps: &[APP],
         flows: &[FLOW],
+        refused: &[],
+        pool: &POOL,
         status: 0,
     };
     let reported = write_report(alloc, &report, &mut sink);
@@ -54,8 +64,9 @@ fn one_application_and_one_flow(rt: HostRuntime) -> Result<(), Fail> {
     assert_eq!(rt; reported, Ok(()));
     let text = b"\
 capture records 3 tcp 3 steered 3 other 0 fragment 0 cut 0 bad 0
-app 0 port 9000 written 5 loans 0 copied 0 stopped no
+app 0 port 9000 written 5 loans 1 copied 0 stopped no
 flow 0 port 9000 base 1001 bytes 5 fin yes
+pool fast 0 refill 0 slow 1 empty 0 strays 0
 status 0
 ";
     assert_eq!(rt; sink.bytes(), &text[..]);
@@ -102,18 +113,30 @@ fn lines_are_numbered_from_0(rt: HostRuntime) -> Result<(), Fail> {
             },
             FLOW,
         ],
-        status: 12,
+        refused: &[2, 16, 4_294_967_295],
+        pool: &PoolStats {
+            fast: 18_446_744_073_709_551_615,
+            refill: 2,
+            slow: 30,
+            empty: 3,
+            strays: 40,
+        },
+        status: 11,
     };
     assert_eq!(rt; write_report(rt.alloc(), &report, &mut sink), Ok(()));
     let text = b"\
 capture records 4294967295 tcp 6 steered 5 other 4 fragment 3 cut 2 bad 10
 app 0 port 65535 written 18446744073709551615 loans 12 copied 11 stopped quit
-app 1 port 9000 written 5 loans 0 copied 0 stopped write
-app 2 port 9000 written 5 loans 0 copied 0 stopped memory
+app 1 port 9000 written 5 loans 1 copied 0 stopped write
+app 2 port 9000 written 5 loans 1 copied 0 stopped memory
 flow 0 port 9000 base 1001 bytes 5 fin yes
 flow 1 port 1 base 4294967295 bytes 0 fin no
 flow 2 port 9000 base 1001 bytes 5 fin yes
-status 12
+refused 2
+refused 16
+refused 4294967295
+pool fast 18446744073709551615 refill 2 slow 30 empty 3 strays 40
+status 11
 ";
     assert_eq!(rt; sink.bytes(), &text[..]);
     Ok(())
@@ -132,9 +155,9 @@ fn a_failed_sink_has_a_front(rt: HostRuntime) -> Result<(), Fail> {
 #[test]
 fn an_answer_tells_a_lost_report(rt: HostRuntime) {
     let rows = [
-        (12, Ok(()), 12),
-        (12, Err(Unreported::Memory), 1),
-        (12, Err(Unreported::Write), 9),
+        (11, Ok(()), 11),
+        (11, Err(Unreported::Memory), 1),
+        (11, Err(Unreported::Write), 9),
         (1, Err(Unreported::Write), 1),
     ];
     for (status, reported, answered) in rows {

@@ -15,7 +15,7 @@ front old new text report n appends is =
 pub returns-clause-gained : goal.returns-clause-gained
 returns-clause-gained g c =
     let said = c.args.report.now in
-    let report = report_of said.tally.now said.apps.now said.flows.now said.status in
+    let report = report_of said.tally.now said.apps.now said.flows.now said.refused.now said.pool.now said.status in
     let text : c.as_bytes.result.now ≡ report = search rules in (
       front (g.O.Sink.sent c.args.out.now) (g.O.Sink.sent c.write_all.new.self) c.as_bytes.result.now report c.in-Err.ensures.bytes.0 c.in-Err.ensures.bytes.1
           text,
