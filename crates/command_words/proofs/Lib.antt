@@ -5,6 +5,8 @@ pub mod Matching
 pub mod Walking
 pub mod Asked
 pub mod Adding
+pub mod Ranges
 pub mod Porting
+pub mod Told
 pub mod Answering
 mod Rows

@@ -4,16 +4,14 @@ use Rattle.std.proofs.Common.{add-one, zero, suc, List, [], ◌∷◌, drop, len
 use Rattle.std.proofs.Common.{All}
 use Rattle.std.proofs.Math.Seq.{drop-cons}
 use Rattle.std.proofs.lemmas.List.{drop_all}
-use Rattle.std.specs.Prelude.{IfSome, option_and_then, nat_le}
+use Rattle.std.specs.Prelude.{option_and_then, nat_le}
 use Rattle.std.specs.Borrow.{Bor}
 use Rattle.std.specs.List.{AllByRecursion, IsDistinct, list_any}
 use Rattle.std.proofs.lemmas.Bool.Decides.{nat_tests}
 use Rattle.command_words.specs.Numbers.{all_ports, is_distinct, is_port_list, port_of, ports_of, value_of, within}
-use Rattle.command_words.specs.Assigned.{Said}
-use Rattle.command_words.specs.Words.{HasPorts, IsPortList, Shown, command_shown, make, replay, replay_of}
-use Rattle.command_words.specs.declared.reading.Command.{Command}
-use Rattle.command_words.specs.declared.reading.Command.TheVariants.{Make, Replay}
+use Rattle.command_words.specs.Words.{IsPortList}
 use Rattle.command_words.proofs.Adding.{texts}
+use Rattle.command_words.proofs.Ranges.{read-within}
 
 abbrev pub onto : List ℕ → Option (List ℕ) → Option (List ℕ)
 onto ports = option_map (λ rest. ports ++ rest)
@@ -77,20 +75,8 @@ distinct (x ∷ xs) h = let parts = and_parts _ _ h in (none_same x xs parts.0, 
 abbrev is_port : ℕ → Type 0
 is_port port = (1 ≤ port) × (port ≤ 65535)
 
-within_range : (number port : ℕ) → within 1 65535 number ≡ Some port → is_port port
-within_range number port is = go (nat_le 1 number) (nat_le number 65535) refl refl
-  where
-    go : (low high : Bool) → nat_le 1 number ≡ low → nat_le number 65535 ≡ high → is_port port
-    go true true e f =
-        let same : Some number ≡ Some port = rw (e, f) at is in
-        let equal : number ≡ port = cc in
-        (grind (arith, nat_tests, e, equal), grind (arith, nat_tests, f, equal))
-    go true false e f = let bad : None ≡ Some port = rw (e, f) at is in cc
-    go false high e f = let bad : None ≡ Some port = rw e at is in cc
-
 port_in_range : (value : Option ℕ) (port : ℕ) → option_and_then (within 1 65535) value ≡ Some port → is_port port
-port_in_range None port is = cc
-port_in_range (Some number) port is = within_range number port is
+port_in_range value port is = read-within 1 65535 value port is
 
 one_more : (x : ℕ) (xs : List ℕ) → is_port x → All is_port xs → All is_port (x ∷ xs)
 one_more x xs p all zero d lt = p
@@ -133,26 +119,3 @@ ports_read words ports is = go (all_ports words) refl
               distinct = distinct all outer.1;
               numbers = all_in_range words all e;
             })
-
-abbrev shown : List ℕ → Shown
-shown ports = replay (record { ports = ports })
-
-abbrev ports_shown : Option Shown → List ℕ
-ports_shown None = []
-ports_shown (Some (replay told)) = told.ports
-ports_shown (Some (make told)) = []
-
--- a replay that is read has a list of ports
-pub replay_read : (said : Option Said) (command : Option Command) → option_map command_shown command ≡ option_and_then replay_of said
-    → IfSome command HasPorts
-replay_read said None is = tt
-replay_read said (Some (Make told)) is = tt
-replay_read None (Some (Replay told)) is = cc
-replay_read (Some said) (Some (Replay told)) is = go (ports_of said.words) refl
-  where
-    go : (o : Option (List ℕ)) → ports_of said.words ≡ o → IsPortList told.ports.items
-    go None e = let bad : Some (command_shown (Replay told)) ≡ None = is ∙ ap (option_map shown) e in cc
-    go (Some ports) e =
-        let same : Some (command_shown (Replay told)) ≡ Some (shown ports) = is ∙ ap (option_map shown) e in
-        let equal : told.ports.items ≡ ports = ap ports_shown same in
-        subst IsPortList (sym equal) (ports_read said.words ports e)

@@ -2,76 +2,123 @@
 use Rattle.std.specs.Prelude.{◌≡◌, ℕ, List, [], ◌∷◌, Option, Some, None, codes}
 use Rattle.std.proofs.Common.{refl}
 use Rattle.command_words.specs.Assigned.{Text, assigned, sorted}
+use Rattle.command_words.specs.Options.{behaviour_of, options_of}
 use Rattle.command_words.specs.Words.{Shown, make, reading_of, replay}
+use Rattle.command_words.specs.declared.options.Options.{Options}
+
+-- what stands for options that aren't said
+abbrev usual : Options
+usual = record { buffers = 64; size = 4096; ring = 64; split = 0; how = record { hold = 0; leak = 0; stray = 0; quit = None } }
 
 abbrev shown : List ℕ → Option Shown
-shown ports = Some (replay (record { ports = ports }))
+shown ports = Some (replay (record { ports = ports; options = usual; turns = None }))
 
 one_port : reading_of (codes "replay" ∷ codes "9000" ∷ []) ≡ shown (9000 ∷ [])
-unfolding assigned
+unfolding assigned options_of behaviour_of
 one_port = refl
 
 in_order : reading_of (codes "replay" ∷ codes "9001" ∷ codes "9000" ∷ []) ≡ shown (9001 ∷ 9000 ∷ [])
-unfolding assigned
+unfolding assigned options_of behaviour_of
 in_order = refl
 
 leading_zero : reading_of (codes "replay" ∷ codes "09000" ∷ []) ≡ shown (9000 ∷ [])
-unfolding assigned
+unfolding assigned options_of behaviour_of
 leading_zero = refl
 
 after_closing : reading_of (codes "replay" ∷ codes "9000" ∷ codes "--" ∷ codes "9001" ∷ []) ≡ shown (9000 ∷ 9001 ∷ [])
-unfolding assigned
+unfolding assigned options_of behaviour_of
 after_closing = refl
 
 largest : reading_of (codes "replay" ∷ codes "65535" ∷ []) ≡ shown (65535 ∷ [])
-unfolding assigned
+unfolding assigned options_of behaviour_of
 largest = refl
 
 too_large : reading_of (codes "replay" ∷ codes "65536" ∷ []) ≡ None
-unfolding assigned
+unfolding assigned options_of behaviour_of
 too_large = refl
 
 port_0 : reading_of (codes "replay" ∷ codes "0" ∷ []) ≡ None
-unfolding assigned
+unfolding assigned options_of behaviour_of
 port_0 = refl
 
 digits_19 : reading_of (codes "replay" ∷ codes "0000000000000009000" ∷ []) ≡ None
-unfolding assigned
+unfolding assigned options_of behaviour_of
 digits_19 = refl
 
 signed : reading_of (codes "replay" ∷ codes "+9000" ∷ []) ≡ None
-unfolding assigned
+unfolding assigned options_of behaviour_of
 signed = refl
 
 no_words : reading_of [] ≡ None
 no_words = refl
 
 no_ports : reading_of (codes "replay" ∷ []) ≡ None
-unfolding assigned
+unfolding assigned options_of behaviour_of
 no_ports = refl
 
 same_port : reading_of (codes "replay" ∷ codes "9000" ∷ codes "9000" ∷ []) ≡ None
-unfolding assigned
+unfolding assigned options_of behaviour_of
 same_port = refl
 
 abbrev digits : List Text
 digits = codes "1" ∷ codes "2" ∷ codes "3" ∷ codes "4" ∷ codes "5" ∷ codes "6" ∷ codes "7" ∷ codes "8" ∷ []
 
 eight_ports : reading_of (codes "replay" ∷ digits) ≡ shown (1 ∷ 2 ∷ 3 ∷ 4 ∷ 5 ∷ 6 ∷ 7 ∷ 8 ∷ [])
-unfolding assigned
+unfolding assigned options_of behaviour_of
 eight_ports = refl
 
 nine_ports : reading_of (codes "replay" ∷ codes "9" ∷ digits) ≡ None
-unfolding assigned
+unfolding assigned options_of behaviour_of
 nine_ports = refl
 
 help : reading_of (codes "replay" ∷ codes "--help" ∷ []) ≡ None
-unfolding assigned
+unfolding assigned options_of behaviour_of
 help = refl
 
-unknown_option : reading_of (codes "replay" ∷ codes "--size=1024" ∷ codes "9000" ∷ []) ≡ None
-unfolding assigned
+unknown_option : reading_of (codes "replay" ∷ codes "--sizes=1024" ∷ codes "9000" ∷ []) ≡ None
+unfolding assigned options_of behaviour_of
 unknown_option = refl
+
+-- ---- options
+
+abbrev told : Options → Option Text → Option Shown
+told options turns = Some (replay (record { ports = 9000 ∷ []; options = options; turns = turns }))
+
+largest_area : reading_of (codes "replay" ∷ codes "--buffers" ∷ codes "1024" ∷ codes "--size=65536" ∷ codes "9000" ∷ [])
+    ≡ told (record usual { buffers = 1024; size = 65536 }) None
+unfolding assigned options_of behaviour_of
+largest_area = refl
+
+area_too_large : reading_of (codes "replay" ∷ codes "--buffers" ∷ codes "4096" ∷ codes "--size" ∷ codes "65536" ∷ codes "9000" ∷ []) ≡ None
+unfolding assigned options_of behaviour_of
+area_too_large = refl
+
+no_power_of_two : reading_of (codes "replay" ∷ codes "--size" ∷ codes "1000" ∷ codes "9000" ∷ []) ≡ None
+unfolding assigned options_of behaviour_of
+no_power_of_two = refl
+
+no_place : reading_of (codes "replay" ∷ codes "--ring" ∷ codes "0" ∷ codes "9000" ∷ []) ≡ None
+unfolding assigned options_of behaviour_of
+no_place = refl
+
+each_behaviour : reading_of (codes "replay" ∷ codes "9000" ∷ codes "--hold=4096" ∷ codes "--leak" ∷ codes "2" ∷ codes "--stray=16" ∷ codes "--quit"
+    ∷ codes "0100" ∷ [])
+    ≡ told (record usual { how = record { hold = 4096; leak = 2; stray = 16; quit = Some 100 } }) None
+unfolding assigned options_of behaviour_of
+each_behaviour = refl
+
+some_turns : reading_of (codes "replay" ∷ codes "--split=256" ∷ codes "--turns" ∷ codes "nn0n" ∷ codes "9000" ∷ [])
+    ≡ told (record usual { split = 256 }) (Some (codes "nn0n"))
+unfolding assigned options_of behaviour_of
+some_turns = refl
+
+no_such_application : reading_of (codes "replay" ∷ codes "--turns" ∷ codes "n1" ∷ codes "9000" ∷ []) ≡ None
+unfolding assigned options_of behaviour_of
+no_such_application = refl
+
+no_turns : reading_of (codes "replay" ∷ codes "--turns=" ∷ codes "9000" ∷ []) ≡ None
+unfolding assigned options_of behaviour_of
+no_turns = refl
 
 -- ---- a seed and a number of frames
 

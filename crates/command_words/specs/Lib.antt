@@ -1,4 +1,5 @@
 pub mod Numbers
 pub mod Assigned
 pub mod Asking
+pub mod Options
 pub mod Words

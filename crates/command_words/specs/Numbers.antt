@@ -15,12 +15,16 @@ value_of word = if is_number word then Some (digits_value 10 word) else None
 abbrev pub within : ℕ → ℕ → ℕ → Option ℕ
 within least most number = if nat_le least number && nat_le number most then Some number else None
 
+-- a number in a range
+abbrev pub in_range : ℕ → ℕ → List ℕ → Option ℕ
+in_range least most word = option_and_then (within least most) (value_of word)
+
 -- a number of at most so much
 abbrev pub up_to : ℕ → List ℕ → Option ℕ
-up_to most word = option_and_then (within 0 most) (value_of word)
+up_to most word = in_range 0 most word
 
 abbrev pub port_of : List ℕ → Option ℕ
-port_of word = option_and_then (within 1 65535) (value_of word)
+port_of word = in_range 1 65535 word
 
 -- no item is the same as a later one
 abbrev pub is_distinct : {X : Type 0} → (X → X → Bool) → List X → Bool

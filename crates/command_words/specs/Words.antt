@@ -1,17 +1,21 @@
 -- What the command's words mean.
-use Rattle.std.specs.Prelude.{ℕ, ◌≤◌, ⊤, List, [], ◌∷◌, length, nat_eq, if◌then◌else◌, Option, None, option_and_then, option_map}
-use Rattle.std.specs.Prelude.{codes, All}
+use Rattle.std.specs.Prelude.{ℕ, ◌≤◌, ⊤, List, [], ◌∷◌, length, nat_eq, if◌then◌else◌, Option, Some, None, option_and_then, option_map}
+use Rattle.std.specs.Prelude.{codes, All, IfSome}
 use Rattle.std.specs.List.{IsDistinct}
 use Rattle.std.specs.Str.{bytes_eq}
 use Rattle.command_words.specs.declared.reading.Command.{Command}
 use Rattle.command_words.specs.declared.reading.Replay.{Replay}
 use Rattle.command_words.specs.declared.making.Make.{Make}
+use Rattle.command_words.specs.declared.options.Options.{Options}
 use Rattle.command_words.specs.Numbers.{ports_of, up_to}
-use Rattle.command_words.specs.Assigned.{Text, Said, sorted}
+use Rattle.command_words.specs.Assigned.{Text, Said, sorted, value_said}
+use Rattle.command_words.specs.Options.{AreInRange, AreTurns, given, option_names, options_of, turns_of}
 
--- what `replay` is told: its ports, in the order given
+-- what `replay` is told: its ports, in the order given, its numbers, and whose turns it goes by, if that is said
 pub record ReplayShown : Type 0 where
   pub ports : List ℕ
+  pub options : Options
+  pub turns : Option Text
 
 pub data Shown : Type 0 where
   replay : ReplayShown → Shown
@@ -19,18 +23,21 @@ pub data Shown : Type 0 where
 
 -- a command as its definition shows it
 abbrev pub replay_shown : Replay → ReplayShown
-replay_shown told = record { ports = told.ports.items }
+replay_shown told = record { ports = told.ports.items; options = told.options; turns = option_map (λ text. text.now) told.turns }
 
 abbrev pub command_shown : Command → Shown
 command_shown (Command.Replay told) = replay (replay_shown told)
 command_shown (Command.Make told) = make told
 
--- the options of `replay`
-abbrev pub option_names : List Text
-option_names = []
+-- what a replay to these ports is told by the value of each option
+abbrev pub told_of : (Text → Option Text) → List ℕ → Option ReplayShown
+told_of value ports =
+    given (options_of value) (λ options.
+    given (turns_of (length ports) (value (codes "turns"))) (λ turns.
+    Some (record { ports = ports; options = options; turns = turns })))
 
-abbrev pub replay_of : Said → Option Shown
-replay_of said = option_map (λ ports. replay (record { ports = ports })) (ports_of said.words)
+abbrev pub replay_of : Option Said → Option ReplayShown
+replay_of = option_and_then (λ said. given (ports_of said.words) (told_of (λ name. value_said name said.options)))
 
 -- a seed and a number of frames, and no other word
 abbrev pub numbers_of : List Text → Option Make
@@ -48,7 +55,7 @@ make_of = option_and_then (λ said. numbers_of said.words)
 abbrev pub reading_of : List Text → Option Shown
 reading_of [] = None
 reading_of (command ∷ words) =
-    if bytes_eq command (codes "replay") then option_and_then replay_of (sorted option_names words)
+    if bytes_eq command (codes "replay") then option_map replay (replay_of (sorted option_names words))
     else if bytes_eq command (codes "make") then option_map make (make_of (sorted [] words))
     else None
 
@@ -59,6 +66,12 @@ pub record IsPortList (ports : List ℕ) : Type 0 where
   pub distinct : IsDistinct nat_eq ports
   pub numbers : All (λ port. (1 ≤ port) × (port ≤ 65535)) ports
 
-abbrev pub HasPorts : Command → Type 0
-HasPorts (Command.Replay told) = IsPortList told.ports.items
-HasPorts (Command.Make told) = ⊤
+-- what a replay may be told
+pub record IsReplay (told : Replay) : Type 0 where
+  pub ports : IsPortList told.ports.items
+  pub options : AreInRange told.options
+  pub turns : IfSome told.turns (λ text. AreTurns (length told.ports.items) text.now)
+
+abbrev pub IsCommand : Command → Type 0
+IsCommand (Command.Replay told) = IsReplay told
+IsCommand (Command.Make told) = ⊤

@@ -5,9 +5,11 @@
 mod assign;
 mod making;
 mod numbers;
+mod options;
 mod reading;
 
 pub use making::Make;
+pub use options::Options;
 pub use reading::{Command, Replay, read_words};
 
 #[cfg(test)]

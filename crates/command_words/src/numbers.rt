@@ -3,7 +3,7 @@
 ghost use Rattle.std.specs.Prelude.{◌≡◌, IfOk, map, nat_eq, option_map};
 ghost use Rattle.std.specs.Char.{is_ascii_digit};
 ghost use Rattle.std.specs.List.{list_all};
-ghost use Rattle.command_words.specs.Numbers.{all_ports, is_distinct, is_number, is_port_list};
+ghost use Rattle.command_words.specs.Numbers.{all_ports, in_range, is_distinct, is_number, is_port_list};
 ghost use Rattle.command_words.specs.Numbers.{port_of, ports_of, up_to, value_of};
 
 use std::alloc::{AllocError, Global};
@@ -20,8 +20,8 @@ fn is_number(word: &str) -> bool
     1 <= word.len() && word.len() <= 18 && all_digits(word)
 }
 
-// The number of a word: 1 to 18 ASCII digits, leading zeros allowed.
-fn read_number(word: &str) -> Option<u64>
+/// The number of a word: 1 to 18 ASCII digits, leading zeros allowed.
+pub fn read_number(word: &str) -> Option<u64>
     ensures { result ≡ value_of word.now }
 {
     if is_number(word) {
@@ -31,16 +31,23 @@ fn read_number(word: &str) -> Option<u64>
     }
 }
 
-/// The number of a word, of at most so much.
-pub fn read_up_to(most: u32, word: &str) -> Option<u32>
-    ensures { result ≡ up_to most word.now }
+/// The number of a word, from `least` to `most`.
+pub fn read_within(least: u32, most: u32, word: &str) -> Option<u32>
+    ensures { result ≡ in_range least most word.now }
 {
     let number = read_number(word)?;
-    if number <= u64::from(most) {
+    if u64::from(least) <= number && number <= u64::from(most) {
         Some(number as u32)
     } else {
         None
     }
+}
+
+/// The number of a word, of at most so much.
+pub fn read_up_to(most: u32, word: &str) -> Option<u32>
+    ensures { result ≡ up_to most word.now }
+{
+    read_within(0, most, word)
 }
 
 /// The port of a word: a number from 1 to 65,535.

@@ -1,34 +1,36 @@
 //! Commands, as words ask for them.
 
-ghost use Rattle.std.specs.Prelude.{◌≡◌, List, ℕ, IfOk, IfSome, codes, drop, map, option_and_then, option_map};
+ghost use Rattle.std.specs.Prelude.{◌≡◌, ◌≤◌, List, ℕ, IfOk, IfSome, codes, drop, length, map, option_map};
 ghost use Rattle.std.specs.Str.{bytes_eq};
-ghost use Rattle.clap.specs.Words.{found_of, matched_of, raw_values};
+ghost use Rattle.clap.specs.Words.{first_value, found_of, matched_of, raw_values};
 ghost use Rattle.command_words.specs.Numbers.{ports_of};
 ghost use Rattle.command_words.specs.Assigned.{if_any, sorted};
 ghost use Rattle.command_words.specs.Asking.{port_id};
-ghost use Rattle.command_words.specs.Words.{HasPorts, command_shown, option_names, reading_of, replay_of};
+ghost use Rattle.command_words.specs.Options.{option_names};
+ghost use Rattle.command_words.specs.Words.{IsCommand, command_shown, reading_of, replay_of, replay_shown, told_of};
 
 use crate::making::{Make, read_make};
+use crate::options::{NAMES, Options, read_options, read_turns};
 use crate::{assign, numbers};
 use clap::ArgMatches;
 use std::alloc::{AllocError, Global};
 
 /// A command that words ask for.
 #[derive(Debug, Drop)]
-pub enum Command {
-    Replay(Replay),
+pub enum Command<'a> {
+    Replay(Replay<'a>),
     Make(Make),
 }
 
 /// What `replay` is told.
 #[derive(Debug, Drop)]
-pub struct Replay {
+pub struct Replay<'a> {
     /// The destination ports whose flows are followed, in the order given: application `a` has the port at place `a`.
     pub ports: Vec<u16>,
+    pub options: Options,
+    /// Whose turns come first, one a letter: `n` for the card, a digit for the application with that number.
+    pub turns: Option<&'a str>,
 }
-
-// The options of `replay`, by their names without the dashes.
-static OPTIONS: [&str; 0] = [];
 
 fn is_replay(word: &str) -> bool
     ensures { result ≡ bytes_eq word.now (codes "replay") }
@@ -53,30 +55,55 @@ fn ports_said(alloc: Global, said: &ArgMatches) -> Result<Option<Vec<u16>>, Allo
     }
 }
 
-fn read_replay(alloc: Global, words: &[&str]) -> Result<Option<Command>, AllocError>
-    ensures { IfOk result (λ r. option_map command_shown r
-        ≡ option_and_then replay_of (sorted option_names (drop 1 (map (λ w. w.now) words.now)))) }
+fn with_ports<'a>(said: &ArgMatches<'a>, ports: Vec<u16>) -> Option<Replay<'a>>
+    requires { length ports.items ≤ 8 }
+    ensures { option_map replay_shown result ≡ told_of (λ name. first_value (found_of said.now) name) ports.items }
 {
-    let Some(said) = assign::assign(alloc, OPTIONS.as_slice(), words)? else {
+    let options = read_options(said)?;
+    let turns = read_turns(said, ports.len())?;
+    Some(Replay {
+        ports,
+        options,
+        turns,
+    })
+}
+
+fn read_replay<'a>(alloc: Global, words: &'a [&'a str]) -> Result<Option<Replay<'a>>, AllocError>
+    ensures { IfOk result (λ r. option_map replay_shown r
+        ≡ replay_of (sorted option_names (drop 1 (map (λ w. w.now) words.entry.now)))) }
+{
+    let Some(said) = assign::assign(alloc, NAMES.as_slice(), words)? else {
         return Ok(None);
     };
-    let ports = ports_said(alloc, &said)?;
-    Ok(ports.map(|ports| Command::Replay(Replay { ports })))
+    let Some(ports) = ports_said(alloc, &said)? else {
+        return Ok(None);
+    };
+    Ok(with_ports(&said, ports))
 }
 
 /// The command that the words after the program's name ask for; `None` where they ask for none.
 ///
-/// `replay` takes 1 to 8 distinct ports, numbers from 1 to 65,535; `make` takes a seed from 0 to 4,294,967,295 and a
-/// number of frames from 0 to 1,000,000. Numbers have 1 to 18 ASCII digits; after `--` each word is one. There is no text
-/// of help or of a version.
-pub fn read_words(alloc: Global, words: &[&str]) -> Result<Option<Command>, AllocError>
+/// `replay` takes 1 to 8 distinct ports, numbers from 1 to 65,535, and before, between or after them its options, each at
+/// most once, as `--name value` or `--name=value`; `make` takes a seed from 0 to 4,294,967,295 and a number of frames from
+/// 0 to 1,000,000. Numbers have 1 to 18 ASCII digits; after `--` each word is one. There is no text of help or of a
+/// version.
+pub fn read_words<'a>(
+    alloc: Global,
+    words: &'a [&'a str],
+) -> Result<Option<Command<'a>>, AllocError>
     ensures reading { IfOk result (λ r. option_map command_shown r
-        ≡ reading_of (map (λ w. w.now) words.now)) }
-    ensures ports { IfOk result (λ r. IfSome r HasPorts) }
+        ≡ reading_of (map (λ w. w.now) words.entry.now)) }
+    ensures told { IfOk result (λ r. IfSome r IsCommand) }
 {
     match words {
-        [first, ..] if is_replay(first) => read_replay(alloc, words),
-        [first, ..] if is_make(first) => Ok(read_make(alloc, words)?.map(Command::Make)),
+        [first, ..] if is_replay(first) => match read_replay(alloc, words)? {
+            Some(replay) => Ok(Some(Command::Replay(replay))),
+            None => Ok(None),
+        },
+        [first, ..] if is_make(first) => match read_make(alloc, words)? {
+            Some(make) => Ok(Some(Command::Make(make))),
+            None => Ok(None),
+        },
         _ => Ok(None),
     }
 }

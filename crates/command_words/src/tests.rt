@@ -1,11 +1,12 @@
 use super::assign::{assign, plain_words};
-use super::{Command, Make, read_words};
+use super::{Command, Make, Options, read_words};
 use std::alloc::Global;
 use std::process::Abort;
 use std::test::Fail;
+use zr_kinds::Behaviour;
 
 fn expect_ports(rt: &impl Abort, alloc: Global, words: &[&str], want: &[u16]) -> Result<(), Fail> {
-    match read_words(alloc, words)? {
+    match read_words(alloc, &*words)? {
         Some(Command::Replay(replay)) => assert_eq!(rt; replay.ports.as_slice(), want),
         _ => assert!(rt; false, "{words:?} aren't read as a replay"),
     }
@@ -36,7 +37,7 @@ fn a_seed_and_a_number_of_frames_are_read(rt: HostRuntime) -> Result<(), Fail> {
         (&["make", "1", "2", "--"], 1, 2),
     ];
     for (words, seed, frames) in rows {
-        match read_words(rt.alloc(), words)? {
+        match read_words(rt.alloc(), &*words)? {
             Some(Command::Make(make)) => assert_eq!(&rt; make, Make { seed, frames }),
             _ => assert!(&rt; false, "{words:?} aren't read"),
         }
@@ -68,7 +69,7 @@ fn other_words_have_no_reading(rt: HostRuntime) -> Result<(), Fail> {
         &["replay", "--version"],
         &["replay", "--port=9000"],
         &["replay", "--=9000"],
-        &["replay", "--size", "1024", "9000"],
+        &["replay", "--sizes", "1024", "9000"],
         &["replay", "9000", "--", "--"],
         &["replay", "--", "-9000"],
         &["--help"],
@@ -88,8 +89,237 @@ fn other_words_have_no_reading(rt: HostRuntime) -> Result<(), Fail> {
         &["make", "7", "٩"],
     ];
     for words in rows {
-        let reading = read_words(rt.alloc(), words)?;
+        let reading = read_words(rt.alloc(), &*words)?;
         assert!(&rt; reading.is_none(), "{words:?} have a reading");
+    }
+    Ok(())
+}
+
+/// What stands for options that aren't said.
+const USUAL: Options = Options {
+    buffers: 64,
+    size: 4096,
+    ring: 64,
+    split: 0,
+    how: Behaviour {
+        hold: 0,
+        leak: 0,
+        stray: 0,
+        quit: None,
+    },
+};
+
+#[test]
+fn numbers_of_options_are_read(rt: HostRuntime) -> Result<(), Fail> {
+    let how = USUAL.how;
+    let rows: [(&[&str], Options); 19] = [
+        (&["9000"], USUAL),
+        (
+            &["--buffers", "1", "9"],
+            Options {
+                buffers: 1,
+                ..USUAL
+            },
+        ),
+        (
+            &["9", "--buffers=4096"],
+            Options {
+                buffers: 4096,
+                ..USUAL
+            },
+        ),
+        (
+            &["--size=1024", "9"],
+            Options {
+                size: 1024,
+                ..USUAL
+            },
+        ),
+        (
+            &["--size=0016384", "9"],
+            Options {
+                size: 16_384,
+                ..USUAL
+            },
+        ),
+        (
+            &["--size", "65536", "9"],
+            Options {
+                size: 65_536,
+                ..USUAL
+            },
+        ),
+        (
+            &["--buffers=1024", "--size=65536", "9"],
+            Options {
+                buffers: 1024,
+                size: 65_536,
+                ..USUAL
+            },
+        ),
+        (&["--ring", "1", "9"], Options { ring: 1, ..USUAL }),
+        (&["--ring", "256", "9"], Options { ring: 256, ..USUAL }),
+        (&["--split", "0", "9"], USUAL),
+        (
+            &["--split", "256", "9"],
+            Options {
+                split: 256,
+                ..USUAL
+            },
+        ),
+        (
+            &["--hold=4096", "9"],
+            Options {
+                how: Behaviour { hold: 4096, ..how },
+                ..USUAL
+            },
+        ),
+        (
+            &["--leak=4096", "9"],
+            Options {
+                how: Behaviour { leak: 4096, ..how },
+                ..USUAL
+            },
+        ),
+        (
+            &["--stray=16", "9"],
+            Options {
+                how: Behaviour { stray: 16, ..how },
+                ..USUAL
+            },
+        ),
+        (
+            &["--quit=0", "9"],
+            Options {
+                how: Behaviour {
+                    quit: Some(0),
+                    ..how
+                },
+                ..USUAL
+            },
+        ),
+        (
+            &["--quit", "999999999999999999", "9"],
+            Options {
+                how: Behaviour {
+                    quit: Some(999_999_999_999_999_999),
+                    ..how
+                },
+                ..USUAL
+            },
+        ),
+        (
+            &["--size=2048", "9", "--ring", "7", "8", "--hold=3"],
+            Options {
+                size: 2048,
+                ring: 7,
+                how: Behaviour { hold: 3, ..how },
+                ..USUAL
+            },
+        ),
+        (&["--ring", "7", "--", "9"], Options { ring: 7, ..USUAL }),
+        (&["--turns", "n", "9"], USUAL),
+    ];
+    for (options, want) in rows {
+        let words = with_replay(rt.alloc(), options)?;
+        match read_words(rt.alloc(), words.as_slice())? {
+            Some(Command::Replay(replay)) => assert_eq!(&rt; replay.options, want, "{options:?}"),
+            _ => assert!(&rt; false, "{options:?} aren't read"),
+        }
+    }
+    Ok(())
+}
+
+/// The words with `replay` before them.
+fn with_replay<'a>(alloc: Global, options: &[&'a str]) -> Result<Vec<&'a str>, Fail> {
+    let mut words = Vec::new(alloc);
+    words.push("replay")?;
+    for word in options {
+        words.push(*word)?;
+    }
+    Ok(words)
+}
+
+#[test]
+fn turns_are_of_applications_that_are_there(rt: HostRuntime) -> Result<(), Fail> {
+    let rows: [(&[&str], Option<&str>); 5] = [
+        (&["9000"], None),
+        (&["--turns", "n", "9000"], Some("n")),
+        (&["--turns=nn0n", "9000"], Some("nn0n")),
+        (&["9", "8", "--turns", "1n0"], Some("1n0")),
+        (
+            &["--turns", "7", "1", "2", "3", "4", "5", "6", "7", "8"],
+            Some("7"),
+        ),
+    ];
+    for (options, want) in rows {
+        let words = with_replay(rt.alloc(), options)?;
+        match read_words(rt.alloc(), words.as_slice())? {
+            Some(Command::Replay(replay)) => assert_eq!(&rt; replay.turns, want, "{options:?}"),
+            _ => assert!(&rt; false, "{options:?} aren't read"),
+        }
+    }
+    Ok(())
+}
+
+#[test]
+fn turns_have_at_most_4096_characters(rt: HostRuntime) -> Result<(), Fail> {
+    let mut turns = String::new(rt.alloc());
+    for _ in 0..4096 {
+        turns.push('n')?;
+    }
+    let words = ["replay", "--turns", turns.as_str(), "9000"];
+    assert!(&rt; read_words(rt.alloc(), words.as_slice())?.is_some());
+    turns.push('n')?;
+    let words = ["replay", "--turns", turns.as_str(), "9000"];
+    assert!(&rt; read_words(rt.alloc(), words.as_slice())?.is_none());
+    Ok(())
+}
+
+#[test]
+fn options_out_of_range_have_no_reading(rt: HostRuntime) -> Result<(), Fail> {
+    let rows: [&[&str]; 36] = [
+        &["--buffers", "0", "9000"],
+        &["--buffers", "4097", "9000"],
+        &["--buffers", "", "9000"],
+        &["--buffers", "+64", "9000"],
+        &["--buffers", "0000000000000000064", "9000"],
+        &["--size", "0", "9000"],
+        &["--size", "512", "9000"],
+        &["--size", "1000", "9000"],
+        &["--size", "1025", "9000"],
+        &["--size", "131072", "9000"],
+        &["--buffers=1025", "--size=65536", "9000"],
+        &["--buffers=4096", "--size=65536", "9000"],
+        &["--ring", "0", "9000"],
+        &["--ring", "257", "9000"],
+        &["--split", "257", "9000"],
+        &["--hold", "4097", "9000"],
+        &["--leak", "4097", "9000"],
+        &["--stray", "17", "9000"],
+        &["--stray=-1", "9000"],
+        &["--quit", "1000000000000000000", "9000"],
+        &["--quit", "none", "9000"],
+        &["--turns=", "9000"],
+        &["--turns", "1", "9000"],
+        &["--turns", "n1", "9000"],
+        &["--turns", "8", "1", "2", "3", "4", "5", "6", "7", "8"],
+        &["--turns", "N", "9000"],
+        &["--turns", "n n", "9000"],
+        &["--turns", "n/", "9000"],
+        &["--turns", "n\u{0660}", "9000"],
+        &["--ring", "7", "--ring", "7", "9000"],
+        &["--ring=7", "9000", "--ring", "8"],
+        &["--ring", "9000"],
+        &["9000", "--ring"],
+        &["--", "--ring", "7", "9000"],
+        &["--Ring", "7", "9000"],
+        &["-ring", "7", "9000"],
+    ];
+    for options in rows {
+        let words = with_replay(rt.alloc(), options)?;
+        let reading = read_words(rt.alloc(), words.as_slice())?;
+        assert!(&rt; reading.is_none(), "{options:?} have a reading");
     }
     Ok(())
 }

@@ -1,0 +1,88 @@
+-- The options of `replay`: each with its range, and what stands for it where it isn't said.
+use Rattle.std.specs.Prelude.{ℕ, ◌≤◌, ◌<◌, ◌≡◌, ◌+◌, ◌*◌, ◌⊎◌, Bool, List, [], ◌∷◌, length, nat_le, nat_lt, ◌==◌, ◌&&◌, ◌||◌}
+use Rattle.std.specs.Prelude.{if◌then◌else◌, Option, Some, None, option_map, option_and_then, codes, All}
+use Rattle.std.specs.Int.{IsPowerOfTwo}
+use Rattle.std.specs.List.{list_all, list_any}
+use Rattle.zr_kinds.specs.declared.behaviour.Behaviour.{Behaviour}
+use Rattle.command_words.specs.Assigned.{Text}
+use Rattle.command_words.specs.Numbers.{in_range, value_of}
+use Rattle.command_words.specs.declared.options.Options.{Options}
+
+-- the options of `replay`, without their dashes
+abbrev pub option_names : List Text
+option_names =
+    codes "buffers" ∷ codes "size" ∷ codes "ring" ∷ codes "split" ∷ codes "hold" ∷ codes "leak" ∷ codes "stray" ∷ codes "quit" ∷ codes "turns" ∷ []
+
+-- what follows of a value that is there
+abbrev pub given : {A B : Type 0} → Option A → (A → Option B) → Option B
+given value next = option_and_then next value
+
+-- a number in a range, or this one where none is said
+abbrev pub number_or : ℕ → ℕ → ℕ → Option Text → Option ℕ
+number_or default least most None = Some default
+number_or default least most (Some word) = in_range least most word
+
+-- the sizes that a buffer may have: the powers of two from 1,024 to 65,536
+abbrev pub sizes : List ℕ
+sizes = 1024 ∷ 2048 ∷ 4096 ∷ 8192 ∷ 16384 ∷ 32768 ∷ 65536 ∷ []
+
+abbrev pub size_of : Option Text → Option ℕ
+size_of said = given (number_or 4096 1024 65536 said) (λ size. if list_any (λ n. n == size) sizes then Some size else None)
+
+-- any number, if one is said
+abbrev pub quit_of : Option Text → Option (Option ℕ)
+quit_of None = Some None
+quit_of (Some word) = option_map Some (value_of word)
+
+-- how each application behaves, by the value of each option
+unfoldable pub behaviour_of : (Text → Option Text) → Option Behaviour
+behaviour_of value =
+    given (number_or 0 0 4096 (value (codes "hold"))) (λ hold.
+    given (number_or 0 0 4096 (value (codes "leak"))) (λ leak.
+    given (number_or 0 0 16 (value (codes "stray"))) (λ stray.
+    given (quit_of (value (codes "quit"))) (λ quit.
+    Some (record { hold = hold; leak = leak; stray = stray; quit = quit })))))
+
+-- the numbers of a replay; all buffers together have at most 64 MiB
+unfoldable pub options_of : (Text → Option Text) → Option Options
+options_of value =
+    given (number_or 64 1 4096 (value (codes "buffers"))) (λ buffers.
+    given (size_of (value (codes "size"))) (λ size.
+    given (number_or 64 1 256 (value (codes "ring"))) (λ ring.
+    given (number_or 0 0 256 (value (codes "split"))) (λ split.
+    given (behaviour_of value) (λ how.
+    if nat_le (buffers * size) 67108864
+    then Some (record { buffers = buffers; size = size; ring = ring; split = split; how = how })
+    else None)))))
+
+-- `n`, or the digit of one of so many applications
+abbrev pub is_turn : ℕ → ℕ → Bool
+is_turn apps letter = (letter == 110) || (nat_le 48 letter && nat_lt letter (48 + apps))
+
+abbrev pub are_turns : ℕ → Text → Bool
+are_turns apps text = nat_le 1 (length text) && nat_le (length text) 4096 && list_all (is_turn apps) text
+
+-- a text of turns of so many applications, if one is said
+abbrev pub turns_of : ℕ → Option Text → Option (Option Text)
+turns_of apps None = Some None
+turns_of apps (Some text) = if are_turns apps text then Some (Some text) else None
+
+-- ---- what these may be
+
+-- the numbers are in their ranges
+pub record AreInRange (options : Options) : Type 0 where
+  pub buffers : (1 ≤ options.buffers) × (options.buffers ≤ 4096)
+  pub power : IsPowerOfTwo options.size
+  pub size : (1024 ≤ options.size) × (options.size ≤ 65536)
+  pub bytes : options.buffers * options.size ≤ 67108864
+  pub ring : (1 ≤ options.ring) × (options.ring ≤ 256)
+  pub split : options.split ≤ 256
+  pub hold : options.how.hold ≤ 4096
+  pub leak : options.how.leak ≤ 4096
+  pub stray : options.how.stray ≤ 16
+
+-- 1 to 4,096 characters, each `n` or the digit of one of so many applications
+pub record AreTurns (apps : ℕ) (text : Text) : Type 0 where
+  pub some : 1 ≤ length text
+  pub most : length text ≤ 4096
+  pub letters : All (λ letter. (letter ≡ 110) ⊎ ((48 ≤ letter) × (letter < 48 + apps))) text

@@ -1,0 +1,185 @@
+//! The options of `replay`.
+
+ghost use Rattle.std.specs.Prelude.{◌≡◌, ◌≤◌, codes, option_map};
+ghost use Rattle.std.specs.List.{list_all};
+ghost use Rattle.clap.specs.Words.{found_of, first_value};
+ghost use Rattle.command_words.specs.Options.{are_turns, behaviour_of, is_turn, number_or, options_of, quit_of, size_of, turns_of};
+
+use crate::numbers;
+use clap::ArgMatches;
+use zr_kinds::Behaviour;
+
+/// The numbers of a replay.
+#[derive(Clone, Copy, Debug, PartialEq, Eq)]
+pub struct Options {
+    /// How many buffers the pool has.
+    pub buffers: u32,
+    /// The size of a buffer in bytes.
+    pub size: u32,
+    /// How many places each ring has.
+    pub ring: u32,
+    /// The greatest payload that travels in its note, in bytes.
+    pub split: u32,
+    /// How each application behaves.
+    pub how: Behaviour,
+}
+
+/// The names of the options, without their dashes.
+pub static NAMES: [&str; 9] = [
+    "buffers", "size", "ring", "split", "hold", "leak", "stray", "quit", "turns",
+];
+
+/// The range of an option's number, and the number that stands for it where it isn't said.
+#[derive(Clone, Copy)]
+struct Number {
+    default: u32,
+    least: u32,
+    most: u32,
+}
+
+const BUFFERS: Number = Number {
+    default: 64,
+    least: 1,
+    most: 4096,
+};
+
+const SIZE: Number = Number {
+    default: 4096,
+    least: 1024,
+    most: 65_536,
+};
+
+const RING: Number = Number {
+    default: 64,
+    least: 1,
+    most: 256,
+};
+
+const SPLIT: Number = Number {
+    default: 0,
+    least: 0,
+    most: 256,
+};
+
+/// How many completions an application keeps unread, and how many loans to the end.
+const KEPT: Number = Number {
+    default: 0,
+    least: 0,
+    most: 4096,
+};
+
+const STRAY: Number = Number {
+    default: 0,
+    least: 0,
+    most: 16,
+};
+
+/// The most bytes that the buffers may have together: 64 MiB.
+const MOST_BYTES: u64 = 67_108_864;
+
+/// The most characters that a text of turns may have.
+const MOST_TURNS: usize = 4096;
+
+impl Number {
+    /// The number that was said.
+    fn read(self, word: Option<&str>) -> Option<u32>
+        ensures { result ≡ number_or self.default self.least self.most (option_map (λ w. w.now) word.entry) }
+    {
+        match word {
+            Some(word) => numbers::read_within(self.least, self.most, word),
+            None => Some(self.default),
+        }
+    }
+}
+
+fn read_size(word: Option<&str>) -> Option<u32>
+    ensures { result ≡ size_of (option_map (λ w. w.now) word.entry) }
+{
+    let size = SIZE.read(word)?;
+    match size {
+        1024 | 2048 | 4096 | 8192 | 16_384 | 32_768 | 65_536 => Some(size),
+        _ => None,
+    }
+}
+
+// A number that need not be said.
+fn read_quit(word: Option<&str>) -> Option<Option<u64>>
+    ensures { result ≡ quit_of (option_map (λ w. w.now) word.entry) }
+{
+    match word {
+        Some(word) => Some(Some(numbers::read_number(word)?)),
+        None => Some(None),
+    }
+}
+
+#[tactic(auto, unfolding(crate::specs::Options::behaviour_of))]
+fn read_behaviour(said: &ArgMatches) -> Option<Behaviour>
+    ensures { result ≡ behaviour_of (λ name. first_value (found_of said.now) name) }
+{
+    let hold = KEPT.read(said.get_str("hold"))?;
+    let leak = KEPT.read(said.get_str("leak"))?;
+    let stray = STRAY.read(said.get_str("stray"))?;
+    let quit = read_quit(said.get_str("quit"))?;
+    Some(Behaviour {
+        hold,
+        leak,
+        stray,
+        quit,
+    })
+}
+
+/// The numbers that were said, each in its range; those that weren't are their defaults.
+#[tactic(auto, unfolding(crate::specs::Options::options_of))]
+pub fn read_options(said: &ArgMatches) -> Option<Options>
+    ensures { result ≡ options_of (λ name. first_value (found_of said.now) name) }
+{
+    let buffers = BUFFERS.read(said.get_str("buffers"))?;
+    let size = read_size(said.get_str("size"))?;
+    let ring = RING.read(said.get_str("ring"))?;
+    let split = SPLIT.read(said.get_str("split"))?;
+    let how = read_behaviour(said)?;
+    if u64::from(buffers) * u64::from(size) > MOST_BYTES {
+        return None;
+    }
+    Some(Options {
+        buffers,
+        size,
+        ring,
+        split,
+        how,
+    })
+}
+
+fn is_turn(letter: u8, apps: usize) -> bool
+    requires { apps ≤ 8 }
+    ensures { result ≡ is_turn apps letter }
+{
+    letter == b'n' || b'0' <= letter && usize::from(letter) < 48 + apps
+}
+
+fn all_turns(text: &str, apps: usize) -> bool
+    requires { apps ≤ 8 }
+    ensures { result ≡ list_all (is_turn apps) text.now }
+{
+    text.as_bytes().iter().all(|letter| is_turn(*letter, apps))
+}
+
+fn are_turns(text: &str, apps: usize) -> bool
+    requires { apps ≤ 8 }
+    ensures { result ≡ are_turns apps text.now }
+{
+    1 <= text.len() && text.len() <= MOST_TURNS && all_turns(text, apps)
+}
+
+/// The text of turns that was said, if one was, for so many applications.
+pub fn read_turns<'a>(said: &ArgMatches<'a>, apps: usize) -> Option<Option<&'a str>>
+    requires { apps ≤ 8 }
+    ensures { option_map (λ turns. option_map (λ text. text.now) turns) result
+        ≡ turns_of apps (first_value (found_of said.now) (codes "turns")) }
+{
+    match said.get_str("turns") {
+        Some(text) if are_turns(text, apps) => Some(Some(text)),
+        Some(_) => None,
+        None => Some(None),
+    }
+}
