@@ -1,8 +1,7 @@
 -- What the status of a replay says of how it went.
 use Rattle.std.proofs.Common.{◌≡◌, ◌≢◌, nat_eq, ℕ, suc, List, [], ◌∷◌, length, ◌<◌, Bool, true, false, ◌||◌, Option, None, Some}
 use Rattle.std.proofs.Common.{refl, sym, ap, subst, ◌∙◌, ◌⊎◌, ⊎_elim, inl, inr, arith}
-use Rattle.std.proofs.Common.{get_or, ◌≤◌}
-use Rattle.std.proofs.lemmas.Bool.{cases_lt}
+use Rattle.std.proofs.Common.{get_or}
 use Rattle.std.proofs.lemmas.List.Folds.{list_any_at}
 use Rattle.std.proofs.lemmas.Option.{get_or_from_slice_get}
 use Rattle.std.specs.Prelude.{IfSome, OnOk, Result, Ok, Err, ◌==◌, if◌then◌else◌}
@@ -17,14 +16,18 @@ use Rattle.zr_kinds.specs.declared.behaviour.Stopped.TheVariants as stop
 use Rattle.zr_kinds.specs.declared.outcome.AppLine.{AppLine}
 use Rattle.zr_io.specs.Moved.{Rose, Took}
 use Rattle.zr_io.proofs.Moved.{Took-weaker}
-use Rattle.copying_replay.specs.Ending.{Ended, ended_of}
-use Rattle.copying_replay.specs.Reading.{ShowsEnding, BreaksOff, TakenEnds, IsEnding, IsReadToEnd}
-use Rattle.copying_replay.specs.Streams.{losses_in}
-use Rattle.copying_replay.specs.Replayed.{Replayed}
-use Rattle.copying_replay.specs.declared.outcome.Outcome.{Outcome}
-use Rattle.copying_replay.proofs.Turns.{some-weaker}
-use Rattle.copying_replay.proofs.Flowing.{there, losses_in-same}
-use Rattle.copying_replay.proofs.Places.{get-there, get-within, get-same_rest}
+use Rattle.frames_read.specs.Ending.{Ended, ended_of}
+use Rattle.frames_read.specs.Reading.{ShowsEnding, BreaksOff, TakenEnds, IsEnding, IsReadToEnd}
+use Rattle.frames_read.proofs.Endings.{some-weaker}
+use Rattle.plain_board.specs.Board.{Board}
+use Rattle.replay_turns.specs.Offered.{WantsRoom}
+use Rattle.replay_turns.specs.declared.plan.Plan.{Plan}
+use Rattle.turn_runs.specs.Running.{losses_in}
+use Rattle.turn_runs.specs.Ran.{Ran, Told}
+use Rattle.command_words.specs.Words.{ReplayShown}
+use Rattle.zcrx_cli.specs.Planned.{IsPlanOf}
+use Rattle.zcrx_cli.specs.declared.card.Card.{Card}
+use Rattle.zcrx_cli.proofs.Found.{there, get-there, get-within}
 use Rattle.run_report.specs.Report.{Reports, answer_of}
 use Rattle.run_report.specs.declared.report.Unreported.{Unreported}
 use Rattle.run_report.specs.declared.report.Unreported.TheVariants as unreported
@@ -102,10 +105,10 @@ shown-number = ending_cases (λ end. (ended : Ended) (before : List (List ℕ)) 
     (λ ended before shows. inl (ap (λ e. end_number e.fault) (sym shows))) (λ ended before shows. inl (ap (λ e. end_number e.fault) (sym shows)))
 
 -- what was taken ends as all bytes do, unless memory ran out or a read failed
-same-ending : (ports : List ℕ) (end : Option Fault) → IsEnding end
-    → ((taken all : Ended) (before : List (List ℕ)) → TakenEnds ports taken before end → ShowsEnding all before end → taken ≡ all)
+same-ending : (Wants : List (List ℕ) → List ℕ → Type 0) (end : Option Fault) → IsEnding end
+    → ((taken all : Ended) (before : List (List ℕ)) → TakenEnds Wants taken before end → ShowsEnding all before end → taken ≡ all)
     ⊎ ((end ≡ Some Memory) ⊎ (end ≡ Some Read))
-same-ending ports = ending_cases (λ end. ((taken all : Ended) (before : List (List ℕ)) → TakenEnds ports taken before end → ShowsEnding all before end
+same-ending Wants = ending_cases (λ end. ((taken all : Ended) (before : List (List ℕ)) → TakenEnds Wants taken before end → ShowsEnding all before end
     → taken ≡ all) ⊎ ((end ≡ Some Memory) ⊎ (end ≡ Some Read)))
     (inl (λ taken all before ends shows. ends ∙ sym shows)) (inr (inl refl)) (inl (λ taken all before ends shows. ends ∙ sym shows))
     (inl (λ taken all before ends shows. ends ∙ sym shows)) (inl (λ taken all before ends shows. ends ∙ sym shows))
@@ -138,12 +141,12 @@ any-write (app ∷ apps) is = by_first (is_write app.stopped) refl is (λ others
     by_first true first all others = record { number = 0; app = app; at = refl; why = is_it app.stopped first }
     by_first false first all others = let rest = others all in record { number = suc rest.number; app = rest.app; at = rest.at; why = rest.why }
 
-write-any : (apps : List AppLine) (number : ℕ) (app : AppLine) → slice_get apps number ≡ Some app → app.stopped ≡ stop.Write
-    → any_stopped is_write apps ≡ true
-write-any apps number app is write =
+stopped-any : (test : Stopped → Bool) (apps : List AppLine) (number : ℕ) (app : AppLine) → slice_get apps number ≡ Some app
+    → test app.stopped ≡ true → any_stopped test apps ≡ true
+stopped-any test apps number app is holds =
     let at : get_or apps number app ≡ app = get_or_from_slice_get apps number app app is in
-    list_any_at (λ (a : AppLine). is_write a.stopped) apps number app (get-within apps number app is)
-    (ap (λ (a : AppLine). is_write a.stopped) at ∙ ap is_write write)
+    list_any_at (λ (a : AppLine). test a.stopped) apps number app (get-within apps number app is)
+    (ap (λ (a : AppLine). test a.stopped) at ∙ holds)
 
 -- where a shelf failed
 lost-status : (wanting : Bool) (end : Option Fault) → (status_from wanting true end ≡ 1) ⊎ (status_from wanting true end ≡ 9)
@@ -202,14 +205,14 @@ module _ (wanting lost : Bool) (end : Option Fault) {answer refusals refusals_no
 -- ---- the parts of what a replay leaves
 
 module _ {S T : Type 0} {left : S → Option (List ℕ)} {failed : S → ℕ} {kept : T → ℕ → Option (List ℕ)} {losses : T → ℕ}
-    {source source_now : S} {shelves shelves_now : List T} {ports : List ℕ} {outcome : Outcome} {answer refusals refusals_now : ℕ}
-    (replayed : Replayed left failed kept losses source source_now shelves shelves_now ports outcome)
+    {source source_now : S} {shelves shelves_now : List T} {plan : Plan} {outcome : Told} {board : Board} {answer refusals refusals_now : ℕ}
+    (replayed : Ran left failed kept losses source source_now shelves shelves_now plan outcome board)
     (is : IsAnswer (status_of outcome) answer refusals refusals_now) where
   abbrev pub lost : Bool
-  lost = any_stopped is_write outcome.apps.items
+  lost = any_stopped is_write outcome.apps
 
   causes : HasCauses lost outcome.end answer refusals refusals_now
-  causes = has_causes (any_stopped is_memory outcome.apps.items) lost outcome.end is replayed.ended.kind
+  causes = has_causes (any_stopped is_memory outcome.apps) lost outcome.end is replayed.ended.kind
 
   kind-of : IsStatus answer
   unfolding IsNumbered
@@ -217,25 +220,25 @@ module _ {S T : Type 0} {left : S → Option (List ℕ)} {failed : S → ℕ} {k
       (λ others. ⊎_elim (λ (nine, why). subst IsStatus (sym nine) refl)
       (λ number. subst IsStatus (sym number) (numbered outcome.end replayed.ended.kind).0) others) causes.cases
 
-  ending-of : (all : List ℕ) → ShowsEnding (ended_of ports all) replayed.before outcome.end → IsStatusOf answer (ended_of ports all).fault
+  ending-of : (all : List ℕ) → ShowsEnding (ended_of plan.ports.items all) replayed.before outcome.end → IsStatusOf answer (ended_of plan.ports.items all).fault
   ending-of all shows = ⊎_elim (λ one. inr (inl one)) (λ others. ⊎_elim (λ (nine, why). inr (inr (inr nine)))
       (λ number. ⊎_elim (λ same. inl (number ∙ same)) (λ hidden. ⊎_elim (λ one. inr (inl (number ∙ one)))
       (λ eight. inr (inr (inl (number ∙ eight)))) hidden)
-      (shown-number outcome.end replayed.ended.kind (ended_of ports all) replayed.before shows)) others) causes.cases
+      (shown-number outcome.end replayed.ended.kind (ended_of plan.ports.items all) replayed.before shows)) others) causes.cases
 
-  reached-of : IfSome (left source) (λ all. Took (left source) (left source_now) (λ taken. ended_of ports taken ≡ ended_of ports all))
+  reached-of : IfSome (left source) (λ all. Took (left source) (left source_now) (λ taken. ended_of plan.ports.items taken ≡ ended_of plan.ports.items all))
       ⊎ ((answer ≡ 1) ⊎ (((answer ≡ 8) ⊎ (answer ≡ 9)) × Rose (failed source) (failed source_now)))
   reached-of = ⊎_elim
       (λ same. inl (some-weaker (left source) _ _ replayed.ended.shown (λ all shows.
-      Took-weaker (left source) (left source_now) (λ taken. TakenEnds ports (ended_of ports taken) replayed.before outcome.end)
-      (λ taken. ended_of ports taken ≡ ended_of ports all)
-      (λ taken ends. same (ended_of ports taken) (ended_of ports all) replayed.before ends shows) replayed.ended.taken)))
-      (λ hidden. inr (⊎_elim (λ memory. inl (at-memory (any_stopped is_memory outcome.apps.items) lost outcome.end is replayed.ended.kind memory))
+      Took-weaker (left source) (left source_now) (λ taken. TakenEnds (WantsRoom plan.split plan.ports.items) (ended_of plan.ports.items taken) replayed.before outcome.end)
+      (λ taken. ended_of plan.ports.items taken ≡ ended_of plan.ports.items all)
+      (λ taken ends. same (ended_of plan.ports.items taken) (ended_of plan.ports.items all) replayed.before ends shows) replayed.ended.taken)))
+      (λ hidden. inr (⊎_elim (λ memory. inl (at-memory (any_stopped is_memory outcome.apps) lost outcome.end is replayed.ended.kind memory))
       (λ failed_read. ⊎_elim (λ one. inl one) (λ others. inr (
         ⊎_elim (λ (nine, why). inr nine) (λ number. inl (number ∙ ap end_number failed_read)) others,
         replayed.ended.cause failed_read,
       )) causes.cases) hidden))
-      (same-ending ports outcome.end replayed.ended.kind)
+      (same-ending (WantsRoom plan.split plan.ports.items) outcome.end replayed.ended.kind)
 
   whole-of : answer ≡ 0 → IsReadToEnd (left source) (left source_now)
   unfolding IsNumbered
@@ -243,25 +246,25 @@ module _ {S T : Type 0} {left : S → Option (List ℕ)} {failed : S → ℕ} {k
       (λ number. replayed.ended.at_end ((numbered outcome.end replayed.ended.kind).3 (sym number ∙ zero))) others) causes.cases
 
   read-of : answer ≡ 8 → Rose (failed source) (failed source_now)
-      × Took (left source) (left source_now) (λ taken. IsBrokenOff (ended_of ports taken).fault)
+      × Took (left source) (left source_now) (λ taken. IsBrokenOff (ended_of plan.ports.items taken).fault)
   unfolding IsNumbered
   read-of eight = ⊎_elim (λ one. absurd (omega arith)) (λ others. ⊎_elim (λ (nine, why). absurd (omega arith))
       (λ number.
       let by_read : outcome.end ≡ Some Read = (numbered outcome.end replayed.ended.kind).2 (sym number ∙ eight) in (
         replayed.ended.cause by_read,
-        Took-weaker (left source) (left source_now) (λ taken. TakenEnds ports (ended_of ports taken) replayed.before outcome.end)
-            (λ taken. IsBrokenOff (ended_of ports taken).fault)
-            (λ taken ends. broken_off (ended_of ports taken) replayed.before
-            (subst (λ e. TakenEnds ports (ended_of ports taken) replayed.before e) by_read ends)) replayed.ended.taken,
+        Took-weaker (left source) (left source_now) (λ taken. TakenEnds (WantsRoom plan.split plan.ports.items) (ended_of plan.ports.items taken) replayed.before outcome.end)
+            (λ taken. IsBrokenOff (ended_of plan.ports.items taken).fault)
+            (λ taken ends. broken_off (ended_of plan.ports.items taken) replayed.before
+            (subst (λ e. TakenEnds (WantsRoom plan.split plan.ports.items) (ended_of plan.ports.items taken) replayed.before e) by_read ends)) replayed.ended.taken,
       )) others) causes.cases
 
   shelf-failed : lost ≡ true → (app : ℕ) × Rose (losses_in losses shelves app) (losses_in losses shelves_now app)
   shelf-failed some =
-      let stands : Stands outcome.apps.items = any-write outcome.apps.items some in
-      let within : stands.number < length outcome.apps.items = get-within outcome.apps.items stands.number stands.app stands.at in
+      let stands : Stands outcome.apps = any-write outcome.apps some in
+      let within : stands.number < length outcome.apps = get-within outcome.apps stands.number stands.app stands.at in
       let many = replayed.many_apps in
-      let (port, port_is) = get-there ports stands.number (omega (arith, within, many)) in
-      let (app, app_is, line) = there (slice_get outcome.apps.items stands.number) _ (replayed.app stands.number port port_is) in
+      let (port, port_is) = get-there plan.ports.items stands.number (omega (arith, within, many)) in
+      let (app, app_is, line) = there (slice_get outcome.apps stands.number) _ (replayed.app stands.number port port_is) in
       let same : app ≡ stands.app = (let at = stands.at in cc) in
       (stands.number, line.cause (ap (λ a. a.stopped) same ∙ stands.why))
 
@@ -277,23 +280,23 @@ module _ {S T : Type 0} {left : S → Option (List ℕ)} {failed : S → ℕ} {k
   read_well not_1 not_8 not_9 = replayed.ended.still (λ by_read. ⊎_elim (λ one. not_1 one) (λ others. ⊎_elim (λ (nine, why). not_9 nine)
       (λ number. not_8 (number ∙ ap end_number by_read)) others) causes.cases)
 
-  none-lost : answer ≢ 1 → answer ≢ 9 → lost ≡ true → ⊥
-  none-lost not_1 not_9 some =
-      let wanting = any_stopped is_memory outcome.apps.items in
+  -- ---- what stopped applications
+
+  wanting-of : (number : ℕ) (app : AppLine) → slice_get outcome.apps number ≡ Some app → app.stopped ≡ stop.Memory → answer ≡ 1
+  wanting-of number app at memory =
+      let some : any_stopped is_memory outcome.apps ≡ true = stopped-any is_memory outcome.apps number app at (ap is_memory memory) in
+      let said : status_of outcome ≡ 1 = ap (λ w. status_from w lost outcome.end) some in
+      ⊎_elim (λ same. same ∙ said) (λ others. ⊎_elim (λ one. one) (λ (nine, rose, other). absurd (other said)) others) is.cases
+
+  failing-of : (number : ℕ) (app : AppLine) → slice_get outcome.apps number ≡ Some app → app.stopped ≡ stop.Write
+      → (answer ≡ 1) ⊎ (answer ≡ 9)
+  failing-of number app at write =
+      let wanting = any_stopped is_memory outcome.apps in
+      let some : lost ≡ true = stopped-any is_write outcome.apps number app at (ap is_write write) in
       let said : (status_of outcome ≡ 1) ⊎ (status_of outcome ≡ 9) =
       subst (λ l. (status_from wanting l outcome.end ≡ 1) ⊎ (status_from wanting l outcome.end ≡ 9)) (sym some) (lost-status wanting outcome.end) in
-      ⊎_elim (λ same. ⊎_elim (λ one. not_1 (same ∙ one)) (λ nine. not_9 (same ∙ nine)) said)
-      (λ others. ⊎_elim (λ one. not_1 one) (λ (nine, rose, other). not_9 nine) others) is.cases
-
-  kept_well : answer ≢ 1 → answer ≢ 9 → (app : ℕ) → losses_in losses shelves_now app ≡ losses_in losses shelves app
-  kept_well not_1 not_9 app = ⊎_elim
-      (λ (within : app < length ports).
-      let (port, port_is) = get-there ports app within in
-      let (line, line_is, was) = there (slice_get outcome.apps.items app) _ (replayed.app app port port_is) in
-      was.still (λ write. none-lost not_1 not_9 (write-any outcome.apps.items app line line_is write)))
-      (λ (past : length ports ≤ app). losses_in-same losses shelves shelves_now app
-      (get-same_rest (length ports) shelves shelves_now app replayed.beyond past))
-      (cases_lt app (length ports))
+      ⊎_elim (λ same. ⊎_elim (λ one. inl (same ∙ one)) (λ nine. inr (same ∙ nine)) said)
+      (λ others. ⊎_elim (λ one. inl one) (λ (nine, rose, other). inr nine) others) is.cases
 
 -- the report went out whole
 told_well : (refusals refusals_now said answer : ℕ) (reported : Result (Unit {0}) Unreported) → OnOk reported (refusals_now ≡ refusals)
@@ -303,28 +306,35 @@ told_well refusals refusals_now said answer (Err unreported.Memory) still is not
 told_well refusals refusals_now said answer (Err unreported.Write) still is not_1 not_9 =
     ⊎_elim (λ one. absurd (not_1 one)) (λ nine. absurd (not_9 nine.0)) (chosen said answer is)
 
-pub replays : {S T O : Type 0} {left : S → Option (List ℕ)} {failed : S → ℕ} {kept : T → ℕ → Option (List ℕ)} {losses : T → ℕ}
-    (sent : O → Option (List ℕ)) (refusals : O → ℕ)
-    {source source_now : S} {shelves shelves_now : List T} (out out_now : O) {ports : List ℕ} {outcome : Outcome} {answer : ℕ}
-    → Replayed left failed kept losses source source_now shelves shelves_now ports outcome
-    → Tells (sent out) (sent out_now) (refusals out) (refusals out_now) outcome answer
-    → Replays left failed kept losses sent refusals source source_now shelves shelves_now out out_now ports answer
-replays {left = left} sent refusals {source = source} out out_now {outcome = outcome} {answer = answer} replayed tells =
-    let is : IsAnswer (status_of outcome) answer (refusals out) (refusals out_now) = is_answer (sent out) (sent out_now) (refusals out) (refusals out_now)
-    (status_of outcome) answer _ tells.reported tells.report tells.answered in
-    record {
-      outcome = outcome;
-      replayed = replayed;
-      reported = tells.reported;
-      report = tells.report;
-      answered = tells.answered;
-      reached = reached-of replayed is;
-      ending = some-weaker (left source) _ _ replayed.ended.shown (λ all shows. ending-of replayed is all shows);
-      kind = kind-of replayed is;
-      whole = whole-of replayed is;
-      read = read-of replayed is;
-      lost = lost-of replayed is;
-      sound_reads = read_well replayed is;
-      sound_shelves = kept_well replayed is;
-      sound_sink = told_well (refusals out) (refusals out_now) (status_of outcome) answer tells.reported tells.still tells.answered;
-    }
+module _ {S T O : Type 0} {left : S → Option (List ℕ)} {failed : S → ℕ} {kept : T → ℕ → Option (List ℕ)} {losses : T → ℕ}
+    (sent : O → Option (List ℕ)) (refusals : O → ℕ) {source source_now : S} {shelves shelves_now : List T} (out out_now : O)
+    {plan : Plan} {outcome : Told} {board : Board} {answer : ℕ}
+    (ran : Ran left failed kept losses source source_now shelves shelves_now plan outcome board) where
+  pub replays : (told : ReplayShown) (card_now : Card) → IsPlanOf told.ports told.options plan → card_now ≡ Card.Plain board
+      → Tells (sent out) (sent out_now) (refusals out) (refusals out_now) outcome answer
+      → Replays left failed kept losses sent refusals source source_now shelves shelves_now out out_now card_now told answer
+  replays told card_now planned card_is tells =
+      let is : IsAnswer (status_of outcome) answer (refusals out) (refusals out_now) = is_answer (sent out) (sent out_now) (refusals out)
+      (refusals out_now) (status_of outcome) answer _ tells.reported tells.report tells.answered in
+      let same : plan.ports.items ≡ told.ports = planned.ports_are in
+      record {
+        plan = plan;
+        planned = planned;
+        outcome = outcome;
+        board = board;
+        ran = ran;
+        card_is = card_is;
+        reported = tells.reported;
+        report = tells.report;
+        answered = tells.answered;
+        reached = rw (← same) (reached-of ran is);
+        ending = rw (← same) (some-weaker (left source) _ _ ran.ended.shown (λ all shows. ending-of ran is all shows));
+        kind = kind-of ran is;
+        whole = whole-of ran is;
+        read = rw (← same) (read-of ran is);
+        lost = lost-of ran is;
+        wanting = wanting-of ran is;
+        failing = failing-of ran is;
+        sound_reads = read_well ran is;
+        sound_sink = told_well (refusals out) (refusals out_now) (status_of outcome) answer tells.reported tells.still tells.answered;
+      }

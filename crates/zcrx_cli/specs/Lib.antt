@@ -1,3 +1,5 @@
 pub mod Status
 pub mod Making
+pub mod Cards
+pub mod Planned
 pub mod StreamTheorem

@@ -7,7 +7,7 @@ use Rattle.zr_kinds.specs.Fault.{number_of}
 use Rattle.zr_kinds.specs.declared.behaviour.Stopped.{Stopped}
 use Rattle.zr_kinds.specs.declared.behaviour.Stopped.TheVariants as stop
 use Rattle.zr_kinds.specs.declared.outcome.AppLine.{AppLine}
-use Rattle.copying_replay.specs.declared.outcome.Outcome.{Outcome}
+use Rattle.turn_runs.specs.Ran.{Told}
 
 abbrev pub is_memory : Stopped → Bool
 is_memory stop.Memory = true
@@ -37,5 +37,5 @@ status_from false lost (Some Memory) = 1
 status_from false true end = 9
 status_from false false end = end_number end
 
-abbrev pub status_of : Outcome → ℕ
-status_of outcome = status_from (any_stopped is_memory outcome.apps.items) (any_stopped is_write outcome.apps.items) outcome.end
+abbrev pub status_of : Told → ℕ
+status_of outcome = status_from (any_stopped is_memory outcome.apps) (any_stopped is_write outcome.apps) outcome.end

@@ -1,19 +1,24 @@
--- What a replay leaves: the streams on their shelves, the report, the status.
+-- What a replay leaves: the streams on their shelves, the report, the status, and the board of the run.
 use Rattle.std.specs.Prelude.{◌≡◌, ◌≢◌, ℕ, List, [], ◌∷◌, ◌==◌, true, Option, Some, None, Result, IfSome, OnOk, ◌⊎◌}
-use Rattle.std.specs.List.{list_any}
+use Rattle.std.specs.List.{list_any, slice_get}
 use Rattle.zr_kinds.specs.declared.fault.Fault.{Fault}
 use Rattle.zr_kinds.specs.declared.fault.Fault.TheVariants.{Cut}
 use Rattle.zr_io.specs.Moved.{Rose, Took}
-use Rattle.command_words.specs.Words.{Shown, replay, make}
-use Rattle.copying_replay.specs.Ending.{ended_of}
-use Rattle.copying_replay.specs.Reading.{IsReadToEnd}
-use Rattle.copying_replay.specs.Streams.{losses_in}
-use Rattle.copying_replay.specs.Replayed.{Replayed}
-use Rattle.copying_replay.specs.declared.outcome.Outcome.{Outcome}
+use Rattle.command_words.specs.Words.{ReplayShown, Shown, replay, make}
+use Rattle.frames_read.specs.Ending.{ended_of}
+use Rattle.frames_read.specs.Reading.{IsReadToEnd}
+use Rattle.plain_board.specs.Board.{Board}
+use Rattle.zr_kinds.specs.declared.behaviour.Stopped.TheVariants as stop
+use Rattle.zr_kinds.specs.declared.outcome.AppLine.{AppLine}
+use Rattle.replay_turns.specs.declared.plan.Plan.{Plan}
+use Rattle.turn_runs.specs.Running.{losses_in}
+use Rattle.turn_runs.specs.Ran.{Ran, LacksMemory, Told}
 use Rattle.run_report.specs.Report.{report_of, Reports, answer_of}
 use Rattle.run_report.specs.declared.report.Unreported.{Unreported}
+use Rattle.zcrx_cli.specs.Planned.{IsPlanOf}
 use Rattle.zcrx_cli.specs.Status.{end_number, status_of}
 use Rattle.zcrx_cli.specs.Making.{Makes}
+use Rattle.zcrx_cli.specs.declared.card.Card.{Card}
 
 -- Want of memory, a failed read and a lost shelf show in no byte. Any other status is that of what ended the reading.
 abbrev pub IsStatusOf : ℕ → Option Fault → Type 0
@@ -27,33 +32,44 @@ IsStatus status = list_any (λ n. n == status) (0 ∷ 1 ∷ 3 ∷ 4 ∷ 5 ∷ 6 
 abbrev pub IsBrokenOff : Option Fault → Type 0
 IsBrokenOff end = (end ≡ None) ⊎ (end ≡ Some Cut)
 
--- What a replay to these ports leaves of its source, its shelves and its sink, and what its answer says.
+-- the text of an outcome's report, which says its status
+abbrev pub text_of : Told → List ℕ
+text_of outcome =
+    report_of outcome.tally outcome.apps outcome.flows outcome.refused outcome.pool (status_of outcome)
+
+-- What a replay leaves of its source, its shelves and its sink, which board is in the card, and what its answer says.
 pub record Replays {S T O : Type 0} (left : S → Option (List ℕ)) (failed : S → ℕ) (kept : T → ℕ → Option (List ℕ)) (losses : T → ℕ)
     (sent : O → Option (List ℕ)) (refusals : O → ℕ)
-    (source source_now : S) (shelves shelves_now : List T) (out out_now : O) (ports : List ℕ) (answer : ℕ) : Type 0 where
-  -- The stream theorem, and what the lines of the report say.
-  pub outcome : Outcome
-  pub replayed : Replayed left failed kept losses source source_now shelves shelves_now ports outcome
+    (source source_now : S) (shelves shelves_now : List T) (out out_now : O) (card_now : Card) (told : ReplayShown) (answer : ℕ) : Type 0 where
+  pub plan : Plan
+  pub planned : IsPlanOf told.ports told.options plan
+  -- The stream theorem, what the lines of the report say, and that the board accounts for the run and may be finished.
+  pub outcome : Told
+  pub board : Board
+  pub ran : Ran left failed kept losses source source_now shelves shelves_now plan outcome board
+  pub card_is : card_now ≡ Card.Plain board
   -- The report, with the status of that outcome, went out whole; or not, and then the answer says so.
   pub reported : Result (Unit {0}) Unreported
-  pub report : Reports (sent out) (sent out_now) (refusals out) (refusals out_now)
-      (report_of outcome.tally outcome.apps.items outcome.flows.items (status_of outcome)) reported
+  pub report : Reports (sent out) (sent out_now) (refusals out) (refusals out_now) (text_of outcome) reported
   pub answered : answer ≡ answer_of (status_of outcome) reported
   -- What was taken ends as all the bytes do, after the same records and by the same fault, unless memory ran out or a read failed.
-  pub reached : IfSome (left source) (λ all. Took (left source) (left source_now) (λ taken. ended_of ports taken ≡ ended_of ports all))
+  pub reached : IfSome (left source) (λ all. Took (left source) (left source_now) (λ taken. ended_of told.ports taken ≡ ended_of told.ports all))
       ⊎ ((answer ≡ 1) ⊎ (((answer ≡ 8) ⊎ (answer ≡ 9)) × Rose (failed source) (failed source_now)))
   -- The answer is the number of what ended the reading of all the bytes, or 1, 8 or 9.
-  pub ending : IfSome (left source) (λ all. IsStatusOf answer (ended_of ports all).fault)
+  pub ending : IfSome (left source) (λ all. IsStatusOf answer (ended_of told.ports all).fault)
   pub kind : IsStatus answer
   pub whole : answer ≡ 0 → IsReadToEnd (left source) (left source_now)
   -- 8 comes only where a read failed, and what was taken by then breaks off: nothing else in it ends the reading.
   pub read : answer ≡ 8 → Rose (failed source) (failed source_now)
-      × Took (left source) (left source_now) (λ taken. IsBrokenOff (ended_of ports taken).fault)
+      × Took (left source) (left source_now) (λ taken. IsBrokenOff (ended_of told.ports taken).fault)
   -- 9 comes only where an application's shelf failed, or the sink.
   pub lost : answer ≡ 9 → ((app : ℕ) × Rose (losses_in losses shelves app) (losses_in losses shelves_now app)) ⊎ Rose (refusals out) (refusals out_now)
-  -- No read failed where the answer is none of 1, 8 and 9, and no call of a shelf or of the sink where it is neither 1 nor 9.
+  -- Where memory stopped an application it is 1, and where its shelf did it is 1 or 9.
+  pub wanting : (number : ℕ) (app : AppLine) → slice_get outcome.apps number ≡ Some app → app.stopped ≡ stop.Memory → answer ≡ 1
+  pub failing : (number : ℕ) (app : AppLine) → slice_get outcome.apps number ≡ Some app → app.stopped ≡ stop.Write
+      → (answer ≡ 1) ⊎ (answer ≡ 9)
+  -- No read failed where the answer is none of 1, 8 and 9, and no call of the sink where it is neither 1 nor 9.
   pub sound_reads : answer ≢ 1 → answer ≢ 8 → answer ≢ 9 → failed source_now ≡ failed source
-  pub sound_shelves : answer ≢ 1 → answer ≢ 9 → (app : ℕ) → losses_in losses shelves_now app ≡ losses_in losses shelves app
   pub sound_sink : answer ≢ 1 → answer ≢ 9 → refusals out_now ≡ refusals out
 
 -- There was no memory before anything was read or written.
@@ -62,19 +78,30 @@ pub record IsUntouched {S T O : Type 0} (source source_now : S) (shelves shelves
   pub shelves_are : shelves_now ≡ shelves
   pub out_is : out_now ≡ out
 
+-- There was no memory: before the first turn, and nothing was touched; or for the outcome behind the last turn.
+pub record Lacks {S T O : Type 0} (left : S → Option (List ℕ)) (failed : S → ℕ) (kept : T → ℕ → Option (List ℕ)) (losses : T → ℕ)
+    (source source_now : S) (shelves shelves_now : List T) (out out_now : O) (card_now : Card) (told : ReplayShown) (answer : ℕ) : Type 0 where
+  pub answer_is : answer ≡ 1
+  pub card_is : card_now ≡ Card.Blank
+  pub out_is : out_now ≡ out
+  pub plan : Plan
+  pub planned : IsPlanOf told.ports told.options plan
+  pub lacks : LacksMemory left failed kept losses source source_now shelves shelves_now plan
+
 -- what a command leaves
 abbrev pub Commands : {S T O : Type 0} → (S → Option (List ℕ)) → (S → ℕ) → (T → ℕ → Option (List ℕ)) → (T → ℕ)
     → (O → Option (List ℕ)) → (O → ℕ)
-    → S → S → List T → List T → O → O → ℕ → Shown → Type 0
-Commands left failed kept losses sent refusals source source_now shelves shelves_now out out_now answer (replay told) =
-    Replays left failed kept losses sent refusals source source_now shelves shelves_now out out_now told.ports answer
-    ⊎ ((answer ≡ 1) × IsUntouched source source_now shelves shelves_now out out_now)
-Commands left failed kept losses sent refusals source source_now shelves shelves_now out out_now answer (make told) =
-    Makes sent refusals source source_now shelves shelves_now out out_now told.seed told.frames answer
+    → S → S → List T → List T → O → O → Card → ℕ → Shown → Type 0
+Commands left failed kept losses sent refusals source source_now shelves shelves_now out out_now card_now answer (replay told) =
+    Replays left failed kept losses sent refusals source source_now shelves shelves_now out out_now card_now told answer
+    ⊎ Lacks left failed kept losses source source_now shelves shelves_now out out_now card_now told answer
+    ⊎ ((answer ≡ 1) × (card_now ≡ Card.Blank) × IsUntouched source source_now shelves shelves_now out out_now)
+Commands left failed kept losses sent refusals source source_now shelves shelves_now out out_now card_now answer (make told) =
+    Makes sent refusals source source_now shelves shelves_now out out_now told.seed told.frames answer × (card_now ≡ Card.Blank)
 
 -- the report of an outcome, and the answer
-pub record Tells (sent now : Option (List ℕ)) (refusals refusals_now : ℕ) (outcome : Outcome) (answer : ℕ) : Type 0 where
+pub record Tells (sent now : Option (List ℕ)) (refusals refusals_now : ℕ) (outcome : Told) (answer : ℕ) : Type 0 where
   pub reported : Result (Unit {0}) Unreported
-  pub report : Reports sent now refusals refusals_now (report_of outcome.tally outcome.apps.items outcome.flows.items (status_of outcome)) reported
+  pub report : Reports sent now refusals refusals_now (text_of outcome) reported
   pub still : OnOk reported (refusals_now ≡ refusals)
   pub answered : answer ≡ answer_of (status_of outcome) reported

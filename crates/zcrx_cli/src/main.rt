@@ -4,19 +4,23 @@
 #![tactic(auto)]
 
 ghost use Rattle.std.specs.Prelude.{◌≡◌, IfOk, vec_len};
+ghost use Rattle.zcrx_cli.specs.Cards.{IsClosed};
 
+mod card;
 mod descriptors;
 mod status;
 #[cfg(test)]
 mod tests;
 mod top;
 
+pub use card::Card;
 use descriptors::hold_closed_streams;
 use std::alloc::{AllocError, Global};
 use std::collections::hash_map::RandomState;
 use std::io::BufReader;
 use std::process::ExitCode;
 use std::rt::{Env, Files};
+use std::sync::Wait;
 use std::{env, io};
 pub use top::zcrx;
 use zr_io::{FileShelf, StdSink, StdSource};
@@ -53,7 +57,7 @@ fn make_shelves<R: Files + AllocGlobal>(rt: &R) -> Result<Vec<FileShelf<&R>>, Al
 }
 
 /// Runs the command over standard input, standard output and the files of the current folder.
-fn start(rt: &HostRuntime) -> Result<u8, Fault> {
+fn start<W: Wait>(rt: &HostRuntime, waiting: &W) -> Result<u8, Fault> {
     let _held = hold_closed_streams(rt).map_err(|error| memory_or(Fault::Write, &error))?;
     let arguments = read_arguments(rt)?;
     let words: Vec<&str> = arguments
@@ -67,18 +71,35 @@ fn start(rt: &HostRuntime) -> Result<u8, Fault> {
     let mut shelves = make_shelves(rt).map_err(|_| Fault::Memory)?;
     let mut out = StdSink::new(io::writer(rt));
     let random = RandomState::new(rt).map_err(|_| Fault::Read)?;
-    Ok(zcrx(
+    let mut card = Card::Blank;
+    let status = zcrx(
+        waiting,
         rt.alloc(),
         random,
         &words,
         &mut source,
         &mut shelves,
         &mut out,
-    ))
+        &mut card,
+    );
+    close(card);
+    Ok(status)
+}
+
+/// Ends the board of the run, if there was one.
+fn close(card: Card)
+    requires { IsClosed card }
+{
+    match card {
+        Card::Blank => {}
+        card => {
+            let _ended = card.free();
+        }
+    }
 }
 
 fn main(rt: HostRuntime) -> ExitCode {
-    let status = match start(&rt) {
+    let status = match start(&rt, &rt) {
         Ok(status) => status,
         Err(fault) => fault.number(),
     };

@@ -1,9 +1,10 @@
 //! The status of a replay.
 
 ghost use Rattle.std.specs.Prelude.{◌≡◌};
+ghost use Rattle.turn_runs.specs.Ran.{told_of};
 ghost use Rattle.zcrx_cli.specs.Status.{is_memory, is_write, any_stopped, status_of};
 
-use copying_replay::Outcome;
+use replay_turns::Outcome;
 use zr_kinds::{AppLine, Fault, Stopped};
 
 fn want_memory(apps: &[AppLine]) -> bool
@@ -21,7 +22,7 @@ fn lost_shelves(apps: &[AppLine]) -> bool
 
 /// Want of memory comes first, then a shelf that failed, then what ended the reading; 0 at the end of the bytes.
 pub fn status_of(outcome: &Outcome) -> u8
-    ensures { result ≡ status_of outcome.now }
+    ensures { result ≡ status_of (told_of outcome.now) }
 {
     if want_memory(&outcome.apps) {
         return Fault::Memory.number();

@@ -1,57 +1,99 @@
 //! The top call: a command's words, a source, eight shelves and a sink.
 
 ghost use Rattle.std.specs.Prelude.{◌≡◌, ◌≢◌, ℕ, ◌≤◌, ◌<◌, ◌⊎◌, None, Some, IfSome, Ok, map, length, take, nat_eq, vec_len};
-ghost use Rattle.std.specs.List.{IsDistinct};
 ghost use Rattle.std.specs.Io.KnownBytes.{Appends};
 ghost use Rattle.zr_io.specs.Moved.{Rose};
 ghost use Rattle.cap_make.specs.GeneratedCapture.{generated_capture};
-ghost use Rattle.run_report.specs.Report.{report_of, Reports, answer_of};
-ghost use Rattle.command_words.specs.Words.{reading_of};
-ghost use Rattle.zcrx_cli.specs.Status.{status_of};
-ghost use Rattle.zcrx_cli.specs.StreamTheorem.{Replays, IsUntouched, Commands, Tells};
+ghost use Rattle.command_words.specs.Options.{AreInRange};
+ghost use Rattle.command_words.specs.Words.{IsPortList, IsReplay, reading_of, replay_shown};
+ghost use Rattle.replay_turns.specs.Plan.{IsPlan};
+ghost use Rattle.turn_runs.specs.Ran.{told_of};
+ghost use Rattle.zcrx_cli.specs.Cards.{IsClosed};
+ghost use Rattle.zcrx_cli.specs.Planned.{IsPlanOf};
+ghost use Rattle.zcrx_cli.specs.StreamTheorem.{Commands, IsUntouched, Lacks, Replays, Tells};
 
+use crate::card::Card;
 use crate::status::status_of;
 use cap_make::make;
-use command_words::{Command, read_words};
-use copying_replay::{Outcome, replay};
+use command_words::{Command, Options, Replay, read_words};
+use replay_turns::{Outcome, Plan};
 use run_report::{Report, answer, write_report};
 use std::alloc::Global;
 use std::collections::hash_map::RandomState;
+use std::sync::Wait;
+use turn_runs::run_turns;
 use zr_io::{Failed, Shelf, Sink, Source};
 use zr_kinds::Fault;
 
 /// Writes the report of a replay: the answer.
 fn tell<O: Sink>(alloc: Global, outcome: &Outcome, out: &mut O) -> u8
-    ensures { Tells (O.sent out.old) (O.sent out.new) (O.faults out.old) (O.faults out.new) outcome.now result }
+    ensures { Tells (O.sent out.old) (O.sent out.new) (O.faults out.old) (O.faults out.new) (told_of outcome.now) result }
 {
     let status = status_of(outcome);
     let report = Report {
         tally: &outcome.tally,
         apps: &outcome.apps,
         flows: &outcome.flows,
+        refused: &outcome.refused,
+        pool: &outcome.pool,
         status,
     };
     answer(status, write_report(alloc, &report, out))
 }
 
-fn run<S: Source, T: Shelf, O: Sink>(
+fn plan_of(ports: Vec<u16>, options: Options) -> Plan
+    requires ports { IsPortList ports.items }
+    requires options { AreInRange options }
+    ensures plan { IsPlan result }
+    ensures told { IsPlanOf ports.items options result }
+{
+    let Options {
+        buffers,
+        size,
+        ring,
+        split,
+        how,
+    } = options;
+    Plan {
+        ports,
+        buffers,
+        size,
+        ring,
+        split,
+        how,
+    }
+}
+
+fn run<S: Source, T: Shelf, O: Sink, R: Wait>(
+    rt: &R,
     alloc: Global,
     random: RandomState,
-    ports: &[u16],
+    command: Replay<'_>,
     source: &mut S,
-    shelves: &mut [T],
+    shelves: &mut Vec<T>,
     out: &mut O,
+    card: &mut Card,
 ) -> u8
-    requires some { 0 < length ports.now }
-    requires most { length ports.now ≤ 8 }
-    requires distinct { IsDistinct nat_eq ports.now }
-    requires shelves { length shelves.old ≡ 8 }
-    ensures replays { Replays S.left S.faults T.kept T.faults O.sent O.faults source.old source.new shelves.old shelves.new out.old out.new ports.now result
-        ⊎ ((result ≡ 1) × IsUntouched source.old source.new shelves.old shelves.new out.old out.new) }
-    ensures many { length shelves.new ≡ length shelves.old }
+    requires told { IsReplay command }
+    requires shelves { vec_len shelves.old ≡ 8 }
+    requires blank { card.old ≡ Card.Blank }
+    ensures replays { Replays S.left S.faults T.kept T.faults O.sent O.faults source.old source.new shelves.old.items shelves.new.items out.old out.new
+        card.new (replay_shown command.entry) result
+        ⊎ Lacks S.left S.faults T.kept T.faults source.old source.new shelves.old.items shelves.new.items out.old out.new card.new
+        (replay_shown command.entry) result }
 {
-    match replay(alloc, random, ports, source, shelves) {
-        Ok(outcome) => tell(alloc, &outcome, out),
+    let Replay {
+        ports,
+        options,
+        turns,
+    } = command;
+    let plan = plan_of(ports, options);
+    let text = turns.unwrap_or("");
+    match run_turns(rt, alloc, random, source, shelves, &plan, text) {
+        Ok((outcome, board)) => {
+            *card = Card::Plain(board);
+            tell(alloc, &outcome, out)
+        }
         Err(_) => Fault::Memory.number(),
     }
 }
@@ -71,31 +113,38 @@ fn write_capture<O: Sink>(seed: u32, frames: u32, out: &mut O) -> u8
 
 /// Runs the command that `words`, the words after the program's name, ask for. To replay a capture shelf `a` takes the
 /// flows to the port of place `a` among the ports, and `random` keys the table of flows; to make one neither source nor
-/// shelves are needed. Answers the status: 0, or the number of the fault that comes first.
-pub fn zcrx<S: Source + Send, T: Shelf + Send, O: Sink>(
+/// shelves are needed. The board of a run is left in `card`. Answers the status: 0, or the number of the fault that comes
+/// first.
+pub fn zcrx<S: Source + Send, T: Shelf + Send, O: Sink, R: Wait>(
+    rt: &R,
     alloc: Global,
     random: RandomState,
     words: &[&str],
     source: &mut S,
     shelves: &mut Vec<T>,
     out: &mut O,
+    card: &mut Card,
 ) -> u8
-    requires { vec_len shelves.old ≡ 8 }
+    requires shelves { vec_len shelves.old ≡ 8 }
+    requires blank { card.old ≡ Card.Blank }
 
     // Words without a reading are answered by 2, or by 1 where there was no memory to read them; and no other words by 2.
     ensures usage { result ≡ 2 → reading_of (map (λ w. w.now) words.now) ≡ None }
     ensures unread { reading_of (map (λ w. w.now) words.now) ≡ None → (result ≡ 2) ⊎ (result ≡ 1) }
     // Then nothing is read or written.
     ensures untouched { reading_of (map (λ w. w.now) words.now) ≡ None
-        → IsUntouched source.old source.new shelves.old.items shelves.new.items out.old out.new }
+        → IsUntouched source.old source.new shelves.old.items shelves.new.items out.old out.new × (card.new ≡ Card.Blank) }
 
-    // To replay: the stream theorem, and what the status and the report say. To make: the capture.
+    // To replay: the stream theorem, what the status and the report say, and the board. To make: the capture.
     ensures replays { IfSome (reading_of (map (λ w. w.now) words.now))
-        (Commands S.left S.faults T.kept T.faults O.sent O.faults source.old source.new shelves.old.items shelves.new.items out.old out.new result) }
+        (Commands S.left S.faults T.kept T.faults O.sent O.faults source.old source.new shelves.old.items shelves.new.items out.old out.new
+        card.new result) }
+    // A board that is left may be finished.
+    ensures closed { IsClosed card.new }
 {
-    match read_words(alloc, words) {
+    match read_words(alloc, &*words) {
         Ok(Some(Command::Replay(command))) => {
-            run(alloc, random, &command.ports, source, shelves, out)
+            run(rt, alloc, random, command, source, shelves, out, card)
         }
         Ok(Some(Command::Make(command))) => write_capture(command.seed, command.frames, out),
         Ok(None) => Fault::Usage.number(),
