@@ -93,12 +93,14 @@ fn a_failed_read_ends_the_reading(rt: HostRuntime) -> Result<(), Fail> {
     let nothing = "\
 capture records 0 tcp 0 steered 0 other 0 fragment 0 cut 0 bad 0
 app 0 port 9000 written 0 loans 0 copied 0 stopped no
+pool fast 0 refill 0 slow 0 empty 0 strays 0
 status 8
 ";
     let hello = "\
 capture records 1 tcp 1 steered 1 other 0 fragment 0 cut 0 bad 0
-app 0 port 9000 written 5 loans 0 copied 0 stopped no
+app 0 port 9000 written 5 loans 1 copied 0 stopped no
 flow 0 port 9000 base 1001 bytes 5 fin no
+pool fast 0 refill 0 slow 1 empty 0 strays 0
 status 8
 ";
     let rows: [(u64, &[u8], &str); 4] = [
@@ -154,8 +156,9 @@ fn a_lost_shelf_or_report_comes_first(rt: HostRuntime) -> Result<(), Fail> {
     bytes.extend_from_slice(&[0; 15])?;
     let lost_shelf = "\
 capture records 2 tcp 2 steered 2 other 0 fragment 0 cut 0 bad 0
-app 0 port 9000 written 0 loans 0 copied 0 stopped write
+app 0 port 9000 written 0 loans 1 copied 0 stopped write
 flow 0 port 9000 base 1001 bytes 0 fin no
+pool fast 0 refill 0 slow 1 empty 0 strays 0
 status 9
 ";
     let cut_short = faultless(&bytes);

@@ -1,10 +1,11 @@
 //! A capture with more flows than a replay numbers.
 use super::frames::{FILE_HEADER, SYN, Sent, frame, record_of, to_9000};
-use crate::{SHELVES, zcrx};
+use crate::{Card, SHELVES, zcrx};
 use std::alloc::Global;
 use std::collections::hash_map::RandomState;
 use std::process::Abort;
 use std::random::RandomSource;
+use std::sync::Wait;
 use std::test::Fail;
 use zr_io::{MemShelf, MemSink, MemSource, Source};
 
@@ -13,7 +14,7 @@ const ROOM: usize = 4_000_000;
 
 /// A replay of port 9000 whose report has to be this.
 pub fn check_report<S: Source + Send>(
-    rt: &(impl Abort + AllocGlobal + RandomSource),
+    rt: &(impl Abort + AllocGlobal + RandomSource + Wait),
     source: &mut S,
     status: u8,
     report: &str,
@@ -27,7 +28,17 @@ pub fn check_report<S: Source + Send>(
     let mut out = MemSink::new(alloc, ROOM, Vec::new(alloc))?;
     let random = RandomState::new(rt)?;
     let words = ["replay", "9000"];
-    let answer = zcrx(alloc, random, &words, source, &mut shelves, &mut out);
+    let mut card = Card::Blank;
+    let answer = zcrx(
+        rt,
+        alloc,
+        random,
+        &words,
+        source,
+        &mut shelves,
+        &mut out,
+        &mut card,
+    );
     assert!(rt; out.bytes() == report.as_bytes(), "another report");
     assert_eq!(rt; answer, status);
     Ok(())
@@ -59,7 +70,7 @@ app 0 port 9000 written 0 loans 0 copied 0 stopped no
         let line = format!(in alloc; "flow {flow} port 9000 base 1000 bytes 0 fin no\n")?;
         report.push_str(&line)?;
     }
-    report.push_str("status 10\n")?;
+    report.push_str("pool fast 0 refill 0 slow 0 empty 0 strays 0\nstatus 10\n")?;
     let mut source = MemSource::new(syns(alloc)?, 65_536, Vec::new(alloc));
     check_report(&rt, &mut source, 10, &report)
 }

@@ -6,6 +6,7 @@ use pcap_reader::Capture;
 use std::alloc::Global;
 use std::process::Abort;
 use std::random::RandomSource;
+use std::sync::Wait;
 use std::test::Fail;
 use zr_io::MemSource;
 
@@ -32,7 +33,7 @@ const fn made_by<'a>(words: &'a [&'a str]) -> Given<'a> {
 
 /// Calls `make` and compares its status. Source and shelves have to be as before. Gives what went out.
 fn make(
-    rt: &(impl Abort + AllocGlobal + RandomSource),
+    rt: &(impl Abort + AllocGlobal + RandomSource + Wait),
     given: &Given<'_>,
     status: u8,
 ) -> Result<Vec<u8>, Fail> {
@@ -118,8 +119,9 @@ fn one_frame_is_replayed(rt: HostRuntime) -> Result<(), Fail> {
         }],
         report: "\
 capture records 1 tcp 1 steered 1 other 0 fragment 0 cut 0 bad 0
-app 0 port 9000 written 1000 loans 0 copied 0 stopped no
+app 0 port 9000 written 1000 loans 1 copied 0 stopped no
 flow 0 port 9000 base 4294960000 bytes 1000 fin no
+pool fast 0 refill 0 slow 1 empty 0 strays 0
 status 0
 ",
     };

@@ -99,8 +99,9 @@ app 3 port 5 written 0 loans 0 copied 0 stopped no
 app 4 port 4 written 0 loans 0 copied 0 stopped no
 app 5 port 3 written 0 loans 0 copied 0 stopped no
 app 6 port 2 written 0 loans 0 copied 0 stopped no
-app 7 port 9000 written 5 loans 0 copied 0 stopped no
+app 7 port 9000 written 5 loans 1 copied 0 stopped no
 flow 0 port 9000 base 1001 bytes 5 fin no
+pool fast 0 refill 0 slow 1 empty 0 strays 0
 status 0
 ",
     };

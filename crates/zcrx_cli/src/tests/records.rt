@@ -13,6 +13,7 @@ fn records_come_to_an_end(rt: HostRuntime) -> Result<(), Fail> {
     let report = "\
 capture records 16777216 tcp 0 steered 0 other 0 fragment 0 cut 16777216 bad 0
 app 0 port 9000 written 0 loans 0 copied 0 stopped no
+pool fast 0 refill 0 slow 0 empty 0 strays 0
 status 11
 ";
     check_report(&rt, &mut source, 11, report)

@@ -7,6 +7,7 @@ use super::runs::{Given, Row, check, faultless, first};
 use std::alloc::Global;
 use std::process::Abort;
 use std::random::RandomSource;
+use std::sync::Wait;
 use std::test::Fail;
 
 /// One segment from port 40000 to port 9000 with the bytes `hello`, at sequence number 1001.
@@ -51,21 +52,24 @@ fn greeting(alloc: Global) -> Result<Vec<u8>, Fail> {
 /// The report of that flow up to its status.
 const GREETED: &str = "\
 capture records 3 tcp 3 steered 3 other 0 fragment 0 cut 0 bad 0
-app 0 port 9000 written 5 loans 0 copied 0 stopped no
+app 0 port 9000 written 5 loans 1 copied 0 stopped no
 flow 0 port 9000 base 1001 bytes 5 fin yes
+pool fast 0 refill 0 slow 1 empty 0 strays 0
 ";
 
 /// The report up to its status where nothing was read.
 const NOTHING: &str = "\
 capture records 0 tcp 0 steered 0 other 0 fragment 0 cut 0 bad 0
 app 0 port 9000 written 0 loans 0 copied 0 stopped no
+pool fast 0 refill 0 slow 0 empty 0 strays 0
 ";
 
 /// The report of one segment `hello` alone.
 const HELLO_ALONE: &str = "\
 capture records 1 tcp 1 steered 1 other 0 fragment 0 cut 0 bad 0
-app 0 port 9000 written 5 loans 0 copied 0 stopped no
+app 0 port 9000 written 5 loans 1 copied 0 stopped no
 flow 0 port 9000 base 1001 bytes 5 fin no
+pool fast 0 refill 0 slow 1 empty 0 strays 0
 status 0
 ";
 
@@ -164,8 +168,9 @@ fn big_endian_nanoseconds_are_read(rt: HostRuntime) -> Result<(), Fail> {
         streams: &[first(b"ab")],
         report: "\
 capture records 1 tcp 1 steered 1 other 0 fragment 0 cut 0 bad 0
-app 0 port 9000 written 2 loans 0 copied 0 stopped no
+app 0 port 9000 written 2 loans 1 copied 0 stopped no
 flow 0 port 9000 base 7 bytes 2 fin no
+pool fast 0 refill 0 slow 1 empty 0 strays 0
 status 0
 ",
     };
@@ -173,12 +178,13 @@ status 0
     Ok(())
 }
 
-/// Three records of one flow, whose stream has to be this.
+/// Three records of one flow, whose stream has to be this, lent in so many pieces.
 fn check_order(
-    rt: &(impl Abort + AllocGlobal + RandomSource),
+    rt: &(impl Abort + AllocGlobal + RandomSource + Wait),
     name: &str,
     sent: &[Sent<'_>],
     base: u32,
+    loans: u64,
     stream: &[u8],
 ) -> Result<(), Fail> {
     let alloc = rt.alloc();
@@ -187,8 +193,9 @@ fn check_order(
     let report = format!(in alloc;
         "\
 capture records 3 tcp 3 steered 3 other 0 fragment 0 cut 0 bad 0
-app 0 port 9000 written {bytes} loans 0 copied 0 stopped no
+app 0 port 9000 written {bytes} loans {loans} copied 0 stopped no
 flow 0 port 9000 base {base} bytes {bytes} fin no
+pool fast 0 refill 0 slow 1 empty 0 strays 0
 status 0
 "
     )?;
@@ -210,7 +217,14 @@ fn what_is_out_of_order_waits(rt: HostRuntime) -> Result<(), Fail> {
         to_9000(0, PSH_ACK, b"cd"),
         to_9000(4294967294, PSH_ACK, b"ab"),
     ];
-    check_order(&rt, "the sequence numbers wrap", &sent, 4294967294, b"abcd")
+    check_order(
+        &rt,
+        "the sequence numbers wrap",
+        &sent,
+        4294967294,
+        2,
+        b"abcd",
+    )
 }
 
 #[test]
@@ -220,7 +234,7 @@ fn what_came_first_counts(rt: HostRuntime) -> Result<(), Fail> {
         to_9000(1000, PSH_ACK, b"abc"),
         to_9000(1001, PSH_ACK, b"XYcd"),
     ];
-    check_order(&rt, "other bytes come later", &sent, 1000, b"abccd")
+    check_order(&rt, "other bytes come later", &sent, 1000, 2, b"abccd")
 }
 
 #[test]
@@ -230,7 +244,7 @@ fn a_stream_ends_at_a_gap(rt: HostRuntime) -> Result<(), Fail> {
         to_9000(1000, PSH_ACK, b"ab"),
         to_9000(1004, PSH_ACK, b"ef"),
     ];
-    check_order(&rt, "a gap", &sent, 1000, b"ab")
+    check_order(&rt, "a gap", &sent, 1000, 1, b"ab")
 }
 
 /// Streams and report hold what was read before the fault.
@@ -247,8 +261,9 @@ fn records_end_by_their_faults(rt: HostRuntime) -> Result<(), Fail> {
         .ok_or("no bytes")?;
     let cut = "\
 capture records 2 tcp 2 steered 2 other 0 fragment 0 cut 0 bad 0
-app 0 port 9000 written 5 loans 0 copied 0 stopped no
+app 0 port 9000 written 5 loans 1 copied 0 stopped no
 flow 0 port 9000 base 1001 bytes 5 fin no
+pool fast 0 refill 0 slow 1 empty 0 strays 0
 ";
     let rows: [(&str, &[u8], u8, &str); 3] = [
         ("a byte less", all_but_one, 6, cut),
@@ -302,8 +317,9 @@ fn each_record_counts_once(rt: HostRuntime) -> Result<(), Fail> {
         streams: &[first(REQUEST)],
         report: "\
 capture records 9 tcp 7 steered 5 other 2 fragment 0 cut 0 bad 0
-app 0 port 9000 written 18 loans 0 copied 0 stopped no
+app 0 port 9000 written 18 loans 1 copied 0 stopped no
 flow 0 port 9000 base 1001 bytes 18 fin yes
+pool fast 0 refill 0 slow 1 empty 0 strays 0
 status 0
 ",
     };

@@ -1,9 +1,10 @@
 //! One replay over memory, and what it left.
-use crate::{SHELVES, zcrx};
+use crate::{Card, SHELVES, zcrx};
 use std::alloc::Global;
 use std::collections::hash_map::RandomState;
 use std::process::Abort;
 use std::random::RandomSource;
+use std::sync::Wait;
 use std::test::Fail;
 use zr_io::{MemShelf, MemSink, MemSource, Source};
 
@@ -43,6 +44,8 @@ pub struct Given<'a> {
 #[derive(Drop)]
 pub struct Left {
     pub status: u8,
+    /// The board of the run.
+    pub card: Card,
     /// What the sink got.
     pub sent: Vec<u8>,
     pub shelves: Vec<MemShelf>,
@@ -134,7 +137,7 @@ fn next_of(alloc: Global, source: &mut MemSource) -> Result<Vec<u8>, Fail> {
 
 /// Runs the command.
 pub fn run(
-    rt: &(impl Abort + AllocGlobal + RandomSource),
+    rt: &(impl Abort + AllocGlobal + RandomSource + Wait),
     given: &Given<'_>,
 ) -> Result<Left, Fail> {
     let alloc = rt.alloc();
@@ -145,16 +148,20 @@ pub fn run(
     assert_eq!(rt; shelves.len(), SHELVES);
     let mut out = MemSink::new(alloc, given.sink_room, given.sink_fails.to_vec(alloc)?)?;
     let random = RandomState::new(rt)?;
+    let mut card = Card::Blank;
     let status = zcrx(
+        rt,
         alloc,
         random,
         given.words,
         &mut source,
         &mut shelves,
         &mut out,
+        &mut card,
     );
     Ok(Left {
         status,
+        card,
         sent: out.bytes().to_vec(alloc)?,
         shelves,
         next: next_of(alloc, &mut source)?,
@@ -163,7 +170,7 @@ pub fn run(
 
 /// Replays, compares what is left, and gives what the source's next call gives.
 pub fn check(
-    rt: &(impl Abort + AllocGlobal + RandomSource),
+    rt: &(impl Abort + AllocGlobal + RandomSource + Wait),
     row: &Row<'_>,
 ) -> Result<Vec<u8>, Fail> {
     let left = run(rt, &row.given)?;

@@ -69,8 +69,9 @@ fn zeros_may_lead_a_port_and_dashes_stand_before_it(rt: HostRuntime) -> Result<(
             streams: &[first(b"hello")],
             report: "\
 capture records 1 tcp 1 steered 1 other 0 fragment 0 cut 0 bad 0
-app 0 port 9000 written 5 loans 0 copied 0 stopped no
+app 0 port 9000 written 5 loans 1 copied 0 stopped no
 flow 0 port 9000 base 1001 bytes 5 fin no
+pool fast 0 refill 0 slow 1 empty 0 strays 0
 status 0
 ",
         };
