@@ -1,12 +1,13 @@
 -- What the status of a replay says of how it went.
 use Rattle.std.proofs.Common.{◌≡◌, ◌≢◌, nat_eq, ℕ, suc, List, [], ◌∷◌, length, ◌<◌, Bool, true, false, ◌||◌, Option, None, Some}
 use Rattle.std.proofs.Common.{refl, sym, ap, subst, ◌∙◌, ◌⊎◌, ⊎_elim, inl, inr, arith}
-use Rattle.std.proofs.Common.{get_or}
+use Rattle.std.proofs.Common.{get_or, ◌≤◌, option_map}
 use Rattle.std.proofs.lemmas.List.Folds.{list_any_at}
 use Rattle.std.proofs.lemmas.Option.{get_or_from_slice_get}
 use Rattle.std.specs.Prelude.{IfSome, OnOk, Result, Ok, Err, ◌==◌, if◌then◌else◌}
 use Rattle.std.specs.List.{slice_get}
 use Rattle.std.proofs.lemmas.Bool.{cases_eq}
+use Rattle.std.proofs.lemmas.Bool.{cases_lt}
 use Rattle.std.proofs.lemmas.Bool.Decides.{nat_tests}
 use Rattle.zr_kinds.specs.declared.fault.Fault.{Fault}
 use Rattle.zr_kinds.specs.declared.fault.Fault.TheVariants.{Memory, Usage, NotPcap, Version, LinkType, Cut, LongRecord, Read, Write, TooManyFlows}
@@ -22,12 +23,12 @@ use Rattle.frames_read.proofs.Endings.{some-weaker}
 use Rattle.plain_board.specs.Board.{Board}
 use Rattle.replay_turns.specs.Offered.{WantsRoom}
 use Rattle.replay_turns.specs.declared.plan.Plan.{Plan}
-use Rattle.turn_runs.specs.Running.{losses_in}
+use Rattle.turn_runs.specs.Running.{losses_in, losses_or}
 use Rattle.turn_runs.specs.Ran.{Ran, Told}
 use Rattle.command_words.specs.Words.{ReplayShown}
 use Rattle.zcrx_cli.specs.Planned.{IsPlanOf}
 use Rattle.zcrx_cli.specs.declared.card.Card.{Card}
-use Rattle.zcrx_cli.proofs.Found.{there, get-there, get-within}
+use Rattle.zcrx_cli.proofs.Found.{there, get-there, get-within, get-same_rest}
 use Rattle.run_report.specs.Report.{Reports, answer_of}
 use Rattle.run_report.specs.declared.report.Unreported.{Unreported}
 use Rattle.run_report.specs.declared.report.Unreported.TheVariants as unreported
@@ -297,6 +298,15 @@ module _ {S T : Type 0} {left : S → Option (List ℕ)} {failed : S → ℕ} {k
       subst (λ l. (status_from wanting l outcome.end ≡ 1) ⊎ (status_from wanting l outcome.end ≡ 9)) (sym some) (lost-status wanting outcome.end) in
       ⊎_elim (λ same. ⊎_elim (λ one. inl (same ∙ one)) (λ nine. inr (same ∙ nine)) said)
       (λ others. ⊎_elim (λ one. inl one) (λ (nine, rose, other). inr nine) others) is.cases
+  kept_well : answer ≢ 1 → answer ≢ 9 → (app : ℕ) → losses_in losses shelves_now app ≡ losses_in losses shelves app
+  kept_well not_1 not_9 app = ⊎_elim
+      (λ (within : app < length plan.ports.items).
+      let (port, port_is) = get-there plan.ports.items app within in
+      let (line, line_is, was) = there (slice_get outcome.apps app) _ (replayed.app app port port_is) in
+      was.still (λ write. ⊎_elim not_1 not_9 (failing-of app line line_is write)))
+      (λ (past : length plan.ports.items ≤ app). ap (λ s. losses_or (option_map losses s))
+      (get-same_rest (length plan.ports.items) shelves shelves_now app replayed.beyond past))
+      (cases_lt app (length plan.ports.items))
 
 -- the report went out whole
 told_well : (refusals refusals_now said answer : ℕ) (reported : Result (Unit {0}) Unreported) → OnOk reported (refusals_now ≡ refusals)
@@ -336,5 +346,6 @@ module _ {S T O : Type 0} {left : S → Option (List ℕ)} {failed : S → ℕ} 
         wanting = wanting-of ran is;
         failing = failing-of ran is;
         sound_reads = read_well ran is;
+        sound_shelves = kept_well ran is;
         sound_sink = told_well (refusals out) (refusals out_now) (status_of outcome) answer tells.reported tells.still tells.answered;
       }

@@ -68,8 +68,9 @@ pub record Replays {S T O : Type 0} (left : S → Option (List ℕ)) (failed : S
   pub wanting : (number : ℕ) (app : AppLine) → slice_get outcome.apps number ≡ Some app → app.stopped ≡ stop.Memory → answer ≡ 1
   pub failing : (number : ℕ) (app : AppLine) → slice_get outcome.apps number ≡ Some app → app.stopped ≡ stop.Write
       → (answer ≡ 1) ⊎ (answer ≡ 9)
-  -- No read failed where the answer is none of 1, 8 and 9, and no call of the sink where it is neither 1 nor 9.
+  -- No read failed where the answer is none of 1, 8 and 9, and no call of a shelf or of the sink where it is neither 1 nor 9.
   pub sound_reads : answer ≢ 1 → answer ≢ 8 → answer ≢ 9 → failed source_now ≡ failed source
+  pub sound_shelves : answer ≢ 1 → answer ≢ 9 → (app : ℕ) → losses_in losses shelves_now app ≡ losses_in losses shelves app
   pub sound_sink : answer ≢ 1 → answer ≢ 9 → refusals out_now ≡ refusals out
 
 -- There was no memory before anything was read or written.
