@@ -1,10 +1,17 @@
 # rt, the toolchain's command, proves and builds; see `rt help`.
 
-.PHONY: build demo test bench
+.PHONY: build install demo test bench
+
+PREFIX ?= /usr/local
 
 # Proves the program, crate by crate, and leaves it as crates/zcrx_cli/out/zcrx_cli.
 build:
 	tools/prove_program.sh
+
+# Puts the program and its page in place: make install PREFIX=~/.local
+install: build
+	install -D crates/zcrx_cli/out/zcrx_cli $(DESTDIR)$(PREFIX)/bin/zcrx
+	install -D -m 644 docs/zcrx.1 $(DESTDIR)$(PREFIX)/share/man/man1/zcrx.1
 
 # The demo capture, as it is committed.
 demo-data/hello.pcap: tools/demo_capture.py tools/frames.py
