@@ -9,6 +9,8 @@
 #              the capture that `zcrx make` makes
 #   waiting    one flow whose first payload comes last, behind 1,000, 10,000 and 40,000 kept pieces
 #
+# Where pieces wait the pool has buffers for all of them.
+#
 # RUNS is 5 if left out, and the cases are all four. ZCRX=FILE names another program than crates/zcrx_cli/out/zcrx_cli,
 # which `make build` leaves there. The captures are made in bench/captures/ and kept; all else there is removed. Needs
 # python3, GNU time, tcpflow and about 900 MB of disk. The status is 0 where both programs ended well and wrote the same
@@ -25,6 +27,12 @@ zcrx=$(realpath -m "${ZCRX:-$top/crates/zcrx_cli/out/zcrx_cli}")
 writer=$top/tools/make_capture.py
 frames=100000
 kept_counts=(1000 10000 40000)
+
+# What zcrx is told beside the ports.
+options=()
+
+# Buffers for 65,536 payloads of 1,000 bytes.
+roomy=(--buffers 4096 --size 16384)
 
 # Plain flow files and nothing else: only the scanner that writes the flows, no report.xml, no messages. Bytes up to 2^30
 # ahead belong to the flow.
@@ -67,7 +75,7 @@ measure() {
 
 # run_zcrx NAME CAPTURE FLOWS
 run_zcrx() {
-    measure "$1" "$2" "$zcrx" replay $(seq 9000 $((8999 + $3)))
+    measure "$1" "$2" "$zcrx" replay "${options[@]}" $(seq 9000 $((8999 + $3)))
     [ "$(tail -n 1 "$work/$1.said")" = "status 0" ] || fail "zcrx reported: $(tail -n 1 "$work/$1.said")"
 }
 
@@ -134,6 +142,7 @@ remove_outputs() {
 
 run_case() {
     local kept
+    options=()
     case $1 in
     one)
         compare "one flow in order" 1 one.pcap $frames "$writer" 7 $frames
@@ -142,6 +151,7 @@ run_case() {
     four) compare "four flows in order" 4 four.pcap $frames "$writer" 7 $frames --flows 4 ;;
     reordered) compare "four flows, swapped and overlapping" 4 reordered.pcap $frames "$zcrx" make 7 $frames ;;
     waiting)
+        options=("${roomy[@]}")
         for kept in "${kept_counts[@]}"; do
             compare "one flow behind $kept kept pieces" 1 "waiting-$kept.pcap" $((kept + 1)) \
                 "$writer" 7 $((kept + 1)) --first-last

@@ -23,6 +23,7 @@ whole=$(cat demo-data/hello.report)
 nothing="capture records 0 tcp 0 steered 0 other 0 fragment 0 cut 0 bad 0
 app 0 port 9000 written 0 loans 0 copied 0 stopped no
 app 1 port 9001 written 0 loans 0 copied 0 stopped no
+pool fast 0 refill 0 slow 0 empty 0 strays 0
 status 8"
 files="flow-0.bin: hello, world
 flow-1.bin: across the wrap"

@@ -24,4 +24,4 @@ done
 cd made || exit 1
 echo "zcrx make 7 2000, replayed:"
 "$zcrx" make 7 2000 >made.pcap || exit
-"$zcrx" replay 9000 9001 9002 9003 <made.pcap
+"$zcrx" replay --buffers 2000 9000 9001 9002 9003 <made.pcap

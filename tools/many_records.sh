@@ -10,6 +10,7 @@ cd "$(dirname "$0")/.." || exit 1
 zcrx=$(realpath -m "${ZCRX:-crates/zcrx_cli/out/zcrx_cli}")
 wanted="capture records 16777216 tcp 0 steered 0 other 0 fragment 0 cut 16777216 bad 0
 app 0 port 9000 written 0 loans 0 copied 0 stopped no
+pool fast 0 refill 0 slow 0 empty 0 strays 0
 status 11"
 
 # The header of such a record is 16 bytes of 0.

@@ -9,8 +9,6 @@
 # since a file that finds no memory fails; and the whole run's report, where there is no such allocation or the replay
 # does without it. Anything else, a fault and a run without an end too, is `WRONG`. The status is 0 where nothing is.
 #
-# Found: 31 gives status 1 with no report, 101 gives status 9 with the first application stopped.
-#
 # The tests do the same by `rt try --test --fail-alloc N` in crates/zcrx_cli: a test whose replay answers 1 then fails.
 set -u
 cd "$(dirname "$0")/../crates/zcrx_cli" || exit 1
