@@ -50,7 +50,6 @@ no-write true is = absurd (cc)
 no-write false is = absurd (cc)
 
 module _ (plan : Plan) (s : Setting) (a : ℕ) (v : AppView) (w : Worker) (is : v ≡ new_app_view s a) (new : IsNew plan a w) where
-
   stays : w.left ≡ true → ⊥
   stays left = let e = new.left_is in absurd (cc)
 

@@ -34,7 +34,7 @@ in-set (y ∷ xs) zero x zero w is = here refl cc
 in-set (y ∷ xs) zero x (suc j) w is = there (λ e. absurd (cc)) is
 in-set (y ∷ xs) (suc i) x zero w is = there (λ e. absurd (cc)) is
 in-set (y ∷ xs) (suc i) x (suc j) w is = elim (in-set xs i x j w is) [
-  here e same ↦ here (ap suc e) same
+  | here e same ↦ here (ap suc e) same
   | there other is_there ↦ there (λ e. other (let f : j ≡ i = cc in f)) is_there
 ]
 
@@ -61,7 +61,7 @@ in-push [] x zero w is = here refl cc
 in-push [] x (suc j) w is = absurd (cc)
 in-push (y ∷ xs) x zero w is = there (λ e. absurd (cc)) is
 in-push (y ∷ xs) x (suc j) w is = elim (in-push xs x j w is) [
-  here e same ↦ here (ap suc e) same
+  | here e same ↦ here (ap suc e) same
   | there other is_there ↦ there (λ e. other (let f : j ≡ length xs = cc in f)) is_there
 ]
 

@@ -27,7 +27,13 @@ fn app_turn<S: Source, T: Shelf>(
         return board;
     }
     let worker = &mut run.workers[app as usize];
-    let (board, turn) = app_step(alloc, board, app, &mut worker.state, &mut shelves[app as usize]);
+    let (board, turn) = app_step(
+        alloc,
+        board,
+        app,
+        &mut worker.state,
+        &mut shelves[app as usize],
+    );
     worker.left = matches!(turn, Turn::Finished);
     board
 }

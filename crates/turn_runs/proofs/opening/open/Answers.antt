@@ -13,11 +13,11 @@ returns-clause-many g c = c.in_ok-workers.ensures.many
 pub returns-clause-fits : goal.returns-clause-fits
 returns-clause-fits g c shelves enough =
     let layout_is : c.unwrap-layout.result ≡ layout_of c.args.plan.now =
-        subst (λ (r : Option Shape). IfSome r (λ l. l ≡ layout_of c.args.plan.now)) c.unwrap-layout.ensures c.layout.ensures.value in
+    subst (λ (r : Option Shape). IfSome r (λ l. l ≡ layout_of c.args.plan.now)) c.unwrap-layout.ensures c.layout.ensures.value in
     let reserves : c.unwrap-layout.result.reserves ≡ length c.args.plan.now.ports.items = ap (λ (s : Shape). s.reserves) layout_is in
     let many = c.in_ok-workers.ensures.many in
     let board_reserves : c.in_ok-board.board.arrays.layout.reserves ≡ c.unwrap-layout.result.reserves =
-        ap (λ (b : Board). b.arrays.layout.reserves) c.in_ok-board.ensures in
+    ap (λ (b : Board). b.arrays.layout.reserves) c.in_ok-board.ensures in
     record {
       sound = c.sound.ensures;
       ready = rw c.in_ok-board.ensures (c.in_ok-feed.ensures.ready _ refl (record { owns = refl; pieces = refl }) (sym reserves));
@@ -31,7 +31,7 @@ returns-clause-fits g c shelves enough =
 pub returns-clause-runs : goal.returns-clause-runs
 returns-clause-runs g c source shelves enough =
     let layout_is : c.unwrap-layout.result ≡ layout_of c.args.plan.now =
-        subst (λ (r : Option Shape). IfSome r (λ l. l ≡ layout_of c.args.plan.now)) c.unwrap-layout.ensures c.layout.ensures.value in
+    subst (λ (r : Option Shape). IfSome r (λ l. l ≡ layout_of c.args.plan.now)) c.unwrap-layout.ensures c.layout.ensures.value in
     let reserves : c.unwrap-layout.result.reserves ≡ length c.args.plan.now.ports.items = ap (λ (s : Shape). s.reserves) layout_is in
     let many = c.in_ok-workers.ensures.many in
     record {

@@ -43,18 +43,18 @@ returns g c =
     let shelf_now = c.app_step-board.new.shelf in
     let is_was = slice_get_read c.args.run.now.workers.items _ c.args.app w_was refl c.requires.app c.index_mut-worker.ensures.value in
     let shelf_is = slice_get-get_or c.args.shelves.now c.args.app c.index-shelves-app.result
-        (omega (arith, c.requires.app, c.requires.fits.shelves_enough)) in
+    (omega (arith, c.requires.app, c.requires.fits.shelves_enough)) in
     let is_left : w_now.left ≡ true → c.app_step-board.result.1 ≡ Finished = λ is. elim c.match-matches.branch [
-      in-Finished w ↦ w.in-Finished.is
+      | in-Finished w ↦ w.in-Finished.is
       | in_default w ↦ let not : c.match-matches.worker ≡ false = w.worker-is in absurd (cc)
     ] in
     let not_left : w_now.left ≡ false → c.app_step-board.result.1 ≢ Finished = λ is same. elim c.match-matches.branch [
-      in-Finished w ↦ let left : c.match-matches.worker ≡ true = w.worker-is in absurd (cc)
+      | in-Finished w ↦ let left : c.match-matches.worker ≡ true = w.worker-is in absurd (cc)
       | in_default w ↦ w.in_default.not-Finished same
     ] in
     let run_now : Run = record { feed = c.args.run.now.feed; workers = with_item c.args.run.now.workers c.args.app w_now } in
     let finished = λ (left : w_now.left ≡ true). subst
-        (λ turn. Answers w_was.state w_now.state old new (g.T.Shelf.faults shelf) (g.T.Shelf.faults shelf_now) turn) (is_left left) step.turns.answer in
+    (λ turn. Answers w_was.state w_now.state old new (g.T.Shelf.faults shelf) (g.T.Shelf.faults shelf_now) turn) (is_left left) step.turns.answer in
     record {
       plays = λ source. record {
         fits = subst (λ n. Fits board_now run_now n) (sym (length-set c.args.shelves.now c.args.app shelf_now))
