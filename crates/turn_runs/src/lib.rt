@@ -14,3 +14,6 @@ pub use laws::{runs_are_told, runs_end_well};
 pub use role::Role;
 pub use run::{Run, Worker};
 pub use running::run_turns;
+
+#[cfg(test)]
+mod tests;
