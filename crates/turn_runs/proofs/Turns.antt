@@ -40,7 +40,6 @@ setting-same board board_now sound sound_now apps some =
 
 module _ (board board_now : Board) (was now : Run) (workers : now.workers.items ≡ was.workers.items) (apps : board_now.apps ≡ board.apps)
     (sound_now : IsSound board_now) (ready : IsReady now.feed board_now.nic.view) where
-
   pub card-fits : (n : ℕ) → Fits board was n → Fits board_now now n
   card-fits n fits = record {
     sound = sound_now;
@@ -57,7 +56,7 @@ module _ (board board_now : Board) (was now : Run) (workers : now.workers.items 
       → Running left faults kept losses first source_now firsts shelves plan board_now now
   card-runs left faults kept losses first source source_now firsts shelves plan fits runs more stands =
       let some : 0 < length board.apps =
-          omega (arith, runs.many, fits.many, fits.sound.set.many, runs.plan_is.some) in
+      omega (arith, runs.many, fits.many, fits.sound.set.many, runs.plan_is.some) in
       record {
         plan_is = runs.plan_is;
         frames = more;
@@ -66,7 +65,7 @@ module _ (board board_now : Board) (was now : Run) (workers : now.workers.items 
         many = ap length workers ∙ runs.many;
         worker = λ a w is. subst
             (λ all. WorkerRuns (kept_in kept firsts a) (kept_in kept shelves a) (losses_in losses firsts a) (losses_in losses shelves a) plan.how
-                (side_in all a).view w)
+            (side_in all a).view w)
             (sym apps) (runs.worker a w (ap (λ items. slice_get items a) (sym workers) ∙ is));
         many_shelves = runs.many_shelves;
         beyond = runs.beyond;
@@ -78,7 +77,6 @@ module _ (board board_now : Board) (was now : Run) (app : ℕ) (w_was w_now : Wo
     (feed_is : now.feed ≡ was.feed) (items_are : now.workers.items ≡ set was.workers.items app w_now)
     (nic_is : board_now.nic ≡ board.nic) (others : (b : ℕ) → b ≢ app → side_of board_now b ≡ side_of board b)
     (many_apps : length board_now.apps ≡ length board.apps) (sound_now : IsSound board_now) where
-
   many-now : length now.workers.items ≡ length was.workers.items
   many-now = ap length items_are ∙ length-set was.workers.items app w_now
 
@@ -92,7 +90,7 @@ module _ (board board_now : Board) (was now : Run) (app : ℕ) (w_was w_now : Wo
     many = many-now ∙ fits.many ∙ sym (reserves-same board board_now fits.sound sound_now many_apps);
     shelves_enough = let same = many-now in omega (arith, same, fits.shelves_enough);
     worker = λ a w is. elim (get-now a w is) [
-      here at same ↦ subst (λ b. WorkerFits (side_of board_now b).view w) (sym at)
+      | here at same ↦ subst (λ b. WorkerFits (side_of board_now b).view w) (sym at)
           (subst (λ x. WorkerFits (side_of board_now app).view x) (sym same) worker_now)
       | there other is_there ↦ subst (λ side. WorkerFits side.view w) (sym (others a other)) (fits.worker a w is_there)
     ];
@@ -110,14 +108,14 @@ module _ (board board_now : Board) (was now : Run) (app : ℕ) (w_was w_now : Wo
       let below : app < length plan.ports.items = omega (arith, get-within was.workers.items app w_was is_was, runs.many) in
       let here_is = get-set_same shelves app shelf_now within in
       let was_runs = subst (λ k. WorkerRuns (kept_in kept firsts app) k (losses_in losses firsts app) (losses shelf) plan.how (side_of board app).view w_was)
-          (kept-here kept shelves app shelf shelf_is)
-          (subst (λ n. WorkerRuns (kept_in kept firsts app) (kept_in kept shelves app) (losses_in losses firsts app) n plan.how (side_of board app).view w_was)
-          (losses-here losses shelves app shelf shelf_is) (runs.worker app w_was is_was)) in
+      (kept-here kept shelves app shelf shelf_is)
+      (subst (λ n. WorkerRuns (kept_in kept firsts app) (kept_in kept shelves app) (losses_in losses firsts app) n plan.how (side_of board app).view w_was)
+      (losses-here losses shelves app shelf shelf_is) (runs.worker app w_was is_was)) in
       let now_runs = subst (λ k. WorkerRuns (kept_in kept firsts app) k (losses_in losses firsts app) (losses_in losses later app) plan.how
-          (side_of board_now app).view w_now)
-          (sym (kept-here kept later app shelf_now here_is))
-          (subst (λ n. WorkerRuns (kept_in kept firsts app) (kept shelf_now) (losses_in losses firsts app) n plan.how (side_of board_now app).view w_now)
-          (sym (losses-here losses later app shelf_now here_is)) (goes was_runs)) in
+      (side_of board_now app).view w_now)
+      (sym (kept-here kept later app shelf_now here_is))
+      (subst (λ n. WorkerRuns (kept_in kept firsts app) (kept shelf_now) (losses_in losses firsts app) n plan.how (side_of board_now app).view w_now)
+      (sym (losses-here losses later app shelf_now here_is)) (goes was_runs)) in
       record {
         plan_is = runs.plan_is;
         frames = runs.frames;
@@ -126,7 +124,7 @@ module _ (board board_now : Board) (was now : Run) (app : ℕ) (w_was w_now : Wo
         setting = ap (λ nic. nic.view.setting) nic_is ∙ runs.setting;
         many = many-now ∙ runs.many;
         worker = λ a w is. elim (get-now a w is) [
-          here at same ↦ subst (λ b. WorkerRuns (kept_in kept firsts b) (kept_in kept later b) (losses_in losses firsts b)
+          | here at same ↦ subst (λ b. WorkerRuns (kept_in kept firsts b) (kept_in kept later b) (losses_in losses firsts b)
               (losses_in losses later b) plan.how
               (side_of board_now b).view w) (sym at)
               (subst (λ x. WorkerRuns (kept_in kept firsts app) (kept_in kept later app) (losses_in losses firsts app) (losses_in losses later app) plan.how
@@ -138,7 +136,7 @@ module _ (board board_now : Board) (was now : Run) (app : ℕ) (w_was w_now : Wo
               (subst (λ n. WorkerRuns (kept_in kept firsts a) (kept_in kept shelves a) (losses_in losses firsts a) n plan.how (side_of board_now a).view w)
               (sym (losses-there losses shelves later a shelf_there))
               (subst (λ side. WorkerRuns (kept_in kept firsts a) (kept_in kept shelves a) (losses_in losses firsts a)
-                  (losses_in losses shelves a) plan.how side.view w)
+              (losses_in losses shelves a) plan.how side.view w)
               (sym (others a other)) (runs.worker a w is_there)))
         ];
         many_shelves = length-set shelves app shelf_now ∙ runs.many_shelves;

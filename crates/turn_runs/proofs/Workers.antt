@@ -46,7 +46,6 @@ module _ (first kept kept_now : ℕ → Option (List ℕ)) (losses losses_old lo
     (turns : Turns was.state now.state old new kept kept_now losses_old losses_now result) (later : losses_old ≤ losses_now)
     (is_left : now.left ≡ true → result ≡ Finished) (tells : Tells first kept_now new now.state (result ≡ Finished))
     (gone : now.left ≡ true → now.state.bare ≡ true) (still : result ≢ Failed fault.Write → losses_now ≡ losses_old) where
-
   -- its shelf hadn't failed before, where it hasn't now
   before : now.state.stopped ≢ stop.Write → was.state.stopped ≢ stop.Write
   before not was_write = not (turns.goes.moves.stays (write-stops was.state.stopped was_write) ∙ was_write)
@@ -59,7 +58,7 @@ module _ (first kept kept_now : ℕ → Option (List ℕ)) (losses losses_old lo
 
   cause : now.state.stopped ≡ stop.Write → Rose losses losses_now
   cause is = elim (is-write was.state.stopped) [
-    inl was_write ↦ rose-later losses losses_old losses_now (runs.cause was_write) later
+    | inl was_write ↦ rose-later losses losses_old losses_now (runs.cause was_write) later
     | inr not ↦ rose-before losses losses_old losses_now runs.later (turns.cause not is)
   ]
 
@@ -69,7 +68,7 @@ module _ (first kept kept_now : ℕ → Option (List ℕ)) (losses losses_old lo
 
   fronts : AreWholeFrames new.taken → HasFronts first kept_now new
   fronts are = elim (is-write now.state.stopped) [
-    inl is ↦ tells.failed are (failed is)
+    | inl is ↦ tells.failed are (failed is)
     | inr not ↦ tells.fronts are (shelved not)
   ]
 

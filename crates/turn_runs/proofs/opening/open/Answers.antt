@@ -39,7 +39,7 @@ returns-clause-runs g c source shelves enough =
       frames = [];
       feed = rw c.in_ok-feed.ensures.value (c.new_feeds_stand.ensures source c.args.plan.now.ports.items c.args.plan.now.split
           c.in_ok-board.board.nic.view (ap (λ (b : Board). b.nic.view.sent) c.in_ok-board.ensures)
-              (ap (λ (b : Board). b.nic.view.dealt) c.in_ok-board.ensures));
+          (ap (λ (b : Board). b.nic.view.dealt) c.in_ok-board.ensures));
       setting = rw c.in_ok-board.ensures (rw layout_is refl);
       many = many;
       worker = λ a w is. let within = get-within c.in_ok-workers.workers.items a w is in

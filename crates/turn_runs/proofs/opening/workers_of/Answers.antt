@@ -21,7 +21,7 @@ loop-app-preserved c =
     record {
       many = let longer = ap length c.in_ok-push.ensures.items in let l = length-push c.loop-app.workers.items new in omega (arith, longer, l, at);
       each = λ a w is. elim (in-push c.loop-app.workers.items new a w (ap (λ items. slice_get items a) (sym c.in_ok-push.ensures.items) ∙ is)) [
-        here last same ↦ subst (λ x. IsNew c.args.plan.now a x) (sym same) (subst (λ n. IsNew c.args.plan.now n new) (sym (last ∙ at))
+        | here last same ↦ subst (λ x. IsNew c.args.plan.now a x) (sym same) (subst (λ n. IsNew c.args.plan.now n new) (sym (last ∙ at))
             (record { state_is = c.in_ok-state.ensures.state; left_is = refl; stands = c.in_ok-state.ensures.stands; shelved = c.in_ok-state.ensures.shelved }))
         | there other is_there ↦ c.loop-app.invariant.each a w is_there
       ];

@@ -10,5 +10,5 @@ loop-app-preserved g c =
 pub returns : goal.returns
 returns g c = record {
   plays = plays-through g.S.Source.left g.S.Source.faults g.T.Shelf.kept g.T.Shelf.faults
-    _ _ _ _ _ _ _ _ _ _ _ _ c.step-board.ensures.plays c.loop-app.invariant;
+      _ _ _ _ _ _ _ _ _ _ _ _ c.step-board.ensures.plays c.loop-app.invariant;
 }
