@@ -238,6 +238,7 @@ leaves-after st u v w first second left = rose-after RefillInUse u v w first (se
 pub caught-up : (st : State) (v : AppView) → Working st v → st.due ≡ None → st.stray.left ≡ 0 → st.posted.entries ≡ []
     → length st.unread ≤ st.how.hold → st.flush ≡ false → IsCaughtUp st v
 caught-up st v works due pushed reaped few off = record {
+  live = works.live;
   given = due;
   none_left = pushed;
   posted = reaped;

@@ -48,8 +48,9 @@ pub record MayPoll (st : State) (v : AppView) : Type 0 where
 
 -- ---- why nothing is done
 
--- nothing is to be given back, reaped or read
+-- it goes on, and nothing is to be given back, reaped or read
 pub record IsCaughtUp (st : State) (v : AppView) : Type 0 where
+  pub live : st.bare ≡ false
   pub given : st.due ≡ None
   pub none_left : st.stray.left ≡ 0
   pub posted : st.posted.entries ≡ []

@@ -14,3 +14,5 @@ pub mod Workers
 pub mod Turns
 pub mod News
 pub mod WholeRun
+pub mod Reserve
+pub mod AllLeft

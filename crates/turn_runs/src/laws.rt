@@ -1,4 +1,5 @@
 ghost use Rattle.turn_runs.specs.Laws.{RunsAreTold, RunsEndWell};
+ghost use Rattle.turn_runs.specs.Stuck.{StuckRunsAreOver};
 
 use zr_io::{Shelf, Source};
 
@@ -12,4 +13,10 @@ pub fn runs_end_well<S: Source, T: Shelf>()
 /// for it or not. It does nothing: its contract is the law.
 pub fn runs_are_told<S: Source, T: Shelf>()
     ensures { RunsAreTold S.left S.faults T.kept T.faults }
+{}
+
+/// A run in which nobody can do anything is over: the card was closed, and every application has left. It does nothing: its
+/// contract is the law.
+pub fn stuck_runs_are_over()
+    ensures { StuckRunsAreOver }
 {}

@@ -1,0 +1,96 @@
+-- Where nobody can do anything, all are gone.
+use Rattle.std.proofs.Common.{◌≡◌, ℕ, ◌<◌, ◌≤◌, ⊎_elim, true, false, [], length, count_by, refl, sym, ap, subst, ◌∙◌, arith, Some}
+use Rattle.std.specs.Prelude.{MatchBool}
+use Rattle.std.specs.List.{slice_get}
+use Rattle.std.proofs.lemmas.Option.{get_or_from_slice_get}
+use Rattle.board_face.specs.NicCalls.{apps_of}
+use Rattle.board_face.specs.AppEvents.{app_gist}
+use Rattle.board_face.specs.declared.views.app.AppLook.TheVariants as look
+use Rattle.plain_parts.specs.Blank.{blank_app}
+use Rattle.plain_board.specs.Board.{Board, side_of, others_of}
+use Rattle.plain_board.specs.Seen.{IsSeenBy}
+use Rattle.plain_board.specs.Returns.{entries_on_way, is_raw}
+use Rattle.app_worker.specs.State.{Bare, Working}
+use Rattle.app_worker.specs.Turns.{Because, look_of}
+use Rattle.app_worker.specs.declared.turn.Why.{Why}
+use Rattle.app_worker.specs.declared.turn.Why.TheVariants.{NoNote, RefillFull, Unsettled, ReserveHeld, NotQuiet}
+use Rattle.turn_runs.specs.Running.{Fits, AreOver}
+use Rattle.turn_runs.specs.Stuck.{IsKeptBack, AreStuck, StuckRunsAreOver}
+use Rattle.turn_runs.specs.declared.run.Run.{Run}
+use Rattle.turn_runs.specs.declared.run.Worker.{Worker}
+use Rattle.turn_runs.proofs.AppLines.{there}
+use Rattle.turn_runs.proofs.Gone.{side-is}
+use Rattle.turn_runs.proofs.Reserve.{not-held}
+
+module _ (board : Board) (run : Run) (shelves : ℕ) (fits : Fits board run shelves) (stuck : AreStuck board run) where
+  apps-are : apps_of board.nic.view.setting ≡ length run.workers.items
+  apps-are = ap (λ s. s.layout.reserves) fits.sound.set.card ∙ sym fits.many
+
+  card-places : 1 ≤ board.nic.view.setting.places
+  card-places = let setting = fits.sound.set.card in let some = fits.sound.sizes.places.0 in rw setting some
+
+  -- no entry is on its way
+  none-on_way : (a : ℕ) → a < length run.workers.items → entries_on_way board.nic (side_of board a) ≡ []
+  none-on_way a within = stuck.card.rings a (omega (arith, apps-are, within))
+
+  own-places : (a : ℕ) → a < length run.workers.items → 1 ≤ (side_of board a).view.setting.places
+  own-places a within =
+      let here = side-is board run shelves fits a within in
+      let setting = fits.sound.set.roles a blank_app here.there in
+      let some = fits.sound.sizes.places.0 in rw setting some
+
+  -- an application that is here waits for a note: an entry on its way, or a reserve that is held, would be another reason
+  by-why : (a : ℕ) (w : Worker) → slice_get run.workers.items a ≡ Some w → a < length run.workers.items → (why : Why)
+      → Because why w.state (side_of board a).view → IsSeenBy (look_of why) (app_gist (side_of board a).view) (others_of board a)
+      → IsSeenBy look.NoNote (app_gist (side_of board a).view) (others_of board a)
+  by-why a w at within NoNote because seen = seen
+  by-why a w at within RefillFull because seen =
+      let empty = ap length (none-on_way a within) in let some = own-places a within in absurd (omega (arith, empty, some, seen))
+  by-why a w at within Unsettled because seen =
+      let empty : count_by is_raw (entries_on_way board.nic (side_of board a)) ≡ 0 = rw (none-on_way a within) refl in absurd (omega (arith, empty, seen))
+  by-why a w at within ReserveHeld because seen =
+      let stands = (fits.worker a w at).stands in
+      let works = subst (λ b. MatchBool b (Bare w.state (side_of board a).view) (Working w.state (side_of board a).view)) because.0.live stands.mode in
+      absurd (not-held board a (side_of board a) w.state fits.sound (side-is board run shelves fits a within) works stands.common because.0
+      (none-on_way a within) seen.1)
+  by-why a w at within NotQuiet because seen = let empty = ap length (none-on_way a within) in absurd (omega (arith, empty, seen))
+
+  waits : (a : ℕ) (w : Worker) → slice_get run.workers.items a ≡ Some w → a < length run.workers.items → IsKeptBack board a w
+      → IsSeenBy look.NoNote (app_gist (side_of board a).view) (others_of board a)
+  waits a w at within kept = by-why a w at within kept.why kept.because kept.seen
+
+  -- the card was closed: a note that is on its way is an application's to take
+  card-closed : run.feed.closed ≡ true
+  card-closed = ⊎_elim
+      (λ closed. closed)
+      (λ (a, few, full). let within : a < length run.workers.items = omega (arith, apps-are, few) in
+      let own = there run.workers.items a within in
+      let some = card-places in
+      ⊎_elim
+      (λ left.
+      let gone = (fits.worker a own.0 own.1).gone left in
+      let phase = fits.sound.phased.sides a blank_app (side-is board run shelves fits a within).there in
+      let empty = ap length (phase.ended (phase.left gone.0).ended).1 in absurd (omega (arith, empty, some, full)))
+      (λ (kept : IsKeptBack board a own.0). let empty = ap length (waits a own.0 own.1 within kept).1 in absurd (omega (arith, empty, some, full)))
+      (stuck.app a own.0 own.1))
+      stuck.card.notes
+
+  has-left : (a : ℕ) (w : Worker) → slice_get run.workers.items a ≡ Some w → a < length run.workers.items → w.left ≡ true
+  has-left a w at within = ⊎_elim
+      (λ left. left)
+      (λ (kept : IsKeptBack board a w).
+      let ended : board.nic.view.ended ≡ true = fits.ready.fits.ended card-closed in
+      let on : board.nic.view.ended ≡ false = (waits a w at within kept).0 in
+      absurd (let wrong : true ≡ false = sym ended ∙ on in let none : ⊥ = cc in none))
+      (stuck.app a w at)
+
+  pub all-left : AreOver run
+  all-left = record {
+    card = card-closed;
+    apps = λ a d within.
+        let own = there run.workers.items a within in
+        subst (λ (w : Worker). w.left ≡ true) (sym (get_or_from_slice_get run.workers.items a own.0 d own.1)) (has-left a own.0 own.1 within);
+  }
+
+pub stuck-over : StuckRunsAreOver
+stuck-over = all-left
