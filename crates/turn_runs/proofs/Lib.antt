@@ -16,3 +16,5 @@ pub mod News
 pub mod WholeRun
 pub mod Reserve
 pub mod AllLeft
+pub mod NoteSums
+pub mod Bounds

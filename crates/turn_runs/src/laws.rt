@@ -1,4 +1,5 @@
 ghost use Rattle.turn_runs.specs.Laws.{RunsAreTold, RunsEndWell};
+ghost use Rattle.turn_runs.specs.Steps.{RunsStayWithin};
 ghost use Rattle.turn_runs.specs.Stuck.{StuckRunsAreOver};
 
 use zr_io::{Shelf, Source};
@@ -19,4 +20,9 @@ pub fn runs_are_told<S: Source, T: Shelf>()
 /// contract is the law.
 pub fn stuck_runs_are_over()
     ensures { StuckRunsAreOver }
+{}
+
+/// A run goes no further than its records, their bytes and its plan let it. It does nothing: its contract is the law.
+pub fn runs_stay_within<S: Source, T: Shelf>()
+    ensures { RunsStayWithin S.left S.faults T.kept T.faults }
 {}

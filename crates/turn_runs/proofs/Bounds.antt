@@ -1,0 +1,255 @@
+-- No run goes further than its records, their bytes and the plan let it.
+use Rattle.std.proofs.Common.{◌≡◌, ℕ, zero, suc, ◌+◌, ◌-◌, ◌*◌, ◌<◌, ◌≤◌, ◌==◌, Bool, true, false, List, [], ◌∷◌, ◌++◌, length, length-append, take, map, refl, sym, ap, ◌∙◌, subst, arith, Option, Some, None}
+use Rattle.std.specs.Prelude.{All, filter, not, MatchBool, if◌then◌else◌}
+use Rattle.std.specs.List.{slice_get}
+use Rattle.std.specs.Prelude.{option_to_list}
+use Rattle.std.proofs.Common.{⊎_elim, eq-eqb}
+use Rattle.std.proofs.lemmas.Bool.{cases_lt}
+use Rattle.std.proofs.lemmas.Option.{slice_get_within}
+use Rattle.replay_turns.specs.Coming.{is_over}
+use Rattle.std.proofs.Math.Nat.{mul-le-mul_left}
+use Rattle.std.proofs.Math.Seq.{take-append_seam}
+use Rattle.std.proofs.lemmas.List.{length-map}
+use Rattle.std.proofs.lemmas.List.Elements.{All-head, All-tail, All-take}
+use Rattle.frame_headers.specs.FrameClass.{TcpSegment, class_of}
+use Rattle.frame_headers.specs.Seen.{segment_of}
+use Rattle.flow_table.specs.Flows.{Flow, flows_with}
+use Rattle.flow_table.specs.Steered.{Steered, steer, steer_to, app_of, steered_from, steered_of, segments_of}
+use Rattle.frames_read.specs.Ending.{steered_in}
+use Rattle.board_face.specs.Holders.{sent_to}
+use Rattle.board_face.specs.Relay.{IsProper, as_taken, dealt_entries}
+use Rattle.board_face.specs.declared.views.nic.Dealt.{Dealt}
+use Rattle.board_face.specs.declared.views.nic.NicSide.{NicSide}
+use Rattle.board_face.specs.declared.views.nic.SentNote.{SentNote}
+use Rattle.board_face.specs.declared.views.app.AppView.{AppView}
+use Rattle.board_face.specs.declared.views.app.TakenNote.{TakenNote}
+use Rattle.board_face.specs.declared.views.app.WrittenEntry.{WrittenEntry}
+use Rattle.board_face.proofs.Tallies.{weight, tally, length-tally}
+use Rattle.page_pool.specs.Frames.{Offered}
+use Rattle.plain_board.specs.Board.{Board, side_of}
+use Rattle.plain_board.specs.Sound.{taken_of, notes_of, refills_of}
+use Rattle.app_worker.specs.Core.{total}
+use Rattle.app_worker.specs.State.{State, AppStands, Common, Bare, Working, app_steps, furthest, one_if, raw_entries, loan_entries, taken_len}
+use Rattle.app_worker.proofs.Measure.{working-within, bare-within, one-most}
+use Rattle.app_worker.proofs.Tokens.{total-append}
+use Rattle.replay_turns.specs.Offered.{AreSettled, Awaits, has_payload, offered_after, offers_of, without}
+use Rattle.replay_turns.specs.Feed.{FeedStands, feed_steps}
+use Rattle.turn_runs.specs.Running.{Fits, Running, WorkerFits}
+use Rattle.turn_runs.specs.Steps.{IsWithin, worker_steps, steps_from, run_steps, most_bytes, entries_most, worker_most, run_most}
+use Rattle.turn_runs.specs.Steps.{RunsStayWithin}
+use Rattle.turn_runs.specs.declared.run.Run.{Run}
+use Rattle.turn_runs.specs.declared.run.Worker.{Worker}
+use Rattle.turn_runs.proofs.AppLines.{there}
+use Rattle.turn_runs.proofs.Gone.{side-is}
+use Rattle.turn_runs.proofs.NoteSums.{note_len, AreFew, frames-few}
+
+-- ---- frames
+
+filter-few : {A : Type 0} (test : A → Bool) (xs : List A) → length (filter test xs) ≤ length xs
+filter-few test [] = omega arith
+filter-few test (x ∷ xs) = case x (length xs) (test x) (filter test xs) (filter-few test xs)
+  where
+    case : {A : Type 0} (x : A) (n : ℕ) (b : Bool) (ys : List A) → length ys ≤ n → length (if b then x ∷ ys else ys) ≤ suc n
+    case x n true ys few = omega (arith, few)
+    case x n false ys few = omega (arith, few)
+
+offered-many : (flows : List Flow) (steered : List Steered) → length (offered_after flows steered) ≡ length steered
+offered-many flows [] = refl
+offered-many flows (s ∷ steered) = ap suc (offered-many (flows_with flows s) steered)
+
+steered-few : (ports : List ℕ) (number : ℕ) (segments : List (Option TcpSegment)) → length (steered_from ports number segments) ≤ length segments
+steered-few ports number [] = omega arith
+steered-few ports number (segment ∷ segments) = one (steer ports number segment) (steered_from ports (suc number) segments) (steered-few ports (suc number) segments)
+  where
+    one : {n : ℕ} (s : Option Steered) (rest : List Steered) → length rest ≤ n → length (option_to_list s ++ rest) ≤ suc n
+    one None rest few = omega (arith, few)
+    one (Some s) rest few = omega (arith, few)
+
+in-few : (ports : List ℕ) (frames : List (List ℕ)) → length (steered_in ports frames) ≤ length frames
+unfolding steered_of
+in-few ports frames = let few = steered-few ports 1 (segments_of frames) in let many : length (segments_of frames) ≡ length frames = length-map frames (λ frame. segment_of (class_of frame)) in omega (arith, few, many)
+
+settled-few : (hand : Option Offered) (offers settled : List Offered) → Awaits hand offers settled → length settled ≤ length offers
+settled-few None offers settled awaits = omega (arith, ap length awaits)
+settled-few (Some o) offers settled awaits = omega (arith, ap length awaits, length-append settled (o ∷ []))
+
+-- ---- notes
+
+sent-few : (split : ℕ) (ports : List ℕ) (frames : List (List ℕ)) (refused : List ℕ) (hand : Option Offered) (sent pending : List SentNote)
+    → AreSettled split (offers_of (steered_in ports frames)) refused hand (sent ++ pending) → length frames ≤ 16777216 → All IsProper sent
+    → AreFew most_bytes sent
+sent-few split ports frames refused hand sent pending settles few proper =
+    let offers = offers_of (steered_in ports frames) in
+    let seam : take (length sent) (sent ++ pending) ≡ sent = take-append_seam sent pending in
+    let shown : AreFew (65515 * length (without refused settles.settled)) sent =
+    subst (AreFew (65515 * length (without refused settles.settled))) seam
+    (frames-few split (without refused settles.settled) (sent ++ pending) (length sent) settles.shown (subst (All IsProper) (sym seam) proper)) in
+    let kept : length (without refused settles.settled) ≤ length settles.settled = filter-few _ settles.settled in
+    let all : length settles.settled ≤ length offers = settled-few hand offers settles.settled settles.awaits in
+    let offered : length offers ≤ length (offered_after [] (steered_in ports frames)) = filter-few has_payload (offered_after [] (steered_in ports frames)) in
+    let steered = offered-many [] (steered_in ports frames) in
+    let read = in-few ports frames in
+    let bytes = shown.bytes in
+    record { some = shown.some; bytes = omega (arith, bytes, kept, all, offered, steered, read, few) }
+
+-- the notes to one application are some of all
+own-few : (a : ℕ) (sent : List SentNote) → (length (filter (λ s. s.app == a) sent) ≤ length sent)
+    × (total note_len (filter (λ s. s.app == a) sent) ≤ total note_len sent)
+own-few a [] = (omega arith, omega arith)
+own-few a (s ∷ sent) = case (s.app == a) (own-few a sent)
+  where
+    case : (b : Bool) → (length (filter (λ s. s.app == a) sent) ≤ length sent) × (total note_len (filter (λ s. s.app == a) sent) ≤ total note_len sent)
+        → (length (if b then s ∷ filter (λ s. s.app == a) sent else filter (λ s. s.app == a) sent) ≤ suc (length sent))
+        × (total note_len (if b then s ∷ filter (λ s. s.app == a) sent else filter (λ s. s.app == a) sent) ≤ note_len s + total note_len sent)
+    case true rest = (omega (arith, rest.0), omega (arith, rest.1))
+    case false rest = (omega (arith, rest.0), omega (arith, rest.1))
+
+taken-sum : (notes : List SentNote) → total taken_len (map as_taken notes) ≡ total note_len notes
+taken-sum [] = refl
+taken-sum (s ∷ notes) = ap (λ n. note_len s + n) (taken-sum notes)
+
+-- ---- entries
+
+kinds-one : (b : Bool) → (if b then 0 else 1) + (if b then 1 else 0) ≡ 1
+kinds-one true = refl
+kinds-one false = refl
+
+kinds : (ws : List WrittenEntry) → total (λ (w : WrittenEntry). if w.of_loan then 0 else 1) ws + total (λ (w : WrittenEntry). if w.of_loan then 1 else 0) ws
+    ≡ length ws
+kinds [] = refl
+kinds (w ∷ ws) = omega (arith, kinds ws, kinds-one w.of_loan)
+
+-- the entries of the first applications
+abbrev of-first : ℕ → List Dealt → ℕ
+of-first zero dealt = 0
+of-first (suc n) dealt = tally (λ d. d.app == n) dealt + of-first n dealt
+
+no-less : (n : ℕ) (d : Dealt) (dealt : List Dealt) → of-first n dealt ≤ of-first n (d ∷ dealt)
+no-less zero d dealt = omega arith
+no-less (suc n) d dealt = omega (arith, no-less n d dealt)
+
+one-more : (n : ℕ) (d : Dealt) (dealt : List Dealt) → d.app < n → suc (of-first n dealt) ≤ of-first n (d ∷ dealt)
+one-more zero d dealt below = absurd (omega (arith, below))
+one-more (suc n) d dealt below = ⊎_elim
+    (λ (earlier : d.app < n). omega (arith, one-more n d dealt earlier))
+    (λ (last : n ≤ d.app).
+    let here : (d.app == n) ≡ true = eq-eqb d.app n (omega (arith, last, below)) in
+    let one : weight (d.app == n) ≡ 1 = ap weight here in omega (arith, one, no-less n d dealt))
+    (cases_lt d.app n)
+
+all-first : (n : ℕ) (dealt : List Dealt) → All (λ (d : Dealt). d.app < n) dealt → length dealt ≤ of-first n dealt
+all-first n [] below = omega arith
+all-first n (d ∷ dealt) below =
+    omega (arith, all-first n dealt (All-tail (λ (e : Dealt). e.app < n) d dealt below), one-more n d dealt (All-head (λ (e : Dealt). e.app < n) d dealt below))
+
+first-most : (n most : ℕ) (dealt : List Dealt) → ((a : ℕ) → a < n → tally (λ d. d.app == a) dealt ≤ most) → of-first n dealt ≤ n * most
+first-most zero most dealt each = omega arith
+first-most (suc n) most dealt each = omega (arith, each n (omega arith), first-most n most dealt (λ a below. each a (omega (arith, below))), mul-suc-of n most)
+  where
+    mul-suc-of : (n most : ℕ) → suc n * most ≡ most + n * most
+    mul-suc-of n most = omega arith
+
+-- ---- a run
+
+module _ (board : Board) (run : Run) (shelves : ℕ) (fits : Fits board run shelves) (within : IsWithin board run)
+    (notes : AreFew most_bytes board.nic.view.sent) (stray : ℕ)
+    (hows : (a : ℕ) (w : Worker) → slice_get run.workers.items a ≡ Some w → w.state.how.stray ≡ stray) where
+  -- what an application took is what was sent to it, or less
+  record TookFew (a : ℕ) : Type 0 where
+    pub many : length (side_of board a).view.taken ≤ most_bytes
+    pub bytes : total taken_len (side_of board a).view.taken ≤ most_bytes
+    pub dealt : tally (λ d. d.app == a) board.nic.view.dealt ≤ length (side_of board a).view.written
+
+  took-few : (a : ℕ) → a < length run.workers.items → TookFew a
+  took-few a below =
+      let here = side-is board run shelves fits a below in
+      let x = side_of board a in
+      let relayed = fits.sound.relayed.relayed a x here in
+      let number : x.view.app ≡ a = here.number in
+      let own = own-few x.view.app board.nic.view.sent in
+      let some = notes.some in
+      let bytes = notes.bytes in
+      let many : length x.view.taken ≤ length (sent_to x.view.app board.nic) = omega (
+        arith,
+        ap length relayed.notes,
+        length-append x.view.taken (map taken_of (notes_of board.arrays a)),
+        length-map (sent_to x.view.app board.nic) as_taken,
+      ) in
+      let sums : total taken_len x.view.taken ≤ total note_len (sent_to x.view.app board.nic) = omega (
+        arith,
+        ap (total taken_len) relayed.notes,
+        total-append taken_len x.view.taken (map taken_of (notes_of board.arrays a)),
+        taken-sum (sent_to x.view.app board.nic),
+      ) in
+      let entries : tally (λ (d : Dealt). d.app == x.view.app) board.nic.view.dealt ≤ length x.view.written = omega (
+        arith,
+        ap length relayed.entries,
+        length-append (dealt_entries x.view.app board.nic) (refills_of board.arrays a),
+        length-map (filter (λ (d : Dealt). d.app == x.view.app) board.nic.view.dealt) (λ (d : Dealt). d.entry),
+        length-map x.view.written (λ (w : WrittenEntry). w.entry),
+        length-tally (λ (d : Dealt). d.app == x.view.app) board.nic.view.dealt,
+      ) in
+      record {
+        many = omega (arith, many, own.0, some, bytes);
+        bytes = omega (arith, sums, own.1, bytes);
+        dealt = subst (λ n. tally (λ (d : Dealt). d.app == n) board.nic.view.dealt ≤ length x.view.written) number entries;
+      }
+
+  stands-within : (st : State) (v : AppView) → AppStands st v → app_steps st v ≤ furthest st.how.stray v
+  stands-within st v stands = case st.bare stands.mode
+    where
+      case : (b : Bool) → MatchBool b (Bare st v) (Working st v) → app_steps st v ≤ furthest st.how.stray v
+      case true bare = bare-within st v bare stands.common
+      case false works = working-within st v works stands.common
+
+  worker-within : (a : ℕ) (w : Worker) → slice_get run.workers.items a ≡ Some w → a < length run.workers.items
+      → (worker_steps (side_of board a).view w ≤ worker_most stray) × (length (side_of board a).view.written ≤ entries_most stray)
+  worker-within a w at below =
+      let v = (side_of board a).view in
+      let took = took-few a below in
+      let many = took.many in
+      let bytes = took.bytes in
+      let stands = (fits.worker a w at).stands in
+      let how = hows a w at in
+      let far : app_steps w.state v ≤ furthest stray v = subst (λ n. app_steps w.state v ≤ furthest n v) how (stands-within w.state v stands) in
+      let follow : stray * total taken_len v.taken ≤ stray * most_bytes = mul-le-mul_left stray bytes in
+      let bound = stands.common.bound in
+      let loans : loan_entries v ≤ most_bytes = let entries = stands.common.entries in omega (arith, entries, bound, bytes) in
+      let raw : raw_entries v ≤ stray * loan_entries v = let strays = subst (λ n. raw_entries v + w.state.stray.left ≤ n * loan_entries v) how stands.common.strays in omega (arith, strays) in
+      let raws : stray * loan_entries v ≤ stray * most_bytes = mul-le-mul_left stray loans in (
+        omega (arith, far, follow, many, bytes, one-most w.state.bare, one-most w.left),
+        omega (arith, kinds v.written, raw, raws, loans),
+      )
+
+  all-within : (a : ℕ) (workers : List Worker) → ((i : ℕ) (w : Worker) → slice_get workers i ≡ Some w → worker_steps (side_of board (a + i)).view w ≤ worker_most stray)
+      → steps_from board a workers ≤ length workers * worker_most stray
+  all-within a [] each = omega arith
+  all-within a (w ∷ workers) each =
+      let first : worker_steps (side_of board a).view w ≤ worker_most stray = subst (λ n. worker_steps (side_of board n).view w ≤ worker_most stray) (let e : a + 0 ≡ a = omega arith in e) (each 0 w refl) in
+      let rest = all-within (suc a) workers (λ i u at. subst (λ n. worker_steps (side_of board n).view u ≤ worker_most stray) (let e : a + suc i ≡ suc a + i = omega arith in e) (each (suc i) u at)) in
+      omega (arith, first, rest)
+
+  pub run-within : run_steps board run ≤ run_most (length run.workers.items) stray
+  run-within =
+      let n = length run.workers.items in
+      let dealt : length board.nic.view.dealt ≤ n * entries_most stray =
+      let first = all-first n board.nic.view.dealt within.dealt in
+      let most = first-most n (entries_most stray) board.nic.view.dealt (λ a below.
+      let own = there run.workers.items a below in
+      let took = (took-few a below).dealt in
+      let few = (worker-within a own.0 own.1 below).1 in omega (arith, took, few)) in omega (arith, first, most) in
+      let apps : steps_from board 0 run.workers.items ≤ n * worker_most stray = all-within 0 run.workers.items
+      (λ i w at. subst (λ m. worker_steps (side_of board m).view w ≤ worker_most stray) (let e : i ≡ 0 + i = omega arith in e) (worker-within i w at (slice_get_within run.workers.items i w at)).0) in
+      let records = within.records in
+      let some = notes.some in
+      let bytes = notes.bytes in
+      omega (arith, records, some, bytes, dealt, apps, one-most run.feed.closed, one-most (is_over run.feed.stage))
+
+pub runs-within : {S T : Type 0} (left : S → Option (List ℕ)) (faults : S → ℕ) (kept : T → ℕ → Option (List ℕ)) (losses : T → ℕ)
+    → RunsStayWithin left faults kept losses
+runs-within left faults kept losses source source_now shelves shelves_now plan board run fits runs within =
+    let records : length runs.frames ≤ 16777216 = let read = ap (λ t. t.records) runs.feed.tally_is in let most = within.records in omega (arith, read, most) in
+    let notes : AreFew most_bytes board.nic.view.sent = sent-few plan.split plan.ports.items runs.frames run.feed.refused run.feed.at_hand
+    board.nic.view.sent _ runs.feed.settled records fits.sound.notes in
+    subst (λ n. run_steps board run ≤ run_most n plan.how.stray) runs.many
+    (run-within board run (length shelves_now) fits within notes plan.how.stray (λ a w at. ap (λ how. how.stray) (runs.worker a w at).how_is))
