@@ -72,6 +72,14 @@ impl Feed {
         self.closed
     }
 
+    /// How many records were read so far.
+    pub fn records(&self) -> u32
+        ensures count { result ≡ self.now.tally.records }
+        ensures most { result ≤ 16777216 }
+    {
+        self.intake.counting.tally.records
+    }
+
     /// How many flows there are so far.
     pub fn flows(&self) -> u32
         ensures count { result ≡ length self.now.flows }

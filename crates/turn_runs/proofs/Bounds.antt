@@ -35,7 +35,7 @@ use Rattle.app_worker.proofs.Tokens.{total-append}
 use Rattle.replay_turns.specs.Offered.{AreSettled, Awaits, has_payload, offered_after, offers_of, without}
 use Rattle.replay_turns.specs.Feed.{FeedStands, feed_steps}
 use Rattle.turn_runs.specs.Running.{Fits, Running, WorkerFits}
-use Rattle.turn_runs.specs.Steps.{IsWithin, worker_steps, steps_from, run_steps, most_bytes, entries_most, worker_most, run_most}
+use Rattle.turn_runs.specs.Steps.{worker_steps, steps_from, run_steps, most_bytes, entries_most, worker_most, run_most}
 use Rattle.turn_runs.specs.Steps.{RunsStayWithin}
 use Rattle.turn_runs.specs.declared.run.Run.{Run}
 use Rattle.turn_runs.specs.declared.run.Worker.{Worker}
@@ -151,7 +151,8 @@ first-most (suc n) most dealt each = omega (arith, each n (omega arith), first-m
 
 -- ---- a run
 
-module _ (board : Board) (run : Run) (shelves : ℕ) (fits : Fits board run shelves) (within : IsWithin board run)
+module _ (board : Board) (run : Run) (shelves : ℕ) (fits : Fits board run shelves)
+    (records : run.feed.tally.records ≤ 16777216) (dealt_all : All (λ (d : Dealt). d.app < length run.workers.items) board.nic.view.dealt)
     (notes : AreFew most_bytes board.nic.view.sent) (stray : ℕ)
     (hows : (a : ℕ) (w : Worker) → slice_get run.workers.items a ≡ Some w → w.state.how.stray ≡ stray) where
   -- what an application took is what was sent to it, or less
@@ -233,23 +234,23 @@ module _ (board : Board) (run : Run) (shelves : ℕ) (fits : Fits board run shel
   run-within =
       let n = length run.workers.items in
       let dealt : length board.nic.view.dealt ≤ n * entries_most stray =
-      let first = all-first n board.nic.view.dealt within.dealt in
+      let first = all-first n board.nic.view.dealt dealt_all in
       let most = first-most n (entries_most stray) board.nic.view.dealt (λ a below.
       let own = there run.workers.items a below in
       let took = (took-few a below).dealt in
       let few = (worker-within a own.0 own.1 below).1 in omega (arith, took, few)) in omega (arith, first, most) in
       let apps : steps_from board 0 run.workers.items ≤ n * worker_most stray = all-within 0 run.workers.items
       (λ i w at. subst (λ m. worker_steps (side_of board m).view w ≤ worker_most stray) (let e : i ≡ 0 + i = omega arith in e) (worker-within i w at (slice_get_within run.workers.items i w at)).0) in
-      let records = within.records in
       let some = notes.some in
       let bytes = notes.bytes in
       omega (arith, records, some, bytes, dealt, apps, one-most run.feed.closed, one-most (is_over run.feed.stage))
 
 pub runs-within : {S T : Type 0} (left : S → Option (List ℕ)) (faults : S → ℕ) (kept : T → ℕ → Option (List ℕ)) (losses : T → ℕ)
     → RunsStayWithin left faults kept losses
-runs-within left faults kept losses source source_now shelves shelves_now plan board run fits runs within =
-    let records : length runs.frames ≤ 16777216 = let read = ap (λ t. t.records) runs.feed.tally_is in let most = within.records in omega (arith, read, most) in
+runs-within left faults kept losses source source_now shelves shelves_now plan board run fits runs =
+    let records : length runs.frames ≤ 16777216 = let read = ap (λ t. t.records) runs.feed.tally_is in let most = runs.records in omega (arith, read, most) in
     let notes : AreFew most_bytes board.nic.view.sent = sent-few plan.split plan.ports.items runs.frames run.feed.refused run.feed.at_hand
     board.nic.view.sent _ runs.feed.settled records fits.sound.notes in
+    let dealt = subst (λ n. All (λ (d : Dealt). d.app < n) board.nic.view.dealt) (sym runs.many) runs.dealt in
     subst (λ n. run_steps board run ≤ run_most n plan.how.stray) runs.many
-    (run-within board run (length shelves_now) fits within notes plan.how.stray (λ a w at. ap (λ how. how.stray) (runs.worker a w at).how_is))
+    (run-within board run (length shelves_now) fits runs.records dealt notes plan.how.stray (λ a w at. ap (λ how. how.stray) (runs.worker a w at).how_is))

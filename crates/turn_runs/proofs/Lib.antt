@@ -16,5 +16,7 @@ pub mod News
 pub mod WholeRun
 pub mod Reserve
 pub mod AllLeft
+pub mod DealtEntries
 pub mod NoteSums
 pub mod Bounds
+pub mod Rising

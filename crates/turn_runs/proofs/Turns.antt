@@ -1,5 +1,5 @@
 -- A turn goes on with the run: one of the card, and one of an application.
-use Rattle.std.proofs.Common.{◌≡◌, ◌≢◌, ℕ, ◌<◌, List, [], ◌∷◌, All, length, set, Option, Some, sym, ap, ◌∙◌}
+use Rattle.std.proofs.Common.{◌≡◌, ◌≢◌, ℕ, ◌<◌, ◌≤◌, List, [], ◌∷◌, All, length, set, Option, Some, sym, ap, ◌∙◌}
 use Rattle.std.proofs.Common.{subst, arith}
 use Rattle.std.proofs.lemmas.List.{length-set, drop-set-lt}
 use Rattle.std.specs.List.{slice_get}
@@ -8,7 +8,11 @@ use Rattle.board_face.specs.declared.views.parts.Setting.{Setting}
 use Rattle.plain_board.specs.Board.{Board, side_in, side_of, setting_of}
 use Rattle.plain_board.specs.Sound.{IsSound}
 use Rattle.replay_turns.specs.Account.{kept_in}
-use Rattle.replay_turns.specs.Feed.{IsReady, FeedStands}
+use Rattle.board_face.specs.declared.views.nic.Dealt.{Dealt}
+use Rattle.board_face.specs.declared.views.nic.NicSide.{NicSide}
+use Rattle.replay_turns.specs.Feed.{FeedState, IsReady, FeedStands}
+use Rattle.replay_turns.specs.Turns.{Plays as CardPlays}
+use Rattle.turn_runs.proofs.DealtEntries.{dealt-of}
 use Rattle.replay_turns.specs.declared.plan.Plan.{Plan}
 use Rattle.turn_runs.specs.Running.{losses_in, Fits, Running, Plays, WorkerFits, WorkerRuns}
 use Rattle.turn_runs.specs.declared.run.Run.{Run}
@@ -53,8 +57,9 @@ module _ (board board_now : Board) (was now : Run) (workers : now.workers.items 
       (first source source_now : S) (firsts shelves : List T) (plan : Plan) → Fits board was (length shelves)
       → (runs : Running left faults kept losses first source firsts shelves plan board was)
       → (more : List (List ℕ)) → FeedStands left faults first source_now plan.ports.items plan.split more now.feed board_now.nic.view
+      → now.feed.tally.records ≤ 16777216 → (read : FeedState) → CardPlays read now.feed board.nic.view board_now.nic.view
       → Running left faults kept losses first source_now firsts shelves plan board_now now
-  card-runs left faults kept losses first source source_now firsts shelves plan fits runs more stands =
+  card-runs left faults kept losses first source source_now firsts shelves plan fits runs more stands records read plays =
       let some : 0 < length board.apps =
       omega (arith, runs.many, fits.many, fits.sound.set.many, runs.plan_is.some) in
       record {
@@ -69,6 +74,9 @@ module _ (board board_now : Board) (was now : Run) (workers : now.workers.items 
             (sym apps) (runs.worker a w (ap (λ items. slice_get items a) (sym workers) ∙ is));
         many_shelves = runs.many_shelves;
         beyond = runs.beyond;
+        records = records;
+        dealt = dealt-of (length plan.ports.items) read now.feed board.nic.view board_now.nic.view plays
+            (ap (λ s. s.layout.reserves) fits.sound.set.card ∙ sym fits.many ∙ runs.many) runs.dealt;
       }
 
 -- ---- an application
@@ -141,6 +149,8 @@ module _ (board board_now : Board) (was now : Run) (app : ℕ) (w_was w_now : Wo
         ];
         many_shelves = length-set shelves app shelf_now ∙ runs.many_shelves;
         beyond = drop-set-lt (length plan.ports.items) shelves app shelf_now below ∙ runs.beyond;
+        records = subst (λ (f : FeedState). f.tally.records ≤ 16777216) (sym feed_is) runs.records;
+        dealt = subst (λ (nic : NicSide). All (λ (d : Dealt). d.app < length plan.ports.items) nic.view.dealt) (sym nic_is) runs.dealt;
       }
 
 -- ---- turns behind turns

@@ -1,6 +1,6 @@
 -- A run between two turns: what the card and the applications keep fits the board, and what was read, sent and written since
 -- the first turn stands to it.
-use Rattle.std.specs.Prelude.{◌≡◌, ◌≢◌, ℕ, ◌≤◌, true, false, List, All, length, drop, Option, Some, None, option_map}
+use Rattle.std.specs.Prelude.{◌≡◌, ◌≢◌, ℕ, ◌<◌, ◌≤◌, true, false, List, All, length, drop, Option, Some, None, option_map}
 use Rattle.std.specs.List.{slice_get}
 use Rattle.zr_kinds.specs.declared.behaviour.Behaviour.{Behaviour}
 use Rattle.zr_kinds.specs.declared.behaviour.Stopped.TheVariants as stop
@@ -87,6 +87,9 @@ pub record Running {S T : Type 0} (left : S → Option (List ℕ)) (faults : S �
       plan.how (side_of board a).view w
   pub many_shelves : length shelves_now ≡ length shelves
   pub beyond : drop (length plan.ports.items) shelves_now ≡ drop (length plan.ports.items) shelves
+  -- No more records were read than are read at most, and each entry that was dealt with is of an application.
+  pub records : run.feed.tally.records ≤ 16777216
+  pub dealt : All (λ d. d.app < length plan.ports.items) board.nic.view.dealt
 
 -- Some turns: what is kept fits the board again, and the run goes on.
 pub record Plays {S T : Type 0} (left : S → Option (List ℕ)) (faults : S → ℕ) (kept : T → ℕ → Option (List ℕ)) (losses : T → ℕ)

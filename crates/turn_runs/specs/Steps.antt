@@ -1,8 +1,12 @@
 -- How far a run has come, and how far it can come.
-use Rattle.std.specs.Prelude.{ℕ, suc, ◌+◌, ◌*◌, ◌<◌, ◌≤◌, List, [], ◌∷◌, All, length, Option}
+use Rattle.std.specs.Prelude.{◌≡◌, ◌≢◌, ◌<◌, true, false, ℕ, suc, ◌+◌, ◌*◌, ◌≤◌, List, [], ◌∷◌, length, Option}
 use Rattle.board_face.specs.declared.views.app.AppView.{AppView}
 use Rattle.plain_board.specs.Board.{Board, side_of}
 use Rattle.app_worker.specs.State.{app_steps, one_if}
+use Rattle.app_worker.specs.Turns.{Turns}
+use Rattle.app_worker.specs.declared.turn.Turn.{Turn}
+use Rattle.app_worker.specs.declared.turn.Turn.TheVariants.{Idle, Finished}
+use Rattle.app_worker.specs.declared.turn.Why.{Why}
 use Rattle.replay_turns.specs.Feed.{feed_steps}
 use Rattle.replay_turns.specs.declared.plan.Plan.{Plan}
 use Rattle.turn_runs.specs.Running.{Fits, Running}
@@ -25,6 +29,13 @@ steps_from board a (w ∷ workers) = worker_steps (side_of board a).view w + ste
 abbrev pub run_steps : Board → Run → ℕ
 run_steps board run = feed_steps run.feed board.nic.view + steps_from board 0 run.workers.items
 
+-- A turn of an application that is here brings it back in nothing and, unless it did nothing, further.
+abbrev pub TurnsRise : Type 0
+TurnsRise =
+    (was now : Worker) (old new : AppView) (kept kept_now : ℕ → Option (List ℕ)) (faults faults_now : ℕ) (result : Turn)
+    → Turns was.state now.state old new kept kept_now faults faults_now result → was.left ≡ false → (result ≡ Finished → now.left ≡ true)
+    → (worker_steps old was ≤ worker_steps new now) × (((why : Why) → result ≢ Idle why) → worker_steps old was < worker_steps new now)
+
 -- ---- how far it can come
 
 abbrev pub most_records : ℕ
@@ -45,14 +56,9 @@ entries_most stray = most_bytes + stray * most_bytes
 abbrev pub run_most : ℕ → ℕ → ℕ
 run_most apps stray = most_records + most_bytes + 2 + apps * entries_most stray + apps * worker_most stray
 
--- No more records were read than are read at most, and each entry that was dealt with is of an application.
-pub record IsWithin (board : Board) (run : Run) : Type 0 where
-  pub records : run.feed.tally.records ≤ most_records
-  pub dealt : All (λ d. d.app < length run.workers.items) board.nic.view.dealt
-
 -- A run of a plan goes no further.
 abbrev pub RunsStayWithin : {S T : Type 0} → (S → Option (List ℕ)) → (S → ℕ) → (T → ℕ → Option (List ℕ)) → (T → ℕ) → Type 0
 RunsStayWithin {S} {T} left faults kept losses =
     (source source_now : S) (shelves shelves_now : List T) (plan : Plan) (board : Board) (run : Run)
     → Fits board run (length shelves_now) → Running left faults kept losses source source_now shelves shelves_now plan board run
-    → IsWithin board run → run_steps board run ≤ run_most (length plan.ports.items) plan.how.stray
+    → run_steps board run ≤ run_most (length plan.ports.items) plan.how.stray

@@ -1,5 +1,5 @@
 ghost use Rattle.turn_runs.specs.Laws.{RunsAreTold, RunsEndWell};
-ghost use Rattle.turn_runs.specs.Steps.{RunsStayWithin};
+ghost use Rattle.turn_runs.specs.Steps.{RunsStayWithin, TurnsRise};
 ghost use Rattle.turn_runs.specs.Stuck.{StuckRunsAreOver};
 
 use zr_io::{Shelf, Source};
@@ -25,4 +25,10 @@ pub fn stuck_runs_are_over()
 /// A run goes no further than its records, their bytes and its plan let it. It does nothing: its contract is the law.
 pub fn runs_stay_within<S: Source, T: Shelf>()
     ensures { RunsStayWithin S.left S.faults T.kept T.faults }
+{}
+
+/// A turn of an application that did something brings it further, and none brings it back. It does nothing: its contract is
+/// the law.
+pub fn turns_rise()
+    ensures { TurnsRise }
 {}

@@ -10,7 +10,7 @@ mod run;
 mod running;
 mod stepping;
 
-pub use laws::{runs_are_told, runs_end_well, runs_stay_within, stuck_runs_are_over};
+pub use laws::{runs_are_told, runs_end_well, runs_stay_within, stuck_runs_are_over, turns_rise};
 pub use role::Role;
 pub use run::{Run, Worker};
 pub use running::run_turns;

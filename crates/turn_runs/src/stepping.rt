@@ -54,6 +54,8 @@ pub fn step<S: Source, T: Shelf>(
     match role {
         Role::Card => {
             let (board, _) = card_step(board, &mut run.feed, source);
+            // Its answer says that no more records were read than are read at most.
+            let _ = run.feed.records();
             board
         }
         Role::App(app) => app_turn::<S, T>(alloc, board, run, shelves, app),

@@ -1,6 +1,11 @@
 -- Nobody has taken a turn.
 use Rattle.std.proofs.Common.{◌≡◌, length, Option, IfSome, [], refl, sym, ap, ◌∙◌, subst, arith}
+use Rattle.std.proofs.Common.{◌<◌}
+use Rattle.std.specs.Prelude.{All}
+use Rattle.std.proofs.lemmas.List.Elements.{All-nil}
 use Rattle.area_layout.specs.Layout.{Shape}
+use Rattle.board_face.specs.declared.views.nic.Dealt.{Dealt}
+use Rattle.replay_turns.specs.Feed.{FeedState}
 use Rattle.plain_board.specs.Board.{Board}
 use Rattle.replay_turns.specs.Plan.{layout_of}
 use Rattle.turn_runs.proofs.Places.{get-within}
@@ -47,4 +52,6 @@ returns-clause-runs g c source shelves enough =
           (omega (arith, within, many, reserves))) (c.in_ok-workers.ensures.each a w is) _ _;
       many_shelves = refl;
       beyond = refl;
+      records = let none = ap (λ (f : FeedState). f.tally.records) c.in_ok-feed.ensures.value in omega (arith, none);
+      dealt = subst (All (λ (d : Dealt). d.app < length c.args.plan.now.ports.items)) (sym (ap (λ (b : Board). b.nic.view.dealt) c.in_ok-board.ensures)) (All-nil (λ (d : Dealt). d.app < length c.args.plan.now.ports.items));
     }

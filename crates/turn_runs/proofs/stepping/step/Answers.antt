@@ -1,5 +1,5 @@
 -- A turn of the card, or of an application.
-use Rattle.std.proofs.Common.{refl}
+use Rattle.std.proofs.Common.{◌≤◌, refl, subst}
 use Rattle.turn_runs.specs.declared.run.Run.{Run}
 use Rattle.turn_runs.proofs.Turns.{card-fits, card-runs}
 use Rattle.turn_runs.proofs.stepping.step.Goals as goal
@@ -21,6 +21,7 @@ returns-in-Card g c =
             let turns = step.turns first plan.ports.items plan.split runs.frames runs.feed in
             card-runs c.args.board c.card_step-board.result.0 c.args.run.now run_now refl step.apps step.sound step.ready
             g.S.Source.left g.S.Source.faults g.T.Shelf.kept g.T.Shelf.faults first c.args.source.now c.card_step-board.new.source firsts c.args.shelves.now
-            plan fits runs turns.more turns.stands;
+            plan fits runs turns.more turns.stands
+            (subst (λ n. n ≤ 16777216) c.records.ensures.count c.records.ensures.most) turns.read turns.plays;
       };
     }
