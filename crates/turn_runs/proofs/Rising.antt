@@ -1,5 +1,5 @@
 -- A turn of an application that did something brings it further, and none brings it back.
-use Rattle.std.proofs.Common.{◌≡◌, ◌≢◌, ℕ, ◌+◌, ◌<◌, ◌≤◌, Bool, true, false, List, Option, refl, sym, ap, ◌∙◌, subst, arith, ⊎_elim}
+use Rattle.std.proofs.Common.{◌≡◌, ◌≢◌, ℕ, zero, suc, ◌+◌, ◌<◌, ◌≤◌, Bool, true, false, Some, set, List, [], ◌∷◌, Option, refl, sym, ap, ◌∙◌, subst, arith, ⊎_elim}
 use Rattle.std.specs.Prelude.{MatchBool}
 use Rattle.std.proofs.lemmas.Bool.{cases_Bool}
 use Rattle.zr_kinds.specs.declared.behaviour.Stopped.TheVariants as stop
@@ -11,7 +11,10 @@ use Rattle.app_worker.specs.Turns.{Turns, Answers}
 use Rattle.app_worker.specs.declared.turn.Turn.{Turn}
 use Rattle.app_worker.specs.declared.turn.Turn.TheVariants.{Did, Idle, Finished, Failed}
 use Rattle.app_worker.specs.declared.turn.Why.{Why}
-use Rattle.turn_runs.specs.Steps.{worker_steps, TurnsRise}
+use Rattle.std.specs.List.{slice_get}
+use Rattle.board_face.specs.declared.views.app.AppSide.{AppSide}
+use Rattle.plain_board.specs.Board.{Board, side_of}
+use Rattle.turn_runs.specs.Steps.{worker_steps, steps_from, TurnsRise}
 use Rattle.turn_runs.specs.declared.run.Worker.{Worker}
 
 bare-stays : (was now : Bool) → (was ≡ true → now ≡ true) → one_if was ≤ one_if now
@@ -72,3 +75,40 @@ turns-rise was now old new kept kept_now faults faults_now result turns here gon
   later was now old new kept kept_now faults faults_now result turns here gone,
   rises was now old new kept kept_now faults faults_now result turns here gone,
 )
+
+-- ---- among the others
+
+steps-like : (board board_now : Board) (first : ℕ) (workers : List Worker) → ((b : ℕ) → first ≤ b → side_of board_now b ≡ side_of board b)
+    → steps_from board_now first workers ≡ steps_from board first workers
+steps-like board board_now first [] same = refl
+steps-like board board_now first (w ∷ workers) same =
+    let here : worker_steps (side_of board_now first).view w ≡ worker_steps (side_of board first).view w =
+    ap (λ (side : AppSide). worker_steps side.view w) (same first (omega arith)) in
+    let rest = steps-like board board_now (suc first) workers (λ b later. same b (omega (arith, later))) in
+    omega (arith, here, rest)
+
+-- where one of them went on, all together did by as much
+pub steps-set : (board board_now : Board) (first i : ℕ) (workers : List Worker) (was now : Worker) → slice_get workers i ≡ Some was
+    → ((b : ℕ) → b ≢ first + i → side_of board_now b ≡ side_of board b)
+    → steps_from board_now first (set workers i now) + worker_steps (side_of board (first + i)).view was
+    ≡ steps_from board first workers + worker_steps (side_of board_now (first + i)).view now
+steps-set board board_now first i [] was now at same = absurd (cc)
+steps-set board board_now first zero (w ∷ workers) was now at same =
+    let is : w ≡ was = cc in
+    let e : first + 0 ≡ first = omega arith in
+    let here : worker_steps (side_of board (first + 0)).view was ≡ worker_steps (side_of board first).view w =
+    ap (λ n. worker_steps (side_of board n).view was) e ∙ ap (worker_steps (side_of board first).view) (sym is) in
+    let there : worker_steps (side_of board_now (first + 0)).view now ≡ worker_steps (side_of board_now first).view now =
+    ap (λ n. worker_steps (side_of board_now n).view now) e in
+    let rest = steps-like board board_now (suc first) workers (λ b later. same b (λ is_first. absurd (omega (arith, later, is_first)))) in
+    omega (arith, here, there, rest)
+steps-set board board_now first (suc i) (w ∷ workers) was now at same =
+    let e : first + suc i ≡ suc first + i = omega arith in
+    let own = steps-set board board_now (suc first) i workers was now at (λ b other. same b (λ is. other (is ∙ e))) in
+    let head : worker_steps (side_of board_now first).view w ≡ worker_steps (side_of board first).view w =
+    ap (λ (side : AppSide). worker_steps side.view w) (same first (λ is. absurd (omega (arith, is)))) in
+    let before : worker_steps (side_of board (first + suc i)).view was ≡ worker_steps (side_of board (suc first + i)).view was =
+    ap (λ n. worker_steps (side_of board n).view was) e in
+    let after : worker_steps (side_of board_now (first + suc i)).view now ≡ worker_steps (side_of board_now (suc first + i)).view now =
+    ap (λ n. worker_steps (side_of board_now n).view now) e in
+    omega (arith, own, head, before, after)
