@@ -1,8 +1,8 @@
 -- Where nobody can do anything, all are gone.
-use Rattle.std.proofs.Common.{◌≡◌, ℕ, ◌<◌, ◌≤◌, ⊎_elim, true, false, [], length, count_by, refl, sym, ap, subst, ◌∙◌, arith, Some}
+use Rattle.std.proofs.Common.{◌≡◌, ℕ, ◌<◌, ◌≤◌, ◌⊎◌, inl, inr, ⊎_elim, true, false, [], length, count_by, refl, sym, ap, subst, ◌∙◌, arith, Some}
 use Rattle.std.specs.Prelude.{MatchBool}
 use Rattle.std.specs.List.{slice_get}
-use Rattle.std.proofs.lemmas.Option.{get_or_from_slice_get}
+use Rattle.std.proofs.lemmas.Option.{get_or_from_slice_get, slice_get_within}
 use Rattle.board_face.specs.NicCalls.{apps_of}
 use Rattle.board_face.specs.AppEvents.{app_gist}
 use Rattle.board_face.specs.declared.views.app.AppLook.TheVariants as look
@@ -15,23 +15,23 @@ use Rattle.app_worker.specs.Turns.{Because, look_of}
 use Rattle.app_worker.specs.declared.turn.Why.{Why}
 use Rattle.app_worker.specs.declared.turn.Why.TheVariants.{NoNote, RefillFull, Unsettled, ReserveHeld, NotQuiet}
 use Rattle.turn_runs.specs.Running.{Fits, AreOver}
-use Rattle.turn_runs.specs.Stuck.{IsKeptBack, AreStuck, StuckRunsAreOver}
+use Rattle.turn_runs.specs.Stuck.{IsCardStuck, IsKeptBack, StuckRunsAreOver}
 use Rattle.turn_runs.specs.declared.run.Run.{Run}
 use Rattle.turn_runs.specs.declared.run.Worker.{Worker}
 use Rattle.turn_runs.proofs.AppLines.{there}
 use Rattle.turn_runs.proofs.Gone.{side-is}
 use Rattle.turn_runs.proofs.Reserve.{not-held}
 
-module _ (board : Board) (run : Run) (shelves : ℕ) (fits : Fits board run shelves) (stuck : AreStuck board run) where
-  apps-are : apps_of board.nic.view.setting ≡ length run.workers.items
+-- It has left, or waits for a note.
+abbrev pub IsWaiting : Board → ℕ → Worker → Type 0
+IsWaiting board a w = (w.left ≡ true) ⊎ IsSeenBy look.NoNote (app_gist (side_of board a).view) (others_of board a)
+
+module _ (board : Board) (run : Run) (shelves : ℕ) (fits : Fits board run shelves) where
+  pub apps-are : apps_of board.nic.view.setting ≡ length run.workers.items
   apps-are = ap (λ s. s.layout.reserves) fits.sound.set.card ∙ sym fits.many
 
   card-places : 1 ≤ board.nic.view.setting.places
   card-places = let setting = fits.sound.set.card in let some = fits.sound.sizes.places.0 in rw setting some
-
-  -- no entry is on its way
-  none-on_way : (a : ℕ) → a < length run.workers.items → entries_on_way board.nic (side_of board a) ≡ []
-  none-on_way a within = stuck.card.rings a (omega (arith, apps-are, within))
 
   own-places : (a : ℕ) → a < length run.workers.items → 1 ≤ (side_of board a).view.setting.places
   own-places a within =
@@ -40,49 +40,53 @@ module _ (board : Board) (run : Run) (shelves : ℕ) (fits : Fits board run shel
       let some = fits.sound.sizes.places.0 in rw setting some
 
   -- an application that is here waits for a note: an entry on its way, or a reserve that is held, would be another reason
-  by-why : (a : ℕ) (w : Worker) → slice_get run.workers.items a ≡ Some w → a < length run.workers.items → (why : Why)
+  by-why : (a : ℕ) (w : Worker) → slice_get run.workers.items a ≡ Some w → a < length run.workers.items
+      → entries_on_way board.nic (side_of board a) ≡ [] → (why : Why)
       → Because why w.state (side_of board a).view → IsSeenBy (look_of why) (app_gist (side_of board a).view) (others_of board a)
       → IsSeenBy look.NoNote (app_gist (side_of board a).view) (others_of board a)
-  by-why a w at within NoNote because seen = seen
-  by-why a w at within RefillFull because seen =
-      let empty = ap length (none-on_way a within) in let some = own-places a within in absurd (omega (arith, empty, some, seen))
-  by-why a w at within Unsettled because seen =
-      let empty : count_by is_raw (entries_on_way board.nic (side_of board a)) ≡ 0 = rw (none-on_way a within) refl in absurd (omega (arith, empty, seen))
-  by-why a w at within ReserveHeld because seen =
+  by-why a w at within none NoNote because seen = seen
+  by-why a w at within none RefillFull because seen =
+      let empty = ap length none in let some = own-places a within in absurd (omega (arith, empty, some, seen))
+  by-why a w at within none Unsettled because seen =
+      let empty : count_by is_raw (entries_on_way board.nic (side_of board a)) ≡ 0 = rw none refl in absurd (omega (arith, empty, seen))
+  by-why a w at within none ReserveHeld because seen =
       let stands = (fits.worker a w at).stands in
       let works = subst (λ b. MatchBool b (Bare w.state (side_of board a).view) (Working w.state (side_of board a).view)) because.0.live stands.mode in
       absurd (not-held board a (side_of board a) w.state fits.sound (side-is board run shelves fits a within) works stands.common because.0
-      (none-on_way a within) seen.1)
-  by-why a w at within NotQuiet because seen = let empty = ap length (none-on_way a within) in absurd (omega (arith, empty, seen))
+      none seen.1)
+  by-why a w at within none NotQuiet because seen = let empty = ap length none in absurd (omega (arith, empty, seen))
 
-  waits : (a : ℕ) (w : Worker) → slice_get run.workers.items a ≡ Some w → a < length run.workers.items → IsKeptBack board a w
+  pub kept-waits : (a : ℕ) (w : Worker) → slice_get run.workers.items a ≡ Some w → a < length run.workers.items
+      → entries_on_way board.nic (side_of board a) ≡ [] → IsKeptBack board a w
       → IsSeenBy look.NoNote (app_gist (side_of board a).view) (others_of board a)
-  waits a w at within kept = by-why a w at within kept.why kept.because kept.seen
+  kept-waits a w at within none kept = by-why a w at within none kept.why kept.because kept.seen
 
+module _ (board : Board) (run : Run) (shelves : ℕ) (fits : Fits board run shelves) (card : IsCardStuck board run)
+    (waiting : (a : ℕ) (w : Worker) → slice_get run.workers.items a ≡ Some w → IsWaiting board a w) where
   -- the card was closed: a note that is on its way is an application's to take
   card-closed : run.feed.closed ≡ true
   card-closed = ⊎_elim
       (λ closed. closed)
-      (λ (a, few, full). let within : a < length run.workers.items = omega (arith, apps-are, few) in
+      (λ (a, few, full). let within : a < length run.workers.items = let apps = apps-are board run shelves fits in omega (arith, apps, few) in
       let own = there run.workers.items a within in
-      let some = card-places in
+      let some = card-places board run shelves fits in
       ⊎_elim
       (λ left.
       let gone = (fits.worker a own.0 own.1).gone left in
       let phase = fits.sound.phased.sides a blank_app (side-is board run shelves fits a within).there in
       let empty = ap length (phase.ended (phase.left gone.0).ended).1 in absurd (omega (arith, empty, some, full)))
-      (λ (kept : IsKeptBack board a own.0). let empty = ap length (waits a own.0 own.1 within kept).1 in absurd (omega (arith, empty, some, full)))
-      (stuck.app a own.0 own.1))
-      stuck.card.notes
+      (λ (waits : IsSeenBy look.NoNote (app_gist (side_of board a).view) (others_of board a)). let empty = ap length waits.1 in absurd (omega (arith, empty, some, full)))
+      (waiting a own.0 own.1))
+      card.notes
 
   has-left : (a : ℕ) (w : Worker) → slice_get run.workers.items a ≡ Some w → a < length run.workers.items → w.left ≡ true
   has-left a w at within = ⊎_elim
       (λ left. left)
-      (λ (kept : IsKeptBack board a w).
+      (λ (waits : IsSeenBy look.NoNote (app_gist (side_of board a).view) (others_of board a)).
       let ended : board.nic.view.ended ≡ true = fits.ready.fits.ended card-closed in
-      let on : board.nic.view.ended ≡ false = (waits a w at within kept).0 in
+      let on : board.nic.view.ended ≡ false = waits.0 in
       absurd (let wrong : true ≡ false = sym ended ∙ on in let none : ⊥ = cc in none))
-      (stuck.app a w at)
+      (waiting a w at)
 
   pub all-left : AreOver run
   all-left = record {
@@ -93,4 +97,10 @@ module _ (board : Board) (run : Run) (shelves : ℕ) (fits : Fits board run shel
   }
 
 pub stuck-over : StuckRunsAreOver
-stuck-over = all-left
+stuck-over board run shelves fits stuck = all-left board run shelves fits stuck.card (λ a w at. ⊎_elim
+    (λ left. inl left)
+    (λ (kept : IsKeptBack board a w).
+    let within : a < length run.workers.items = slice_get_within run.workers.items a w at in
+    let apps = apps-are board run shelves fits in
+    inr (kept-waits board run shelves fits a w at within (stuck.card.rings a (omega (arith, apps, within))) kept))
+    (stuck.app a w at))

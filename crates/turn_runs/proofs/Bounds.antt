@@ -1,6 +1,6 @@
 -- No run goes further than its records, their bytes and the plan let it.
-use Rattle.std.proofs.Common.{◌≡◌, ℕ, zero, suc, ◌+◌, ◌-◌, ◌*◌, ◌<◌, ◌≤◌, ◌==◌, Bool, true, false, List, [], ◌∷◌, ◌++◌, length, length-append, take, map, refl, sym, ap, ◌∙◌, subst, arith, Option, Some, None}
-use Rattle.std.specs.Prelude.{All, filter, not, MatchBool, if◌then◌else◌}
+use Rattle.std.proofs.Common.{◌≡◌, ℕ, zero, suc, ◌+◌, ◌*◌, ◌<◌, ◌≤◌, ◌==◌, Bool, true, false, List, [], ◌∷◌, ◌++◌, length, length-append, take, map, refl, sym, ap, subst, arith, Option, Some, None}
+use Rattle.std.specs.Prelude.{All, filter, MatchBool, if◌then◌else◌}
 use Rattle.std.specs.List.{slice_get}
 use Rattle.std.specs.Prelude.{option_to_list}
 use Rattle.std.proofs.Common.{⊎_elim, eq-eqb}
@@ -10,31 +10,28 @@ use Rattle.replay_turns.specs.Coming.{is_over}
 use Rattle.std.proofs.Math.Nat.{mul-le-mul_left}
 use Rattle.std.proofs.Math.Seq.{take-append_seam}
 use Rattle.std.proofs.lemmas.List.{length-map}
-use Rattle.std.proofs.lemmas.List.Elements.{All-head, All-tail, All-take}
+use Rattle.std.proofs.lemmas.List.Elements.{All-head, All-tail}
 use Rattle.frame_headers.specs.FrameClass.{TcpSegment, class_of}
 use Rattle.frame_headers.specs.Seen.{segment_of}
 use Rattle.flow_table.specs.Flows.{Flow, flows_with}
-use Rattle.flow_table.specs.Steered.{Steered, steer, steer_to, app_of, steered_from, steered_of, segments_of}
+use Rattle.flow_table.specs.Steered.{Steered, steer, steered_from, steered_of, segments_of}
 use Rattle.frames_read.specs.Ending.{steered_in}
 use Rattle.board_face.specs.Holders.{sent_to}
 use Rattle.board_face.specs.Relay.{IsProper, as_taken, dealt_entries}
 use Rattle.board_face.specs.declared.views.nic.Dealt.{Dealt}
-use Rattle.board_face.specs.declared.views.nic.NicSide.{NicSide}
 use Rattle.board_face.specs.declared.views.nic.SentNote.{SentNote}
 use Rattle.board_face.specs.declared.views.app.AppView.{AppView}
-use Rattle.board_face.specs.declared.views.app.TakenNote.{TakenNote}
 use Rattle.board_face.specs.declared.views.app.WrittenEntry.{WrittenEntry}
 use Rattle.board_face.proofs.Tallies.{weight, tally, length-tally}
 use Rattle.page_pool.specs.Frames.{Offered}
 use Rattle.plain_board.specs.Board.{Board, side_of}
 use Rattle.plain_board.specs.Sound.{taken_of, notes_of, refills_of}
 use Rattle.app_worker.specs.Core.{total}
-use Rattle.app_worker.specs.State.{State, AppStands, Common, Bare, Working, app_steps, furthest, one_if, raw_entries, loan_entries, taken_len}
+use Rattle.app_worker.specs.State.{State, AppStands, Bare, Working, app_steps, furthest, raw_entries, loan_entries, taken_len}
 use Rattle.app_worker.proofs.Measure.{working-within, bare-within, one-most}
 use Rattle.app_worker.proofs.Tokens.{total-append}
 use Rattle.replay_turns.specs.Offered.{AreSettled, Awaits, has_payload, offered_after, offers_of, without}
-use Rattle.replay_turns.specs.Feed.{FeedStands, feed_steps}
-use Rattle.turn_runs.specs.Running.{Fits, Running, WorkerFits}
+use Rattle.turn_runs.specs.Running.{Fits}
 use Rattle.turn_runs.specs.Steps.{worker_steps, steps_from, run_steps, most_bytes, entries_most, worker_most, run_most}
 use Rattle.turn_runs.specs.Steps.{RunsStayWithin}
 use Rattle.turn_runs.specs.declared.run.Run.{Run}

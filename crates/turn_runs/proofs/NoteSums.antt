@@ -1,5 +1,5 @@
 -- How many bytes the notes tell of that were sent: those of their frames at most.
-use Rattle.std.proofs.Common.{◌≡◌, ℕ, zero, suc, ◌+◌, ◌-◌, ◌*◌, ◌<◌, ◌≤◌, ◌⊎◌, ⊎_elim, Bool, true, false, List, [], ◌∷◌, ◌++◌, length, take, map, refl, sym, ap, ◌∙◌, subst, arith, Option, Some, None}
+use Rattle.std.proofs.Common.{◌≡◌, ℕ, zero, suc, ◌+◌, ◌-◌, ◌*◌, ◌<◌, ◌≤◌, ⊎_elim, List, [], ◌∷◌, ◌++◌, length, take, refl, sym, ap, ◌∙◌, subst, arith}
 use Rattle.std.specs.Prelude.{All}
 use Rattle.std.proofs.Common.{length-append}
 use Rattle.std.proofs.Math.Seq.{take-length, take-append_seam, drop-append_seam, take-append-add}
@@ -8,7 +8,7 @@ use Rattle.std.proofs.lemmas.List.{take-append-le}
 use Rattle.std.proofs.lemmas.List.Elements.{All-head, All-take, All-drop}
 use Rattle.board_face.specs.Relay.{IsProper}
 use Rattle.board_face.specs.declared.views.nic.SentNote.{SentNote}
-use Rattle.page_pool.specs.Frames.{Offered, ShowsPart, ShowRest, ShowsWhole, ShowsFrame, ShowFrames}
+use Rattle.page_pool.specs.Frames.{Offered, ShowRest, ShowsWhole, ShowsFrame, ShowFrames}
 use Rattle.app_worker.specs.Core.{total}
 use Rattle.app_worker.proofs.Tokens.{total-append}
 

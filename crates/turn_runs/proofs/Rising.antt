@@ -3,10 +3,9 @@ use Rattle.std.proofs.Common.{◌≡◌, ◌≢◌, ℕ, zero, suc, ◌+◌, ◌
 use Rattle.std.specs.Prelude.{MatchBool}
 use Rattle.std.proofs.lemmas.Bool.{cases_Bool}
 use Rattle.zr_kinds.specs.declared.behaviour.Stopped.TheVariants as stop
-use Rattle.zr_kinds.specs.declared.fault.Fault.{Fault}
 use Rattle.zr_kinds.specs.declared.fault.Fault.TheVariants.{Memory as memory_fault, Write as write_fault}
 use Rattle.board_face.specs.declared.views.app.AppView.{AppView}
-use Rattle.app_worker.specs.State.{State, AppStands, Bare, Working, one_if, app_steps}
+use Rattle.app_worker.specs.State.{State, Bare, Working, one_if, app_steps}
 use Rattle.app_worker.specs.Turns.{Turns, Answers}
 use Rattle.app_worker.specs.declared.turn.Turn.{Turn}
 use Rattle.app_worker.specs.declared.turn.Turn.TheVariants.{Did, Idle, Finished, Failed}
