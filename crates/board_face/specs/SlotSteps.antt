@@ -5,7 +5,7 @@ use Rattle.zr_kinds.specs.declared.place.Note.{Note}
 use Rattle.zr_kinds.specs.declared.place.Place.{Place}
 use Rattle.zr_kinds.specs.declared.ring.Rqe.{Rqe}
 use Rattle.board_face.specs.NicEvents.{nic_saw, sent, sent_linear, dealt}
-use Rattle.board_face.specs.AppEvents.{app_saw, took_note, took_linear, gave, pushed_raw}
+use Rattle.board_face.specs.AppEvents.{app_saw, took_note, took_linear, gave, pushed_raw, fell_quiet}
 use Rattle.board_face.specs.Opened.{unseen}
 use Rattle.board_face.specs.Sides.{nic_at, app_at}
 use Rattle.board_face.specs.declared.views.parts.Slot.{Slot}
@@ -36,6 +36,13 @@ at_refill app slot = record app { inside = record app.inside { refill_slot = slo
 -- the application looked at its next slot, which was free or in use
 abbrev pub side_refill_looked : AppSide → Bool → AppSide
 side_refill_looked app free = if free then at_refill app (seen_with []) else app_at app (app_saw app.view RefillInUse)
+
+-- It looked at any of its slots, which was free, and stays so until it publishes. Once it saw each of them free its ring is quiet.
+abbrev pub side_slot_free : AppSide → ℕ → AppSide
+side_slot_free app s = record app { inside = record app.inside { free_slots = s ∷ app.inside.free_slots } }
+
+abbrev pub side_fell_quiet : AppSide → ℕ → AppSide
+side_fell_quiet app s = record { view = fell_quiet app.view; inside = record app.inside { free_slots = s ∷ app.inside.free_slots } }
 
 -- it stored a word there
 abbrev pub side_refill_stored : AppSide → ℕ → AppSide

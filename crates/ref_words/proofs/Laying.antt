@@ -12,7 +12,7 @@ use Rattle.board_face.specs.declared.views.parts.Setting.{Setting}
 use Rattle.ref_words.specs.Words.{Words, HasSizes, AreSlots, groups, group_sizes, begins, begin_at, joined, table_of}
 use Rattle.word_rings.specs.Slots.{note_width, refill_width}
 use Rattle.ref_words.specs.Words.{pool_at, pool_of, with_pool, user_at, user_of, with_user, role_at, with_role, table_words}
-use Rattle.ref_words.specs.Words.{slot_word, with_word, with_slot_word, note_at, with_note, refill_at, with_refill}
+use Rattle.ref_words.specs.Words.{slot_word, with_slot_word, note_at, with_note, refill_at, with_refill}
 
 -- ---- lists that lie one behind another
 

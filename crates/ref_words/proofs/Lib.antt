@@ -30,6 +30,7 @@ mod RingMoves
 mod AppLooks
 mod AppSlots
 mod CardSlots
+mod FreeSlots
 mod Writing
 mod Giving
 mod Dealing

@@ -1,6 +1,7 @@
 -- The laws of steps at the slots of the rings. Each end goes through its slots in turn: the writer looks at the flag until it is 0,
 -- stores the words behind it and then the flag 1, and the reader looks until it is 1, loads the words and stores the flag 0.
-use Rattle.std.specs.Prelude.{◌≡◌, ℕ, ◌+◌, ◌<◌, ◌==◌, true, false, List, [], ◌∷◌, ◌++◌, length, take, slice_set, Some, None}
+use Rattle.std.specs.Prelude.{◌≡◌, ℕ, ◌+◌, ◌<◌, ◌==◌, true, false, List, [], ◌∷◌, ◌++◌, length, take, slice_set}
+use Rattle.std.specs.Prelude.{Some, None, Contains}
 use Rattle.zr_kinds.specs.declared.place.Note.{Note}
 use Rattle.zr_kinds.specs.declared.place.Place.{Place}
 use Rattle.zr_kinds.specs.declared.ring.Rqe.{Rqe}
@@ -11,7 +12,7 @@ use Rattle.board_face.specs.NicCalls.{HasPiece, apps_of}
 use Rattle.board_face.specs.NicEvents.{text_at}
 use Rattle.board_face.specs.Texts.{IsSplitNote, IsLinearNote}
 use Rattle.board_face.specs.Sides.{IsApp}
-use Rattle.board_face.specs.SlotSteps.{next_slot, side_refill_looked, side_refill_stored, side_note_looked, side_note_stored}
+use Rattle.board_face.specs.SlotSteps.{next_slot, side_slot_free, side_fell_quiet, side_refill_looked, side_refill_stored, side_note_looked, side_note_stored}
 use Rattle.board_face.specs.SlotSteps.{side_entry_looked, side_entry_loaded, side_in_hand, side_slot_looked, side_slot_loaded}
 use Rattle.board_face.specs.SlotSteps.{side_gave, side_pushed, side_dealt, side_sent, side_sent_linear, side_took_note, side_took_linear}
 use Rattle.board_face.specs.declared.views.nic.Fate.TheVariants.{Honoured, Stray}
@@ -46,6 +47,17 @@ pub record WriterLooksLaw : Type 0 where
   pub note : (setting : Setting) (words : Words) (nic : NicSide) (apps : List AppSide) (a : ℕ)
       → RefRule setting words nic apps → a < apps_of setting
       → RefRule setting words (side_note_looked nic a (slot_word words.notes a (writes_note_at setting nic a) 0 == 0)) apps
+
+-- An application looks at any of its refill slots, which is free. No word changes. Once it has seen each of them free since it last
+-- published, no entry of it is on its way.
+pub record FreeSlotLaw : Type 0 where
+  pub seen : (setting : Setting) (words : Words) (nic : NicSide) (apps : List AppSide) (app : AppSide) (s : ℕ)
+      → RefRule setting words nic apps → IsApp apps app.view.app app → s < setting.places → slot_word words.refills app.view.app s 0 ≡ 0
+      → RefRule setting words nic (slice_set apps app.view.app (side_slot_free app s))
+  pub quiet : (setting : Setting) (words : Words) (nic : NicSide) (apps : List AppSide) (app : AppSide) (s : ℕ)
+      → RefRule setting words nic apps → IsApp apps app.view.app app → s < setting.places → slot_word words.refills app.view.app s 0 ≡ 0
+      → ((k : ℕ) → k < setting.places → Contains (s ∷ app.inside.free_slots) k)
+      → RefRule setting words nic (slice_set apps app.view.app (side_fell_quiet app s))
 
 -- It stores the next word of a slot that it saw free.
 pub record StoreLaw : Type 0 where

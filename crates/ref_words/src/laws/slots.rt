@@ -1,8 +1,13 @@
-ghost use Rattle.ref_words.specs.SlotLaws.{WriterLooksLaw, StoreLaw, PublishLaw, PublishNoteLaw, ReaderLooksLaw, LoadLaw, FreeLaw, TakeNoteLaw};
+ghost use Rattle.ref_words.specs.SlotLaws.{WriterLooksLaw, FreeSlotLaw, StoreLaw, PublishLaw, PublishNoteLaw, ReaderLooksLaw, LoadLaw, FreeLaw, TakeNoteLaw};
 
 /// The writer of a ring looks at the flag of its next slot.
 pub fn k13()
     ensures { WriterLooksLaw }
+{}
+
+/// An application looks at any of its refill slots, and falls quiet once it saw each of them free.
+pub fn k13_free()
+    ensures { FreeSlotLaw }
 {}
 
 /// It stores a word of a slot that it saw free.
