@@ -1,5 +1,6 @@
 -- What the card's next note slot is, once the card looked at it and stored words there.
-use Rattle.std.proofs.Common.{◌≡◌, ℕ, suc, ◌+◌, ◌<◌, List, [], ◌∷◌, ◌++◌, length, take, drop, get_or, set, ap, ◌∙◌, arith, take-suc}
+use Rattle.std.proofs.Common.{◌≡◌, ℕ, suc, ◌+◌, ◌<◌, List, [], ◌∷◌, ◌++◌, length}
+use Rattle.std.proofs.Common.{take, drop, get_or, set, ap, ◌∙◌, arith, take-suc}
 use Rattle.std.proofs.lemmas.Grind.{get_or_after_one}
 use Rattle.std.proofs.lemmas.List.{get_or-set_same, set-set}
 use Rattle.zr_kinds.specs.declared.place.Note.{Note}
@@ -10,7 +11,8 @@ use Rattle.board_face.specs.declared.views.parts.Slot.{Slot}
 use Rattle.board_face.specs.declared.views.nic.NicSide.{NicSide}
 
 -- one word more of those behind the flag
-pub one-word : (body : List ℕ) (k : ℕ) → k < length (drop 1 body) → take (k + 1) (drop 1 body) ≡ take k (drop 1 body) ++ get_or body (1 + k) 0 ∷ []
+pub one-word : (body : List ℕ) (k : ℕ) → k < length (drop 1 body)
+    → take (k + 1) (drop 1 body) ≡ take k (drop 1 body) ++ get_or body (1 + k) 0 ∷ []
 one-word body k within =
     let e : k + 1 ≡ suc k = omega arith in
     ap (λ j. take j (drop 1 body)) e
@@ -32,6 +34,7 @@ module _ (nic : NicSide) (a : ℕ) (there : a < length nic.inside.note_slots) wh
   sent-so slot note =
       ap (λ slots. record { view = sent nic.view a note; inside = record nic.inside { note_slots = slots } }) (twice slot unseen)
 
-  pub sent-linear-so : (slot : Slot) (note : Note) (bytes : List ℕ) → side_sent_linear (at_note nic a slot) a note bytes ≡ side_sent_linear nic a note bytes
+  pub sent-linear-so : (slot : Slot) (note : Note) (bytes : List ℕ)
+      → side_sent_linear (at_note nic a slot) a note bytes ≡ side_sent_linear nic a note bytes
   sent-linear-so slot note bytes =
       ap (λ slots. record { view = sent_linear nic.view a note bytes; inside = record nic.inside { note_slots = slots } }) (twice slot unseen)

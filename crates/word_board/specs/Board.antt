@@ -1,5 +1,6 @@
 -- What holds of the table between any two steps, and what its seats are.
-use Rattle.std.specs.Prelude.{◌≡◌, ℕ, Bool, true, false, if◌then◌else◌, List, [], ◌∷◌, length, slice_index_or, slice_set, replicate, take, Option, Some, None}
+use Rattle.std.specs.Prelude.{◌≡◌, ℕ, Bool, true, false, if◌then◌else◌, List, [], ◌∷◌, length, slice_index_or}
+use Rattle.std.specs.Prelude.{slice_set, replicate, take, Option, Some, None}
 use Rattle.atomic_table.specs.Table.{State}
 use Rattle.atomic_table.specs.Seated.{TableId}
 use Rattle.area_layout.specs.Layout.{shape_of}

@@ -22,7 +22,8 @@ load_as-requires-clause-allows c =
     let i : ℕ = refill_words_at mine a in
     let next_slot_is = subst (λ (k : Setting). c.args.slot ≡ takes_entry_at k mine a) words.keyed c.requires.next in
     let at : c.refill-word.result ≡ refill_at setting a s i = c.refill-word.ensures.value
-    ∙ (ap (λ k. refill_at k a c.args.slot c.args.at) words.keyed ∙ (ap (λ k. refill_at setting a k c.args.at) next_slot_is ∙ ap (λ k. refill_at setting a s k) c.requires.so_far)) in
+    ∙ (ap (λ k. refill_at k a c.args.slot c.args.at) words.keyed
+    ∙ (ap (λ k. refill_at setting a k c.args.at) next_slot_is ∙ ap (λ k. refill_at setting a s k) c.requires.so_far)) in
     let few : a < apps_of setting = subst (λ k. a < apps_of k) words.keyed c.requires.app in
     let within : s < setting.places = subst (λ k. k < setting.places) next_slot_is (subst
     (λ (k : Setting). c.args.slot < k.places) words.keyed c.requires.within) in
@@ -39,4 +40,10 @@ load_as-requires-clause-allows c =
     c.args.seat.now.me c.requires.card
 
 pub returns-clause-event : goal.returns-clause-event
-returns-clause-event c = c.load_as.ensures.me ∙ ap (λ xs. (card_view (side_in_hand (card_of c.args.seat.now.me.0) c.args.app c.load_as.result (entry_of (1 ∷ (next_slot (card_of c.args.seat.now.me.0).inside.refill_slots c.args.app).words ++ c.load_as.result ∷ []))), xs)) (ap (λ me. me.1) c.requires.card)
+returns-clause-event c = c.load_as.ensures.me
+    ∙ ap (λ xs. (
+      card_view (side_in_hand (card_of c.args.seat.now.me.0) c.args.app c.load_as.result
+          (entry_of (1 ∷ (next_slot (card_of c.args.seat.now.me.0).inside.refill_slots c.args.app).words ++ c.load_as.result ∷ []))),
+      xs,
+    ))
+    (ap (λ me. me.1) c.requires.card)

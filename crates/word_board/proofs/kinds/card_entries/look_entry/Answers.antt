@@ -27,7 +27,8 @@ load_as-requires-clause-allows c =
     let within : s < setting.places = subst (λ k. k < setting.places) next_slot_is (subst
     (λ (k : Setting). c.args.slot < k.places) words.keyed c.requires.within) in
     let next : ℕ → NicSide = λ n. side_entry_looked mine a (n == 1) in
-    card-step setting words.table.shared.table_id.slots c.args.seat.now.id c.refill-word.result (λ n. n) (λ _. length mine.inside.refill_slots ≡ apps_of setting) mine next
+    card-step setting words.table.shared.table_id.slots c.args.seat.now.id c.refill-word.result (λ n. n)
+    (λ _. length mine.inside.refill_slots ≡ apps_of setting) mine next
     (λ ws apps rule small.
     let law = c.k16_flag.ensures.entry setting ws mine apps a rule few in (
       loads setting ws c.refill-word.result
@@ -37,7 +38,8 @@ load_as-requires-clause-allows c =
     c.args.seat.now.me c.requires.card
 
 pub returns-clause-event : goal.returns-clause-event
-returns-clause-event c = c.load_as.ensures.me ∙ ap (λ xs. (card_view (side_entry_looked (card_of c.args.seat.now.me.0) c.args.app (c.load_as.result == 1)), xs)) (ap (λ me. me.1) c.requires.card)
+returns-clause-event c = c.load_as.ensures.me
+    ∙ ap (λ xs. (card_view (side_entry_looked (card_of c.args.seat.now.me.0) c.args.app (c.load_as.result == 1)), xs)) (ap (λ me. me.1) c.requires.card)
 
 pub returns-clause-slots : goal.returns-clause-slots
 returns-clause-slots c =

@@ -7,4 +7,7 @@ use Rattle.word_board.specs.Board.{card_of}
 use Rattle.word_board.proofs.kinds.card_entries.look_entry.Given as goal
 
 abbrev pub ghosts-load_as : goal.ghosts-load_as
-ghosts-load_as a = record { after = λ n. card_view (side_entry_looked (card_of a.seat.now.me.0) a.about (n == 1)); told = λ _. length (card_of a.seat.now.me.0).inside.refill_slots ≡ apps_of a.words.now.shared.key }
+ghosts-load_as a = record {
+  after = λ n. card_view (side_entry_looked (card_of a.seat.now.me.0) a.about (n == 1));
+  told = λ _. length (card_of a.seat.now.me.0).inside.refill_slots ≡ apps_of a.words.now.shared.key;
+}

@@ -27,7 +27,8 @@ swap_as-requires-clause-allows c =
     app-step setting words.table.shared.table_id.slots c.args.seat.now.id c.refill-word.result (λ _. 1) (λ _. Unit {0}) mine
     (λ _. side_pushed mine c.args.entry) (λ n. refl)
     (λ ws nic apps rule here small.
-    let law = c.k15.ensures.raw setting ws nic apps mine c.args.entry rule here c.requires.idle c.requires.counted c.requires.unbegun c.requires.seen c.requires.words c.requires.fits in (
+    let law = c.k15.ensures.raw setting ws nic apps mine c.args.entry rule here
+    c.requires.idle c.requires.counted c.requires.unbegun c.requires.seen c.requires.words c.requires.fits in (
       stores-refill setting ws a s 0 c.refill-word.result at few within (omega arith) rule 1 law,
       tt,
     ))

@@ -7,4 +7,7 @@ use Rattle.word_board.specs.Board.{card_of}
 use Rattle.word_board.proofs.kinds.notes.look_note.Given as goal
 
 abbrev pub ghosts-load_as : goal.ghosts-load_as
-ghosts-load_as a = record { after = λ n. card_view (side_note_looked (card_of a.seat.now.me.0) a.about (n == 0)); told = λ _. length (card_of a.seat.now.me.0).inside.note_slots ≡ apps_of a.words.now.shared.key }
+ghosts-load_as a = record {
+  after = λ n. card_view (side_note_looked (card_of a.seat.now.me.0) a.about (n == 0));
+  told = λ _. length (card_of a.seat.now.me.0).inside.note_slots ≡ apps_of a.words.now.shared.key;
+}

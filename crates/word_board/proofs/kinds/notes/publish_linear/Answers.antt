@@ -33,4 +33,5 @@ swap_as-requires-clause-allows c =
     c.args.seat.now.me c.requires.card
 
 pub returns-clause-event : goal.returns-clause-event
-returns-clause-event c = c.swap_as.ensures.me ∙ ap (λ xs. (card_view (side_sent_linear (card_of c.args.seat.now.me.0) c.args.app c.args.note c.args.bytes.now), xs)) (ap (λ me. me.1) c.requires.card)
+returns-clause-event c = c.swap_as.ensures.me
+    ∙ ap (λ xs. (card_view (side_sent_linear (card_of c.args.seat.now.me.0) c.args.app c.args.note c.args.bytes.now), xs)) (ap (λ me. me.1) c.requires.card)

@@ -22,7 +22,8 @@ swap_as-requires-clause-allows c =
     let i : ℕ = note_words_at mine a in
     let next_slot_is = subst (λ (k : Setting). c.args.slot ≡ writes_note_at k mine a) words.keyed c.requires.next in
     let at : c.note-word.result ≡ note_at setting a s i = c.note-word.ensures.value
-    ∙ (ap (λ k. note_at k a c.args.slot c.args.at) words.keyed ∙ (ap (λ k. note_at setting a k c.args.at) next_slot_is ∙ ap (λ k. note_at setting a s k) c.requires.so_far)) in
+    ∙ (ap (λ k. note_at k a c.args.slot c.args.at) words.keyed
+    ∙ (ap (λ k. note_at setting a k c.args.at) next_slot_is ∙ ap (λ k. note_at setting a s k) c.requires.so_far)) in
     let few : a < apps_of setting = subst (λ k. a < apps_of k) words.keyed c.requires.app in
     let within : s < setting.places = subst (λ k. k < setting.places) next_slot_is (subst
     (λ (k : Setting). c.args.slot < k.places) words.keyed c.requires.within) in
@@ -35,4 +36,5 @@ swap_as-requires-clause-allows c =
     c.args.seat.now.me c.requires.card
 
 pub returns-clause-event : goal.returns-clause-event
-returns-clause-event c = c.swap_as.ensures.me ∙ ap (λ xs. (card_view (side_note_stored (card_of c.args.seat.now.me.0) c.args.app c.args.n), xs)) (ap (λ me. me.1) c.requires.card)
+returns-clause-event c = c.swap_as.ensures.me
+    ∙ ap (λ xs. (card_view (side_note_stored (card_of c.args.seat.now.me.0) c.args.app c.args.n), xs)) (ap (λ me. me.1) c.requires.card)

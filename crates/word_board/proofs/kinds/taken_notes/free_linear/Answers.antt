@@ -29,7 +29,8 @@ swap_as-requires-clause-allows c =
     (λ k. c.args.app < apps_of k) words.keyed c.requires.few) in
     let within : s < setting.places = subst (λ k. k < setting.places) next_slot (subst
     (λ (k : Setting). c.args.slot < k.places) words.keyed c.requires.within) in
-    let next : ℕ → AppSide = λ n. side_took_linear mine (loaded_note mine) (take (loaded_note mine).total (linear_of (1 ∷ mine.inside.note_slot.words))) in
+    let next : ℕ → AppSide = λ n. side_took_linear mine (loaded_note mine)
+    (take (loaded_note mine).total (linear_of (1 ∷ mine.inside.note_slot.words))) in
     app-step setting words.table.shared.table_id.slots c.args.seat.now.id c.note-word.result (λ _. 0) (λ _. IsLinearNote (loaded_note mine)) mine next
     (λ n. refl)
     (λ ws nic apps rule here small.
@@ -38,7 +39,13 @@ swap_as-requires-clause-allows c =
     c.args.seat.now.me c.requires.app
 
 pub returns-clause-event : goal.returns-clause-event
-returns-clause-event c = c.swap_as.ensures.me ∙ ap (λ xs. (app_view (side_took_linear (app_of c.args.seat.now.me.0) (loaded_note (app_of c.args.seat.now.me.0)) (take (loaded_note (app_of c.args.seat.now.me.0)).total (linear_of (1 ∷ (app_of c.args.seat.now.me.0).inside.note_slot.words)))), xs)) (ap (λ me. me.1) c.requires.app)
+returns-clause-event c = c.swap_as.ensures.me
+    ∙ ap (λ xs. (
+      app_view (side_took_linear (app_of c.args.seat.now.me.0) (loaded_note (app_of c.args.seat.now.me.0))
+          (take (loaded_note (app_of c.args.seat.now.me.0)).total (linear_of (1 ∷ (app_of c.args.seat.now.me.0).inside.note_slot.words)))),
+      xs,
+    ))
+    (ap (λ me. me.1) c.requires.app)
 
 pub returns-clause-fields : goal.returns-clause-fields
 returns-clause-fields c = c.swap_as.ensures.told

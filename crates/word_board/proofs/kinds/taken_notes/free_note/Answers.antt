@@ -37,7 +37,8 @@ swap_as-requires-clause-allows c =
     c.args.seat.now.me c.requires.app
 
 pub returns-clause-event : goal.returns-clause-event
-returns-clause-event c = c.swap_as.ensures.me ∙ ap (λ xs. (app_view (side_took_note (app_of c.args.seat.now.me.0) (loaded_note (app_of c.args.seat.now.me.0))), xs)) (ap (λ me. me.1) c.requires.app)
+returns-clause-event c = c.swap_as.ensures.me
+    ∙ ap (λ xs. (app_view (side_took_note (app_of c.args.seat.now.me.0) (loaded_note (app_of c.args.seat.now.me.0))), xs)) (ap (λ me. me.1) c.requires.app)
 
 pub returns-clause-fields : goal.returns-clause-fields
 returns-clause-fields c = c.swap_as.ensures.told

@@ -7,4 +7,7 @@ use Rattle.word_board.specs.Board.{app_of}
 use Rattle.word_board.proofs.kinds.taken_notes.free_note.Given as goal
 
 abbrev pub ghosts-swap_as : goal.ghosts-swap_as
-ghosts-swap_as a = record { after = λ n. app_view (side_took_note (app_of a.seat.now.me.0) (loaded_note (app_of a.seat.now.me.0))); told = λ _. IsSplitNote (loaded_note (app_of a.seat.now.me.0)) }
+ghosts-swap_as a = record {
+  after = λ n. app_view (side_took_note (app_of a.seat.now.me.0) (loaded_note (app_of a.seat.now.me.0)));
+  told = λ _. IsSplitNote (loaded_note (app_of a.seat.now.me.0));
+}

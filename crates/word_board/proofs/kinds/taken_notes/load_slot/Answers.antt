@@ -23,7 +23,8 @@ load_as-requires-clause-allows c =
     let next_slot = subst (λ (k : Setting). c.args.slot ≡ takes_note_at k mine) words.keyed c.requires.next in
     let at : c.note-word.result ≡ note_at setting a s i = c.note-word.ensures.value
     ∙ (ap (λ k. note_at k c.args.app c.args.slot c.args.at) words.keyed
-    ∙ (ap (λ k. note_at setting k c.args.slot c.args.at) (sym c.requires.number) ∙ (ap (λ k. note_at setting a k c.args.at) next_slot ∙ ap (λ k. note_at setting a s k) c.requires.so_far))) in
+    ∙ (ap (λ k. note_at setting k c.args.slot c.args.at) (sym c.requires.number)
+    ∙ (ap (λ k. note_at setting a k c.args.at) next_slot ∙ ap (λ k. note_at setting a s k) c.requires.so_far))) in
     let few : a < apps_of setting = subst (λ k. k < apps_of setting) (sym c.requires.number) (subst
     (λ k. c.args.app < apps_of k) words.keyed c.requires.few) in
     let within : s < setting.places = subst (λ k. k < setting.places) next_slot (subst
@@ -42,4 +43,5 @@ load_as-requires-clause-allows c =
     c.args.seat.now.me c.requires.app
 
 pub returns-clause-event : goal.returns-clause-event
-returns-clause-event c = c.load_as.ensures.me ∙ ap (λ xs. (app_view (side_slot_loaded (app_of c.args.seat.now.me.0) c.load_as.result), xs)) (ap (λ me. me.1) c.requires.app)
+returns-clause-event c = c.load_as.ensures.me
+    ∙ ap (λ xs. (app_view (side_slot_loaded (app_of c.args.seat.now.me.0) c.load_as.result), xs)) (ap (λ me. me.1) c.requires.app)

@@ -45,4 +45,5 @@ load_as-requires-clause-allows c =
     c.args.seat.now.me c.requires.app
 
 pub returns-clause-event : goal.returns-clause-event
-returns-clause-event c = c.load_as.ensures.me ∙ ap (λ xs. (app_view (side_slot_looked (app_of c.args.seat.now.me.0) (c.load_as.result == 1)), xs)) (ap (λ me. me.1) c.requires.app)
+returns-clause-event c = c.load_as.ensures.me
+    ∙ ap (λ xs. (app_view (side_slot_looked (app_of c.args.seat.now.me.0) (c.load_as.result == 1)), xs)) (ap (λ me. me.1) c.requires.app)
