@@ -1,5 +1,6 @@
 -- Where nobody can do anything, all are gone.
-use Rattle.std.proofs.Common.{◌≡◌, ℕ, ◌<◌, ◌≤◌, ◌⊎◌, inl, inr, ⊎_elim, true, false, [], length, count_by, refl, sym, ap, subst, ◌∙◌, arith, Some}
+use Rattle.std.proofs.Common.{◌≡◌, ℕ, ◌<◌, ◌≤◌, ◌⊎◌, inl, inr, ⊎_elim, true, false, [], length, count_by, refl, sym, ap, subst}
+use Rattle.std.proofs.Common.{◌∙◌, arith, Some}
 use Rattle.std.specs.Prelude.{MatchBool}
 use Rattle.std.specs.List.{slice_get}
 use Rattle.std.proofs.lemmas.Option.{get_or_from_slice_get, slice_get_within}
@@ -75,7 +76,8 @@ module _ (board : Board) (run : Run) (shelves : ℕ) (fits : Fits board run shel
       let gone = (fits.worker a own.0 own.1).gone left in
       let phase = fits.sound.phased.sides a blank_app (side-is board run shelves fits a within).there in
       let empty = ap length (phase.ended (phase.left gone.0).ended).1 in absurd (omega (arith, empty, some, full)))
-      (λ (waits : IsSeenBy look.NoNote (app_gist (side_of board a).view) (others_of board a)). let empty = ap length waits.1 in absurd (omega (arith, empty, some, full)))
+      (λ (waits : IsSeenBy look.NoNote (app_gist (side_of board a).view) (others_of board a)). let empty = ap length waits.1 in absurd
+          (omega (arith, empty, some, full)))
       (waiting a own.0 own.1))
       card.notes
 

@@ -1,5 +1,6 @@
 -- No run goes further than its records, their bytes and the plan let it.
-use Rattle.std.proofs.Common.{◌≡◌, ℕ, zero, suc, ◌+◌, ◌*◌, ◌<◌, ◌≤◌, ◌==◌, Bool, true, false, List, [], ◌∷◌, ◌++◌, length, length-append, take, map, refl, sym, ap, subst, arith, Option, Some, None}
+use Rattle.std.proofs.Common.{◌≡◌, ℕ, zero, suc, ◌+◌, ◌*◌, ◌<◌, ◌≤◌, ◌==◌, Bool, true, false, List, [], ◌∷◌, ◌++◌}
+use Rattle.std.proofs.Common.{length, length-append, take, map, refl, sym, ap, subst, arith, Option, Some, None}
 use Rattle.std.specs.Prelude.{All, filter, MatchBool, if◌then◌else◌}
 use Rattle.std.specs.List.{slice_get}
 use Rattle.std.specs.Prelude.{option_to_list}
@@ -56,7 +57,8 @@ offered-many flows (s ∷ steered) = ap suc (offered-many (flows_with flows s) s
 
 steered-few : (ports : List ℕ) (number : ℕ) (segments : List (Option TcpSegment)) → length (steered_from ports number segments) ≤ length segments
 steered-few ports number [] = omega arith
-steered-few ports number (segment ∷ segments) = one (steer ports number segment) (steered_from ports (suc number) segments) (steered-few ports (suc number) segments)
+steered-few ports number (segment ∷ segments) = one (steer ports number segment) (steered_from ports (suc number) segments)
+    (steered-few ports (suc number) segments)
   where
     one : {n : ℕ} (s : Option Steered) (rest : List Steered) → length rest ≤ n → length (option_to_list s ++ rest) ≤ suc n
     one None rest few = omega (arith, few)
@@ -64,7 +66,8 @@ steered-few ports number (segment ∷ segments) = one (steer ports number segmen
 
 in-few : (ports : List ℕ) (frames : List (List ℕ)) → length (steered_in ports frames) ≤ length frames
 unfolding steered_of
-in-few ports frames = let few = steered-few ports 1 (segments_of frames) in let many : length (segments_of frames) ≡ length frames = length-map frames (λ frame. segment_of (class_of frame)) in omega (arith, few, many)
+in-few ports frames = let few = steered-few ports 1 (segments_of frames) in let many : length (segments_of frames) ≡ length frames = length-map frames
+    (λ frame. segment_of (class_of frame)) in omega (arith, few, many)
 
 settled-few : (hand : Option Offered) (offers settled : List Offered) → Awaits hand offers settled → length settled ≤ length offers
 settled-few None offers settled awaits = omega (arith, ap length awaits)
@@ -137,7 +140,8 @@ one-more (suc n) d dealt below = ⊎_elim
 all-first : (n : ℕ) (dealt : List Dealt) → All (λ (d : Dealt). d.app < n) dealt → length dealt ≤ of-first n dealt
 all-first n [] below = omega arith
 all-first n (d ∷ dealt) below =
-    omega (arith, all-first n dealt (All-tail (λ (e : Dealt). e.app < n) d dealt below), one-more n d dealt (All-head (λ (e : Dealt). e.app < n) d dealt below))
+    omega (arith, all-first n dealt (All-tail (λ (e : Dealt). e.app < n) d dealt below), one-more n d dealt
+        (All-head (λ (e : Dealt). e.app < n) d dealt below))
 
 first-most : (n most : ℕ) (dealt : List Dealt) → ((a : ℕ) → a < n → tally (λ d. d.app == a) dealt ≤ most) → of-first n dealt ≤ n * most
 first-most zero most dealt each = omega arith
@@ -213,18 +217,22 @@ module _ (board : Board) (run : Run) (shelves : ℕ) (fits : Fits board run shel
       let follow : stray * total taken_len v.taken ≤ stray * most_bytes = mul-le-mul_left stray bytes in
       let bound = stands.common.bound in
       let loans : loan_entries v ≤ most_bytes = let entries = stands.common.entries in omega (arith, entries, bound, bytes) in
-      let raw : raw_entries v ≤ stray * loan_entries v = let strays = subst (λ n. raw_entries v + w.state.stray.left ≤ n * loan_entries v) how stands.common.strays in omega (arith, strays) in
+      let raw : raw_entries v ≤ stray * loan_entries v = let strays = subst
+          (λ n. raw_entries v + w.state.stray.left ≤ n * loan_entries v) how stands.common.strays in omega (arith, strays) in
       let raws : stray * loan_entries v ≤ stray * most_bytes = mul-le-mul_left stray loans in (
         omega (arith, far, follow, many, bytes, one-most w.state.bare, one-most w.left),
         omega (arith, kinds v.written, raw, raws, loans),
       )
 
-  all-within : (a : ℕ) (workers : List Worker) → ((i : ℕ) (w : Worker) → slice_get workers i ≡ Some w → worker_steps (side_of board (a + i)).view w ≤ worker_most stray)
+  all-within : (a : ℕ) (workers : List Worker) →
+      ((i : ℕ) (w : Worker) → slice_get workers i ≡ Some w → worker_steps (side_of board (a + i)).view w ≤ worker_most stray)
       → steps_from board a workers ≤ length workers * worker_most stray
   all-within a [] each = omega arith
   all-within a (w ∷ workers) each =
-      let first : worker_steps (side_of board a).view w ≤ worker_most stray = subst (λ n. worker_steps (side_of board n).view w ≤ worker_most stray) (let e : a + 0 ≡ a = omega arith in e) (each 0 w refl) in
-      let rest = all-within (suc a) workers (λ i u at. subst (λ n. worker_steps (side_of board n).view u ≤ worker_most stray) (let e : a + suc i ≡ suc a + i = omega arith in e) (each (suc i) u at)) in
+      let first : worker_steps (side_of board a).view w ≤ worker_most stray = subst (λ n. worker_steps (side_of board n).view w ≤ worker_most stray)
+          (let e : a + 0 ≡ a = omega arith in e) (each 0 w refl) in
+      let rest = all-within (suc a) workers
+          (λ i u at. subst (λ n. worker_steps (side_of board n).view u ≤ worker_most stray) (let e : a + suc i ≡ suc a + i = omega arith in e) (each (suc i) u at)) in
       omega (arith, first, rest)
 
   pub run-within : run_steps board run ≤ run_most (length run.workers.items) stray
@@ -237,7 +245,8 @@ module _ (board : Board) (run : Run) (shelves : ℕ) (fits : Fits board run shel
       let took = (took-few a below).dealt in
       let few = (worker-within a own.0 own.1 below).1 in omega (arith, took, few)) in omega (arith, first, most) in
       let apps : steps_from board 0 run.workers.items ≤ n * worker_most stray = all-within 0 run.workers.items
-      (λ i w at. subst (λ m. worker_steps (side_of board m).view w ≤ worker_most stray) (let e : i ≡ 0 + i = omega arith in e) (worker-within i w at (slice_get_within run.workers.items i w at)).0) in
+      (λ i w at. subst (λ m. worker_steps (side_of board m).view w ≤ worker_most stray) (let e : i ≡ 0 + i = omega arith in e)
+          (worker-within i w at (slice_get_within run.workers.items i w at)).0) in
       let some = notes.some in
       let bytes = notes.bytes in
       omega (arith, records, some, bytes, dealt, apps, one-most run.feed.closed, one-most (is_over run.feed.stage))
@@ -245,7 +254,8 @@ module _ (board : Board) (run : Run) (shelves : ℕ) (fits : Fits board run shel
 pub runs-within : {S T : Type 0} (left : S → Option (List ℕ)) (faults : S → ℕ) (kept : T → ℕ → Option (List ℕ)) (losses : T → ℕ)
     → RunsStayWithin left faults kept losses
 runs-within left faults kept losses source source_now shelves shelves_now plan board run fits runs =
-    let records : length runs.frames ≤ 16777216 = let read = ap (λ t. t.records) runs.feed.tally_is in let most = runs.records in omega (arith, read, most) in
+    let records : length runs.frames ≤ 16777216 = let read = ap (λ t. t.records) runs.feed.tally_is in let most = runs.records in omega
+        (arith, read, most) in
     let notes : AreFew most_bytes board.nic.view.sent = sent-few plan.split plan.ports.items runs.frames run.feed.refused run.feed.at_hand
     board.nic.view.sent _ runs.feed.settled records fits.sound.notes in
     let dealt = subst (λ n. All (λ (d : Dealt). d.app < n) board.nic.view.dealt) (sym runs.many) runs.dealt in

@@ -1,5 +1,6 @@
 -- How many bytes the notes tell of that were sent: those of their frames at most.
-use Rattle.std.proofs.Common.{◌≡◌, ℕ, zero, suc, ◌+◌, ◌-◌, ◌*◌, ◌<◌, ◌≤◌, ⊎_elim, List, [], ◌∷◌, ◌++◌, length, take, refl, sym, ap, ◌∙◌, subst, arith}
+use Rattle.std.proofs.Common.{◌≡◌, ℕ, zero, suc, ◌+◌, ◌-◌, ◌*◌, ◌<◌, ◌≤◌, ⊎_elim, List, [], ◌∷◌, ◌++◌, length, take}
+use Rattle.std.proofs.Common.{refl, sym, ap, ◌∙◌, subst, arith}
 use Rattle.std.specs.Prelude.{All}
 use Rattle.std.proofs.Common.{length-append}
 use Rattle.std.proofs.Math.Seq.{take-length, take-append_seam, drop-append_seam, take-append-add}
@@ -91,7 +92,8 @@ frames-few split (o ∷ os) notes n shows proper =
     ap (take n) are ∙ (ap (λ k. take k (mine ++ rest)) (let e : n ≡ length mine + m = omega (arith, past) in e) ∙ take-append-add mine rest m) in
     let all : All IsProper (mine ++ take m rest) = subst (All IsProper) seam proper in
     let first : All IsProper mine = subst (All IsProper) (take-append_seam mine (take m rest)) (All-take IsProper (length mine) (mine ++ take m rest) all) in
-    let later : All IsProper (take m rest) = subst (All IsProper) (drop-append_seam mine (take m rest)) (All-drop IsProper (length mine) (mine ++ take m rest) all) in
+    let later : All IsProper (take m rest) = subst (All IsProper) (drop-append_seam mine (take m rest))
+        (All-drop IsProper (length mine) (mine ++ take m rest) all) in
     let whole : take (length mine) mine ≡ mine = take-length mine in
     let own : AreFew 65515 mine = subst (AreFew 65515) whole (frame-few split o mine (length mine) here (subst (All IsProper) (sym whole) first)) in
     subst (AreFew (65515 * length (o ∷ os))) (sym seam) (

@@ -1,5 +1,6 @@
 -- A turn of an application that did something brings it further, and none brings it back.
-use Rattle.std.proofs.Common.{◌≡◌, ◌≢◌, ℕ, zero, suc, ◌+◌, ◌<◌, ◌≤◌, Bool, true, false, Some, set, List, [], ◌∷◌, Option, refl, sym, ap, ◌∙◌, subst, arith, ⊎_elim}
+use Rattle.std.proofs.Common.{◌≡◌, ◌≢◌, ℕ, zero, suc, ◌+◌, ◌<◌, ◌≤◌, Bool, true, false, Some, set, List, [], ◌∷◌, Option}
+use Rattle.std.proofs.Common.{refl, sym, ap, ◌∙◌, subst, arith, ⊎_elim}
 use Rattle.std.specs.Prelude.{MatchBool}
 use Rattle.std.proofs.lemmas.Bool.{cases_Bool}
 use Rattle.zr_kinds.specs.declared.behaviour.Stopped.TheVariants as stop
@@ -62,8 +63,10 @@ module _ (was now : Worker) (old new : AppView) (kept kept_now : ℕ → Option 
   rises-by Did is some answer = omega (arith, answer, bare-later, left-first)
   rises-by (Idle why) is some answer = absurd (some why refl)
   rises-by Finished is some answer = omega (arith, steps-later, bare-later, left-first, ap one_if (gone is))
-  rises-by (Failed memory_fault) is some answer = failed answer.0 (λ no. absurd (let wrong : stop.Memory ≡ stop.No = sym answer.1 ∙ no in let none : ⊥ = cc in none))
-  rises-by (Failed write_fault) is some answer = failed answer.0 (λ no. absurd (let wrong : stop.Write ≡ stop.No = sym answer.1 ∙ no in let none : ⊥ = cc in none))
+  rises-by (Failed memory_fault) is some answer = failed answer.0
+      (λ no. absurd (let wrong : stop.Memory ≡ stop.No = sym answer.1 ∙ no in let none : ⊥ = cc in none))
+  rises-by (Failed write_fault) is some answer = failed answer.0
+      (λ no. absurd (let wrong : stop.Write ≡ stop.No = sym answer.1 ∙ no in let none : ⊥ = cc in none))
   rises-by (Failed other) is some answer = elim answer [ ]
 
   pub rises : ((why : Why) → result ≢ Idle why) → worker_steps old was < worker_steps new now
