@@ -6,6 +6,7 @@ mod frames;
 mod limits;
 mod making;
 mod plain;
+mod pools;
 mod ports;
 mod records;
 mod reordered;

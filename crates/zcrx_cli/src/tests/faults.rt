@@ -29,8 +29,8 @@ fn two_ports(alloc: Global) -> Result<Vec<u8>, Fail> {
     capture_of(alloc, &sent)
 }
 
-/// Two bytes go out at a call that fails, and nothing later does; the flows of the other application are whole. The
-/// rows are the call, what the shelf has of flows 0 and 2, and how many bytes the calls before took.
+/// Two bytes go out at a call that fails, and nothing later does; the flows of the other application are whole. Each call
+/// is of a loan of its own, and a stopped application lends nothing more. The rows are the call, what the shelf has of flows 0 and 2, and how many bytes the calls before took.
 #[test]
 fn a_lost_shelf_keeps_fronts(rt: HostRuntime) -> Result<(), Fail> {
     let alloc = rt.alloc();
@@ -47,11 +47,12 @@ fn a_lost_shelf_keeps_fronts(rt: HostRuntime) -> Result<(), Fail> {
         let report = format!(in alloc;
             "\
 capture records 6 tcp 6 steered 6 other 0 fragment 0 cut 0 bad 0
-app 0 port 9000 written {written} loans 0 copied 0 stopped write
-app 1 port 9001 written 12 loans 0 copied 0 stopped no
+app 0 port 9000 written {written} loans {call} copied 0 stopped write
+app 1 port 9001 written 12 loans 2 copied 0 stopped no
 flow 0 port 9000 base 1001 bytes {zero_bytes} fin yes
 flow 1 port 9001 base 500 bytes 12 fin no
 flow 2 port 9000 base 7 bytes {two_bytes} fin no
+pool fast 0 refill 0 slow 1 empty 0 strays 0
 status 9
 "
         )?;

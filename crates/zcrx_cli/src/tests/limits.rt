@@ -1,5 +1,6 @@
 //! A capture with more flows than a replay numbers.
 use super::frames::{FILE_HEADER, SYN, Sent, frame, record_of, to_9000};
+use super::runs::{check_free, free_buffers};
 use crate::{Card, SHELVES, zcrx};
 use std::alloc::Global;
 use std::collections::hash_map::RandomState;
@@ -41,7 +42,7 @@ pub fn check_report<S: Source + Send>(
     );
     assert!(rt; out.bytes() == report.as_bytes(), "another report");
     assert_eq!(rt; answer, status);
-    Ok(())
+    check_free(rt, "a long capture", free_buffers(card), 64)
 }
 
 /// A SYN from each port there is.

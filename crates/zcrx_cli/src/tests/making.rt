@@ -41,6 +41,7 @@ fn make(
     assert_eq!(rt; left.status, status);
     assert_eq!(rt; left.next.as_slice(), given.bytes);
     check_shelves(rt, "make", &[], &left.shelves);
+    assert!(rt; left.free.is_none(), "a board");
     Ok(left.sent)
 }
 
@@ -129,7 +130,8 @@ status 0
     Ok(())
 }
 
-/// 500 pieces of each flow, of which every second pair is swapped.
+/// 500 pieces of each flow, of which every second pair is swapped. They fill 538 buffers. Once the 64 of the first search are
+/// used, those that came back serve, 63 or 64 at a time.
 #[test]
 fn two_thousand_frames_are_replayed(rt: HostRuntime) -> Result<(), Fail> {
     let alloc = rt.alloc();
@@ -148,7 +150,16 @@ fn two_thousand_frames_are_replayed(rt: HostRuntime) -> Result<(), Fail> {
     let row = Row {
         name: "make 7 2000",
         given: Given {
-            words: &["replay", "9000", "9001", "9002", "9003"],
+            words: &[
+                "replay",
+                "--buffers",
+                "2000",
+                "9000",
+                "9001",
+                "9002",
+                "9003",
+            ],
+            buffers: 2000,
             most: 65_536,
             stream_room: LONG,
             ..faultless(&made)
@@ -157,14 +168,15 @@ fn two_thousand_frames_are_replayed(rt: HostRuntime) -> Result<(), Fail> {
         streams: &streams,
         report: "\
 capture records 2000 tcp 2000 steered 2000 other 0 fragment 0 cut 0 bad 0
-app 0 port 9000 written 500000 loans 0 copied 0 stopped no
-app 1 port 9001 written 500000 loans 0 copied 0 stopped no
-app 2 port 9002 written 500000 loans 0 copied 0 stopped no
-app 3 port 9003 written 500000 loans 0 copied 0 stopped no
+app 0 port 9000 written 500000 loans 500 copied 0 stopped no
+app 1 port 9001 written 500000 loans 500 copied 0 stopped no
+app 2 port 9002 written 500000 loans 500 copied 0 stopped no
+app 3 port 9003 written 500000 loans 500 copied 0 stopped no
 flow 0 port 9000 base 4294960000 bytes 500000 fin no
 flow 1 port 9001 base 4294960000 bytes 500000 fin no
 flow 2 port 9002 base 4294960000 bytes 500000 fin no
 flow 3 port 9003 base 4294960000 bytes 500000 fin no
+pool fast 529 refill 8 slow 1 empty 0 strays 0
 status 0
 ",
     };

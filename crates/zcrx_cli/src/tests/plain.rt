@@ -2,7 +2,7 @@
 ghost use Rattle.std.specs.Prelude.{◌<◌, ◌^◌, length};
 
 use super::frames::capture;
-use super::runs::{Given, Row, Stream, check, faultless};
+use super::runs::{Given, Stream, check_free, check_shelves, faultless, run};
 use flow_table::plain::{PlainFlow, plain_flows, plain_stream};
 use frame_headers::{Seen, read_frame};
 use std::alloc::Global;
@@ -57,7 +57,8 @@ fn written(app: usize, streams: &[Stream<'_>]) -> usize {
     written
 }
 
-/// The report of a replay that takes all of these frames.
+/// The report of a replay that takes all of these frames, without loans and the pool's line: these the plain programs don't
+/// know.
 fn report(
     alloc: Global,
     seen: &[Seen<'_>],
@@ -79,7 +80,7 @@ fn report(
     for (app, port) in PORTS.iter().enumerate() {
         let written = written(app, streams);
         let line = format!(in alloc;
-            "app {app} port {port} written {written} loans 0 copied 0 stopped no\n"
+            "app {app} port {port} written {written} copied 0 stopped no\n"
         )?;
         text.push_str(&line)?;
     }
@@ -97,6 +98,27 @@ fn report(
     Ok(text)
 }
 
+/// The report without loans and the pool's line.
+fn without_loans(alloc: Global, report: &str) -> Result<String, Fail> {
+    let mut text = String::new(alloc);
+    for line in report.lines() {
+        if line.starts_with("pool ") {
+            continue;
+        }
+        match line.split_once(" loans ") {
+            Some((front, loans)) => {
+                let (_, rest) = loans.split_once(' ').ok_or("loans end the line")?;
+                text.push_str(front)?;
+                text.push_str(" ")?;
+                text.push_str(rest)?;
+            }
+            None => text.push_str(line)?,
+        }
+        text.push_str("\n")?;
+    }
+    Ok(text)
+}
+
 /// The streams of so many flows.
 fn plain_streams(alloc: Global, seen: &[Seen<'_>], count: usize) -> Result<Vec<Vec<u8>>, Fail>
     requires { length seen.now < 2 ^ 32 }
@@ -108,7 +130,7 @@ fn plain_streams(alloc: Global, seen: &[Seen<'_>], count: usize) -> Result<Vec<V
     Ok(streams)
 }
 
-/// Replays these frames: streams and report have to be what the plain programs say.
+/// Replays these frames: streams, and the report but for loans and the pool's line, have to be what the plain programs say.
 pub fn check_plain(
     rt: &(impl Abort + AllocGlobal + RandomSource + Wait),
     name: &str,
@@ -130,16 +152,14 @@ pub fn check_plain(
     }
     let report = report(alloc, &seen, &flows, &streams)?;
     let capture = capture(alloc, frames)?;
-    let row = Row {
-        name,
-        given: Given {
-            words: &WORDS,
-            ..faultless(&capture)
-        },
-        status: 0,
-        streams: &streams,
-        report: &report,
+    let given = Given {
+        words: &WORDS,
+        ..faultless(&capture)
     };
-    check(rt, &row)?;
-    Ok(())
+    let left = run(rt, &given)?;
+    let told = without_loans(alloc, str::from_utf8(&left.sent)?)?;
+    assert_eq!(rt; told, report, "{name}");
+    assert_eq!(rt; left.status, 0, "{name}");
+    check_shelves(rt, name, &streams, &left.shelves);
+    check_free(rt, name, left.free, given.buffers)
 }

@@ -1,4 +1,6 @@
 //! One replay over memory, and what it left.
+ghost use Rattle.zcrx_cli.specs.Cards.{IsClosed};
+
 use crate::{Card, SHELVES, zcrx};
 use std::alloc::Global;
 use std::collections::hash_map::RandomState;
@@ -38,14 +40,16 @@ pub struct Given<'a> {
     pub stream_room: usize,
     /// How many bytes the sink has room for.
     pub sink_room: usize,
+    /// How many buffers the pool has, by the words.
+    pub buffers: u32,
 }
 
 /// What a call left.
 #[derive(Drop)]
 pub struct Left {
     pub status: u8,
-    /// The board of the run.
-    pub card: Card,
+    /// The free buffers of the run's board. There is no board where nothing was replayed.
+    pub free: Option<Vec<u32>>,
     /// What the sink got.
     pub sent: Vec<u8>,
     pub shelves: Vec<MemShelf>,
@@ -64,6 +68,7 @@ pub const fn faultless(bytes: &[u8]) -> Given<'_> {
         sink_fails: &[],
         stream_room: STREAM_ROOM,
         sink_room: REPORT_ROOM,
+        buffers: 64,
     }
 }
 
@@ -135,6 +140,30 @@ fn next_of(alloc: Global, source: &mut MemSource) -> Result<Vec<u8>, Fail> {
     Ok(next[..count].to_vec(alloc)?)
 }
 
+/// The free buffers of the board that is left, if there is one.
+pub fn free_buffers(card: Card) -> Option<Vec<u32>>
+    requires { IsClosed card }
+{
+    match card {
+        Card::Blank => None,
+        card => Some(card.free().free),
+    }
+}
+
+/// Each of the pool's buffers is free once.
+pub fn check_free(
+    rt: &(impl Abort + AllocGlobal),
+    name: &str,
+    free: Option<Vec<u32>>,
+    buffers: u32,
+) -> Result<(), Fail> {
+    let mut free = free.ok_or("no board")?;
+    free.sort()?;
+    let all: Vec<u32> = (0..buffers).collect(rt.alloc())?;
+    assert_eq!(rt; free.as_slice(), all.as_slice(), "{name}");
+    Ok(())
+}
+
 /// Runs the command.
 pub fn run(
     rt: &(impl Abort + AllocGlobal + RandomSource + Wait),
@@ -161,11 +190,24 @@ pub fn run(
     );
     Ok(Left {
         status,
-        card,
+        free: free_buffers(card),
         sent: out.bytes().to_vec(alloc)?,
         shelves,
         next: next_of(alloc, &mut source)?,
     })
+}
+
+/// With status 2 there is no board, and with any other each buffer of the pool is free.
+fn check_board(
+    rt: &(impl Abort + AllocGlobal),
+    row: &Row<'_>,
+    free: Option<Vec<u32>>,
+) -> Result<(), Fail> {
+    if row.status == 2 {
+        assert!(rt; free.is_none());
+        return Ok(());
+    }
+    check_free(rt, row.name, free, row.given.buffers)
 }
 
 /// Replays, compares what is left, and gives what the source's next call gives.
@@ -173,9 +215,16 @@ pub fn check(
     rt: &(impl Abort + AllocGlobal + RandomSource + Wait),
     row: &Row<'_>,
 ) -> Result<Vec<u8>, Fail> {
-    let left = run(rt, &row.given)?;
-    assert_eq!(rt; str::from_utf8(&left.sent)?, row.report, "{}", row.name);
-    assert_eq!(rt; left.status, row.status, "{}", row.name);
-    check_shelves(rt, row.name, row.streams, &left.shelves);
-    Ok(left.next)
+    let Left {
+        status,
+        free,
+        sent,
+        shelves,
+        next,
+    } = run(rt, &row.given)?;
+    assert_eq!(rt; str::from_utf8(&sent)?, row.report, "{}", row.name);
+    assert_eq!(rt; status, row.status, "{}", row.name);
+    check_shelves(rt, row.name, row.streams, &shelves);
+    check_board(rt, row, free)?;
+    Ok(next)
 }

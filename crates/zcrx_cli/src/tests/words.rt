@@ -8,7 +8,7 @@ use std::test::Fail;
 fn faulty_words_are_answered_by_2(rt: HostRuntime) -> Result<(), Fail> {
     let alloc = rt.alloc();
     let bytes = capture_of(alloc, &[to_9000(1001, PSH_ACK, b"hello")])?;
-    let rows: [&[&str]; 20] = [
+    let rows: [&[&str]; 44] = [
         &[],
         &["replay"],
         &["replay", "--"],
@@ -29,6 +29,30 @@ fn faulty_words_are_answered_by_2(rt: HostRuntime) -> Result<(), Fail> {
         &["--version"],
         &["replay", "--port=9000"],
         &["play", "9000"],
+        &["replay", "--buffers", "0", "9000"],
+        &["replay", "--buffers", "4097", "9000"],
+        &["replay", "--buffers", "64", "--buffers", "64", "9000"],
+        &["replay", "--buffers", "9000"],
+        &["replay", "--size", "1000", "9000"],
+        &["replay", "--size", "512", "9000"],
+        &["replay", "--size", "131072", "9000"],
+        &["replay", "--buffers", "4096", "--size", "65536", "9000"],
+        &["replay", "--ring", "0", "9000"],
+        &["replay", "--ring", "257", "9000"],
+        &["replay", "--split", "257", "9000"],
+        &["replay", "--hold", "4097", "9000"],
+        &["replay", "--leak", "4097", "9000"],
+        &["replay", "--stray", "17", "9000"],
+        &["replay", "--quit=", "9000"],
+        &["replay", "--quit=x", "9000"],
+        &["replay", "--turns", "", "9000"],
+        &["replay", "--turns", "n1", "9000"],
+        &["replay", "--turns", "N", "9000"],
+        &["replay", "--turns=n0", "--turns=n0", "9000"],
+        &["replay", "--size=0000000000000001024", "9000"],
+        &["replay", "--", "--size=1024", "9000"],
+        &["replay", "--siz", "1024", "9000"],
+        &["make", "7"],
     ];
     for words in rows {
         let name = format!(in alloc; "{words:?}")?;
@@ -49,20 +73,36 @@ fn faulty_words_are_answered_by_2(rt: HostRuntime) -> Result<(), Fail> {
 }
 
 #[test]
-fn zeros_may_lead_a_port_and_dashes_stand_before_it(rt: HostRuntime) -> Result<(), Fail> {
+fn options_stand_among_the_ports_and_zeros_lead_numbers(rt: HostRuntime) -> Result<(), Fail> {
     let alloc = rt.alloc();
     let bytes = capture_of(alloc, &[to_9000(1001, PSH_ACK, b"hello")])?;
-    let rows: [&[&str]; 3] = [
-        &["replay", "000000000000009000"],
-        &["replay", "--", "9000"],
-        &["replay", "9000", "--"],
+    let rows: [(&[&str], u32); 12] = [
+        (&["replay", "000000000000009000"], 64),
+        (&["replay", "--", "9000"], 64),
+        (&["replay", "9000", "--"], 64),
+        (&["replay", "--buffers=1", "9000"], 1),
+        (
+            &["replay", "9000", "--buffers", "0004096", "--size", "1024"],
+            4096,
+        ),
+        (
+            &["replay", "--buffers", "1024", "--size", "65536", "9000"],
+            1024,
+        ),
+        (&["replay", "--ring=1", "--", "9000"], 64),
+        (&["replay", "--ring", "256", "--split=4", "9000"], 64),
+        (&["replay", "--hold=4096", "9000", "--leak=4096"], 64),
+        (&["replay", "--quit", "999999999999999999", "9000"], 64),
+        (&["replay", "--turns", "00n0", "9000"], 64),
+        (&["replay", "--stray=0", "9000", "--turns=n"], 64),
     ];
-    for words in rows {
+    for (words, buffers) in rows {
         let name = format!(in alloc; "{words:?}")?;
         let row = Row {
             name: &name,
             given: Given {
                 words,
+                buffers,
                 ..faultless(&bytes)
             },
             status: 0,
