@@ -1,5 +1,6 @@
 -- The options of `replay`: each with its range, and what stands for it where it isn't said.
-use Rattle.std.specs.Prelude.{ℕ, ◌≤◌, ◌<◌, ◌≡◌, ◌+◌, ◌*◌, ◌⊎◌, Bool, List, [], ◌∷◌, length, nat_le, nat_lt, ◌==◌, ◌&&◌, ◌||◌}
+use Rattle.std.specs.Prelude.{ℕ, ◌≤◌, ◌<◌, ◌≡◌, ◌+◌, ◌*◌, ◌⊎◌, Bool, List, [], ◌∷◌, length, nat_le, nat_lt, ◌==◌}
+use Rattle.std.specs.Prelude.{◌&&◌, ◌||◌}
 use Rattle.std.specs.Prelude.{if◌then◌else◌, Option, Some, None, option_map, option_and_then, codes, All}
 use Rattle.std.specs.Int.{IsPowerOfTwo}
 use Rattle.std.specs.List.{list_all, list_any}
@@ -11,7 +12,8 @@ use Rattle.command_words.specs.declared.options.Options.{Options}
 -- the options of `replay`, without their dashes
 abbrev pub option_names : List Text
 option_names =
-    codes "buffers" ∷ codes "size" ∷ codes "ring" ∷ codes "split" ∷ codes "hold" ∷ codes "leak" ∷ codes "stray" ∷ codes "quit" ∷ codes "turns" ∷ []
+    codes "buffers" ∷ codes "size" ∷ codes "ring" ∷ codes "split" ∷ codes "hold" ∷ codes "leak" ∷ codes "stray"
+    ∷ codes "quit" ∷ codes "turns" ∷ []
 
 -- what follows of a value that is there
 abbrev pub given : {A B : Type 0} → Option A → (A → Option B) → Option B

@@ -77,7 +77,7 @@ module _ (board : Board) (run : Run) (shelves : ℕ) (fits : Fits board run shel
       let phase = fits.sound.phased.sides a blank_app (side-is board run shelves fits a within).there in
       let empty = ap length (phase.ended (phase.left gone.0).ended).1 in absurd (omega (arith, empty, some, full)))
       (λ (waits : IsSeenBy look.NoNote (app_gist (side_of board a).view) (others_of board a)). let empty = ap length waits.1 in absurd
-          (omega (arith, empty, some, full)))
+      (omega (arith, empty, some, full)))
       (waiting a own.0 own.1))
       card.notes
 

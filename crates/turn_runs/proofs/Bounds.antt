@@ -140,8 +140,12 @@ one-more (suc n) d dealt below = ⊎_elim
 all-first : (n : ℕ) (dealt : List Dealt) → All (λ (d : Dealt). d.app < n) dealt → length dealt ≤ of-first n dealt
 all-first n [] below = omega arith
 all-first n (d ∷ dealt) below =
-    omega (arith, all-first n dealt (All-tail (λ (e : Dealt). e.app < n) d dealt below), one-more n d dealt
-        (All-head (λ (e : Dealt). e.app < n) d dealt below))
+    omega (
+      arith,
+      all-first n dealt (All-tail (λ (e : Dealt). e.app < n) d dealt below),
+      one-more n d dealt
+          (All-head (λ (e : Dealt). e.app < n) d dealt below),
+    )
 
 first-most : (n most : ℕ) (dealt : List Dealt) → ((a : ℕ) → a < n → tally (λ d. d.app == a) dealt ≤ most) → of-first n dealt ≤ n * most
 first-most zero most dealt each = omega arith
@@ -218,7 +222,7 @@ module _ (board : Board) (run : Run) (shelves : ℕ) (fits : Fits board run shel
       let bound = stands.common.bound in
       let loans : loan_entries v ≤ most_bytes = let entries = stands.common.entries in omega (arith, entries, bound, bytes) in
       let raw : raw_entries v ≤ stray * loan_entries v = let strays = subst
-          (λ n. raw_entries v + w.state.stray.left ≤ n * loan_entries v) how stands.common.strays in omega (arith, strays) in
+      (λ n. raw_entries v + w.state.stray.left ≤ n * loan_entries v) how stands.common.strays in omega (arith, strays) in
       let raws : stray * loan_entries v ≤ stray * most_bytes = mul-le-mul_left stray loans in (
         omega (arith, far, follow, many, bytes, one-most w.state.bare, one-most w.left),
         omega (arith, kinds v.written, raw, raws, loans),
@@ -230,9 +234,10 @@ module _ (board : Board) (run : Run) (shelves : ℕ) (fits : Fits board run shel
   all-within a [] each = omega arith
   all-within a (w ∷ workers) each =
       let first : worker_steps (side_of board a).view w ≤ worker_most stray = subst (λ n. worker_steps (side_of board n).view w ≤ worker_most stray)
-          (let e : a + 0 ≡ a = omega arith in e) (each 0 w refl) in
+      (let e : a + 0 ≡ a = omega arith in e) (each 0 w refl) in
       let rest = all-within (suc a) workers
-          (λ i u at. subst (λ n. worker_steps (side_of board n).view u ≤ worker_most stray) (let e : a + suc i ≡ suc a + i = omega arith in e) (each (suc i) u at)) in
+      (λ i u at. subst (λ n. worker_steps (side_of board n).view u ≤ worker_most stray) (let e : a + suc i ≡ suc a + i = omega arith in e)
+      (each (suc i) u at)) in
       omega (arith, first, rest)
 
   pub run-within : run_steps board run ≤ run_most (length run.workers.items) stray
@@ -246,7 +251,7 @@ module _ (board : Board) (run : Run) (shelves : ℕ) (fits : Fits board run shel
       let few = (worker-within a own.0 own.1 below).1 in omega (arith, took, few)) in omega (arith, first, most) in
       let apps : steps_from board 0 run.workers.items ≤ n * worker_most stray = all-within 0 run.workers.items
       (λ i w at. subst (λ m. worker_steps (side_of board m).view w ≤ worker_most stray) (let e : i ≡ 0 + i = omega arith in e)
-          (worker-within i w at (slice_get_within run.workers.items i w at)).0) in
+      (worker-within i w at (slice_get_within run.workers.items i w at)).0) in
       let some = notes.some in
       let bytes = notes.bytes in
       omega (arith, records, some, bytes, dealt, apps, one-most run.feed.closed, one-most (is_over run.feed.stage))
@@ -255,7 +260,7 @@ pub runs-within : {S T : Type 0} (left : S → Option (List ℕ)) (faults : S �
     → RunsStayWithin left faults kept losses
 runs-within left faults kept losses source source_now shelves shelves_now plan board run fits runs =
     let records : length runs.frames ≤ 16777216 = let read = ap (λ t. t.records) runs.feed.tally_is in let most = runs.records in omega
-        (arith, read, most) in
+    (arith, read, most) in
     let notes : AreFew most_bytes board.nic.view.sent = sent-few plan.split plan.ports.items runs.frames run.feed.refused run.feed.at_hand
     board.nic.view.sent _ runs.feed.settled records fits.sound.notes in
     let dealt = subst (λ n. All (λ (d : Dealt). d.app < n) board.nic.view.dealt) (sym runs.many) runs.dealt in

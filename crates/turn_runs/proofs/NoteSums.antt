@@ -93,7 +93,7 @@ frames-few split (o ∷ os) notes n shows proper =
     let all : All IsProper (mine ++ take m rest) = subst (All IsProper) seam proper in
     let first : All IsProper mine = subst (All IsProper) (take-append_seam mine (take m rest)) (All-take IsProper (length mine) (mine ++ take m rest) all) in
     let later : All IsProper (take m rest) = subst (All IsProper) (drop-append_seam mine (take m rest))
-        (All-drop IsProper (length mine) (mine ++ take m rest) all) in
+    (All-drop IsProper (length mine) (mine ++ take m rest) all) in
     let whole : take (length mine) mine ≡ mine = take-length mine in
     let own : AreFew 65515 mine = subst (AreFew 65515) whole (frame-few split o mine (length mine) here (subst (All IsProper) (sym whole) first)) in
     subst (AreFew (65515 * length (o ∷ os))) (sym seam) (

@@ -221,7 +221,8 @@ module _ {S T : Type 0} {left : S → Option (List ℕ)} {failed : S → ℕ} {k
       (λ others. ⊎_elim (λ (nine, why). subst IsStatus (sym nine) refl)
       (λ number. subst IsStatus (sym number) (numbered outcome.end replayed.ended.kind).0) others) causes.cases
 
-  ending-of : (all : List ℕ) → ShowsEnding (ended_of plan.ports.items all) replayed.before outcome.end → IsStatusOf answer (ended_of plan.ports.items all).fault
+  ending-of : (all : List ℕ) → ShowsEnding (ended_of plan.ports.items all) replayed.before outcome.end → IsStatusOf answer
+      (ended_of plan.ports.items all).fault
   ending-of all shows = ⊎_elim (λ one. inr (inl one)) (λ others. ⊎_elim (λ (nine, why). inr (inr (inr nine)))
       (λ number. ⊎_elim (λ same. inl (number ∙ same)) (λ hidden. ⊎_elim (λ one. inr (inl (number ∙ one)))
       (λ eight. inr (inr (inl (number ∙ eight)))) hidden)
@@ -231,7 +232,8 @@ module _ {S T : Type 0} {left : S → Option (List ℕ)} {failed : S → ℕ} {k
       ⊎ ((answer ≡ 1) ⊎ (((answer ≡ 8) ⊎ (answer ≡ 9)) × Rose (failed source) (failed source_now)))
   reached-of = ⊎_elim
       (λ same. inl (some-weaker (left source) _ _ replayed.ended.shown (λ all shows.
-      Took-weaker (left source) (left source_now) (λ taken. TakenEnds (WantsRoom plan.split plan.ports.items) (ended_of plan.ports.items taken) replayed.before outcome.end)
+      Took-weaker (left source) (left source_now)
+      (λ taken. TakenEnds (WantsRoom plan.split plan.ports.items) (ended_of plan.ports.items taken) replayed.before outcome.end)
       (λ taken. ended_of plan.ports.items taken ≡ ended_of plan.ports.items all)
       (λ taken ends. same (ended_of plan.ports.items taken) (ended_of plan.ports.items all) replayed.before ends shows) replayed.ended.taken)))
       (λ hidden. inr (⊎_elim (λ memory. inl (at-memory (any_stopped is_memory outcome.apps) lost outcome.end is replayed.ended.kind memory))
@@ -253,10 +255,12 @@ module _ {S T : Type 0} {left : S → Option (List ℕ)} {failed : S → ℕ} {k
       (λ number.
       let by_read : outcome.end ≡ Some Read = (numbered outcome.end replayed.ended.kind).2 (sym number ∙ eight) in (
         replayed.ended.cause by_read,
-        Took-weaker (left source) (left source_now) (λ taken. TakenEnds (WantsRoom plan.split plan.ports.items) (ended_of plan.ports.items taken) replayed.before outcome.end)
+        Took-weaker (left source) (left source_now)
+            (λ taken. TakenEnds (WantsRoom plan.split plan.ports.items) (ended_of plan.ports.items taken) replayed.before outcome.end)
             (λ taken. IsBrokenOff (ended_of plan.ports.items taken).fault)
             (λ taken ends. broken_off (ended_of plan.ports.items taken) replayed.before
-            (subst (λ e. TakenEnds (WantsRoom plan.split plan.ports.items) (ended_of plan.ports.items taken) replayed.before e) by_read ends)) replayed.ended.taken,
+            (subst (λ e. TakenEnds (WantsRoom plan.split plan.ports.items)
+            (ended_of plan.ports.items taken) replayed.before e) by_read ends)) replayed.ended.taken,
       )) others) causes.cases
 
   shelf-failed : lost ≡ true → (app : ℕ) × Rose (losses_in losses shelves app) (losses_in losses shelves_now app)
@@ -298,6 +302,7 @@ module _ {S T : Type 0} {left : S → Option (List ℕ)} {failed : S → ℕ} {k
       subst (λ l. (status_from wanting l outcome.end ≡ 1) ⊎ (status_from wanting l outcome.end ≡ 9)) (sym some) (lost-status wanting outcome.end) in
       ⊎_elim (λ same. ⊎_elim (λ one. inl (same ∙ one)) (λ nine. inr (same ∙ nine)) said)
       (λ others. ⊎_elim (λ one. inl one) (λ (nine, rose, other). inr nine) others) is.cases
+
   kept_well : answer ≢ 1 → answer ≢ 9 → (app : ℕ) → losses_in losses shelves_now app ≡ losses_in losses shelves app
   kept_well not_1 not_9 app = ⊎_elim
       (λ (within : app < length plan.ports.items).

@@ -53,5 +53,6 @@ returns-clause-runs g c source shelves enough =
       many_shelves = refl;
       beyond = refl;
       records = let none = ap (λ (f : FeedState). f.tally.records) c.in_ok-feed.ensures.value in omega (arith, none);
-      dealt = subst (All (λ (d : Dealt). d.app < length c.args.plan.now.ports.items)) (sym (ap (λ (b : Board). b.nic.view.dealt) c.in_ok-board.ensures)) (All-nil (λ (d : Dealt). d.app < length c.args.plan.now.ports.items));
+      dealt = subst (All (λ (d : Dealt). d.app < length c.args.plan.now.ports.items)) (sym (ap (λ (b : Board). b.nic.view.dealt) c.in_ok-board.ensures))
+          (All-nil (λ (d : Dealt). d.app < length c.args.plan.now.ports.items));
     }
