@@ -1,4 +1,4 @@
--- What an application has seen, and what it knows of its slots, are all that changes.
+-- What an application has seen, what it knows of its slots and its reserve, and whether it was told the end or left, are all that changes.
 use Rattle.std.proofs.Common.{◌≡◌, ℕ, true, List, [], set, refl, sym, arith, subst, inr}
 use Rattle.std.specs.Prelude.{All}
 use Rattle.board_face.specs.Sides.{IsApp}
@@ -22,27 +22,34 @@ use Rattle.ref_words.proofs.SlotSteps.{DifferInSlots, RefRule-slot}
 use Rattle.ref_words.proofs.Frees.{AreKept-app, free_places-hands}
 use Rattle.ref_words.proofs.SideSteps.{SidesRule-app, mine}
 
+-- the application's side with no other change
+abbrev pub like-of : AppSide → AppSide → AppSide
+like-of app now = record {
+  view = record app.view {
+    left = now.view.left;
+    ended = now.view.ended;
+    looks = now.view.looks;
+    settled = now.view.settled;
+    quiet = now.view.quiet;
+  };
+  inside = record app.inside {
+    note_slot = now.inside.note_slot;
+    refill_slot = now.inside.refill_slot;
+    free_slots = now.inside.free_slots;
+    end_seen = now.inside.end_seen;
+    end_unseen = now.inside.end_unseen;
+    words_without = now.inside.words_without;
+    reserve_seen_free = now.inside.reserve_seen_free;
+  };
+}
+
 module _ (setting : Setting) (words : Words) (nic : NicSide) (apps : List AppSide) (a : ℕ) (app : AppSide) (rule : RefRule setting words nic apps)
-    (here : IsApp apps a app) (now : AppSide)
-    (same : now ≡ record {
-      view = record app.view { looks = now.view.looks; settled = now.view.settled; quiet = now.view.quiet };
-      inside = record app.inside {
-        note_slot = now.inside.note_slot;
-        refill_slot = now.inside.refill_slot;
-        free_slots = now.inside.free_slots;
-      };
-    })
+    (here : IsApp apps a app) (now : AppSide) (same : now ≡ like-of app now)
     (settled : now.view.settled ≡ true → All IsOfLoan (entries_on_way nic app))
-    (quiet : now.view.quiet ≡ true → entries_on_way nic app ≡ []) (unscrubbed : app.view.quiet ≡ true → now.view.quiet ≡ true) where
+    (quiet : now.view.quiet ≡ true → entries_on_way nic app ≡ []) (unscrubbed : app.view.quiet ≡ true → now.view.quiet ≡ true)
+    (unheld : now.inside.reserve_seen_free ≡ true → pool_count (reserve_of app.view) nic apps ≡ 0) where
   abbrev like : AppSide
-  like = record {
-    view = record app.view { looks = now.view.looks; settled = now.view.settled; quiet = now.view.quiet };
-    inside = record app.inside {
-      note_slot = now.inside.note_slot;
-      refill_slot = now.inside.refill_slot;
-      free_slots = now.inside.free_slots;
-    };
-  }
+  like = like-of app now
 
   abbrev apps' : List AppSide
   apps' = set apps a like
@@ -50,9 +57,9 @@ module _ (setting : Setting) (words : Words) (nic : NicSide) (apps : List AppSid
   pools : (b : ℕ) → pool_count b nic apps' ≡ pool_count b nic apps
   pools b = omega (arith, pool_count-app b nic apps a app like here)
 
-  pub RefRule-app : (words' : Words) → DifferInSlots setting words words' → AllRings setting words' nic apps'
+  pub RefRule-looked : (words' : Words) → DifferInSlots setting words words' → AllRings setting words' nic apps'
       → RefRule setting words' nic (set apps a now)
-  RefRule-app words' differ rings =
+  RefRule-looked words' differ rings =
       subst (λ x. RefRule setting words' nic (set apps a x)) (sym same)
       (RefRule-slot setting words words' nic nic apps apps' rule differ (record {
         sides = SidesRule-app setting nic apps a app rule.sides here like (record {
@@ -66,7 +73,7 @@ module _ (setting : Setting) (words : Words) (nic : NicSide) (apps : List AppSid
           made = IsMadeLast-app nic apps a app like here (λ b test. omega arith) rule.sides.made;
           returned = λ b. let r = mine setting nic apps a app rule.sides here (EndedWereReturned b nic) (rule.sides.returned b) in
               record { ended = r.ended; returning = r.returning };
-          reserve = record { unheld = λ free. omega (arith, pools (reserve_of app.view), (rule.sides.reserves a app here).unheld free) };
+          reserve = record { unheld = λ free. omega (arith, pools (reserve_of app.view), unheld free) };
           unheld = λ b past ne none. omega (arith, pools b, none);
           few = let f = mine setting nic apps a app rule.sides here HasFewPicks rule.sides.few in record { picks = f.picks; spares = f.spares };
           entries = mine setting nic apps a app rule.sides here (λ x. All EntryFits x.view.written) rule.sides.entries;
@@ -104,3 +111,33 @@ module _ (setting : Setting) (words : Words) (nic : NicSide) (apps : List AppSid
         kept = AreKept-app (listed_in words) nic apps a app like here refl rule.kept;
         rings = rings;
       }))
+
+-- What it knows of its reserve stays too.
+module _ (setting : Setting) (words : Words) (nic : NicSide) (apps : List AppSide) (a : ℕ) (app : AppSide) (rule : RefRule setting words nic apps)
+    (here : IsApp apps a app) (now : AppSide)
+    (same : now ≡ record {
+      view = record app.view { looks = now.view.looks; settled = now.view.settled; quiet = now.view.quiet };
+      inside = record app.inside {
+        note_slot = now.inside.note_slot;
+        refill_slot = now.inside.refill_slot;
+        free_slots = now.inside.free_slots;
+      };
+    })
+    (settled : now.view.settled ≡ true → All IsOfLoan (entries_on_way nic app))
+    (quiet : now.view.quiet ≡ true → entries_on_way nic app ≡ []) (unscrubbed : app.view.quiet ≡ true → now.view.quiet ≡ true) where
+  abbrev kept : AppSide
+  kept = record {
+    view = record app.view { looks = now.view.looks; settled = now.view.settled; quiet = now.view.quiet };
+    inside = record app.inside {
+      note_slot = now.inside.note_slot;
+      refill_slot = now.inside.refill_slot;
+      free_slots = now.inside.free_slots;
+    };
+  }
+
+  pub RefRule-app : (words' : Words) → DifferInSlots setting words words' → AllRings setting words' nic (set apps a kept)
+      → RefRule setting words' nic (set apps a now)
+  RefRule-app words' differ rings =
+      subst (λ x. RefRule setting words' nic (set apps a x)) (sym same)
+      (RefRule-looked setting words nic apps a app rule here kept refl settled quiet unscrubbed (rule.sides.reserves a app here).unheld words' differ
+      rings)

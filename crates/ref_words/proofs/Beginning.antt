@@ -28,10 +28,10 @@ use Rattle.ref_words.proofs.Frees.{AreFreeOnce-more, AreKept-card}
 use Rattle.ref_words.proofs.CardSteps.{SidesRule-card}
 use Rattle.ref_words.proofs.PoolSteps.{IsPoolStep}
 
--- no count of a buffer within the area wraps when one is added
-pub few-holders : (setting : Setting) (words : Words) (nic : NicSide) (apps : List AppSide) (b : ℕ) → RefRule setting words nic apps
-    → b < total setting.layout → pool_of words b + 1 < 2 ^ 64
-few-holders setting words nic apps b rule there =
+-- a buffer within the area has so many holders at most
+pub holders-few : (setting : Setting) (words : Words) (nic : NicSide) (apps : List AppSide) (b : ℕ) → RefRule setting words nic apps
+    → b < total setting.layout → pool_of words b ≤ 65537
+holders-few setting words nic apps b rule there =
     omega (
       arith,
       rule.pool b there,
@@ -39,6 +39,11 @@ few-holders setting words nic apps b rule there =
       ap (λ s. s.layout.size) rule.sides.set.card,
       pool_count-few b nic apps (rule.sides.placed b) (rule.sides.by_one b),
     )
+
+-- no count of a buffer within the area wraps when one is added
+pub few-holders : (setting : Setting) (words : Words) (nic : NicSide) (apps : List AppSide) (b : ℕ) → RefRule setting words nic apps
+    → b < total setting.layout → pool_of words b + 1 < 2 ^ 64
+few-holders setting words nic apps b rule there = omega (arith, holders-few setting words nic apps b rule there)
 
 module _ (setting : Setting) (words : Words) (nic : NicSide) (apps : List AppSide) (own : Filling) (n : ℕ) (rule : RefRule setting words nic apps)
     (out : HasOwn nic.view own) (some_bytes : 0 < n) (within : own.start + n ≤ own.size) (idle : nic.inside.making ≡ None) where

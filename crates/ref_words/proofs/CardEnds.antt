@@ -1,4 +1,5 @@
--- What the card has seen, what it dealt with, and what it has in hand, are all that changes, and by that no more was ended than before.
+-- Whether the card has ended, what it has seen, what it dealt with, and what it has in hand, are all that changes, and by that no more was
+-- ended than before.
 use Rattle.std.proofs.Common.{◌≡◌, ℕ, ◌+◌, ◌-◌, ◌≤◌, List, length, drop, get_or, refl, ap, sym, ◌∙◌, arith, subst}
 use Rattle.std.specs.Prelude.{◌==◌, if◌then◌else◌, Some, Contains, All}
 use Rattle.std.proofs.lemmas.List.Elements.{All-contains}
@@ -27,7 +28,7 @@ use Rattle.ref_words.proofs.Frees.{AreKept-card}
 -- the card's side with no other change
 abbrev pub like-of : NicSide → NicSide → NicSide
 like-of nic now = record {
-  view = record nic.view { looks = now.view.looks; dealt = now.view.dealt };
+  view = record nic.view { ended = now.view.ended; gone = now.view.gone; looks = now.view.looks; dealt = now.view.dealt };
   inside = record nic.inside { entry = now.inside.entry; note_slots = now.inside.note_slots; refill_slots = now.inside.refill_slots };
 }
 

@@ -1,21 +1,23 @@
--- What the card has seen, and what it has in hand, are all that changes, and no more was lowered for that than before.
-use Rattle.std.proofs.Common.{◌≡◌, ℕ, List, length, drop, refl, ap, sym, arith, subst}
+-- Whether the card has ended, what it has seen, and what it has in hand, are all that changes, and no more was lowered for that than
+-- before.
+use Rattle.std.proofs.Common.{◌≡◌, ℕ, Bool, List, length, drop, refl, ap, sym, arith, subst}
 use Rattle.std.specs.Prelude.{Some}
 use Rattle.board_face.specs.Holders.{lowered_in_hand, returning_in_hand, ended_in, returning_count, returned_in, owed_in}
 use Rattle.board_face.specs.declared.views.parts.Setting.{Setting}
 use Rattle.board_face.specs.declared.views.nic.EntryInHand.{EntryInHand}
+use Rattle.board_face.specs.declared.views.nic.NicLook.{NicLook}
 use Rattle.board_face.specs.declared.views.nic.NicSide.{NicSide}
 use Rattle.board_face.specs.declared.views.app.AppSide.{AppSide}
 use Rattle.ref_words.specs.Words.{Words}
 use Rattle.ref_words.specs.Sides.{IsInHand}
 use Rattle.ref_words.specs.Rule.{RefRule}
-use Rattle.ref_words.proofs.RingSteps.{AllRings}
+use Rattle.ref_words.proofs.RingSteps.{AllRings, rings-card, rings-words}
 use Rattle.ref_words.proofs.SlotSteps.{DifferInSlots}
 use Rattle.ref_words.proofs.CardEnds.{RefRule-ended}
 
 module _ (setting : Setting) (words : Words) (nic : NicSide) (apps : List AppSide) (rule : RefRule setting words nic apps) (now : NicSide)
     (same : now ≡ record {
-      view = record nic.view { looks = now.view.looks };
+      view = record nic.view { ended = now.view.ended; gone = now.view.gone; looks = now.view.looks };
       inside = record nic.inside {
         entry = now.inside.entry;
         note_slots = now.inside.note_slots;
@@ -28,7 +30,7 @@ module _ (setting : Setting) (words : Words) (nic : NicSide) (apps : List AppSid
     (returning : (x c : ℕ) → returning_in_hand x c now.inside.entry ≡ returning_in_hand x c nic.inside.entry) where
   abbrev like : NicSide
   like = record {
-    view = record nic.view { looks = now.view.looks };
+    view = record nic.view { ended = now.view.ended; gone = now.view.gone; looks = now.view.looks };
     inside = record nic.inside { entry = now.inside.entry; note_slots = now.inside.note_slots; refill_slots = now.inside.refill_slots };
   }
 
@@ -58,3 +60,21 @@ module _ (setting : Setting) (words : Words) (nic : NicSide) (apps : List AppSid
         strays = r.strays;
       })
       (λ k x here. record { order = (rule.sides.dealt k x here).order }) rule.sides.honoured hand rings)
+
+-- Neither the entry in hand nor a slot changes.
+module _ (setting : Setting) (words : Words) (nic : NicSide) (apps : List AppSide) (rule : RefRule setting words nic apps) where
+  pub RefRule-told : (over : Bool) (left : List ℕ) (saw : List NicLook) (words' : Words) → DifferInSlots setting words words'
+      → words'.refills ≡ words.refills → words'.notes ≡ words.notes
+      → RefRule setting words' (record nic { view = record nic.view { ended = over; gone = left; looks = saw } }) apps
+  RefRule-told over left saw words' differ refills notes =
+      let now : NicSide = record nic { view = record nic.view { ended = over; gone = left; looks = saw } } in
+      RefRule-card setting words nic apps rule now refl refl refl (λ x c. refl) (λ x c. refl) words' differ
+      (λ it is. let h = rule.sides.hand it is in record {
+        app = h.app;
+        first = h.first;
+        named = h.named;
+        owed = h.owed;
+        lowered = h.lowered;
+        stray = h.stray;
+      })
+      (rings-words setting words words' now apps refills notes (rings-card setting words nic now apps refl refl refl refl rule.rings))

@@ -73,10 +73,11 @@ without-none b (x ∷ xs) none =
 
 -- ---- used buffers
 
--- an application picked nothing
-pub picked-same : (b : ℕ) (apps : List AppSide) (a : ℕ) (app now : AppSide) → IsApp apps a app → now.view.picked ≡ app.view.picked
-    → count_by (nat_eq b) (picked_buffers (set apps a now)) ≡ count_by (nat_eq b) (picked_buffers apps)
-picked-same b apps a app now here same =
+-- an application picked buffers, or didn't
+pub picked-moved : (b : ℕ) (apps : List AppSide) (a : ℕ) (app now : AppSide) → IsApp apps a app
+    → count_by (nat_eq b) (picked_buffers (set apps a now)) + count_by (nat_eq b) app.view.picked
+    ≡ count_by (nat_eq b) (picked_buffers apps) + count_by (nat_eq b) now.view.picked
+picked-moved b apps a app now here =
     let picks : AppSide → List ℕ = λ x. x.view.picked in
     omega (
       arith,
@@ -85,8 +86,13 @@ picked-same b apps a app now here same =
       tally-flat (nat_eq b) picks (set apps a now),
       tally-flat (nat_eq b) picks apps,
       total-set (λ x. tally (nat_eq b) (picks x)) apps a app now here.there here.is,
-      ap (tally (nat_eq b)) same,
+      count-tally (nat_eq b) app.view.picked,
+      count-tally (nat_eq b) now.view.picked,
     )
+
+picked-same : (b : ℕ) (apps : List AppSide) (a : ℕ) (app now : AppSide) → IsApp apps a app → now.view.picked ≡ app.view.picked
+    → count_by (nat_eq b) (picked_buffers (set apps a now)) ≡ count_by (nat_eq b) (picked_buffers apps)
+picked-same b apps a app now here same = omega (arith, picked-moved b apps a app now here, ap (count_by (nat_eq b)) same)
 
 pub AreKept-app : (listed : ℕ → Bool) (nic : NicSide) (apps : List AppSide) (a : ℕ) (app now : AppSide) → IsApp apps a app
     → now.view.picked ≡ app.view.picked → AreKept listed nic apps → AreKept listed nic (set apps a now)

@@ -13,6 +13,7 @@ use Rattle.ref_words.specs.Words.{Words, HasSizes, AreSlots, groups, group_sizes
 use Rattle.word_rings.specs.Slots.{note_width, refill_width}
 use Rattle.ref_words.specs.Words.{pool_at, pool_of, with_pool, user_at, user_of, with_user, role_at, with_role, table_words}
 use Rattle.ref_words.specs.Words.{slot_word, with_slot_word, note_at, with_note, refill_at, with_refill}
+use Rattle.ref_words.specs.Words.{free_at, free_of, with_free}
 
 -- ---- lists that lie one behind another
 
@@ -183,6 +184,12 @@ module _ (setting : Setting) (w : Words) (sizes : HasSizes setting w) where
 
   pub pool-set : (b n : ℕ) → b < length w.pool → set (table_of w) (pool_at setting b) n ≡ table_of (with_pool w b n)
   pool-set b n there = group-set 2 b n (omega arith) there
+
+  pub free-word : (j : ℕ) → j < length w.free → get_or (table_of w) (free_at setting j) 0 ≡ free_of w j
+  free-word j there = group-word 4 j (omega arith) there
+
+  pub free-set : (j n : ℕ) → j < length w.free → set (table_of w) (free_at setting j) n ≡ table_of (with_free w j n)
+  free-set j n there = group-set 4 j n (omega arith) there
 
   abbrev t : ℕ
   t = total setting.layout

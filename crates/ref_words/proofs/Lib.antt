@@ -39,3 +39,40 @@ mod Sending
 mod NotesTaken
 mod Judging
 mod ScrubTaking
+pub mod Phases
+mod PhasesByCard
+mod PhasesByApp
+mod NewNotes
+mod PhasesBySlots
+mod PhasesByFree
+mod PhasesOpened
+pub mod PhaseWords
+mod Ending
+mod LeaveLooks
+mod EndLooks
+mod ReserveLooks
+mod Abandoning
+mod FreeWords
+mod AppHands
+mod Listing
+mod WordLooks
+mod Picking
+pub mod Found
+mod Losing
+mod Sweeping
+mod Resting
+pub mod AppNumbers
+pub mod Running
+pub mod AreaWords
+pub mod LayingArea
+pub mod TextsOpened
+pub mod TextsByCard
+pub mod TextsByApp
+pub mod TextsBySlots
+mod TextsStored
+mod AreaStoring
+pub mod TextsRead
+mod AreaCard
+mod TextsByFree
+mod PhasesByArea
+mod AreaApp

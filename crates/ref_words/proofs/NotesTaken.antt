@@ -257,7 +257,7 @@ module _ (setting : Setting) (words : Words) (nic : NicSide) (apps : List AppSid
     note-is : note ≡ next.note
     note-is = ap (λ ws. note_of (1 ∷ ws)) words-are ∙ note-read next fits
 
-    is-next : IsNext nic app note
+    pub is-next : IsNext nic app note
     is-next = record { next = next; rest = drop (suc k) (sent_to a nic); way = way; same = sym note-is }
 
     pub is-split : note.split ≡ true → IsSplitNote note

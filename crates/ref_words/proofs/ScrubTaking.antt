@@ -40,7 +40,7 @@ use Rattle.ref_words.proofs.UserSteps.{IsUserStep}
 use Rattle.ref_words.proofs.Judging.{own-users}
 
 -- one number of a list is raised by n
-raised-at : (b n c : ℕ) (xs : List ℕ) → b < length xs → get_or (set xs b (get_or xs b 0 + n)) c 0 ≡ get_or xs c 0 + if_so (b == c) n
+pub raised-at : (b n c : ℕ) (xs : List ℕ) → b < length xs → get_or (set xs b (get_or xs b 0 + n)) c 0 ≡ get_or xs c 0 + if_so (b == c) n
 raised-at b n c xs there =
     ⊎_elim
     (λ t. let e : b ≡ c = t.1 in

@@ -15,7 +15,7 @@ use Rattle.ref_words.specs.Rule.{RefRule}
 use Rattle.ref_words.proofs.RingSteps.{AllRings}
 use Rattle.ref_words.proofs.UserSteps.{AreFreeOnce-same}
 
--- the words differ in slots alone
+-- the words differ in slots or in the area alone
 pub record DifferInSlots (setting : Setting) (words words' : Words) : Type 0 where
   pub sizes : HasSizes setting words'
   pub pool : words'.pool ≡ words.pool

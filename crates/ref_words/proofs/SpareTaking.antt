@@ -143,7 +143,7 @@ module _ (setting : Setting) (words : Words) (nic : NicSide) (apps : List AppSid
     some-place : 1 ≤ free_places (listed_in words) b nic apps
     some-place = omega (arith, gone b, weight-same b)
 
-    small : b < pool_buffers nic.view.setting.layout
+    pub small : b < pool_buffers nic.view.setting.layout
     small =
         ⊎_elim
         (λ less. less)

@@ -2,6 +2,17 @@ pub mod Words
 pub mod Seated
 pub mod Sides
 pub mod Rings
+pub mod Area
+pub mod AreaSteps
+pub mod TextRule
+pub mod PhaseRule
 pub mod Rule
 pub mod Laws
 pub mod SlotLaws
+pub mod PhaseSteps
+pub mod PhaseLaws
+pub mod FreeSteps
+pub mod FreeLaws
+pub mod RestSteps
+pub mod Runs
+pub mod AreaLaws

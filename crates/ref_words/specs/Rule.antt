@@ -1,4 +1,4 @@
--- The rule: what the words say of the roles' sides, between any two steps.
+-- The rule: what the words say of the roles' sides, between any two steps. It has three parts, each of which reads other words.
 use Rattle.std.specs.Prelude.{◌≡◌, ℕ, ◌<◌, List}
 use Rattle.area_layout.specs.Layout.{IsLayout, total}
 use Rattle.board_face.specs.NicCalls.{apps_of}
@@ -12,7 +12,10 @@ use Rattle.board_face.specs.declared.views.app.AppSide.{AppSide}
 use Rattle.ref_words.specs.Words.{Words, HasSizes, listed_in, pool_of, user_of}
 use Rattle.ref_words.specs.Sides.{SidesRule}
 use Rattle.ref_words.specs.Rings.{AreRings}
+use Rattle.ref_words.specs.TextRule.{TextRule}
+use Rattle.ref_words.specs.PhaseRule.{PhaseRule}
 
+-- Counts, the free list and the slots of the rings.
 pub record RefRule (setting : Setting) (words : Words) (nic : NicSide) (apps : List AppSide) : Type 0 where
   pub layout : IsLayout setting.layout
   pub sizes : HasSizes setting words
@@ -25,3 +28,12 @@ pub record RefRule (setting : Setting) (words : Words) (nic : NicSide) (apps : L
   pub kept : AreKept (listed_in words) nic apps
   -- the entries and the notes on their way lie in the slots, in order, and what either end has seen of its next slot is so
   pub rings : (a : ℕ) (app : AppSide) → IsApp apps a app → AreRings setting words nic app
+
+-- The whole rule.
+pub record BoardRule (setting : Setting) (words : Words) (nic : NicSide) (apps : List AppSide) : Type 0 where
+  -- the area has the texts, and what was read is what was sent
+  pub texts : TextRule setting words nic apps
+  -- counts are holders, each buffer is free once or held, and the slots have what is on its way
+  pub refs : RefRule setting words nic apps
+  -- who has ended and who has left
+  pub phases : PhaseRule setting words nic apps

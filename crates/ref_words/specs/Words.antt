@@ -5,7 +5,8 @@ use Rattle.std.specs.Prelude.{◌≤◌, Bool, List, [], ◌∷◌}
 use Rattle.std.specs.Prelude.{◌++◌, length, min, replicate, slice_index}
 use Rattle.std.specs.Prelude.{slice_index_or, slice_set, ◌==◌, All}
 use Rattle.std.specs.List.{flat_map}
-use Rattle.std.specs.Int.{bit_at}
+use Rattle.std.specs.Prelude.{bit_and, bit_or}
+use Rattle.std.specs.Int.{bit_at, bit_not, w64}
 use Rattle.area_layout.specs.Layout.{IsLayout, pool_buffers, total, area_words}
 use Rattle.word_rings.specs.Slots.{note_width, refill_width}
 use Rattle.board_face.specs.NicCalls.{apps_of, free_words_of}
@@ -136,6 +137,20 @@ pub record HasSizes (setting : Setting) (w : Words) : Type 0 where
 -- a buffer's bit in the free list
 abbrev pub listed_in : Words → ℕ → Bool
 listed_in w b = bit_at (slice_index w.free (b / word_bits)) (b % word_bits) == 1
+
+-- a word of the free list, and the words with another number there
+abbrev pub free_of : Words → ℕ → ℕ
+free_of w j = slice_index w.free j
+
+abbrev pub with_free : Words → ℕ → ℕ → Words
+with_free w j n = record w { free = slice_set w.free j n }
+
+-- the words with a buffer's bit set, and with it cleared
+abbrev pub with_listed : Words → ℕ → Words
+with_listed w b = with_free w (b / word_bits) (bit_or (free_of w (b / word_bits)) (2 ^ (b % word_bits)))
+
+abbrev pub with_unlisted : Words → ℕ → Words
+with_unlisted w b = with_free w (b / word_bits) (bit_and (free_of w (b / word_bits)) (bit_not w64 (2 ^ (b % word_bits))))
 
 -- the words with one role taken
 abbrev pub with_role : Words → ℕ → Words

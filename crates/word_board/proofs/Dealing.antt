@@ -15,7 +15,7 @@ use Rattle.ref_words.specs.declared.view.View.{View}
 use Rattle.ref_words.specs.Words.{Words, roles_of, with_role, role_at, table_of}
 use Rattle.ref_words.specs.Seated.{Seated, times_in, due_view, dealt_out, both_sides, no_role}
 use Rattle.ref_words.specs.Laws.{SplitLaw, JoinLaw, TakesRole}
-use Rattle.ref_words.specs.Rule.{RefRule}
+use Rattle.ref_words.specs.Rule.{BoardRule}
 use Rattle.board_face.proofs.Tallies.{weight}
 use Rattle.ref_words.proofs.Seating.{in-append}
 use Rattle.ref_words.proofs.Laying.{role-set, role-word}
@@ -47,13 +47,13 @@ together law setting id other v w none out s board at ne at' = record {
 -- The law of a role's word gives what the table asks of the swap.
 pub takes : (setting : Setting) (slots id i r : ℕ) (w : View) → i ≡ role_at setting r → r < roles_of setting
     → ((words : Words) (views : List View) (nic : NicSide) (apps : List AppSide) → Seated setting words.roles views nic apps
-    → RefRule setting words nic apps → get_elem? views id ≡ some (due_view r) → TakesRole setting words (set views id w) nic apps r)
+    → BoardRule setting words nic apps → get_elem? views id ≡ some (due_view r) → TakesRole setting words (set views id w) nic apps r)
     → (me : Me (Unit {0}) View) → me ≡ (due_view r, []) → Allows (IsBoard setting) slots id me i (λ _. 1) (λ n x. (x ≡ (w, me.1)) × (n ≡ 0))
 takes setting slots id i r w is small law me due =
     subst (λ (x : Me (Unit {0}) View). Allows (IsBoard setting) slots id x i (λ _. 1) (λ n y. (y ≡ (w, x.1)) × (n ≡ 0))) (sym due)
     (λ s board deep at few.
     let made = law board.words s.views board.nic board.apps board.seated board.rule at in
-    let there : r < length board.words.roles = omega (arith, small, board.rule.sizes.roles) in (
+    let there : r < length board.words.roles = omega (arith, small, board.rule.refs.sizes.roles) in (
       w,
       keeps,
       tt,
@@ -61,14 +61,15 @@ takes setting slots id i r w is small law me due =
         words = with_role board.words r;
         nic = board.nic;
         apps = board.apps;
-        laid = ap (λ ws. set ws i 1) board.laid ∙ (ap (λ x. set (table_of board.words) x 1) is ∙ role-set setting board.words board.rule.sizes r there);
+        laid = ap (λ ws. set ws i 1) board.laid
+            ∙ (ap (λ x. set (table_of board.words) x 1) is ∙ role-set setting board.words board.rule.refs.sizes r there);
         seated = made.seated;
         rule = made.rule;
       },
       (
         refl,
         ap (λ ws. get_or ws i 0) board.laid
-            ∙ (ap (λ x. get_or (table_of board.words) x 0) is ∙ (role-word setting board.words board.rule.sizes r there ∙ made.untaken)),
+            ∙ (ap (λ x. get_or (table_of board.words) x 0) is ∙ (role-word setting board.words board.rule.refs.sizes r there ∙ made.untaken)),
       ),
     ))
 

@@ -5,3 +5,8 @@ mod Scrubs
 mod EntryTaken
 mod NoteFilled
 mod NoteLoaded
+mod PhaseSteps
+mod FreeWords
+mod Quieting
+mod Searching
+mod TextPlaced

@@ -1,17 +1,15 @@
 -- A scrub, buffer by buffer.
-use Rattle.std.proofs.Common.{◌≡◌, ⊎_elim, ℕ, ◌+◌, ◌<◌, Bool, false, List, length, set, get_or, ap, sym, ◌∙◌, arith}
+use Rattle.std.proofs.Common.{◌≡◌, ⊎_elim, ℕ, ◌+◌, ◌<◌, Bool, true, false, List, length, set, get_or, ap, sym, ◌∙◌, arith}
 use Rattle.std.specs.Prelude.{◌≢◌, ◌==◌, nat_eq, slice_index}
 use Rattle.std.proofs.lemmas.Bool.Decides.{eqb_tells}
 use Rattle.std.proofs.lemmas.List.{length-set, get_or-set_same, get_or-set_other, set-get_or}
 use Rattle.area_layout.specs.Layout.{total}
-use Rattle.board_face.specs.AppEvents.{scrubbed}
 use Rattle.board_face.specs.Steps.{side_user_taken, side_owes_lowered}
 use Rattle.board_face.specs.declared.views.parts.Setting.{Setting}
 use Rattle.board_face.specs.declared.views.app.AppSide.{AppSide}
-use Rattle.board_face.specs.declared.views.app.AppView.{AppView}
 use Rattle.board_face.proofs.ListLemmas.{eqb_same, not-eqb}
 use Rattle.ref_words.specs.Sides.{HasScrubLists}
-use Rattle.word_board.specs.Board.{ScrubbedOne}
+use Rattle.word_board.specs.Board.{ScrubbedOne, ScrubbedAll}
 
 -- where nothing was owed of a buffer, nothing is to be taken from its pool count
 pub took-nothing : (setting : Setting) (old : AppSide) (b n : ℕ) → n ≡ 0 → HasScrubLists setting old → b < total setting.layout
@@ -25,8 +23,10 @@ took-nothing setting old b n none lists within clear =
 
 -- The buffers below this one are scrubbed.
 pub record IsScrubbedBelow (setting : Setting) (first now : AppSide) (k : ℕ) : Type 0 where
-  pub view : now.view ≡ record first.view { scrubbed = k == total setting.layout }
-  pub mark : now.inside.scrub_mark ≡ k
+  pub event : now ≡ record {
+    view = record first.view { scrubbed = k == total setting.layout };
+    inside = record first.inside { scrub_mark = k; scrub_took = now.inside.scrub_took; scrub_owes = now.inside.scrub_owes };
+  }
   pub lists : HasScrubLists setting now
   pub clear : (b : ℕ) → slice_index now.inside.scrub_owes b ≡ 0
 
@@ -38,13 +38,24 @@ cleared owes k n c there zero =
     (λ t. let ne : c ≢ k = t.1 in get_or-set_other (set owes k n) k c 0 0 ne ∙ (get_or-set_other owes k c n 0 ne ∙ zero))
     (eqb_tells c k)
 
-pub IsScrubbedBelow-more : (setting : Setting) (first now next : AppSide) (k : ℕ) (last : Bool) → first.view.setting ≡ setting
-    → k < total setting.layout → IsScrubbedBelow setting first now k → ScrubbedOne now next k last → IsScrubbedBelow setting first next (k + 1)
-IsScrubbedBelow-more setting first now next k last sets within below one = record {
-  view = ap (λ s. s.view) one.event
-      ∙ (ap (λ (v : AppView). record v { scrubbed = nat_eq (k + 1) (total v.setting.layout) }) below.view
-      ∙ ap (λ s. record first.view { scrubbed = nat_eq (k + 1) (total s.layout) }) sets);
-  mark = ap (λ s. s.inside.scrub_mark) one.event;
+-- the side with a scrub that came so far
+abbrev scrubbed_to : AppSide → Bool → ℕ → List ℕ → List ℕ → AppSide
+scrubbed_to first done k took owes = record {
+  view = record first.view { scrubbed = done };
+  inside = record first.inside { scrub_mark = k; scrub_took = took; scrub_owes = owes };
+}
+
+pub IsScrubbedBelow-more : (setting : Setting) (first now next : AppSide) (k : ℕ) → first.view.setting ≡ setting
+    → k < total setting.layout → IsScrubbedBelow setting first now k → ScrubbedOne now next k → IsScrubbedBelow setting first next (k + 1)
+IsScrubbedBelow-more setting first now next k sets within below one = record {
+  event =
+      let done : AppSide = side_owes_lowered (side_user_taken now k one.took) k false in
+      let last : Bool = nat_eq (k + 1) (total setting.layout) in
+      one.event
+      ∙ (ap (λ x. side_owes_lowered (side_user_taken x k one.took) k false) below.event
+      ∙ (ap (λ s. scrubbed_to first (nat_eq (k + 1) (total s.layout)) (k + 1) done.inside.scrub_took done.inside.scrub_owes) sets
+      ∙ (ap (λ xs. scrubbed_to first last (k + 1) xs done.inside.scrub_owes) (sym (ap (λ s. s.inside.scrub_took) one.event))
+      ∙ ap (scrubbed_to first last (k + 1) next.inside.scrub_took) (sym (ap (λ s. s.inside.scrub_owes) one.event)))));
   lists = record {
     took = ap (λ s. length s.inside.scrub_took) one.event ∙ (length-set now.inside.scrub_took k _ ∙ below.lists.took);
     owes = ap (λ s. length s.inside.scrub_owes) one.event
@@ -59,14 +70,21 @@ pub IsScrubbedBelow-none : (setting : Setting) (first : AppSide) → 0 < total s
     → first.inside.scrub_mark ≡ 0 → HasScrubLists setting first → ((b : ℕ) → slice_index first.inside.scrub_owes b ≡ 0)
     → IsScrubbedBelow setting first first 0
 IsScrubbedBelow-none setting first some counted mark lists clear = record {
-  view = ap (λ c. record first.view { scrubbed = c }) (counted ∙ sym (not-eqb 0 (total setting.layout) (λ e. absurd (omega (arith, e, some)))));
-  mark = mark;
+  event = ap (λ c. scrubbed_to first c first.inside.scrub_mark first.inside.scrub_took first.inside.scrub_owes)
+      (counted ∙ sym (not-eqb 0 (total setting.layout) (λ e. absurd (omega (arith, e, some)))))
+      ∙ ap (λ k. scrubbed_to first (0 == total setting.layout) k first.inside.scrub_took first.inside.scrub_owes) mark;
   lists = record { took = lists.took; owes = lists.owes };
   clear = clear;
 }
 
 -- and behind the last one
-pub IsScrubbedBelow-all : (setting : Setting) (first now : AppSide) → IsScrubbedBelow setting first now (total setting.layout)
-    → now.view ≡ scrubbed first.view
-IsScrubbedBelow-all setting first now below =
-    below.view ∙ ap (λ c. record first.view { scrubbed = c }) (eqb_same (total setting.layout))
+pub IsScrubbedBelow-all : (setting : Setting) (first now : AppSide) → first.view.setting ≡ setting
+    → IsScrubbedBelow setting first now (total setting.layout) → ScrubbedAll first now
+IsScrubbedBelow-all setting first now sets below = record {
+  took = now.inside.scrub_took;
+  owes = now.inside.scrub_owes;
+  event = below.event
+      ∙ (ap (λ c. scrubbed_to first c (total setting.layout) now.inside.scrub_took now.inside.scrub_owes) (eqb_same (total setting.layout))
+      ∙ ap (λ s. scrubbed_to first true (total s.layout) now.inside.scrub_took now.inside.scrub_owes) (sym sets));
+  clear = below.clear;
+}

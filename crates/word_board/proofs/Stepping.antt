@@ -2,8 +2,8 @@
 use Rattle.std.proofs.Common.{◌≡◌, ℕ, ◌+◌, ◌-◌, ◌%◌, ◌^◌, ◌<◌, ◌≤◌, List, [], set, get_or, refl, ap, sym, ◌∙◌}
 use Rattle.std.proofs.Common.{arith, subst}
 use Rattle.atomic_table.specs.Table.{Me, keeps, Allows}
-use Rattle.std.proofs.lemmas.List.{set-get_or}
-use Rattle.area_layout.specs.Layout.{total}
+use Rattle.std.proofs.lemmas.List.{set-get_or, get_or_default}
+use Rattle.area_layout.specs.Layout.{total, area_words}
 use Rattle.board_face.specs.NicCalls.{apps_of}
 use Rattle.board_face.specs.Sides.{IsApp}
 use Rattle.board_face.specs.declared.views.parts.Setting.{Setting}
@@ -11,12 +11,15 @@ use Rattle.board_face.specs.declared.views.nic.NicSide.{NicSide}
 use Rattle.board_face.specs.declared.views.app.AppSide.{AppSide}
 use Rattle.ref_words.specs.declared.view.View.{View}
 use Rattle.ref_words.specs.Words.{Words, table_of, pool_at, pool_of, with_pool, user_at, user_of, with_user}
-use Rattle.ref_words.specs.Words.{note_at, with_note, refill_at, slot_word, with_refill}
+use Rattle.ref_words.specs.Words.{note_at, with_note, refill_at, slot_word, with_refill, area_at}
+use Rattle.ref_words.specs.Area.{with_area}
+use Rattle.std.specs.Prelude.{slice_index, All}
 use Rattle.word_rings.specs.Slots.{note_width, refill_width}
 use Rattle.ref_words.specs.Seated.{Seated, card_view, app_view}
-use Rattle.ref_words.specs.Rule.{RefRule}
+use Rattle.ref_words.specs.Rule.{BoardRule}
 use Rattle.ref_words.proofs.Roles.{card-is, card-moves, app-is, app-moves}
 use Rattle.ref_words.proofs.Laying.{pool-word, pool-set, user-word, user-set, note-word, note-set, refill-word, refill-set}
+use Rattle.ref_words.proofs.LayingArea.{area-is, area-set}
 use Rattle.word_board.specs.Board.{IsBoard}
 
 -- What a step on the word i makes of the board, where it leaves m there: words that stand by the rule to the sides.
@@ -24,12 +27,12 @@ pub record Makes (setting : Setting) (words : Words) (i m : ℕ) (nic : NicSide)
   pub words' : Words
   pub laid : set (table_of words) i m ≡ table_of words'
   pub roles : words'.roles ≡ words.roles
-  pub rule : RefRule setting words' nic apps
+  pub rule : BoardRule setting words' nic apps
 
 module _ (setting : Setting) (slots id i : ℕ) (f : ℕ → ℕ) (told : ℕ → Type 0) where
   -- A step of the card's seat is allowed where its law holds for all words and applications.
   pub card-step : (mine : NicSide) (next : ℕ → NicSide)
-      → ((words : Words) (apps : List AppSide) → RefRule setting words mine apps → get_or (table_of words) i 0 < 2 ^ 64
+      → ((words : Words) (apps : List AppSide) → BoardRule setting words mine apps → get_or (table_of words) i 0 < 2 ^ 64
       → Makes setting words i (f (get_or (table_of words) i 0)) (next (get_or (table_of words) i 0)) apps × told (get_or (table_of words) i 0))
       → (me : Me (Unit {0}) View) → me ≡ (card_view mine, [])
       → Allows (IsBoard setting) slots id me i f (λ n w. (w ≡ (card_view (next n), me.1)) × told n)
@@ -37,7 +40,7 @@ module _ (setting : Setting) (slots id i : ℕ) (f : ℕ → ℕ) (told : ℕ �
       subst (λ (x : Me (Unit {0}) View). Allows (IsBoard setting) slots id x i f (λ n w. (w ≡ (card_view (next n), x.1)) × told n)) (sym sits)
       (λ s board deep at small.
       let is : mine ≡ board.nic = card-is setting board.words.roles s.views board.nic board.apps board.seated id mine at in
-      let both = law board.words board.apps (subst (λ x. RefRule setting board.words x board.apps) (sym is) board.rule) (subst
+      let both = law board.words board.apps (subst (λ x. BoardRule setting board.words x board.apps) (sym is) board.rule) (subst
       (λ ws. get_or ws i 0 < 2 ^ 64) board.laid small) in
       let made = both.0 in
       let n : ℕ = get_or s.words i 0 in
@@ -52,14 +55,14 @@ module _ (setting : Setting) (slots id i : ℕ) (f : ℕ → ℕ) (told : ℕ �
           laid = ap (λ ws. set ws i (f (get_or s.words i 0))) board.laid ∙ (ap (λ m. set (table_of board.words) i (f m)) (sym found) ∙ made.laid);
           seated = subst (λ roles. Seated setting roles (set s.views id (card_view (next n))) (next n) board.apps) (sym made.roles)
               (card-moves setting board.words.roles s.views board.nic board.apps board.seated id mine (next n) at);
-          rule = subst (λ m. RefRule setting made.words' (next m) board.apps) found made.rule;
+          rule = subst (λ m. BoardRule setting made.words' (next m) board.apps) found made.rule;
         },
         (refl, subst told found both.1),
       ))
 
   -- A step of an application's seat is allowed where its law holds for all words, cards and other applications.
   pub app-step : (mine : AppSide) (next : ℕ → AppSide) → ((n : ℕ) → (next n).view.app ≡ mine.view.app)
-      → ((words : Words) (nic : NicSide) (apps : List AppSide) → RefRule setting words nic apps → IsApp apps mine.view.app mine
+      → ((words : Words) (nic : NicSide) (apps : List AppSide) → BoardRule setting words nic apps → IsApp apps mine.view.app mine
       → get_or (table_of words) i 0 < 2 ^ 64
       → Makes setting words i (f (get_or (table_of words) i 0)) nic (set apps mine.view.app (next (get_or (table_of words) i 0))) × told (get_or
       (table_of words) i 0))
@@ -68,7 +71,7 @@ module _ (setting : Setting) (slots id i : ℕ) (f : ℕ → ℕ) (told : ℕ �
   app-step mine next number law me sits =
       subst (λ (x : Me (Unit {0}) View). Allows (IsBoard setting) slots id x i f (λ n w. (w ≡ (app_view (next n), x.1)) × told n)) (sym sits)
       (λ s board deep at small.
-      let here = app-is setting board.words.roles s.views board.nic board.apps board.seated id mine at board.rule.sides.set.many in
+      let here = app-is setting board.words.roles s.views board.nic board.apps board.seated id mine at board.rule.refs.sides.set.many in
       let both = law board.words board.nic board.apps board.rule here (subst (λ ws. get_or ws i 0 < 2 ^ 64) board.laid small) in
       let made = both.0 in
       let n : ℕ = get_or s.words i 0 in
@@ -83,8 +86,8 @@ module _ (setting : Setting) (slots id i : ℕ) (f : ℕ → ℕ) (told : ℕ �
           laid = ap (λ ws. set ws i (f (get_or s.words i 0))) board.laid ∙ (ap (λ m. set (table_of board.words) i (f m)) (sym found) ∙ made.laid);
           seated = subst (λ roles. Seated setting roles (set s.views id (app_view (next n))) board.nic (set board.apps mine.view.app (next n)))
               (sym made.roles)
-              (app-moves setting board.words.roles s.views board.nic board.apps board.seated id mine (next n) at (number n) board.rule.sides.set.many);
-          rule = subst (λ m. RefRule setting made.words' board.nic (set board.apps mine.view.app (next m))) found made.rule;
+              (app-moves setting board.words.roles s.views board.nic board.apps board.seated id mine (next n) at (number n) board.rule.refs.sides.set.many);
+          rule = subst (λ m. BoardRule setting made.words' board.nic (set board.apps mine.view.app (next m))) found made.rule;
         },
         (refl, subst told found both.1),
       ))
@@ -98,36 +101,36 @@ mod-less : (n k : ℕ) → 0 < k → k ≤ n → n < 2 ^ 64 → (n + (2 ^ 64 - k
 mod-less n k some enough small = omega arith
 
 module _ (setting : Setting) (words : Words) (b i : ℕ) (at : i ≡ pool_at setting b) (within : b < total setting.layout) where
-  found : {nic : NicSide} {apps : List AppSide} → RefRule setting words nic apps → get_or (table_of words) i 0 ≡ pool_of words b
-  found rule = ap (λ x. get_or (table_of words) x 0) at ∙ pool-word setting words rule.sizes b (omega (arith, within, rule.sizes.pool))
+  found : {nic : NicSide} {apps : List AppSide} → BoardRule setting words nic apps → get_or (table_of words) i 0 ≡ pool_of words b
+  found rule = ap (λ x. get_or (table_of words) x 0) at ∙ pool-word setting words rule.refs.sizes b (omega (arith, within, rule.refs.sizes.pool))
 
   -- the words with n in the buffer's pool count
-  makes-pool : {nic now : NicSide} {apps apps' : List AppSide} → RefRule setting words nic apps → (m n : ℕ) → m ≡ n
-      → RefRule setting (with_pool words b n) now apps' → Makes setting words i m now apps'
+  makes-pool : {nic now : NicSide} {apps apps' : List AppSide} → BoardRule setting words nic apps → (m n : ℕ) → m ≡ n
+      → BoardRule setting (with_pool words b n) now apps' → Makes setting words i m now apps'
   makes-pool rule m n is after = record {
     words' = with_pool words b n;
     laid = ap (λ x. set (table_of words) x m) at ∙ (ap (λ x. set (table_of words) (pool_at setting b) x) is
-        ∙ pool-set setting words rule.sizes b n (omega (arith, within, rule.sizes.pool)));
+        ∙ pool-set setting words rule.refs.sizes b n (omega (arith, within, rule.refs.sizes.pool)));
     roles = refl;
     rule = after;
   }
 
   -- where a law raises a pool count, adding 1 to its word does
-  pub raises : {nic now : NicSide} {apps apps' : List AppSide} → RefRule setting words nic apps → pool_of words b + 1 < 2 ^ 64
-      → RefRule setting (with_pool words b (pool_of words b + 1)) now apps' → Makes setting words i ((get_or (table_of words) i 0 + 1) % 2 ^ 64) now apps'
+  pub raises : {nic now : NicSide} {apps apps' : List AppSide} → BoardRule setting words nic apps → pool_of words b + 1 < 2 ^ 64
+      → BoardRule setting (with_pool words b (pool_of words b + 1)) now apps' → Makes setting words i ((get_or (table_of words) i 0 + 1) % 2 ^ 64) now apps'
   raises rule few after =
       makes-pool rule _ (pool_of words b + 1) (ap (λ x. (x + 1) % 2 ^ 64) (found rule) ∙ mod-small (pool_of words b + 1) few) after
 
   -- where a law takes k of it, subtracting k does
-  pub lowers : {nic now : NicSide} {apps apps' : List AppSide} → RefRule setting words nic apps → (k : ℕ) → 0 < k → k ≤ pool_of words b
-      → get_or (table_of words) i 0 < 2 ^ 64 → RefRule setting (with_pool words b (pool_of words b - k)) now apps'
+  pub lowers : {nic now : NicSide} {apps apps' : List AppSide} → BoardRule setting words nic apps → (k : ℕ) → 0 < k → k ≤ pool_of words b
+      → get_or (table_of words) i 0 < 2 ^ 64 → BoardRule setting (with_pool words b (pool_of words b - k)) now apps'
       → Makes setting words i ((get_or (table_of words) i 0 + (2 ^ 64 - k)) % 2 ^ 64) now apps'
   lowers rule k some enough small after =
       makes-pool rule _ (pool_of words b - k)
       (mod-less (get_or (table_of words) i 0) k some (omega (arith, found rule, enough)) small ∙ ap (λ x. x - k) (found rule)) after
 
   -- what an event does with the count, it does with the number found
-  pub of-count : {nic : NicSide} {apps : List AppSide} → RefRule setting words nic apps → (P : ℕ → Type 0) → P (pool_of words b)
+  pub of-count : {nic : NicSide} {apps : List AppSide} → BoardRule setting words nic apps → (P : ℕ → Type 0) → P (pool_of words b)
       → P (get_or (table_of words) i 0)
   of-count rule P p = subst P (sym (found rule)) p
 
@@ -135,42 +138,42 @@ module _ (setting : Setting) (words : Words) (b i : ℕ) (at : i ≡ pool_at set
 
 module _ (setting : Setting) (words : Words) (a b i : ℕ) (at : i ≡ user_at setting a b) (few : a < apps_of setting)
     (within : b < total setting.layout) where
-  found-user : {nic : NicSide} {apps : List AppSide} → RefRule setting words nic apps → get_or (table_of words) i 0 ≡ user_of words a b
-  found-user rule = ap (λ x. get_or (table_of words) x 0) at ∙ user-word setting words rule.sizes a b (omega (arith, few, rule.sizes.users)) within
+  found-user : {nic : NicSide} {apps : List AppSide} → BoardRule setting words nic apps → get_or (table_of words) i 0 ≡ user_of words a b
+  found-user rule = ap (λ x. get_or (table_of words) x 0) at ∙ user-word setting words rule.refs.sizes a b (omega (arith, few, rule.refs.sizes.users)) within
 
-  makes-user : {nic now : NicSide} {apps apps' : List AppSide} → RefRule setting words nic apps → (m n : ℕ) → m ≡ n
-      → RefRule setting (with_user words a b n) now apps' → Makes setting words i m now apps'
+  makes-user : {nic now : NicSide} {apps apps' : List AppSide} → BoardRule setting words nic apps → (m n : ℕ) → m ≡ n
+      → BoardRule setting (with_user words a b n) now apps' → Makes setting words i m now apps'
   makes-user rule m n is after = record {
     words' = with_user words a b n;
     laid = ap (λ x. set (table_of words) x m) at ∙ (ap (λ x. set (table_of words) (user_at setting a b) x) is
-        ∙ user-set setting words rule.sizes a b n (omega (arith, few, rule.sizes.users)) within);
+        ∙ user-set setting words rule.refs.sizes a b n (omega (arith, few, rule.refs.sizes.users)) within);
     roles = refl;
     rule = after;
   }
 
-  pub raises-user : {nic now : NicSide} {apps apps' : List AppSide} → RefRule setting words nic apps → user_of words a b + 1 < 2 ^ 64
-      → RefRule setting (with_user words a b (user_of words a b + 1)) now apps'
+  pub raises-user : {nic now : NicSide} {apps apps' : List AppSide} → BoardRule setting words nic apps → user_of words a b + 1 < 2 ^ 64
+      → BoardRule setting (with_user words a b (user_of words a b + 1)) now apps'
       → Makes setting words i ((get_or (table_of words) i 0 + 1) % 2 ^ 64) now apps'
   raises-user rule small after =
       makes-user rule _ (user_of words a b + 1) (ap (λ x. (x + 1) % 2 ^ 64) (found-user rule) ∙ mod-small (user_of words a b + 1) small) after
 
-  pub lowers-user : {nic now : NicSide} {apps apps' : List AppSide} → RefRule setting words nic apps → 0 < user_of words a b
-      → get_or (table_of words) i 0 < 2 ^ 64 → RefRule setting (with_user words a b (user_of words a b - 1)) now apps'
+  pub lowers-user : {nic now : NicSide} {apps apps' : List AppSide} → BoardRule setting words nic apps → 0 < user_of words a b
+      → get_or (table_of words) i 0 < 2 ^ 64 → BoardRule setting (with_user words a b (user_of words a b - 1)) now apps'
       → Makes setting words i ((get_or (table_of words) i 0 + (2 ^ 64 - 1)) % 2 ^ 64) now apps'
   lowers-user rule enough small after =
       makes-user rule _ (user_of words a b - 1)
       (mod-less (get_or (table_of words) i 0) 1 (omega arith) (omega (arith, found-user rule, enough)) small ∙ ap (λ x. x - 1) (found-user rule)) after
 
   -- where a law leaves 0, swapping the word with 0 does
-  pub clears-user : {nic now : NicSide} {apps apps' : List AppSide} → RefRule setting words nic apps → RefRule setting (with_user words a b 0) now apps'
+  pub clears-user : {nic now : NicSide} {apps apps' : List AppSide} → BoardRule setting words nic apps → BoardRule setting (with_user words a b 0) now apps'
       → Makes setting words i 0 now apps'
   clears-user rule after = makes-user rule 0 0 refl after
 
   -- where a law changes no word, loading one does
-  pub looks : {now : NicSide} {apps' : List AppSide} → RefRule setting words now apps' → Makes setting words i (get_or (table_of words) i 0) now apps'
+  pub looks : {now : NicSide} {apps' : List AppSide} → BoardRule setting words now apps' → Makes setting words i (get_or (table_of words) i 0) now apps'
   looks after = record { words' = words; laid = set-get_or (table_of words) i 0; roles = refl; rule = after }
 
-  pub of-user : {nic : NicSide} {apps : List AppSide} → RefRule setting words nic apps → (P : ℕ → Type 0) → P (user_of words a b)
+  pub of-user : {nic : NicSide} {apps : List AppSide} → BoardRule setting words nic apps → (P : ℕ → Type 0) → P (user_of words a b)
       → P (get_or (table_of words) i 0)
   of-user rule P p = subst P (sym (found-user rule)) p
 
@@ -178,18 +181,18 @@ module _ (setting : Setting) (words : Words) (a b i : ℕ) (at : i ≡ user_at s
 
 module _ (setting : Setting) (words : Words) (a s i x : ℕ) (at : x ≡ refill_at setting a s i) (few : a < apps_of setting) (small : s < setting.places)
     (less : i < refill_width) where
-  pub found-refill : {nic : NicSide} {apps : List AppSide} → RefRule setting words nic apps
+  pub found-refill : {nic : NicSide} {apps : List AppSide} → BoardRule setting words nic apps
       → get_or (table_of words) x 0 ≡ slot_word words.refills a s i
   found-refill rule = ap (λ y. get_or (table_of words) y 0) at
-      ∙ refill-word setting words rule.sizes a s i (omega (arith, few, rule.sizes.refills)) small less
+      ∙ refill-word setting words rule.refs.sizes a s i (omega (arith, few, rule.refs.sizes.refills)) small less
 
   -- where a law stores a word there, storing it does
-  pub stores-refill : {nic now : NicSide} {apps apps' : List AppSide} → RefRule setting words nic apps → (n : ℕ)
-      → RefRule setting (with_refill words a s i n) now apps' → Makes setting words x n now apps'
+  pub stores-refill : {nic now : NicSide} {apps apps' : List AppSide} → BoardRule setting words nic apps → (n : ℕ)
+      → BoardRule setting (with_refill words a s i n) now apps' → Makes setting words x n now apps'
   stores-refill rule n after = record {
     words' = with_refill words a s i n;
     laid = ap (λ y. set (table_of words) y n) at
-        ∙ refill-set setting words rule.sizes a s i n (omega (arith, few, rule.sizes.refills)) small less;
+        ∙ refill-set setting words rule.refs.sizes a s i n (omega (arith, few, rule.refs.sizes.refills)) small less;
     roles = refl;
     rule = after;
   }
@@ -198,22 +201,42 @@ module _ (setting : Setting) (words : Words) (a s i x : ℕ) (at : x ≡ refill_
 
 module _ (setting : Setting) (words : Words) (a s i x : ℕ) (at : x ≡ note_at setting a s i) (few : a < apps_of setting) (small : s < setting.places)
     (less : i < note_width) where
-  pub found-note : {nic : NicSide} {apps : List AppSide} → RefRule setting words nic apps
+  pub found-note : {nic : NicSide} {apps : List AppSide} → BoardRule setting words nic apps
       → get_or (table_of words) x 0 ≡ slot_word words.notes a s i
   found-note rule = ap (λ y. get_or (table_of words) y 0) at
-      ∙ note-word setting words rule.sizes a s i (omega (arith, few, rule.sizes.notes)) small less
+      ∙ note-word setting words rule.refs.sizes a s i (omega (arith, few, rule.refs.sizes.notes)) small less
 
-  pub stores-note : {nic now : NicSide} {apps apps' : List AppSide} → RefRule setting words nic apps → (n : ℕ)
-      → RefRule setting (with_note words a s i n) now apps' → Makes setting words x n now apps'
+  pub stores-note : {nic now : NicSide} {apps apps' : List AppSide} → BoardRule setting words nic apps → (n : ℕ)
+      → BoardRule setting (with_note words a s i n) now apps' → Makes setting words x n now apps'
   stores-note rule n after = record {
     words' = with_note words a s i n;
     laid = ap (λ y. set (table_of words) y n) at
-        ∙ note-set setting words rule.sizes a s i n (omega (arith, few, rule.sizes.notes)) small less;
+        ∙ note-set setting words rule.refs.sizes a s i n (omega (arith, few, rule.refs.sizes.notes)) small less;
     roles = refl;
     rule = after;
   }
 
 -- where a law changes no word, loading one does
-pub loads : (setting : Setting) (words : Words) (x : ℕ) {now : NicSide} {apps' : List AppSide} → RefRule setting words now apps'
+pub loads : (setting : Setting) (words : Words) (x : ℕ) {now : NicSide} {apps' : List AppSide} → BoardRule setting words now apps'
     → Makes setting words x (get_or (table_of words) x 0) now apps'
 loads setting words x after = record { words' = words; laid = set-get_or (table_of words) x 0; roles = refl; rule = after }
+
+-- ---- a word of the area
+
+module _ (setting : Setting) (words : Words) (i x : ℕ) (at : x ≡ area_at setting i) (less : i < area_words setting.layout) where
+  pub found-area : {nic : NicSide} {apps : List AppSide} → BoardRule setting words nic apps → get_or (table_of words) x 0 ≡ slice_index words.area i
+  found-area rule = ap (λ y. get_or (table_of words) y 0) at ∙ area-is setting words rule.refs.sizes i (omega (arith, less, rule.refs.sizes.area))
+
+  -- where a law stores a word there, storing it does
+  pub stores-area : {nic now : NicSide} {apps apps' : List AppSide} → BoardRule setting words nic apps → (n : ℕ)
+      → BoardRule setting (with_area words i n) now apps' → Makes setting words x n now apps'
+  stores-area rule n after = record {
+    words' = with_area words i n;
+    laid = ap (λ y. set (table_of words) y n) at ∙ area-set setting words rule.refs.sizes i n (omega (arith, less, rule.refs.sizes.area));
+    roles = refl;
+    rule = after;
+  }
+
+-- the bytes of a slice
+pub bytes-small : (bytes : List ℕ) → ((i : ℕ) → get_or bytes i 0 < 256) → All (λ byte. byte < 256) bytes
+bytes-small bytes small k d inside = omega (arith, small k, get_or_default bytes k d 0 inside)

@@ -1,11 +1,12 @@
 -- What holds of the table between any two steps, and what its seats are.
 use Rattle.std.specs.Prelude.{◌≡◌, ℕ, Bool, true, false, if◌then◌else◌, List, [], ◌∷◌, length, slice_index_or}
-use Rattle.std.specs.Prelude.{slice_set, replicate, take, Option, Some, None}
+use Rattle.std.specs.Prelude.{slice_index, slice_set, replicate, take, Option, Some, None}
 use Rattle.atomic_table.specs.Table.{State}
 use Rattle.atomic_table.specs.Seated.{TableId}
-use Rattle.area_layout.specs.Layout.{shape_of}
+use Rattle.area_layout.specs.Layout.{shape_of, total}
 use Rattle.zr_kinds.specs.declared.place.Note.{Note}
 use Rattle.zr_kinds.specs.declared.ring.Rqe.{Rqe}
+use Rattle.board_face.specs.AppEvents.{scrubbed}
 use Rattle.board_face.specs.SlotSteps.{seen_with, side_entry_looked, side_took_note, side_took_linear}
 use Rattle.board_face.specs.declared.views.nic.Judged.TheVariants.{Not}
 use Rattle.word_rings.specs.Slots.{entry_body}
@@ -17,7 +18,7 @@ use Rattle.board_face.specs.declared.views.app.AppSide.{AppSide}
 use Rattle.ref_words.specs.declared.view.View.{View}
 use Rattle.ref_words.specs.Words.{Words, roles_of, table_of}
 use Rattle.ref_words.specs.Seated.{Seated, times_in, dealt_out, no_role}
-use Rattle.ref_words.specs.Rule.{RefRule}
+use Rattle.ref_words.specs.Rule.{BoardRule}
 
 -- The sides of all roles, of which each seat has those of its own, and the words that stand to them by the rule.
 pub record IsBoard (setting : Setting) (s : State (Unit {0}) View) : Type 0 where
@@ -26,7 +27,7 @@ pub record IsBoard (setting : Setting) (s : State (Unit {0}) View) : Type 0 wher
   pub apps : List AppSide
   pub laid : s.words ≡ table_of words
   pub seated : Seated setting words.roles s.views nic apps
-  pub rule : RefRule setting words nic apps
+  pub rule : BoardRule setting words nic apps
 
 -- ---- seats
 
@@ -50,11 +51,21 @@ app_of v = first_app v.apps
 
 -- ---- a scrub
 
--- Of one buffer a scrub took a user count, and as many references from the pool count. `last` says whether no holder is left by that.
-pub record ScrubbedOne (old new : AppSide) (b : ℕ) (last : Bool) : Type 0 where
+-- Of one buffer a scrub took a user count, and as many references from the pool count. Where no holder was left by that it listed the
+-- buffer, so it has nothing in hand.
+pub record ScrubbedOne (old new : AppSide) (b : ℕ) : Type 0 where
   pub took : ℕ
-  pub event : new ≡ side_owes_lowered (side_user_taken old b took) b last
-  pub none : took ≡ 0 → last ≡ false
+  pub event : new ≡ side_owes_lowered (side_user_taken old b took) b false
+
+-- A whole scrub took all that was owed, and left nothing in hand and nothing to be taken from a pool count.
+pub record ScrubbedAll (old new : AppSide) : Type 0 where
+  pub took : List ℕ
+  pub owes : List ℕ
+  pub event : new ≡ record {
+    view = scrubbed old.view;
+    inside = record old.inside { scrub_mark = total old.view.setting.layout; scrub_took = took; scrub_owes = owes };
+  }
+  pub clear : (b : ℕ) → slice_index owes b ≡ 0
 
 -- ---- an entry
 
@@ -70,11 +81,9 @@ side_entry_taken nic a (Some entry) = record nic {
 
 -- ---- a note
 
--- The application looked at its next slot, and where it was full it took the note, with the first of these bytes where they travelled in
--- it.
-abbrev pub side_note_taken : AppSide → Option Note → List ℕ → AppSide
-side_note_taken app None bytes = app
-side_note_taken app (Some note) bytes = if note.split then side_took_note app note else side_took_linear app note (take note.total bytes)
+-- The application took the note of its next slot, with the first of these bytes where they travelled in it.
+abbrev pub side_full_taken : AppSide → Note → List ℕ → AppSide
+side_full_taken app note bytes = if note.split then side_took_note app note else side_took_linear app note (take note.total bytes)
 
 -- ---- what callers see
 

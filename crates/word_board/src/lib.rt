@@ -2,7 +2,9 @@
 //! seats out. Each step on a word is one function here, which cites the law that it keeps the rule.
 #![tactic(auto)]
 
+mod bits;
 mod board;
+mod found;
 mod kinds;
 mod opening;
 mod rule;

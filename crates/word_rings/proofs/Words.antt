@@ -10,7 +10,7 @@ use Rattle.word_rings.specs.Slots.{words_of, bytes_of}
 
 -- ---- what a number in bytes reads
 
-same_number : (i n : ℕ) (xs ys : List ℕ) → ((j : ℕ) → slice_index xs j ≡ slice_index ys j) → little_from i n xs ≡ little_from i n ys
+pub same_number : (i n : ℕ) (xs ys : List ℕ) → ((j : ℕ) → slice_index xs j ≡ slice_index ys j) → little_from i n xs ≡ little_from i n ys
 same_number i zero xs ys same = refl
 same_number i (suc n) xs ys same = rw (same i, same_number (suc i) n xs ys same) refl
 
@@ -63,15 +63,15 @@ words_back (w ∷ ws) small =
 
 -- ---- a text with zeros behind it
 
-zero_in : (n i : ℕ) → slice_index (replicate n 0) i ≡ 0
+pub zero_in : (n i : ℕ) → slice_index (replicate n 0) i ≡ 0
 zero_in zero i = refl
 zero_in (suc n) zero = refl
 zero_in (suc n) (suc i) = zero_in n i
 
-zero_behind : (n m i : ℕ) → slice_index (drop n (replicate m 0)) i ≡ 0
+pub zero_behind : (n m i : ℕ) → slice_index (drop n (replicate m 0)) i ≡ 0
 zero_behind n m i = get_or-drop n (replicate m 0) i 0 ∙ zero_in m (n + i)
 
-same_padded : (xs zeros : List ℕ) → ((i : ℕ) → slice_index zeros i ≡ 0) → (j : ℕ) → slice_index (xs ++ zeros) j ≡ slice_index xs j
+pub same_padded : (xs zeros : List ℕ) → ((i : ℕ) → slice_index zeros i ≡ 0) → (j : ℕ) → slice_index (xs ++ zeros) j ≡ slice_index xs j
 same_padded [] zeros none j = none j
 same_padded (x ∷ xs) zeros none zero = refl
 same_padded (x ∷ xs) zeros none (suc j) = same_padded xs zeros none j

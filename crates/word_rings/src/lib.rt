@@ -1,8 +1,10 @@
-//! The slots of the rings that the card and the applications share, as words.
+//! The slots of the rings that the card and the applications share, and the texts in the area, as words.
 #![tactic(auto)]
 
 mod slots;
 #[cfg(test)]
 mod tests;
+mod texts;
 
 pub use slots::{NOTE_WORDS, REFILL_WORDS, note_read, note_words, refill_read, refill_words};
+pub use texts::{bytes_of_word, text_word};

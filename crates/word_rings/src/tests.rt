@@ -1,6 +1,6 @@
 ghost use Rattle.std.specs.Prelude.{◌≡◌, true, false};
 
-use crate::{note_read, note_words, refill_read, refill_words};
+use crate::{bytes_of_word, note_read, note_words, refill_read, refill_words, text_word};
 use std::test::*;
 use zr_kinds::{Note, Place, Rqe};
 
@@ -132,4 +132,12 @@ fn drawn_entries_come_back(rt: HostRuntime) {
         };
         assert_eq!(rt; refill_read(&refill_words(&entry)), entry);
     }
+}
+
+#[test]
+fn the_words_of_a_text(rt: HostRuntime) {
+    let text = b"abcdefghi";
+    assert_eq!(rt; text_word(text, 0), u64::from_le_bytes(*b"abcdefgh"));
+    assert_eq!(rt; text_word(text, 1), u64::from(b'i'));
+    assert_eq!(rt; bytes_of_word(text_word(text, 0)), *b"abcdefgh");
 }

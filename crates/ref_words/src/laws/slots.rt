@@ -1,4 +1,5 @@
-ghost use Rattle.ref_words.specs.SlotLaws.{WriterLooksLaw, FreeSlotLaw, StoreLaw, PublishLaw, PublishNoteLaw, ReaderLooksLaw, LoadLaw, FreeLaw, TakeNoteLaw};
+ghost use Rattle.ref_words.specs.SlotLaws.{WriterLooksLaw, FreeSlotLaw, RawSlotLaw, StoreLaw, PublishLaw, PublishNoteLaw};
+ghost use Rattle.ref_words.specs.SlotLaws.{ReaderLooksLaw, LoadLaw, FreeLaw, TakeNoteLaw};
 
 /// The writer of a ring looks at the flag of its next slot.
 pub fn k13()
@@ -8,6 +9,11 @@ pub fn k13()
 /// An application looks at any of its refill slots, and falls quiet once it saw each of them free.
 pub fn k13_free()
     ensures { FreeSlotLaw }
+{}
+
+/// It looks at the slot of its last raw entry, and comes to rest where that is free.
+pub fn k13_raw()
+    ensures { RawSlotLaw }
 {}
 
 /// It stores a word of a slot that it saw free.

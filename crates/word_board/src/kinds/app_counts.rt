@@ -1,6 +1,6 @@
 ghost use Rattle.std.specs.Prelude.{◌≡◌, ℕ, ◌+◌, ◌<◌, ◌≤◌, [], true, map, slice_index, Contains, ◌==◌};
 ghost use Rattle.area_layout.specs.Layout.{total};
-ghost use Rattle.board_face.specs.AppCalls.{HasHeld, HasNoneIn};
+ghost use Rattle.board_face.specs.AppCalls.{IsHere, HasHeld, HasNoneIn};
 ghost use Rattle.board_face.specs.AppEvents.{cut, reserve_of};
 ghost use Rattle.board_face.specs.Sides.{app_at};
 ghost use Rattle.board_face.specs.Texts.{unsplit_bytes};
@@ -20,6 +20,7 @@ pub(crate) fn take_picked(words: &SharedWords, seat: &mut WordSeat, buffer: u32)
     requires table { seat.old.table_id ≡ words.now.table.shared.table_id }
     requires app { seat.old.me ≡ (app_view (app_of seat.old.me.0), []) }
     requires within { buffer < total words.now.map.layout }
+    requires here { IsHere (app_of seat.old.me.0).view }
     requires in_hand { Contains (app_of seat.old.me.0).inside.hands buffer }
     requires due { (app_of seat.old.me.0).view.spares < unsplit_bytes (map (λ t. t.note) (app_of seat.old.me.0).view.taken) }
     ensures table { seat.new.table_id ≡ seat.old.table_id }
@@ -38,6 +39,7 @@ pub(crate) fn take_reserve(words: &SharedWords, seat: &mut WordSeat, reserve: u3
     requires table { seat.old.table_id ≡ words.now.table.shared.table_id }
     requires app { seat.old.me ≡ (app_view (app_of seat.old.me.0), []) }
     requires within { reserve < total words.now.map.layout }
+    requires here { IsHere (app_of seat.old.me.0).view }
     requires own { reserve ≡ reserve_of (app_of seat.old.me.0).view }
     requires searched { HasSearched (app_of seat.old.me.0) }
     requires free { (app_of seat.old.me.0).inside.reserve_seen_free ≡ true }

@@ -1,6 +1,6 @@
 ghost use Rattle.std.specs.Prelude.{◌≡◌, ℕ, ◌+◌, ◌<◌, ◌≤◌, [], ◌∷◌, ◌++◌, None, Some, ◌==◌};
 ghost use Rattle.area_layout.specs.Layout.{total};
-ghost use Rattle.board_face.specs.NicCalls.{HasOwn, HasNothingIn};
+ghost use Rattle.board_face.specs.NicCalls.{IsOpen, HasOwn, HasNothingIn};
 ghost use Rattle.board_face.specs.NicEvents.{took};
 ghost use Rattle.board_face.specs.Sides.{nic_at};
 ghost use Rattle.board_face.specs.Steps.{side_begun, side_shut, side_both_lowered};
@@ -20,6 +20,7 @@ pub(crate) fn take_buffer(words: &SharedWords, seat: &mut WordSeat, buffer: u32)
     requires table { seat.old.table_id ≡ words.now.table.shared.table_id }
     requires card { seat.old.me ≡ (card_view (card_of seat.old.me.0), []) }
     requires within { buffer < total words.now.map.layout }
+    requires running { IsOpen (card_of seat.old.me.0).view }
     requires last { (card_of seat.old.me.0).view.cache ≡ (took (card_of seat.old.me.0).view buffer).cache ++ buffer ∷ [] }
     ensures table { seat.new.table_id ≡ seat.old.table_id }
     ensures event { seat.new.me ≡ (card_view (nic_at (card_of seat.old.me.0) (took (card_of seat.old.me.0).view buffer)), []) }

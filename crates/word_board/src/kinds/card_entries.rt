@@ -168,6 +168,7 @@ pub(crate) fn take_entry(
     requires idle { (card_of seat.old.me.0).inside.entry ≡ None }
     ensures table { seat.new.table_id ≡ seat.old.table_id }
     ensures event { seat.new.me ≡ (card_view (side_entry_taken (card_of seat.old.me.0) app result), []) }
+    ensures slots { length (card_of seat.old.me.0).inside.refill_slots ≡ apps_of words.now.map }
 {
     if !look_entry(words, seat, app, slot) {
         return None;

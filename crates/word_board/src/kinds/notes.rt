@@ -1,5 +1,5 @@
 ghost use Rattle.std.specs.Prelude.{◌≡◌, ◌<◌, [], true, false, length, drop, if◌then◌else◌};
-ghost use Rattle.board_face.specs.NicCalls.{apps_of, HasPiece};
+ghost use Rattle.board_face.specs.NicCalls.{apps_of, IsOpen, HasPiece};
 ghost use Rattle.board_face.specs.NicEvents.{text_at};
 ghost use Rattle.board_face.specs.Texts.{IsSplitNote, IsLinearNote};
 ghost use Rattle.board_face.specs.SlotSteps.{next_slot, seen_with, at_note, side_note_looked, side_note_stored};
@@ -133,6 +133,7 @@ pub(crate) fn publish_linear(
     requires app { app < apps_of words.now.map }
     requires within { slot < words.now.map.places }
     requires next { slot ≡ writes_note_at words.now.map (card_of seat.old.me.0) app }
+    requires running { IsOpen (card_of seat.old.me.0).view }
     requires fields { IsLinearNote note }
     requires bytes { note.total ≡ length bytes.now }
     requires fits { NoteFits (record { app = app; note = note; bytes = bytes.now }) }
@@ -192,6 +193,7 @@ pub(crate) fn send_linear(
     requires app { app < apps_of words.now.map }
     requires within { slot < words.now.map.places }
     requires next { slot ≡ writes_note_at words.now.map (card_of seat.old.me.0) app }
+    requires running { IsOpen (card_of seat.old.me.0).view }
     requires fields { IsLinearNote note }
     requires bytes { note.total ≡ length bytes.now }
     ensures table { seat.new.table_id ≡ seat.old.table_id }

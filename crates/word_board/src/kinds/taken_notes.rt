@@ -1,38 +1,26 @@
 ghost use Rattle.std.specs.Prelude.{◌≡◌, ◌+◌, ◌<◌, [], ◌∷◌, true, false, length, take, drop, IfSome, MatchBool};
 ghost use Rattle.board_face.specs.NicCalls.{apps_of};
-ghost use Rattle.board_face.specs.Texts.{IsSplitNote, IsLinearNote};
+ghost use Rattle.board_face.specs.AppCalls.{TookNote};
+ghost use Rattle.board_face.specs.AppEvents.{took_note};
+ghost use Rattle.board_face.specs.Texts.{IsLinearNote};
 ghost use Rattle.board_face.specs.SlotSteps.{seen_with, at_slot, side_slot_looked, side_slot_loaded, side_took_note, side_took_linear};
 ghost use Rattle.word_rings.specs.Slots.{note_width, linear_of};
 ghost use Rattle.ref_words.specs.Rings.{takes_note_at};
 ghost use Rattle.ref_words.specs.SlotLaws.{loaded_note};
 ghost use Rattle.ref_words.specs.Seated.{app_view};
-ghost use Rattle.word_board.specs.Board.{app_of, side_note_taken};
+ghost use Rattle.word_board.specs.Board.{app_of, side_full_taken};
+ghost use Rattle.word_board.specs.Polls.{Polls};
 
+use crate::kinds::{look_end, seek_note};
 use crate::rule::{SharedWords, WordSeat};
 use crate::steps::{load_as, swap_as};
+use board_face::{Held, Polled};
 use ref_words::laws;
 use std::marker::Brand;
 use word_rings::{NOTE_WORDS, note_read};
 use zr_kinds::Note;
 
-/// An application looks at the flag of its next note slot. `true` says that the slot is full.
-pub(crate) fn look_slot(words: &SharedWords, seat: &mut WordSeat, app: u32, slot: u32) -> bool
-    requires table { seat.old.table_id ≡ words.now.table.shared.table_id }
-    requires app { seat.old.me ≡ (app_view (app_of seat.old.me.0), []) }
-    requires number { (app_of seat.old.me.0).view.app ≡ app }
-    requires few { app < apps_of words.now.map }
-    requires within { slot < words.now.map.places }
-    requires next { slot ≡ takes_note_at words.now.map (app_of seat.old.me.0) }
-    ensures table { seat.new.table_id ≡ seat.old.table_id }
-    ensures event { seat.new.me ≡ (app_view (side_slot_looked (app_of seat.old.me.0) result), []) }
-{
-    laws::k16_flag();
-    let word = words.map.note(app, slot, 0);
-    let table = &words.table;
-    load_as::<Brand, ()>(table, seat, word, ()) == 1
-}
-
-/// It loads the next word of the slot, which it saw full.
+/// An application loads the next word of its next note slot, which it saw full.
 pub(crate) fn load_slot(
     words: &SharedWords,
     seat: &mut WordSeat,
@@ -92,7 +80,8 @@ pub(crate) fn free_note(words: &SharedWords, seat: &mut WordSeat, app: u32, slot
     requires split { (loaded_note (app_of seat.old.me.0)).split ≡ true }
     ensures table { seat.new.table_id ≡ seat.old.table_id }
     ensures event { seat.new.me ≡ (app_view (side_took_note (app_of seat.old.me.0) (loaded_note (app_of seat.old.me.0))), []) }
-    ensures fields { IsSplitNote (loaded_note (app_of seat.old.me.0)) }
+    ensures took { TookNote (app_of seat.old.me.0).view (took_note (app_of seat.old.me.0).view (loaded_note (app_of seat.old.me.0)))
+        (loaded_note (app_of seat.old.me.0)) (loaded_note (app_of seat.old.me.0)).place }
 {
     laws::k17_note();
     let word = words.map.note(app, slot, 0);
@@ -125,29 +114,28 @@ pub(crate) fn free_linear(words: &SharedWords, seat: &mut WordSeat, app: u32, sl
     swap_as::<Brand, ()>(table, seat, word, 0, ());
 }
 
-/// An application takes the next note sent to it: it looks at the flag of its next slot, and where the slot is full it loads
-/// the words and frees the slot. The bytes that travelled in an unsplit note are the first of `linear`. `None` says that the
-/// slot was free.
-pub(crate) fn take_note(
+/// An application takes the note of its next slot, which it saw full: it loads the words and frees the slot. The bytes that
+/// travelled in an unsplit note are the first of `linear`.
+fn take_full(
     words: &SharedWords,
     seat: &mut WordSeat,
     app: u32,
     slot: u32,
     linear: &mut [u8; 256],
-) -> Option<Note>
+) -> Note
     requires table { seat.old.table_id ≡ words.now.table.shared.table_id }
     requires app { seat.old.me ≡ (app_view (app_of seat.old.me.0), []) }
     requires number { (app_of seat.old.me.0).view.app ≡ app }
     requires few { app < apps_of words.now.map }
     requires within { slot < words.now.map.places }
     requires next { slot ≡ takes_note_at words.now.map (app_of seat.old.me.0) }
+    requires seen { (app_of seat.old.me.0).inside.note_slot ≡ seen_with [] }
     ensures table { seat.new.table_id ≡ seat.old.table_id }
-    ensures event { seat.new.me ≡ (app_view (side_note_taken (app_of seat.old.me.0) result linear.new), []) }
-    ensures fields { IfSome result (λ note. MatchBool note.split (IsSplitNote note) (IsLinearNote note)) }
+    ensures event { seat.new.me ≡ (app_view (side_full_taken (app_of seat.old.me.0) result linear.new), []) }
+    ensures took { MatchBool result.split
+        (TookNote (app_of seat.old.me.0).view (took_note (app_of seat.old.me.0).view result) result result.place)
+        (IsLinearNote result) }
 {
-    if !look_slot(words, seat, app, slot) {
-        return None;
-    }
     let body = load_note(words, seat, app, slot);
     let note = note_read(&body, linear);
     if note.split {
@@ -155,5 +143,36 @@ pub(crate) fn take_note(
     } else {
         free_linear(words, seat, app, slot);
     }
-    Some(note)
+    note
+}
+
+/// An application looks for the next note sent to it: whether the card has ended, and then at its next slot. Where that is full
+/// it takes the note.
+pub(crate) fn poll(
+    words: &SharedWords,
+    seat: &mut WordSeat,
+    app: u32,
+    slot: u32,
+    linear: &mut [u8; 256],
+) -> Polled
+    requires table { seat.old.table_id ≡ words.now.table.shared.table_id }
+    requires app { seat.old.me ≡ (app_view (app_of seat.old.me.0), []) }
+    requires number { (app_of seat.old.me.0).view.app ≡ app }
+    requires few { app < apps_of words.now.map }
+    requires within { slot < words.now.map.places }
+    requires next { slot ≡ takes_note_at words.now.map (app_of seat.old.me.0) }
+    ensures table { seat.new.table_id ≡ seat.old.table_id }
+    ensures app { seat.new.me ≡ (app_view (app_of seat.new.me.0), []) }
+    ensures event { Polls (app_of seat.old.me.0) (app_of seat.new.me.0) linear.new result }
+{
+    let over = look_end(words, seat);
+    if !seek_note(words, seat, app, slot) {
+        return if over { Polled::Ended } else { Polled::Empty };
+    }
+    let note = take_full(words, seat, app, slot, linear);
+    if note.split {
+        Polled::Note(note, Held::new(note.place))
+    } else {
+        Polled::Linear(note)
+    }
 }

@@ -1,5 +1,14 @@
 use Rattle.ref_words.proofs.Opening.{seated, rule}
+use Rattle.ref_words.proofs.PhasesOpened.{opened-phases}
+use Rattle.ref_words.proofs.TextsOpened.{texts}
 use Rattle.ref_words.proofs.laws.roles.opened.Goals as goal
 
 pub returns : goal.returns
-returns c = λ setting layout places. record { seated = seated setting; rule = rule setting layout places }
+returns c = λ setting layout places. record {
+  seated = seated setting;
+  rule = record {
+    texts = texts setting;
+    refs = rule setting layout places;
+    phases = opened-phases setting;
+  };
+}

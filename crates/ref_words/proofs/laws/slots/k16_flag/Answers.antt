@@ -1,9 +1,21 @@
 use Rattle.ref_words.proofs.AppSlots as theirs
 use Rattle.ref_words.proofs.CardSlots as card
+use Rattle.ref_words.proofs.PhasesByCard as by_card
+use Rattle.ref_words.proofs.PhasesBySlots as phased
+use Rattle.ref_words.proofs.TextsBySlots as texts
 use Rattle.ref_words.proofs.laws.slots.k16_flag.Goals as goal
 
 pub returns : goal.returns
 returns c = record {
-  entry = λ setting words nic apps a rule small. card.looked-entry setting words nic apps a rule small;
-  note = λ setting words nic apps app rule here. theirs.looked-note setting words nic apps app rule here;
+  entry = λ setting words nic apps a rule small. record {
+    texts = texts.texts-entry_looked setting words.area nic apps a rule.texts _ (card.looked-entry setting words nic apps a rule.refs small).sides;
+    refs = card.looked-entry setting words nic apps a rule.refs small;
+    phases = by_card.entry_looked-phases setting words nic apps rule.refs rule.phases a _;
+  };
+  note = λ setting words nic apps app rule here. record {
+    texts = texts.texts-slot_looked setting words.area nic apps app.view.app app here rule.texts _
+        (theirs.looked-note setting words nic apps app rule.refs here).sides;
+    refs = theirs.looked-note setting words nic apps app rule.refs here;
+    phases = phased.slot_looked-phases setting words nic apps rule.refs rule.phases app.view.app app here _;
+  };
 }

@@ -13,7 +13,7 @@ invariant_of-words c =
     let keyed = c.new-map.ensures ∙ sym made.5 in
     let layout : IsLayout map.layout = subst (λ s. IsLayout s.layout) (sym c.new-map.ensures) c.in_ok-words.ensures.sound in
     let places : 0 < map.places = omega (arith, c.requires.some, ap (λ (s : Setting). s.places) c.new-map.ensures) in
-    let many = table-length map (opened_words map) (c.opened-2.ensures map layout places).rule.sizes in
+    let many = table-length map (opened_words map) (c.opened-2.ensures map layout places).rule.refs.sizes in
     record {
       keyed = keyed;
       wide = omega (

@@ -3,7 +3,7 @@ use Rattle.area_layout.specs.Layout.{total}
 use Rattle.board_face.specs.declared.views.app.AppSide.{AppSide}
 use Rattle.board_face.specs.Steps.{side_released}
 use Rattle.ref_words.specs.Words.{pool_at, with_pool, pool_of}
-use Rattle.ref_words.specs.Rule.{RefRule}
+use Rattle.ref_words.specs.Rule.{BoardRule}
 use Rattle.ref_words.specs.Seated.{app_view}
 use Rattle.word_board.specs.Board.{app_of}
 use Rattle.word_board.proofs.Stepping.{app-step, lowers, of-count}
@@ -22,7 +22,7 @@ sub_as-requires-clause-allows c =
     (λ ws nic apps rule here small.
     let law = c.k6.ensures.held setting ws nic apps mine.view.app mine c.args.place rule here c.requires.out in (
       lowers setting ws c.args.place.buffer c.pool-word.result at within rule 1 (omega arith) law.enough small
-          (of-count setting ws c.args.place.buffer c.pool-word.result at within rule (λ n. RefRule setting (with_pool ws c.args.place.buffer
+          (of-count setting ws c.args.place.buffer c.pool-word.result at within rule (λ n. BoardRule setting (with_pool ws c.args.place.buffer
           (pool_of ws c.args.place.buffer - 1)) nic (set apps mine.view.app (next n))) law.rule),
       tt,
     ))

@@ -20,7 +20,7 @@ add_as-requires-clause-allows c =
     app-step setting words.table.shared.table_id.slots c.args.seat.now.id c.pool-word.result (λ n. (n + 1) % 2 ^ 64)
     (λ _. HasNoneIn mine.view c.args.buffer) mine next (λ n. refl)
     (λ ws nic apps rule here small.
-    let law = c.k4.ensures.picked setting ws nic apps mine.view.app mine c.args.buffer rule here c.requires.in_hand c.requires.due in
+    let law = c.k4.ensures.picked setting ws nic apps mine.view.app mine c.args.buffer rule here c.requires.in_hand c.requires.due c.requires.here in
     (raises setting ws c.args.buffer c.pool-word.result at within rule (omega (arith, law.1.unheld)) law.1.rule, law.0))
     c.args.seat.now.me c.requires.app
 

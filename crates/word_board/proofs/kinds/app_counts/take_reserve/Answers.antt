@@ -22,7 +22,7 @@ add_as-requires-clause-allows c =
     (λ _. HasNoneIn mine.view c.args.reserve) mine next (λ n. refl)
     (λ ws nic apps rule here small.
     let law = subst (λ b. HasNoneIn mine.view b × RaisesFree setting ws b nic (set apps mine.view.app (side_spare_begun mine b))) (sym c.requires.own)
-    (c.k4.ensures.reserve setting ws nic apps mine.view.app mine rule here c.requires.searched c.requires.free c.requires.due) in
+    (c.k4.ensures.reserve setting ws nic apps mine.view.app mine rule here c.requires.searched c.requires.free c.requires.due c.requires.here) in
     (raises setting ws c.args.reserve c.pool-word.result at within rule (omega (arith, law.1.unheld)) law.1.rule, law.0))
     c.args.seat.now.me c.requires.app
 

@@ -3,7 +3,7 @@ use Rattle.area_layout.specs.Layout.{total}
 use Rattle.board_face.specs.declared.views.nic.NicSide.{NicSide}
 use Rattle.board_face.specs.Steps.{side_both_lowered}
 use Rattle.ref_words.specs.Words.{pool_at, with_pool, pool_of}
-use Rattle.ref_words.specs.Rule.{RefRule}
+use Rattle.ref_words.specs.Rule.{BoardRule}
 use Rattle.ref_words.specs.Seated.{card_view}
 use Rattle.word_board.specs.Board.{card_of}
 use Rattle.word_board.proofs.Stepping.{card-step, lowers, of-count}
@@ -21,7 +21,7 @@ sub_as-requires-clause-allows c =
     (λ ws apps rule small.
     let law = c.k6.ensures.returning setting ws mine apps c.args.app c.args.entry c.args.buffer rule c.requires.in_hand in (
       lowers setting ws c.args.buffer c.pool-word.result at within rule 1 (omega arith) law.enough small
-          (of-count setting ws c.args.buffer c.pool-word.result at within rule (λ n. RefRule setting (with_pool ws c.args.buffer
+          (of-count setting ws c.args.buffer c.pool-word.result at within rule (λ n. BoardRule setting (with_pool ws c.args.buffer
           (pool_of ws c.args.buffer - 1))
           (next n) apps) law.rule),
       tt,

@@ -21,7 +21,7 @@ add_as-requires-clause-allows c =
     card-step setting words.table.shared.table_id.slots c.args.seat.now.id c.pool-word.result (λ n. (n + 1) % 2 ^ 64)
     (λ _. HasNothingIn mine.view c.args.buffer) mine next
     (λ ws apps rule small.
-    let law = c.k4.ensures.card setting ws mine apps c.args.buffer rule c.requires.last in
+    let law = c.k4.ensures.card setting ws mine apps c.args.buffer rule c.requires.last c.requires.running in
     (raises setting ws c.args.buffer c.pool-word.result at within rule (omega (arith, law.1.unheld)) law.1.rule, law.0))
     c.args.seat.now.me c.requires.card
 

@@ -7,7 +7,7 @@ use Rattle.word_rings.specs.Slots.{refill_width}
 use Rattle.ref_words.specs.Words.{refill_at}
 use Rattle.ref_words.specs.Rings.{takes_entry_at}
 use Rattle.ref_words.specs.SlotLaws.{refill_words_at}
-use Rattle.ref_words.specs.Rule.{RefRule}
+use Rattle.ref_words.specs.Rule.{BoardRule}
 use Rattle.ref_words.specs.Seated.{card_view}
 use Rattle.word_board.specs.Board.{card_of}
 use Rattle.word_board.proofs.Stepping.{card-step, loads, found-refill}
@@ -34,7 +34,7 @@ load_as-requires-clause-allows c =
     (λ ws apps rule small.
     let law = c.k16.ensures.entry setting ws mine apps a rule few c.requires.seen more in (
       loads setting ws c.refill-word.result
-          (subst (λ n. RefRule setting ws (next n) apps) (sym (found-refill setting ws a s i c.refill-word.result at few within more rule)) law),
+          (subst (λ n. BoardRule setting ws (next n) apps) (sym (found-refill setting ws a s i c.refill-word.result at few within more rule)) law),
       tt,
     ))
     c.args.seat.now.me c.requires.card

@@ -6,7 +6,7 @@ use Rattle.board_face.specs.declared.views.nic.NicSide.{NicSide}
 use Rattle.board_face.specs.declared.views.parts.Setting.{Setting}
 use Rattle.ref_words.specs.Words.{refill_at}
 use Rattle.ref_words.specs.Rings.{takes_entry_at}
-use Rattle.ref_words.specs.Rule.{RefRule}
+use Rattle.ref_words.specs.Rule.{BoardRule}
 use Rattle.ref_words.specs.Seated.{card_view}
 use Rattle.word_board.specs.Board.{card_of}
 use Rattle.word_board.proofs.Stepping.{card-step, loads, found-refill}
@@ -32,8 +32,8 @@ load_as-requires-clause-allows c =
     (λ ws apps rule small.
     let law = c.k16_flag.ensures.entry setting ws mine apps a rule few in (
       loads setting ws c.refill-word.result
-          (subst (λ n. RefRule setting ws (next n) apps) (sym (found-refill setting ws a s i c.refill-word.result at few within (omega arith) rule)) law),
-      rule.sides.slots.refills,
+          (subst (λ n. BoardRule setting ws (next n) apps) (sym (found-refill setting ws a s i c.refill-word.result at few within (omega arith) rule)) law),
+      rule.refs.sides.slots.refills,
     ))
     c.args.seat.now.me c.requires.card
 

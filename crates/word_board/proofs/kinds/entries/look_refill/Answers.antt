@@ -1,4 +1,4 @@
-use Rattle.std.proofs.Common.{◌≡◌, ℕ, ◌<◌, Bool, true, false, set, refl, ap, sym, ◌∙◌, subst, arith}
+use Rattle.std.proofs.Common.{◌≡◌, ℕ, ◌<◌, set, ap, sym, ◌∙◌, subst, arith}
 use Rattle.std.specs.Prelude.{◌==◌}
 use Rattle.board_face.specs.NicCalls.{apps_of}
 use Rattle.board_face.specs.SlotSteps.{side_refill_looked}
@@ -6,15 +6,12 @@ use Rattle.board_face.specs.declared.views.parts.Setting.{Setting}
 use Rattle.board_face.specs.declared.views.app.AppSide.{AppSide}
 use Rattle.ref_words.specs.Words.{refill_at}
 use Rattle.ref_words.specs.Rings.{writes_entry_at}
-use Rattle.ref_words.specs.Rule.{RefRule}
+use Rattle.ref_words.specs.Rule.{BoardRule}
 use Rattle.ref_words.specs.Seated.{app_view}
+use Rattle.ref_words.proofs.AppNumbers.{refill_looked-number}
 use Rattle.word_board.specs.Board.{app_of}
 use Rattle.word_board.proofs.Stepping.{app-step, loads, found-refill}
 use Rattle.word_board.proofs.kinds.entries.look_refill.Goals as goal
-
-same-number : (app : AppSide) (free : Bool) → (side_refill_looked app free).view.app ≡ app.view.app
-same-number app true = refl
-same-number app false = refl
 
 pub load_as-requires-clause-allows : goal.load_as-requires-clause-allows
 load_as-requires-clause-allows c =
@@ -33,11 +30,11 @@ load_as-requires-clause-allows c =
     (k : Setting). c.args.slot < k.places) words.keyed c.requires.within) in
     let next : ℕ → AppSide = λ n. side_refill_looked mine (n == 0) in
     app-step setting words.table.shared.table_id.slots c.args.seat.now.id c.refill-word.result (λ n. n) (λ _. Unit {0}) mine next
-    (λ n. same-number mine (n == 0))
+    (λ n. refill_looked-number mine (n == 0))
     (λ ws nic apps rule here small.
     let law = c.k13.ensures.entry setting ws nic apps mine rule here in (
       loads setting ws c.refill-word.result
-          (subst (λ n. RefRule setting ws nic (set apps a (next n)))
+          (subst (λ n. BoardRule setting ws nic (set apps a (next n)))
           (sym (found-refill setting ws a s 0 c.refill-word.result at few within (omega arith) rule)) law),
       tt,
     ))

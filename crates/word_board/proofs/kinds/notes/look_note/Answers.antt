@@ -6,7 +6,7 @@ use Rattle.board_face.specs.declared.views.nic.NicSide.{NicSide}
 use Rattle.board_face.specs.declared.views.parts.Setting.{Setting}
 use Rattle.ref_words.specs.Words.{note_at}
 use Rattle.ref_words.specs.Rings.{writes_note_at}
-use Rattle.ref_words.specs.Rule.{RefRule}
+use Rattle.ref_words.specs.Rule.{BoardRule}
 use Rattle.ref_words.specs.Seated.{card_view}
 use Rattle.word_board.specs.Board.{card_of}
 use Rattle.word_board.proofs.Stepping.{card-step, loads, found-note}
@@ -32,8 +32,8 @@ load_as-requires-clause-allows c =
     (λ ws apps rule small.
     let law = c.k13.ensures.note setting ws mine apps a rule few in (
       loads setting ws c.note-word.result
-          (subst (λ n. RefRule setting ws (next n) apps) (sym (found-note setting ws a s i c.note-word.result at few within (omega arith) rule)) law),
-      rule.sides.slots.notes,
+          (subst (λ n. BoardRule setting ws (next n) apps) (sym (found-note setting ws a s i c.note-word.result at few within (omega arith) rule)) law),
+      rule.refs.sides.slots.notes,
     ))
     c.args.seat.now.me c.requires.card
 

@@ -28,7 +28,7 @@ swap_as-requires-clause-allows c =
     card-step setting words.table.shared.table_id.slots c.args.seat.now.id c.note-word.result (λ _. 1) (λ _. Unit {0}) mine next
     (λ ws apps rule small.
     let law = c.k15_note.ensures.linear setting ws mine apps a c.args.note c.args.bytes.now rule few c.requires.fields c.requires.bytes c.requires.seen
-    c.requires.words c.requires.fits in
+    c.requires.words c.requires.fits c.requires.running in
     (stores-note setting ws a s i c.note-word.result at few within (omega arith) rule 1 law, tt))
     c.args.seat.now.me c.requires.card
 

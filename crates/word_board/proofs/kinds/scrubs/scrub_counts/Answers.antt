@@ -19,19 +19,25 @@ pub scrub_one-requires-clause-app : goal.scrub_one-requires-clause-app
 scrub_one-requires-clause-app c = c.loop-buffer.invariant.1
 
 pub scrub_one-requires-clause-number : goal.scrub_one-requires-clause-number
-scrub_one-requires-clause-number c = ap (λ v. v.app) c.loop-buffer.invariant.2.view ∙ c.requires.number
+scrub_one-requires-clause-number c = ap (λ s. s.view.app) c.loop-buffer.invariant.2.event ∙ c.requires.number
 
 pub scrub_one-requires-clause-next : goal.scrub_one-requires-clause-next
-scrub_one-requires-clause-next c = c.loop-buffer.invariant.2.mark
+scrub_one-requires-clause-next c = ap (λ s. s.inside.scrub_mark) c.loop-buffer.invariant.2.event
+
+pub scrub_one-requires-clause-set : goal.scrub_one-requires-clause-set
+scrub_one-requires-clause-set c = ap (λ s. s.view.setting) c.loop-buffer.invariant.2.event ∙ c.requires.set
+
+pub scrub_one-requires-clause-bare : goal.scrub_one-requires-clause-bare
+scrub_one-requires-clause-bare c = ap (λ s. s.inside.hands) c.loop-buffer.invariant.2.event ∙ c.requires.bare
 
 pub scrub_one-requires-clause-quiet : goal.scrub_one-requires-clause-quiet
-scrub_one-requires-clause-quiet c = ap (λ v. v.quiet) c.loop-buffer.invariant.2.view ∙ c.requires.quiet
+scrub_one-requires-clause-quiet c = ap (λ s. s.view.quiet) c.loop-buffer.invariant.2.event ∙ c.requires.quiet
 
 pub scrub_one-requires-clause-lent : goal.scrub_one-requires-clause-lent
-scrub_one-requires-clause-lent c = ap (λ v. v.loans) c.loop-buffer.invariant.2.view ∙ c.requires.lent
+scrub_one-requires-clause-lent c = ap (λ s. s.view.loans) c.loop-buffer.invariant.2.event ∙ c.requires.lent
 
 pub scrub_one-requires-clause-counted : goal.scrub_one-requires-clause-counted
-scrub_one-requires-clause-counted c = ap (λ v. v.scrubbed) c.loop-buffer.invariant.2.view
+scrub_one-requires-clause-counted c = ap (λ s. s.view.scrubbed) c.loop-buffer.invariant.2.event
     ∙ not-eqb c.loop-buffer.buffer (total c.args.words.now.map.layout) (λ e. absurd (omega (arith, e, c.loop-buffer-test.true, c.requires.all)))
 
 pub scrub_one-requires-clause-lists : goal.scrub_one-requires-clause-lists
@@ -44,7 +50,7 @@ pub loop-buffer-preserved : goal.loop-buffer-preserved
 loop-buffer-preserved c = (
   c.scrub_one.ensures.table ∙ c.loop-buffer.invariant.0,
   c.scrub_one.ensures.app,
-  IsScrubbedBelow-more _ _ _ _ c.loop-buffer.buffer c.scrub_one.result c.requires.set
+  IsScrubbedBelow-more _ _ _ _ c.loop-buffer.buffer c.requires.set
       (omega (arith, c.loop-buffer-test.true, c.requires.all)) c.loop-buffer.invariant.2 c.scrub_one.ensures.event,
 )
 
@@ -54,20 +60,13 @@ returns-clause-table c = c.loop-buffer.invariant.0
 pub returns-clause-app : goal.returns-clause-app
 returns-clause-app c = c.loop-buffer.invariant.1
 
-pub returns-clause-view : goal.returns-clause-view
-returns-clause-view c =
+pub returns-clause-event : goal.returns-clause-event
+returns-clause-event c =
     let whole : c.loop-buffer.buffer ≡ total c.args.words.now.map.layout = omega (
       arith,
       c.loop-buffer-test.false,
       c.loop-buffer.auto.buffer-end,
       c.requires.all,
     ) in
-    IsScrubbedBelow-all c.args.words.now.map _ _
+    IsScrubbedBelow-all c.args.words.now.map _ _ c.requires.set
     (subst (IsScrubbedBelow c.args.words.now.map (app_of c.args.seat.now.me.0) (app_of c.loop-buffer.seat.me.0)) whole c.loop-buffer.invariant.2)
-
-pub returns-clause-all : goal.returns-clause-all
-returns-clause-all c =
-    omega (arith, c.loop-buffer.invariant.2.mark, c.loop-buffer-test.false, c.loop-buffer.auto.buffer-end, c.requires.all)
-
-pub returns-clause-clear : goal.returns-clause-clear
-returns-clause-clear c = c.loop-buffer.invariant.2.clear

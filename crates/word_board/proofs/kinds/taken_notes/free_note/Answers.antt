@@ -1,6 +1,7 @@
 use Rattle.std.proofs.Common.{◌≡◌, ℕ, ◌<◌, refl, ap, sym, ◌∙◌, subst, arith}
 use Rattle.board_face.specs.NicCalls.{apps_of}
-use Rattle.board_face.specs.Texts.{IsSplitNote}
+use Rattle.board_face.specs.AppCalls.{TookNote}
+use Rattle.board_face.specs.AppEvents.{took_note}
 use Rattle.board_face.specs.SlotSteps.{side_took_note}
 use Rattle.board_face.specs.declared.views.parts.Setting.{Setting}
 use Rattle.board_face.specs.declared.views.app.AppSide.{AppSide}
@@ -29,7 +30,8 @@ swap_as-requires-clause-allows c =
     let within : s < setting.places = subst (λ k. k < setting.places) next_slot (subst
     (λ (k : Setting). c.args.slot < k.places) words.keyed c.requires.within) in
     let next : ℕ → AppSide = λ n. side_took_note mine (loaded_note mine) in
-    app-step setting words.table.shared.table_id.slots c.args.seat.now.id c.note-word.result (λ _. 0) (λ _. IsSplitNote (loaded_note mine)) mine next
+    app-step setting words.table.shared.table_id.slots c.args.seat.now.id c.note-word.result (λ _. 0)
+    (λ _. TookNote mine.view (took_note mine.view (loaded_note mine)) (loaded_note mine) (loaded_note mine).place) mine next
     (λ n. refl)
     (λ ws nic apps rule here small.
     let law = c.k17_note.ensures.split setting ws nic apps mine rule here c.requires.seen c.requires.all c.requires.split in
@@ -40,5 +42,5 @@ pub returns-clause-event : goal.returns-clause-event
 returns-clause-event c = c.swap_as.ensures.me
     ∙ ap (λ xs. (app_view (side_took_note (app_of c.args.seat.now.me.0) (loaded_note (app_of c.args.seat.now.me.0))), xs)) (ap (λ me. me.1) c.requires.app)
 
-pub returns-clause-fields : goal.returns-clause-fields
-returns-clause-fields c = c.swap_as.ensures.told
+pub returns-clause-took : goal.returns-clause-took
+returns-clause-took c = c.swap_as.ensures.told

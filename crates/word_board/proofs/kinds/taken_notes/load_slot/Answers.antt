@@ -6,7 +6,7 @@ use Rattle.board_face.specs.declared.views.app.AppSide.{AppSide}
 use Rattle.word_rings.specs.Slots.{note_width}
 use Rattle.ref_words.specs.Words.{note_at}
 use Rattle.ref_words.specs.Rings.{takes_note_at}
-use Rattle.ref_words.specs.Rule.{RefRule}
+use Rattle.ref_words.specs.Rule.{BoardRule}
 use Rattle.ref_words.specs.Seated.{app_view}
 use Rattle.word_board.specs.Board.{app_of}
 use Rattle.word_board.proofs.Stepping.{app-step, loads, found-note}
@@ -36,7 +36,7 @@ load_as-requires-clause-allows c =
     (λ ws nic apps rule here small.
     let law = c.k16.ensures.note setting ws nic apps mine rule here c.requires.seen more in (
       loads setting ws c.note-word.result
-          (subst (λ n. RefRule setting ws nic (set apps a (next n)))
+          (subst (λ n. BoardRule setting ws nic (set apps a (next n)))
           (sym (found-note setting ws a s i c.note-word.result at few within more rule)) law),
       tt,
     ))

@@ -4,7 +4,7 @@ use Rattle.board_face.specs.NicCalls.{apps_of}
 use Rattle.board_face.specs.declared.views.nic.NicSide.{NicSide}
 use Rattle.board_face.specs.Steps.{side_judged}
 use Rattle.ref_words.specs.Words.{user_at}
-use Rattle.ref_words.specs.Rule.{RefRule}
+use Rattle.ref_words.specs.Rule.{BoardRule}
 use Rattle.ref_words.specs.Seated.{card_view}
 use Rattle.word_board.specs.Board.{card_of}
 use Rattle.word_board.proofs.Stepping.{card-step, looks, of-user}
@@ -24,7 +24,7 @@ load_as-requires-clause-allows c =
     (λ ws apps rule small.
     let law = c.k8.ensures setting ws mine apps c.args.app c.args.entry c.args.buffer rule c.requires.in_hand named within in (
       looks setting ws c.args.app c.args.buffer c.user-word.result at few within
-          (of-user setting ws c.args.app c.args.buffer c.user-word.result at few within rule (λ n. RefRule setting ws (next n) apps) law),
+          (of-user setting ws c.args.app c.args.buffer c.user-word.result at few within rule (λ n. BoardRule setting ws (next n) apps) law),
       tt,
     ))
     c.args.seat.now.me c.requires.card

@@ -4,7 +4,7 @@ use Rattle.board_face.specs.NicCalls.{apps_of}
 use Rattle.board_face.specs.declared.views.app.AppSide.{AppSide}
 use Rattle.board_face.specs.Steps.{side_user_taken}
 use Rattle.ref_words.specs.Words.{user_at, with_user}
-use Rattle.ref_words.specs.Rule.{RefRule}
+use Rattle.ref_words.specs.Rule.{BoardRule}
 use Rattle.ref_words.specs.Seated.{app_view}
 use Rattle.word_board.specs.Board.{app_of}
 use Rattle.word_board.proofs.Stepping.{app-step, clears-user, of-user}
@@ -25,7 +25,7 @@ swap_as-requires-clause-allows c =
     let law = c.k10.ensures setting ws nic apps mine.view.app mine c.args.buffer rule here within c.requires.next
     c.requires.quiet c.requires.lent c.requires.counted in (
       clears-user setting ws mine.view.app c.args.buffer c.user-word.result at few within rule
-          (of-user setting ws mine.view.app c.args.buffer c.user-word.result at few within rule (λ n. RefRule setting
+          (of-user setting ws mine.view.app c.args.buffer c.user-word.result at few within rule (λ n. BoardRule setting
           (with_user ws mine.view.app c.args.buffer 0) nic (set apps mine.view.app (next n))) law),
       tt,
     ))

@@ -1,20 +1,17 @@
-use Rattle.std.proofs.Common.{◌≡◌, ℕ, ◌<◌, Bool, true, false, set, refl, ap, sym, ◌∙◌, subst, arith}
+use Rattle.std.proofs.Common.{◌≡◌, ℕ, ◌<◌, set, ap, sym, ◌∙◌, subst, arith}
 use Rattle.std.specs.Prelude.{◌==◌}
 use Rattle.board_face.specs.NicCalls.{apps_of}
-use Rattle.board_face.specs.SlotSteps.{side_slot_looked}
 use Rattle.board_face.specs.declared.views.parts.Setting.{Setting}
 use Rattle.board_face.specs.declared.views.app.AppSide.{AppSide}
+use Rattle.ref_words.specs.PhaseSteps.{side_note_sought}
 use Rattle.ref_words.specs.Words.{note_at}
 use Rattle.ref_words.specs.Rings.{takes_note_at}
-use Rattle.ref_words.specs.Rule.{RefRule}
+use Rattle.ref_words.specs.Rule.{BoardRule}
 use Rattle.ref_words.specs.Seated.{app_view}
+use Rattle.ref_words.proofs.AppNumbers.{note_sought-number}
 use Rattle.word_board.specs.Board.{app_of}
 use Rattle.word_board.proofs.Stepping.{app-step, loads, found-note}
-use Rattle.word_board.proofs.kinds.taken_notes.look_slot.Goals as goal
-
-same-number : (app : AppSide) (full : Bool) → (side_slot_looked app full).view.app ≡ app.view.app
-same-number app true = refl
-same-number app false = refl
+use Rattle.word_board.proofs.kinds.phases.seek_note.Goals as goal
 
 pub load_as-requires-clause-allows : goal.load_as-requires-clause-allows
 load_as-requires-clause-allows c =
@@ -32,13 +29,13 @@ load_as-requires-clause-allows c =
     (λ k. c.args.app < apps_of k) words.keyed c.requires.few) in
     let within : s < setting.places = subst (λ k. k < setting.places) next_slot (subst
     (λ (k : Setting). c.args.slot < k.places) words.keyed c.requires.within) in
-    let next : ℕ → AppSide = λ n. side_slot_looked mine (n == 1) in
+    let next : ℕ → AppSide = λ n. side_note_sought mine (n == 1) in
     app-step setting words.table.shared.table_id.slots c.args.seat.now.id c.note-word.result (λ n. n) (λ _. Unit {0}) mine next
-    (λ n. same-number mine (n == 1))
+    (λ n. note_sought-number mine (n == 1))
     (λ ws nic apps rule here small.
-    let law = c.k16_flag.ensures.note setting ws nic apps mine rule here in (
+    let law = c.k16_end.ensures setting ws nic apps mine rule here in (
       loads setting ws c.note-word.result
-          (subst (λ n. RefRule setting ws nic (set apps a (next n)))
+          (subst (λ n. BoardRule setting ws nic (set apps a (next n)))
           (sym (found-note setting ws a s i c.note-word.result at few within (omega arith) rule)) law),
       tt,
     ))
@@ -46,4 +43,4 @@ load_as-requires-clause-allows c =
 
 pub returns-clause-event : goal.returns-clause-event
 returns-clause-event c = c.load_as.ensures.me
-    ∙ ap (λ xs. (app_view (side_slot_looked (app_of c.args.seat.now.me.0) (c.load_as.result == 1)), xs)) (ap (λ me. me.1) c.requires.app)
+    ∙ ap (λ xs. (app_view (side_note_sought (app_of c.args.seat.now.me.0) (c.load_as.result == 1)), xs)) (ap (λ me. me.1) c.requires.app)

@@ -1,0 +1,118 @@
+-- An application abandons a loan: it is out no more, and owed for good, so no count of holders or users changes.
+use Rattle.std.proofs.Common.{◌≡◌, ℕ, List, [], set, refl, ◌∙◌, arith, inr}
+use Rattle.std.specs.Prelude.{All}
+use Rattle.zr_kinds.specs.declared.place.Place.{Place}
+use Rattle.board_face.specs.AppEvents.{reserve_of}
+use Rattle.board_face.specs.AppCalls.{HasLoan}
+use Rattle.board_face.specs.Counts.{pool_count, user_count, EndedWereReturned}
+use Rattle.board_face.specs.Returns.{AreReturns, loans_out}
+use Rattle.board_face.specs.Sides.{IsApp}
+use Rattle.board_face.specs.Used.{HasFewPicks}
+use Rattle.board_face.specs.declared.views.parts.Setting.{Setting}
+use Rattle.board_face.specs.declared.views.nic.NicSide.{NicSide}
+use Rattle.board_face.specs.declared.views.app.AppSide.{AppSide}
+use Rattle.board_face.proofs.AppLemmas.{pool_count-app, user_count-app, app_count-abandoned, user_part-abandoned, EndedWereReturned-abandoned}
+use Rattle.board_face.proofs.ArePlacedLemmas.{ArePlaced-abandoned}
+use Rattle.board_face.proofs.FillingsFitLemmas.{FillingsFit-same}
+use Rattle.board_face.proofs.IsFilledByOneLemmas.{IsFilledByOne-abandoned}
+use Rattle.board_face.proofs.MadeLastLemmas.{IsMadeLast-app}
+use Rattle.board_face.proofs.OwnBufferLemmas.{AppLiesInOwn-abandoned}
+use Rattle.board_face.proofs.PlacesByEvent.{app_places-abandoned}
+use Rattle.board_face.proofs.WrittenLemmas.{loans-fewer, returned-more, owed-more, IsClear-fewer}
+use Rattle.ref_words.specs.Words.{Words, listed_in}
+use Rattle.ref_words.specs.Rings.{EntryFits}
+use Rattle.ref_words.specs.Rule.{RefRule}
+use Rattle.ref_words.specs.PhaseRule.{PhaseRule}
+use Rattle.ref_words.specs.PhaseSteps.{side_abandoned}
+use Rattle.ref_words.proofs.Frees.{AreKept-app, free_places-hands}
+use Rattle.ref_words.proofs.Phases.{phases-mine, phases-here}
+use Rattle.ref_words.proofs.PhasesByApp.{loan-here}
+use Rattle.ref_words.proofs.RingSteps.{rings-app}
+use Rattle.ref_words.proofs.SideSteps.{mine, SidesRule-app}
+use Rattle.ref_words.proofs.SlotSteps.{no-word, RefRule-slot}
+
+module _ (setting : Setting) (words : Words) (nic : NicSide) (apps : List AppSide) (app : AppSide) (place : Place)
+    (rule : RefRule setting words nic apps) (here : IsApp apps app.view.app app) (out : HasLoan app.view place) where
+  abbrev a : ℕ
+  a = app.view.app
+
+  abbrev now : AppSide
+  now = side_abandoned app place
+
+  abbrev apps' : List AppSide
+  apps' = set apps a now
+
+  ended : (b : ℕ) → EndedWereReturned b nic app
+  ended b = mine setting nic apps a app rule.sides here (EndedWereReturned b nic) (rule.sides.returned b)
+
+  pools : (b : ℕ) → pool_count b nic apps' ≡ pool_count b nic apps
+  pools b = omega (arith, pool_count-app b nic apps a app now here, app_count-abandoned b nic app place out (ended b))
+
+  users : (x b : ℕ) → user_count x b nic apps' ≡ user_count x b nic apps
+  users x b = omega (arith, user_count-app x b nic apps a app now here, user_part-abandoned x b nic app place out (ended b))
+
+  some-loan : app.view.loans ≡ [] → ⊥
+  some-loan none = let there = (rw none at out).1 in omega arith
+
+  returns : AreReturns nic now
+  returns =
+      let was = rule.sides.returns a app here in
+      record {
+        written = λ b. omega (arith, was.written b, returned-more b app place);
+        owed = λ b. omega (arith, was.owed b, owed-more b nic app place (ended b));
+        no_more = λ b. omega (arith, was.written b, was.no_more b, owed-more b nic app place (ended b), returned-more b app place);
+        clear = λ b. IsClear-fewer _ b (loans_out b app) (loans_out b now) _ (omega (arith, loans-fewer b app place out)) (was.clear b);
+        named = was.named;
+        settled = was.settled;
+        quiet = was.quiet;
+        scrubbed = was.scrubbed;
+        strays = was.strays;
+      }
+
+  pub RefRule-abandoned : RefRule setting words nic apps'
+  RefRule-abandoned =
+      RefRule-slot setting words words nic nic apps apps' rule (no-word setting words rule.sizes) (record {
+        sides = SidesRule-app setting nic apps a app rule.sides here now (record {
+          setting = refl;
+          number = refl;
+          took = refl;
+          owes = refl;
+          placed = λ b. ArePlaced-abandoned b nic apps a app place here out (ended b) (rule.sides.placed b);
+          by_one = λ b. IsFilledByOne-abandoned b nic apps a app place here out (ended b) (rule.sides.by_one b);
+          fit = FillingsFit-same nic apps a app now here refl rule.sides.fit;
+          made = IsMadeLast-app nic apps a app now here (λ b test. omega (arith, app_places-abandoned b test nic app place out (ended b)))
+              rule.sides.made;
+          returned = λ b. EndedWereReturned-abandoned b nic app place (ended b);
+          reserve = record { unheld = λ free. pools (reserve_of app.view) ∙ (rule.sides.reserves a app here).unheld free };
+          unheld = λ b past ne none. pools b ∙ none;
+          few = let f = mine setting nic apps a app rule.sides here HasFewPicks rule.sides.few in record { picks = f.picks; spares = f.spares };
+          entries = mine setting nic apps a app rule.sides here (λ x. All EntryFits x.view.written) rule.sides.entries;
+          taken = record { order = (rule.sides.taken a app here).order };
+          dealt = record { order = (rule.sides.dealt a app here).order };
+          returns = returns;
+          scrub = let s = rule.sides.scrub a app here in record {
+            within = s.within;
+            done = s.done;
+            whole = s.whole;
+            taken = λ b less. absurd (some-loan (s.loans (omega arith)));
+            untaken = s.untaken;
+            quiet = s.quiet;
+            loans = λ some. absurd (some-loan (s.loans some));
+          };
+          scrubbed = λ done. absurd (some-loan (rule.sides.scrubbed a app here done).loans);
+          first = λ entry f. f;
+          raw = λ f. f;
+          came_back = λ b. omega (arith, returned-more b app place);
+          ended = inr (λ b. refl);
+        });
+        pool = pools;
+        users = users;
+        free = λ b. omega (arith, free_places-hands (listed_in words) b nic apps a app now here);
+        kept = AreKept-app (listed_in words) nic apps a app now here refl rule.kept;
+        rings = rings-app setting words nic apps a app now here refl refl refl refl refl refl refl rule.rings;
+      })
+
+  pub abandoned-phases : PhaseRule setting words nic apps → PhaseRule setting words nic apps'
+  abandoned-phases was =
+      phases-here words.phases nic apps was a app here now refl refl refl refl refl (loan-here setting words nic apps rule was a app here place out)
+      (AppLiesInOwn-abandoned app.view place out (phases-mine words.phases nic apps was a app here).lies)

@@ -1,0 +1,40 @@
+-- The card looks whether an application has left.
+use Rattle.std.proofs.Common.{◌≡◌, ℕ, ◌+◌, Bool, true, false, List, get_or, refl}
+use Rattle.std.specs.Prelude.{◌==◌}
+use Rattle.std.proofs.lemmas.Bool.{eqb-true}
+use Rattle.std.proofs.lemmas.List.Elements.{All-push, All-weaker}
+use Rattle.board_face.specs.declared.views.parts.Setting.{Setting}
+use Rattle.board_face.specs.declared.views.nic.NicSide.{NicSide}
+use Rattle.board_face.specs.declared.views.app.AppSide.{AppSide}
+use Rattle.ref_words.specs.Words.{Words}
+use Rattle.ref_words.specs.Rule.{RefRule}
+use Rattle.ref_words.specs.PhaseRule.{IsAppPhased, PhaseRule}
+use Rattle.ref_words.specs.PhaseSteps.{side_leave_looked}
+use Rattle.ref_words.proofs.CardLooks.{RefRule-told}
+use Rattle.ref_words.proofs.Phases.{phases-still}
+use Rattle.ref_words.proofs.SlotSteps.{no-word}
+
+module _ (setting : Setting) (words : Words) (nic : NicSide) (apps : List AppSide) (a : ℕ) (rule : RefRule setting words nic apps)
+    (was : PhaseRule setting words nic apps) where
+  looks : (left : Bool) → RefRule setting words (side_leave_looked nic a left) apps
+  looks true = RefRule-told setting words nic apps rule _ _ _ words (no-word setting words rule.sizes) refl refl
+  looks false = RefRule-told setting words nic apps rule _ _ _ words (no-word setting words rule.sizes) refl refl
+
+  look-phases : (left : Bool) → (left ≡ true → get_or words.phases (1 + a) 0 ≡ 1) → PhaseRule setting words (side_leave_looked nic a left) apps
+  look-phases true over = record {
+    word = was.word;
+    ended = λ e. let s = was.ended e in record { none = record { owns = s.none.owns; pieces = s.none.pieces }; idle = s.idle };
+    gone = All-push (λ k. get_or words.phases (1 + k) 0 ≡ 1) nic.view.gone a was.gone (over refl);
+    lies = record { pieces = was.lies.pieces; sent = was.lies.sent };
+    sides = All-weaker (IsAppPhased words.phases nic) (IsAppPhased words.phases (side_leave_looked nic a true))
+        (λ app p. record { word = p.word; left = p.left; seen = p.seen; told = p.told; lies = p.lies }) apps was.sides;
+  }
+  look-phases false over = phases-still words.phases nic apps was (side_leave_looked nic a false) refl refl refl refl refl refl refl
+
+  -- ---- by what the word says
+
+  pub RefRule-looked : RefRule setting words (side_leave_looked nic a (get_or words.phases (1 + a) 0 == 1)) apps
+  RefRule-looked = looks (get_or words.phases (1 + a) 0 == 1)
+
+  pub looked-phases : PhaseRule setting words (side_leave_looked nic a (get_or words.phases (1 + a) 0 == 1)) apps
+  looked-phases = look-phases (get_or words.phases (1 + a) 0 == 1) (λ e. eqb-true _ 1 e)

@@ -1,0 +1,110 @@
+-- A role lists a buffer that it has in hand.
+use Rattle.std.proofs.Common.{◌≡◌, ℕ, ◌+◌, ◌≤◌, Bool, true, false, List, set, refl, arith}
+use Rattle.std.specs.Prelude.{◌==◌, nat_eq, count_by, Contains}
+use Rattle.board_face.specs.Sides.{IsApp}
+use Rattle.board_face.specs.FreeOnce.{free_places}
+use Rattle.board_face.specs.Used.{HasFewPicks}
+use Rattle.board_face.specs.declared.views.parts.Setting.{Setting}
+use Rattle.board_face.specs.declared.views.nic.NicSide.{NicSide}
+use Rattle.board_face.specs.declared.views.app.AppSide.{AppSide}
+use Rattle.board_face.proofs.Tallies.{weight}
+use Rattle.ref_words.specs.Words.{Words, listed_in, with_listed}
+use Rattle.ref_words.specs.FreeSteps.{side_nic_listed, side_app_listed}
+use Rattle.ref_words.specs.Rule.{RefRule}
+use Rattle.ref_words.proofs.Counting.{weight-same}
+use Rattle.ref_words.proofs.Frees.{AreKept-app, free_places-hands, in-hands, count-taken}
+use Rattle.ref_words.proofs.RingSteps.{rings-card}
+use Rattle.ref_words.proofs.CardSteps.{SidesRule-card}
+use Rattle.ref_words.proofs.SideSteps.{mine}
+use Rattle.ref_words.proofs.FreeWords.{RefRule-free, AreKept-listed, listed-more, in-list, one-place}
+use Rattle.ref_words.proofs.AppHands as hands
+
+-- a buffer in hand is counted there
+has-one : (b : ℕ) (xs : List ℕ) → Contains xs b → 1 ≤ count_by (nat_eq b) xs
+has-one b xs has = omega (arith, count-taken b xs has b, weight-same b)
+
+module _ (setting : Setting) (words : Words) (nic : NicSide) (apps : List AppSide) (b : ℕ) (rule : RefRule setting words nic apps) where
+  none-listed : (c : Bool) → weight c ≡ 0 → c ≡ false
+  none-listed true e = absurd (omega (arith, e))
+  none-listed false e = refl
+
+  -- ---- the card
+
+  module _ (has : Contains nic.inside.hands b) where
+    abbrev now : NicSide
+    now = side_nic_listed nic b
+
+    some : 1 ≤ free_places (listed_in words) b nic apps
+    some = omega (arith, has-one b nic.inside.hands has)
+
+    pub unlisted : listed_in words b ≡ false
+    unlisted = none-listed (listed_in words b) (omega (arith, one-place setting words nic apps b rule some, has-one b nic.inside.hands has))
+
+    more : (x : ℕ) → weight (listed_in (with_listed words b) x) ≡ weight (listed_in words x) + weight (b == x)
+    more = listed-more words b (in-list setting words nic apps b rule some) unlisted
+
+    pub by-card : RefRule setting (with_listed words b) now apps
+    by-card = RefRule-free setting words nic now apps apps _ _ rule (record {
+      sides = SidesRule-card setting nic now apps rule.sides (record {
+        setting = refl;
+        placed = λ x. let p = rule.sides.placed x in record { some_bytes = p.some_bytes; within = p.within; apart = p.apart; behind = p.behind };
+        by_one = λ x. let o = rule.sides.by_one x in record { one = o.one; alone = o.alone; inside = o.inside };
+        fit = let f = rule.sides.fit in record { of_pool = f.of_pool; card = f.card; sides = f.sides };
+        made = record { last = rule.sides.made.last };
+        dealt = refl;
+        entry = refl;
+        notes = rule.sides.notes;
+        taken = λ k x here. record { order = (rule.sides.taken k x here).order };
+        proper = rule.sides.proper;
+        note_slots = refl;
+        refill_slots = refl;
+        unheld = λ x past none. none;
+      });
+      pool = λ x. refl;
+      users = λ x y. refl;
+      free = λ x. omega (arith, more x, count-taken b nic.inside.hands has x);
+      kept = let k = AreKept-listed (listed_in words) (listed_in (with_listed words b)) nic apps (λ x. omega (arith, more x)) rule.kept in
+          record { kept = k.kept; swept = k.swept };
+      rings = rings-card setting words nic now apps refl refl refl refl rule.rings;
+    })
+
+  -- ---- an application
+
+  module _ (a : ℕ) (app : AppSide) (here : IsApp apps a app) (has : Contains app.inside.hands b) where
+    abbrev side : AppSide
+    side = side_app_listed app b
+
+    some-app : 1 ≤ free_places (listed_in words) b nic apps
+    some-app = omega (arith, in-hands (listed_in words) b nic apps a app here, has-one b app.inside.hands has)
+
+    elsewhere : free_places (listed_in words) b nic (set apps a side) ≡ 0
+    elsewhere = omega (
+      arith,
+      free_places-hands (listed_in words) b nic apps a app side here,
+      count-taken b app.inside.hands has b,
+      weight-same b,
+      one-place setting words nic apps b rule some-app,
+    )
+
+    pub unlisted-app : listed_in words b ≡ false
+    unlisted-app = none-listed (listed_in words b) (let e = elsewhere in omega arith)
+
+    more-app : (x : ℕ) → weight (listed_in (with_listed words b) x) ≡ weight (listed_in words x) + weight (b == x)
+    more-app = listed-more words b (in-list setting words nic apps b rule some-app) unlisted-app
+
+    pub by-app : RefRule setting (with_listed words b) nic (set apps a side)
+    by-app = RefRule-free setting words nic nic apps (set apps a side) _ _ rule (record {
+      sides = hands.sides setting words nic apps a app rule here app.view.picked side.inside.hands app.inside.words_without
+          (let f = mine setting nic apps a app rule.sides here HasFewPicks rule.sides.few in record { picks = f.picks; spares = f.spares });
+      pool = hands.pools setting words nic apps a app rule here app.view.picked side.inside.hands app.inside.words_without;
+      users = hands.users setting words nic apps a app rule here app.view.picked side.inside.hands app.inside.words_without;
+      free = λ x. omega (
+        arith,
+        more-app x,
+        free_places-hands (listed_in words) x nic apps a app side here,
+        count-taken b app.inside.hands has x,
+      );
+      kept = AreKept-listed (listed_in words) (listed_in (with_listed words b)) nic (set apps a side) (λ x. omega (arith, more-app x))
+          (AreKept-app (listed_in words) nic apps a app side here refl rule.kept);
+      rings = hands.rings setting words nic apps a app rule here app.view.picked side.inside.hands app.inside.words_without;
+    })

@@ -1,0 +1,39 @@
+-- An application looks at a word of the free list.
+use Rattle.std.proofs.Common.{◌≡◌, ℕ, Bool, true, false, List, ◌∷◌, set, refl, sym, arith, subst}
+use Rattle.std.proofs.lemmas.List.{set-get_or}
+use Rattle.board_face.specs.Sides.{IsApp}
+use Rattle.board_face.specs.Used.{HasFewPicks}
+use Rattle.board_face.specs.declared.views.parts.Setting.{Setting}
+use Rattle.board_face.specs.declared.views.nic.NicSide.{NicSide}
+use Rattle.board_face.specs.declared.views.app.AppSide.{AppSide}
+use Rattle.ref_words.specs.Words.{Words, listed_in}
+use Rattle.ref_words.specs.FreeSteps.{side_word_without, side_word_looked}
+use Rattle.ref_words.specs.Rule.{RefRule}
+use Rattle.ref_words.proofs.Frees.{AreKept-app, free_places-hands}
+use Rattle.ref_words.proofs.SideSteps.{mine}
+use Rattle.ref_words.proofs.SlotSteps.{RefRule-slot, no-word}
+use Rattle.ref_words.proofs.AppHands as hands
+
+module _ (setting : Setting) (words : Words) (nic : NicSide) (apps : List AppSide) (a : ℕ) (app : AppSide) (j : ℕ)
+    (rule : RefRule setting words nic apps) (here : IsApp apps a app) where
+  abbrev now : AppSide
+  now = side_word_without app j
+
+  -- the word has nothing for it
+  pub without : RefRule setting words nic (set apps a now)
+  without = RefRule-slot setting words words nic nic apps (set apps a now) rule (no-word setting words rule.sizes) (record {
+    sides = hands.sides setting words nic apps a app rule here app.view.picked app.inside.hands (j ∷ app.inside.words_without)
+        (let f = mine setting nic apps a app rule.sides here HasFewPicks rule.sides.few in record { picks = f.picks; spares = f.spares });
+    pool = hands.pools setting words nic apps a app rule here app.view.picked app.inside.hands (j ∷ app.inside.words_without);
+    users = hands.users setting words nic apps a app rule here app.view.picked app.inside.hands (j ∷ app.inside.words_without);
+    free = λ b. omega (arith, free_places-hands (listed_in words) b nic apps a app now here);
+    kept = AreKept-app (listed_in words) nic apps a app now here refl rule.kept;
+    rings = hands.rings setting words nic apps a app rule here app.view.picked app.inside.hands (j ∷ app.inside.words_without);
+  })
+
+  pub looks : (none : Bool) → RefRule setting words nic (set apps a (side_word_looked app j none))
+  looks true = without
+  looks false = subst (λ xs. RefRule setting words nic xs) (sym same) rule
+    where
+      same : set apps a app ≡ apps
+      same = subst (λ x. set apps a x ≡ apps) here.is (set-get_or apps a app)

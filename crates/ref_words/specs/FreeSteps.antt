@@ -1,0 +1,47 @@
+-- Steps at the free list, on a board of words: the card sweeps a word, a role lists a buffer that it has in hand, and an application looks
+-- at a word and picks a buffer whose bit it saw there.
+use Rattle.std.specs.Prelude.{ℕ, zero, suc, ◌+◌, ◌*◌, Bool, if◌then◌else◌, List, [], ◌∷◌, ◌==◌, nat_eq}
+use Rattle.std.specs.Int.{bit_at}
+use Rattle.board_face.specs.Lists.{without}
+use Rattle.board_face.specs.NicEvents.{word_bits, swept}
+use Rattle.board_face.specs.Sides.{nic_at}
+use Rattle.board_face.specs.Steps.{side_picked}
+use Rattle.board_face.specs.declared.views.nic.NicSide.{NicSide}
+use Rattle.board_face.specs.declared.views.app.AppSide.{AppSide}
+
+-- the buffers of a word of the free list whose bits are set among the k lowest of n, the highest first
+abbrev pub found_below : ℕ → ℕ → ℕ → List ℕ
+found_below word n zero = []
+found_below word n (suc k) = if bit_at n k == 1 then (word_bits * word + k) ∷ found_below word n k else found_below word n k
+
+-- all that n lists there
+abbrev pub found_in : ℕ → ℕ → List ℕ
+found_in word n = found_below word n word_bits
+
+-- ---- the card
+
+-- it swept a word, where it found n
+abbrev pub side_swept : NicSide → ℕ → ℕ → NicSide
+side_swept nic word n = nic_at nic (swept nic.view word (found_in word n))
+
+-- it listed a buffer that it had in hand
+abbrev pub side_nic_listed : NicSide → ℕ → NicSide
+side_nic_listed nic buffer = record nic { inside = record nic.inside { hands = without (nat_eq buffer) nic.inside.hands } }
+
+-- ---- an application
+
+-- so did an application
+abbrev pub side_app_listed : AppSide → ℕ → AppSide
+side_app_listed app buffer = record app { inside = record app.inside { hands = without (nat_eq buffer) app.inside.hands } }
+
+-- in this search for a spare it saw a word 0, or lost a buffer there to another
+abbrev pub side_word_without : AppSide → ℕ → AppSide
+side_word_without app word = record app { inside = record app.inside { words_without = word ∷ app.inside.words_without } }
+
+-- it looked at a word, which was 0 or not
+abbrev pub side_word_looked : AppSide → ℕ → Bool → AppSide
+side_word_looked app word none = if none then side_word_without app word else app
+
+-- it cleared the bit of a buffer of a word: the buffer is picked where the bit was still set, and lost to another where it wasn't
+abbrev pub side_bit_cleared : AppSide → ℕ → ℕ → Bool → AppSide
+side_bit_cleared app word buffer listed = if listed then side_picked app buffer else side_word_without app word

@@ -1,0 +1,29 @@
+-- An application's search for a buffer in the free list, word by word.
+use Rattle.std.proofs.Common.{◌≡◌, ℕ, ◌+◌, ◌<◌, ap, sym, ◌∙◌, subst}
+use Rattle.std.specs.Prelude.{Contains}
+use Rattle.board_face.specs.NicCalls.{free_words_of}
+use Rattle.board_face.specs.declared.views.app.AppSide.{AppSide}
+use Rattle.ref_words.specs.FreeSteps.{side_word_without}
+use Rattle.word_board.specs.Spares.{seen_without, FoundNone}
+use Rattle.word_board.proofs.Quieting.{sees-more}
+
+-- The words below k have nothing for it, and nothing else was done.
+pub record IsSearching (first now : AppSide) (k : ℕ) : Type 0 where
+  pub event : now ≡ seen_without first now.inside.words_without
+  pub seen : (j : ℕ) → j < k → Contains now.inside.words_without j
+
+pub IsSearching-more : (first now next : AppSide) (k : ℕ) → IsSearching first now k → next ≡ side_word_without now k → IsSearching first next (k + 1)
+IsSearching-more first now next k h is = record {
+  event = is ∙ (ap (λ x. side_word_without x k) h.event ∙ ap (seen_without first) (sym (ap (λ x. x.inside.words_without) is)));
+  seen = λ j small. subst (λ xs. Contains xs j) (sym (ap (λ x. x.inside.words_without) is)) (sees-more now.inside.words_without k h.seen j small);
+}
+
+-- behind the last word
+pub IsSearching-all : (first now : AppSide) (k : ℕ) → IsSearching first now k → k ≡ free_words_of first.view.setting → FoundNone first now
+IsSearching-all first now k h all = record {
+  without = now.inside.words_without;
+  event = h.event;
+  searched = record {
+    words = λ j small. h.seen j (subst (λ n. j < n) (sym all) (subst (λ x. j < free_words_of x.view.setting) h.event small));
+  };
+}
