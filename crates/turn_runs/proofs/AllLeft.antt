@@ -23,9 +23,14 @@ use Rattle.turn_runs.proofs.AppLines.{there}
 use Rattle.turn_runs.proofs.Gone.{side-is}
 use Rattle.turn_runs.proofs.Reserve.{not-held}
 
+-- It is kept back by nothing but that no note has come.
+pub record WaitsForNote (board : Board) (a : ℕ) (w : Worker) : Type 0 where
+  pub because : Because NoNote w.state (side_of board a).view
+  pub seen : IsSeenBy look.NoNote (app_gist (side_of board a).view) (others_of board a)
+
 -- It has left, or waits for a note.
 abbrev pub IsWaiting : Board → ℕ → Worker → Type 0
-IsWaiting board a w = (w.left ≡ true) ⊎ IsSeenBy look.NoNote (app_gist (side_of board a).view) (others_of board a)
+IsWaiting board a w = (w.left ≡ true) ⊎ WaitsForNote board a w
 
 module _ (board : Board) (run : Run) (shelves : ℕ) (fits : Fits board run shelves) where
   pub apps-are : apps_of board.nic.view.setting ≡ length run.workers.items
@@ -40,12 +45,12 @@ module _ (board : Board) (run : Run) (shelves : ℕ) (fits : Fits board run shel
       let setting = fits.sound.set.roles a blank_app here.there in
       let some = fits.sound.sizes.places.0 in rw setting some
 
-  -- an application that is here waits for a note: an entry on its way, or a reserve that is held, would be another reason
+  -- an application that is kept back waits for a note: an entry on its way, or a reserve that is held, would be another reason
   by-why : (a : ℕ) (w : Worker) → slice_get run.workers.items a ≡ Some w → a < length run.workers.items
       → entries_on_way board.nic (side_of board a) ≡ [] → (why : Why)
       → Because why w.state (side_of board a).view → IsSeenBy (look_of why) (app_gist (side_of board a).view) (others_of board a)
-      → IsSeenBy look.NoNote (app_gist (side_of board a).view) (others_of board a)
-  by-why a w at within none NoNote because seen = seen
+      → WaitsForNote board a w
+  by-why a w at within none NoNote because seen = record { because = because; seen = seen }
   by-why a w at within none RefillFull because seen =
       let empty = ap length none in let some = own-places a within in absurd (omega (arith, empty, some, seen))
   by-why a w at within none Unsettled because seen =
@@ -57,10 +62,11 @@ module _ (board : Board) (run : Run) (shelves : ℕ) (fits : Fits board run shel
       none seen.1)
   by-why a w at within none NotQuiet because seen = let empty = ap length none in absurd (omega (arith, empty, seen))
 
-  pub kept-waits : (a : ℕ) (w : Worker) → slice_get run.workers.items a ≡ Some w → a < length run.workers.items
-      → entries_on_way board.nic (side_of board a) ≡ [] → IsKeptBack board a w
-      → IsSeenBy look.NoNote (app_gist (side_of board a).view) (others_of board a)
-  kept-waits a w at within none kept = by-why a w at within none kept.why kept.because kept.seen
+  pub kept-waits : (a : ℕ) (w : Worker) → slice_get run.workers.items a ≡ Some w → IsCardStuck board run → IsKeptBack board a w
+      → WaitsForNote board a w
+  kept-waits a w at card kept =
+      let within : a < length run.workers.items = slice_get_within run.workers.items a w at in
+      by-why a w at within (card.rings a (omega (arith, apps-are, within))) kept.why kept.because kept.seen
 
 module _ (board : Board) (run : Run) (shelves : ℕ) (fits : Fits board run shelves) (card : IsCardStuck board run)
     (waiting : (a : ℕ) (w : Worker) → slice_get run.workers.items a ≡ Some w → IsWaiting board a w) where
@@ -76,17 +82,16 @@ module _ (board : Board) (run : Run) (shelves : ℕ) (fits : Fits board run shel
       let gone = (fits.worker a own.0 own.1).gone left in
       let phase = fits.sound.phased.sides a blank_app (side-is board run shelves fits a within).there in
       let empty = ap length (phase.ended (phase.left gone.0).ended).1 in absurd (omega (arith, empty, some, full)))
-      (λ (waits : IsSeenBy look.NoNote (app_gist (side_of board a).view) (others_of board a)). let empty = ap length waits.1 in absurd
-      (omega (arith, empty, some, full)))
+      (λ (waits : WaitsForNote board a own.0). let empty = ap length waits.seen.1 in absurd (omega (arith, empty, some, full)))
       (waiting a own.0 own.1))
       card.notes
 
   has-left : (a : ℕ) (w : Worker) → slice_get run.workers.items a ≡ Some w → a < length run.workers.items → w.left ≡ true
   has-left a w at within = ⊎_elim
       (λ left. left)
-      (λ (waits : IsSeenBy look.NoNote (app_gist (side_of board a).view) (others_of board a)).
+      (λ (waits : WaitsForNote board a w).
       let ended : board.nic.view.ended ≡ true = fits.ready.fits.ended card-closed in
-      let on : board.nic.view.ended ≡ false = waits.0 in
+      let on : board.nic.view.ended ≡ false = waits.seen.0 in
       absurd (let wrong : true ≡ false = sym ended ∙ on in let none : ⊥ = cc in none))
       (waiting a w at)
 
@@ -101,8 +106,5 @@ module _ (board : Board) (run : Run) (shelves : ℕ) (fits : Fits board run shel
 pub stuck-over : StuckRunsAreOver
 stuck-over board run shelves fits stuck = all-left board run shelves fits stuck.card (λ a w at. ⊎_elim
     (λ left. inl left)
-    (λ (kept : IsKeptBack board a w).
-    let within : a < length run.workers.items = slice_get_within run.workers.items a w at in
-    let apps = apps-are board run shelves fits in
-    inr (kept-waits board run shelves fits a w at within (stuck.card.rings a (omega (arith, apps, within))) kept))
+    (λ kept. inr (kept-waits board run shelves fits a w at stuck.card kept))
     (stuck.app a w at))

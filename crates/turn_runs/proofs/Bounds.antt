@@ -1,17 +1,14 @@
 -- No run goes further than its records, their bytes and the plan let it.
-use Rattle.std.proofs.Common.{◌≡◌, ℕ, zero, suc, ◌+◌, ◌*◌, ◌<◌, ◌≤◌, ◌==◌, Bool, true, false, List, [], ◌∷◌, ◌++◌}
+use Rattle.std.proofs.Common.{◌≡◌, ℕ, suc, ◌+◌, ◌*◌, ◌<◌, ◌≤◌, ◌==◌, Bool, true, false, List, [], ◌∷◌, ◌++◌}
 use Rattle.std.proofs.Common.{length, length-append, take, map, refl, sym, ap, subst, arith, Option, Some, None}
 use Rattle.std.specs.Prelude.{All, filter, MatchBool, if◌then◌else◌}
 use Rattle.std.specs.List.{slice_get}
 use Rattle.std.specs.Prelude.{option_to_list}
-use Rattle.std.proofs.Common.{⊎_elim, eq-eqb}
-use Rattle.std.proofs.lemmas.Bool.{cases_lt}
 use Rattle.std.proofs.lemmas.Option.{slice_get_within}
 use Rattle.replay_turns.specs.Coming.{is_over}
 use Rattle.std.proofs.Math.Nat.{mul-le-mul_left}
 use Rattle.std.proofs.Math.Seq.{take-append_seam}
 use Rattle.std.proofs.lemmas.List.{length-map}
-use Rattle.std.proofs.lemmas.List.Elements.{All-head, All-tail}
 use Rattle.frame_headers.specs.FrameClass.{TcpSegment, class_of}
 use Rattle.frame_headers.specs.Seen.{segment_of}
 use Rattle.flow_table.specs.Flows.{Flow, flows_with}
@@ -23,7 +20,7 @@ use Rattle.board_face.specs.declared.views.nic.Dealt.{Dealt}
 use Rattle.board_face.specs.declared.views.nic.SentNote.{SentNote}
 use Rattle.board_face.specs.declared.views.app.AppView.{AppView}
 use Rattle.board_face.specs.declared.views.app.WrittenEntry.{WrittenEntry}
-use Rattle.board_face.proofs.Tallies.{weight, tally, length-tally}
+use Rattle.board_face.proofs.Tallies.{tally, length-tally}
 use Rattle.page_pool.specs.Frames.{Offered}
 use Rattle.plain_board.specs.Board.{Board, side_of}
 use Rattle.plain_board.specs.Sound.{taken_of, notes_of, refills_of}
@@ -32,13 +29,15 @@ use Rattle.app_worker.specs.State.{State, AppStands, Bare, Working, app_steps, f
 use Rattle.app_worker.proofs.Measure.{working-within, bare-within, one-most}
 use Rattle.app_worker.proofs.Tokens.{total-append}
 use Rattle.replay_turns.specs.Offered.{AreSettled, Awaits, has_payload, offered_after, offers_of, without}
-use Rattle.turn_runs.specs.Running.{Fits}
+use Rattle.replay_turns.specs.declared.plan.Plan.{Plan}
+use Rattle.turn_runs.specs.Running.{Fits, Running}
 use Rattle.turn_runs.specs.Steps.{worker_steps, steps_from, run_steps, most_bytes, entries_most, worker_most, run_most}
 use Rattle.turn_runs.specs.Steps.{RunsStayWithin}
 use Rattle.turn_runs.specs.declared.run.Run.{Run}
 use Rattle.turn_runs.specs.declared.run.Worker.{Worker}
 use Rattle.turn_runs.proofs.AppLines.{there}
 use Rattle.turn_runs.proofs.Gone.{side-is}
+use Rattle.turn_runs.proofs.Shares.{shares, over-most}
 use Rattle.turn_runs.proofs.NoteSums.{note_len, AreFew, frames-few}
 
 -- ---- frames
@@ -69,6 +68,13 @@ unfolding steered_of
 in-few ports frames = let few = steered-few ports 1 (segments_of frames) in let many : length (segments_of frames) ≡ length frames = length-map frames
     (λ frame. segment_of (class_of frame)) in omega (arith, few, many)
 
+-- no more frames are offered than are read
+pub offers-few : (ports : List ℕ) (frames : List (List ℕ)) → length (offers_of (steered_in ports frames)) ≤ length frames
+offers-few ports frames =
+    let offered : length (offers_of (steered_in ports frames)) ≤ length (offered_after [] (steered_in ports frames)) =
+    filter-few has_payload (offered_after [] (steered_in ports frames)) in
+    omega (arith, offered, offered-many [] (steered_in ports frames), in-few ports frames)
+
 settled-few : (hand : Option Offered) (offers settled : List Offered) → Awaits hand offers settled → length settled ≤ length offers
 settled-few None offers settled awaits = omega (arith, ap length awaits)
 settled-few (Some o) offers settled awaits = omega (arith, ap length awaits, length-append settled (o ∷ []))
@@ -86,11 +92,8 @@ sent-few split ports frames refused hand sent pending settles few proper =
     (frames-few split (without refused settles.settled) (sent ++ pending) (length sent) settles.shown (subst (All IsProper) (sym seam) proper)) in
     let kept : length (without refused settles.settled) ≤ length settles.settled = filter-few _ settles.settled in
     let all : length settles.settled ≤ length offers = settled-few hand offers settles.settled settles.awaits in
-    let offered : length offers ≤ length (offered_after [] (steered_in ports frames)) = filter-few has_payload (offered_after [] (steered_in ports frames)) in
-    let steered = offered-many [] (steered_in ports frames) in
-    let read = in-few ports frames in
     let bytes = shown.bytes in
-    record { some = shown.some; bytes = omega (arith, bytes, kept, all, offered, steered, read, few) }
+    record { some = shown.some; bytes = omega (arith, bytes, kept, all, offers-few ports frames, few) }
 
 -- the notes to one application are some of all
 own-few : (a : ℕ) (sent : List SentNote) → (length (filter (λ s. s.app == a) sent) ≤ length sent)
@@ -119,41 +122,6 @@ kinds : (ws : List WrittenEntry) → total (λ (w : WrittenEntry). if w.of_loan 
 kinds [] = refl
 kinds (w ∷ ws) = omega (arith, kinds ws, kinds-one w.of_loan)
 
--- the entries of the first applications
-abbrev of-first : ℕ → List Dealt → ℕ
-of-first zero dealt = 0
-of-first (suc n) dealt = tally (λ d. d.app == n) dealt + of-first n dealt
-
-no-less : (n : ℕ) (d : Dealt) (dealt : List Dealt) → of-first n dealt ≤ of-first n (d ∷ dealt)
-no-less zero d dealt = omega arith
-no-less (suc n) d dealt = omega (arith, no-less n d dealt)
-
-one-more : (n : ℕ) (d : Dealt) (dealt : List Dealt) → d.app < n → suc (of-first n dealt) ≤ of-first n (d ∷ dealt)
-one-more zero d dealt below = absurd (omega (arith, below))
-one-more (suc n) d dealt below = ⊎_elim
-    (λ (earlier : d.app < n). omega (arith, one-more n d dealt earlier))
-    (λ (last : n ≤ d.app).
-    let here : (d.app == n) ≡ true = eq-eqb d.app n (omega (arith, last, below)) in
-    let one : weight (d.app == n) ≡ 1 = ap weight here in omega (arith, one, no-less n d dealt))
-    (cases_lt d.app n)
-
-all-first : (n : ℕ) (dealt : List Dealt) → All (λ (d : Dealt). d.app < n) dealt → length dealt ≤ of-first n dealt
-all-first n [] below = omega arith
-all-first n (d ∷ dealt) below =
-    omega (
-      arith,
-      all-first n dealt (All-tail (λ (e : Dealt). e.app < n) d dealt below),
-      one-more n d dealt
-          (All-head (λ (e : Dealt). e.app < n) d dealt below),
-    )
-
-first-most : (n most : ℕ) (dealt : List Dealt) → ((a : ℕ) → a < n → tally (λ d. d.app == a) dealt ≤ most) → of-first n dealt ≤ n * most
-first-most zero most dealt each = omega arith
-first-most (suc n) most dealt each = omega (arith, each n (omega arith), first-most n most dealt (λ a below. each a (omega (arith, below))), mul-suc-of n most)
-  where
-    mul-suc-of : (n most : ℕ) → suc n * most ≡ most + n * most
-    mul-suc-of n most = omega arith
-
 -- ---- a run
 
 module _ (board : Board) (run : Run) (shelves : ℕ) (fits : Fits board run shelves)
@@ -161,12 +129,12 @@ module _ (board : Board) (run : Run) (shelves : ℕ) (fits : Fits board run shel
     (notes : AreFew most_bytes board.nic.view.sent) (stray : ℕ)
     (hows : (a : ℕ) (w : Worker) → slice_get run.workers.items a ≡ Some w → w.state.how.stray ≡ stray) where
   -- what an application took is what was sent to it, or less
-  record TookFew (a : ℕ) : Type 0 where
+  pub record TookFew (a : ℕ) : Type 0 where
     pub many : length (side_of board a).view.taken ≤ most_bytes
     pub bytes : total taken_len (side_of board a).view.taken ≤ most_bytes
     pub dealt : tally (λ d. d.app == a) board.nic.view.dealt ≤ length (side_of board a).view.written
 
-  took-few : (a : ℕ) → a < length run.workers.items → TookFew a
+  pub took-few : (a : ℕ) → a < length run.workers.items → TookFew a
   took-few a below =
       let here = side-is board run shelves fits a below in
       let x = side_of board a in
@@ -244,11 +212,12 @@ module _ (board : Board) (run : Run) (shelves : ℕ) (fits : Fits board run shel
   run-within =
       let n = length run.workers.items in
       let dealt : length board.nic.view.dealt ≤ n * entries_most stray =
-      let first = all-first n board.nic.view.dealt dealt_all in
-      let most = first-most n (entries_most stray) board.nic.view.dealt (λ a below.
-      let own = there run.workers.items a below in
-      let took = (took-few a below).dealt in
-      let few = (worker-within a own.0 own.1 below).1 in omega (arith, took, few)) in omega (arith, first, most) in
+      let all = shares n board.nic.view.dealt dealt_all in
+      let most = over-most (λ a. tally (λ (d : Dealt). d.app == a) board.nic.view.dealt) (entries_most stray) 0 n (λ a above below.
+      let within : a < n = omega (arith, below) in
+      let own = there run.workers.items a within in
+      let took = (took-few a within).dealt in
+      let few = (worker-within a own.0 own.1 within).1 in omega (arith, took, few)) in omega (arith, all, most) in
       let apps : steps_from board 0 run.workers.items ≤ n * worker_most stray = all-within 0 run.workers.items
       (λ i w at. subst (λ m. worker_steps (side_of board m).view w ≤ worker_most stray) (let e : i ≡ 0 + i = omega arith in e)
       (worker-within i w at (slice_get_within run.workers.items i w at)).0) in
@@ -256,13 +225,25 @@ module _ (board : Board) (run : Run) (shelves : ℕ) (fits : Fits board run shel
       let bytes = notes.bytes in
       omega (arith, records, some, bytes, dealt, apps, one-most run.feed.closed, one-most (is_over run.feed.stage))
 
+-- no more frames were read than are read at most
+pub frames-read : {S T : Type 0} (left : S → Option (List ℕ)) (faults : S → ℕ) (kept : T → ℕ → Option (List ℕ)) (losses : T → ℕ)
+    (source source_now : S) (shelves shelves_now : List T) (plan : Plan) (board : Board) (run : Run)
+    (runs : Running left faults kept losses source source_now shelves shelves_now plan board run) → length runs.frames ≤ 16777216
+frames-read left faults kept losses source source_now shelves shelves_now plan board run runs =
+    let read = ap (λ t. t.records) runs.feed.tally_is in let most = runs.records in omega (arith, read, most)
+
+-- the notes that were sent tell of no more bytes than the records have
+pub notes-few : {S T : Type 0} (left : S → Option (List ℕ)) (faults : S → ℕ) (kept : T → ℕ → Option (List ℕ)) (losses : T → ℕ)
+    (source source_now : S) (shelves shelves_now : List T) (plan : Plan) (board : Board) (run : Run) (many : ℕ) → Fits board run many
+    → Running left faults kept losses source source_now shelves shelves_now plan board run → AreFew most_bytes board.nic.view.sent
+notes-few left faults kept losses source source_now shelves shelves_now plan board run many fits runs =
+    sent-few plan.split plan.ports.items runs.frames run.feed.refused run.feed.at_hand board.nic.view.sent _ runs.feed.settled
+    (frames-read left faults kept losses source source_now shelves shelves_now plan board run runs) fits.sound.notes
+
 pub runs-within : {S T : Type 0} (left : S → Option (List ℕ)) (faults : S → ℕ) (kept : T → ℕ → Option (List ℕ)) (losses : T → ℕ)
     → RunsStayWithin left faults kept losses
 runs-within left faults kept losses source source_now shelves shelves_now plan board run fits runs =
-    let records : length runs.frames ≤ 16777216 = let read = ap (λ t. t.records) runs.feed.tally_is in let most = runs.records in omega
-    (arith, read, most) in
-    let notes : AreFew most_bytes board.nic.view.sent = sent-few plan.split plan.ports.items runs.frames run.feed.refused run.feed.at_hand
-    board.nic.view.sent _ runs.feed.settled records fits.sound.notes in
+    let notes = notes-few left faults kept losses source source_now shelves shelves_now plan board run (length shelves_now) fits runs in
     let dealt = subst (λ n. All (λ (d : Dealt). d.app < n) board.nic.view.dealt) (sym runs.many) runs.dealt in
     subst (λ n. run_steps board run ≤ run_most n plan.how.stray) runs.many
     (run-within board run (length shelves_now) fits runs.records dealt notes plan.how.stray (λ a w at. ap (λ how. how.stray) (runs.worker a w at).how_is))

@@ -75,9 +75,18 @@ find P (f ∷ fs) number each = ⊎_elim
     (find P fs number each.1)))
     (cases_eq f.number number)
 
-both : {A : Type 0} (P Q : A → Type 0) (xs : List A) → Each P xs → Each Q xs → Each (λ x. P x × Q x) xs
+pub both : {A : Type 0} (P Q : A → Type 0) (xs : List A) → Each P xs → Each Q xs → Each (λ x. P x × Q x) xs
 both P Q [] first second = tt
 both P Q (x ∷ xs) first second = ((first.0, second.0), both P Q xs first.1 second.1)
+
+-- as many bytes were gained as are counted
+pub shelved-long : (first kept : ℕ → Option (List ℕ)) (v : AppView) (f : FlowQueue) → FlowEnds v.taken f → IsShelved first kept v.taken v.reads f
+    → Gained (first f.number) (kept f.number) (λ bytes. f.bytes ≡ length bytes)
+shelved-long first kept v f ends shelved =
+    let size : length (values_from (placed_of f v.taken).at f.bytes 0) ≡ f.bytes =
+    length-values_from (placed_of f v.taken).at f.bytes 0 (record { there = λ q from until. ends.below q (omega (arith, until)) }) in
+    Gained-weaker (first f.number) (kept f.number) (λ bytes. AreReadAt v.taken v.reads (values_from (placed_of f v.taken).at f.bytes 0) bytes)
+    (λ bytes. f.bytes ≡ length bytes) (λ bytes are. sym size ∙ read-length v.taken v.reads _ bytes are) shelved.gained
 
 module _ (first kept : ℕ → Option (List ℕ)) (v : AppView) (own : List FlowQueue) (number : ℕ) (stopped : Stopped)
     (ends : Each (FlowEnds v.taken) own) where
@@ -91,16 +100,10 @@ module _ (first kept : ℕ → Option (List ℕ)) (v : AppView) (own : List Flow
       (λ (none : (many number own ≡ 0) × (flow_bytes number own ≡ 0)). none-counted (shelved.others number none.0) none.1)
       (λ (there : IsThere (λ f. FlowEnds v.taken f × IsShelved first kept v.taken v.reads f) number (flow_bytes number own)).
       let f : FlowQueue = there.flow in
-      let size : length (values_from (placed_of f v.taken).at f.bytes 0) ≡ f.bytes =
-      length-values_from (placed_of f v.taken).at f.bytes 0 (record { there = λ q from until. there.holds.0.below q (omega (arith, until)) }) in
       subst (λ n. Gained (first n) (kept n) (IsCounted stopped (flow_bytes number own))) there.number_is
-      (Gained-weaker (first f.number) (kept f.number) (λ bytes. AreReadAt v.taken v.reads (values_from (placed_of f v.taken).at f.bytes 0) bytes)
-      (IsCounted stopped (flow_bytes number own))
-      (λ bytes are.
-      let long : length (values_from (placed_of f v.taken).at f.bytes 0) ≡ length bytes = read-length v.taken v.reads _ bytes are in
-      let exact : flow_bytes number own ≡ length bytes = there.bytes_is ∙ sym size ∙ long in
-      record { counted = λ goes. exact; at_least = omega (arith, exact) })
-      there.holds.1.gained))
+      (Gained-weaker (first f.number) (kept f.number) (λ bytes. f.bytes ≡ length bytes) (IsCounted stopped (flow_bytes number own))
+      (λ bytes long. record { counted = λ goes. there.bytes_is ∙ long; at_least = omega (arith, there.bytes_is, long) })
+      (shelved-long first kept v f there.holds.0 there.holds.1)))
       (find (λ f. FlowEnds v.taken f × IsShelved first kept v.taken v.reads f) own number
       (both (FlowEnds v.taken) (IsShelved first kept v.taken v.reads) own ends shelved.flows))
 

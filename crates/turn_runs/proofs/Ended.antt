@@ -1,5 +1,5 @@
 -- What is told of a run that is over is how it went.
-use Rattle.std.proofs.Common.{◌≡◌, ◌≢◌, ℕ, zero, suc, ◌+◌, ◌-◌, ◌<◌, ◌≤◌, List, [], ◌∷◌, length, drop}
+use Rattle.std.proofs.Common.{◌≡◌, ◌≢◌, ℕ, zero, suc, ◌+◌, ◌*◌, ◌-◌, ◌<◌, ◌≤◌, List, [], ◌∷◌, length, drop}
 use Rattle.std.proofs.Common.{true, Option, Some, None}
 use Rattle.std.proofs.Common.{refl, sym, ap, subst, ◌∙◌, arith, ⊎_elim}
 use Rattle.std.specs.Prelude.{option_map, option_and_then}
@@ -7,8 +7,12 @@ use Rattle.std.specs.List.{slice_get}
 use Rattle.std.specs.Io.KnownBytes.{Keeps}
 use Rattle.std.proofs.KnownBytes.{Keeps-refl}
 use Rattle.std.proofs.lemmas.Bool.{cases_lt, true≢false}
+use Rattle.std.proofs.lemmas.List.Sums.{count_by-le-length}
 use Rattle.std.proofs.lemmas.Option.{slice_get_within}
 use Rattle.zr_kinds.specs.declared.behaviour.Behaviour.{Behaviour}
+use Rattle.zr_kinds.specs.declared.behaviour.Stopped.TheVariants as stop
+use Rattle.zr_kinds.specs.declared.outcome.AppLine.{AppLine}
+use Rattle.zr_kinds.specs.declared.outcome.FlowLine.{FlowLine}
 use Rattle.zr_kinds.specs.declared.outcome.PoolStats.{PoolStats}
 use Rattle.zr_io.specs.Moved.{Gained}
 use Rattle.flow_table.specs.Flows.{Flow, flows_of}
@@ -17,6 +21,7 @@ use Rattle.frames_read.specs.Ending.{steered_in}
 use Rattle.frames_read.specs.Reading.{HasEnded}
 use Rattle.board_face.specs.Sides.{IsApp}
 use Rattle.board_face.specs.declared.views.app.AppSide.{AppSide}
+use Rattle.board_face.specs.declared.views.app.AppView.{AppView}
 use Rattle.plain_board.specs.Board.{Board, side_of}
 use Rattle.app_worker.specs.Kept.{flow_bytes}
 use Rattle.app_worker.specs.State.{Quits}
@@ -30,17 +35,20 @@ use Rattle.replay_turns.specs.declared.intake.Stage.TheVariants as stage
 use Rattle.replay_turns.specs.declared.plan.Plan.{Plan}
 use Rattle.replay_turns.proofs.Bridge.{give_streams}
 use Rattle.turn_runs.specs.Laws.{RunsAreTold, RunsEndWell}
-use Rattle.replay_turns.specs.Counts.{AreCounted, capped, long_in, searches_in}
-use Rattle.turn_runs.specs.Ran.{There, IsLineOf, IsStreamed, IsAppLine, line_of, lines_of, AreCounts, Ran, Told, told_of}
+use Rattle.replay_turns.specs.Counts.{AreCounted, is_long, long_in, searches_in}
+use Rattle.turn_runs.specs.Ran.{There, IsLineOf, IsStreamed, IsTorn, HasFailed, IsAppLine, all_loans, line_of, lines_of, AreCounts, Ran, Told, told_of}
 use Rattle.turn_runs.specs.Running.{Fits, Running, AreOver, losses_in}
 use Rattle.turn_runs.specs.declared.run.Run.{Run}
 use Rattle.turn_runs.specs.declared.run.Worker.{Worker}
-use Rattle.turn_runs.proofs.AppLines.{there, is-there, line-at, many-lines, ports-of-lines}
+use Rattle.turn_runs.proofs.AppLines.{there, one-value, is-there, line-at, many-lines, ports-of-lines}
 use Rattle.turn_runs.proofs.Gone.{IsGone, is-over, side-is}
-use Rattle.turn_runs.proofs.Accounting.{told, gone-at, accounts}
+use Rattle.turn_runs.proofs.Accounting.{told, gone-at, line-known, accounts}
+use Rattle.turn_runs.proofs.Bounds.{frames-read, offers-few}
 use Rattle.turn_runs.proofs.Counted.{IsCounted, gained-both, flow-counted}
 use Rattle.turn_runs.proofs.Ports.{flows-have-apps}
+use Rattle.turn_runs.proofs.Strays.{strays-within}
 use Rattle.turn_runs.proofs.Tellable.{Tells, all-told, all-tells}
+use Rattle.turn_runs.proofs.Torn.{flow-torn}
 use Rattle.turn_runs.proofs.Written.{app-below, flow-line, queues-own, written-is}
 
 -- ---- small steps
@@ -112,8 +120,24 @@ module _ {S T : Type 0} (left : S → Option (List ℕ)) (faults : S → ℕ) (k
   searched : searches_in told_is.pool ≤ long_in plan.split (offers_of (steered_in plan.ports.items runs.frames))
   searched = omega (arith, counted.searches)
 
-  found-none : told_is.pool.empty ≡ capped (length told_is.refused)
-  found-none = counted.empty
+  strays-few : told_is.pool.strays ≤ plan.how.stray * all_loans told_is.apps
+  strays-few =
+      let most = strays-within left faults kept losses source source_now shelves shelves_now plan board run fits runs over in
+      subst (λ lines. told_is.pool.strays ≤ plan.how.stray * all_loans lines) (sym tells.apps_are) (omega (arith, counted.strays, most))
+
+  -- the searches that found too few are too few themselves for their count to stop
+  found-none : told_is.pool.empty ≡ length told_is.refused
+  found-none =
+      let few : long_in plan.split (offers_of (steered_in plan.ports.items runs.frames)) ≤ length (offers_of (steered_in plan.ports.items runs.frames)) =
+      count_by-le-length (is_long plan.split) (offers_of (steered_in plan.ports.items runs.frames)) in
+      omega (
+        arith,
+        counted.empty,
+        searched,
+        few,
+        offers-few plan.ports.items runs.frames,
+        frames-read left faults kept losses source source_now shelves shelves_now plan board run runs,
+      )
 
   one-stream : (number port : ℕ) (flow : Flow) (w : Worker) → slice_get (flows_of (steered_in plan.ports.items runs.frames)) number ≡ Some flow
       → slice_get plan.ports.items flow.app ≡ Some port → slice_get run.workers.items flow.app ≡ Some w
@@ -196,6 +220,32 @@ module _ {S T : Type 0} (left : S → Option (List ℕ)) (faults : S → ℕ) (k
       is-there (slice_get told_is.apps a) (line_of port w) _ (app-line-at a port w port_at w_at)
       (one-app a port w port_at w_at (side-is board run (length shelves_now) fits a within))
 
+  -- where its shelf failed
+  failed-at : (a : ℕ) (app : AppLine) → slice_get told_is.apps a ≡ Some app → app.stopped ≡ stop.Write
+      → HasFailed kept shelves shelves_now (flows_of (steered_in plan.ports.items runs.frames)) told_is.flows a (side_of board a).view
+  failed-at a line at is_write =
+      let known = line-known left faults kept losses source source_now shelves shelves_now plan board run fits runs over a line
+      (ap (λ lines. slice_get lines a) (sym tells.apps_are) ∙ at) in
+      let w : Worker = known.worker in
+      let w_at = known.worker_at in
+      let own = runs.worker a w w_at in
+      let v : AppView = (side_of board a).view in
+      let here = side-is board run (length shelves_now) fits a (slice_get_within run.workers.items a w w_at) in
+      let went : IsGone w v = gone-at left faults kept losses source source_now shelves shelves_now plan board run fits runs over
+      a (side_of board a) w here w_at in
+      let has = told left faults kept losses source source_now shelves shelves_now plan board run fits runs over a (side_of board a) here in
+      let fronts = own.failed (sym (ap (λ (l : AppLine). l.stopped) known.is) ∙ is_write) in
+      record {
+        torn = fronts.torn;
+        each = λ number flow flow_line flow_at goes flow_line_at.
+            let same : slice_get run.workers.items flow.app ≡ Some w = ap (slice_get run.workers.items) goes ∙ w_at in
+            let is : flow_line_of flow (flow_bytes number w.state.flows) ≡ flow_line = one-value (sym (flow-line plan.ports.items _ run.workers.items
+            tells.counts told_is.flows (flows-have-apps plan.ports.items runs.frames) counts-are lines-are number flow w flow_at same) ∙ flow_line_at) in
+            subst (λ (l : FlowLine). Gained (kept_in kept shelves a number) (kept_in kept shelves_now a number) (IsTorn v fronts.torn number l.bytes)) is
+            (flow-torn (kept_in kept shelves a) (kept_in kept shelves_now a) v w.state.flows went.bare.flows has.whole went.bare.loans fronts
+            (own.fronts has.whole) number);
+      }
+
   ran : Ran left faults kept losses source source_now shelves shelves_now plan told_is board
   ran = record {
     before = runs.frames;
@@ -205,11 +255,13 @@ module _ {S T : Type 0} (left : S → Option (List ℕ)) (faults : S → ℕ) (k
     refused = refused-are;
     searches = searched;
     empty = found-none;
+    strays = strays-few;
     flow = streams;
     many_flows = lines-are.many;
     others = others;
     app = app-lines;
     many_apps = ap length tells.apps_are ∙ many-lines plan.ports.items run.workers.items runs.many;
+    failed = failed-at;
     many_shelves = runs.many_shelves;
     beyond = runs.beyond;
     sound = fits.sound;

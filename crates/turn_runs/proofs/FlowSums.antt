@@ -30,16 +30,16 @@ over-same : (g h : ℕ → ℕ) (from k : ℕ) → ((n : ℕ) → g n ≡ h n) �
 over-same g h from zero same = refl
 over-same g h from (suc k) same = omega (arith, same from, over-same g h (suc from) k same)
 
-over-add : (g h : ℕ → ℕ) (from k : ℕ) → over (λ n. g n + h n) from k ≡ over g from k + over h from k
+pub over-add : (g h : ℕ → ℕ) (from k : ℕ) → over (λ n. g n + h n) from k ≡ over g from k + over h from k
 over-add g h from zero = refl
 over-add g h from (suc k) = omega (arith, over-add g h (suc from) k)
 
-over-zero : (from k : ℕ) → over (λ n. 0) from k ≡ 0
+pub over-zero : (from k : ℕ) → over (λ n. 0) from k ≡ 0
 over-zero from zero = refl
 over-zero from (suc k) = omega (arith, over-zero (suc from) k)
 
 -- one number counts, and the others don't
-abbrev only : ℕ → ℕ → ℕ → ℕ
+abbrev pub only : ℕ → ℕ → ℕ → ℕ
 only number bytes n = if number == n then bytes else 0
 
 only-here : (number bytes n : ℕ) → number ≡ n → only number bytes n ≡ bytes
@@ -54,7 +54,7 @@ over-behind number bytes from (suc k) behind =
     let first : only number bytes from ≡ 0 = only-other number bytes from (λ same. absurd (omega (arith, same, behind))) in
     omega (arith, first, over-behind number bytes (suc from) k (omega arith))
 
-over-one : (number bytes from k : ℕ) → from ≤ number → number < from + k → over (only number bytes) from k ≡ bytes
+pub over-one : (number bytes from k : ℕ) → from ≤ number → number < from + k → over (only number bytes) from k ≡ bytes
 over-one number bytes from zero above below = absurd (omega arith)
 over-one number bytes from (suc k) above below = ⊎_elim
     (λ (same : number ≡ from).

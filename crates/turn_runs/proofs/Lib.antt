@@ -7,6 +7,7 @@ pub mod OwnReads
 pub mod Accounting
 pub mod Written
 pub mod Tellable
+pub mod Torn
 pub mod Ended
 pub mod Telling
 pub mod Places
@@ -18,5 +19,10 @@ pub mod Reserve
 pub mod AllLeft
 pub mod DealtEntries
 pub mod NoteSums
+pub mod Shares
 pub mod Bounds
+pub mod Strays
 pub mod Rising
+pub mod Answering
+pub mod Rounds
+pub mod StepsLeft

@@ -12,6 +12,7 @@ use Rattle.app_worker.specs.declared.turn.Turn.{Turn}
 use Rattle.app_worker.specs.declared.turn.Turn.TheVariants.{Did, Idle, Finished, Failed}
 use Rattle.app_worker.specs.declared.turn.Why.{Why}
 use Rattle.std.specs.List.{slice_get}
+use Rattle.board_face.specs.AppEvents.{app_gist}
 use Rattle.board_face.specs.declared.views.app.AppSide.{AppSide}
 use Rattle.plain_board.specs.Board.{Board, side_of}
 use Rattle.turn_runs.specs.Steps.{worker_steps, steps_from, TurnsRise}
@@ -80,13 +81,15 @@ turns-rise was now old new kept kept_now faults faults_now result turns here gon
 
 -- ---- among the others
 
-steps-like : (board board_now : Board) (first : ℕ) (workers : List Worker) → ((b : ℕ) → first ≤ b → side_of board_now b ≡ side_of board b)
+-- where no view changed but for looks and what is known of refill slots
+pub steps-alike : (board board_now : Board) (first : ℕ) (workers : List Worker)
+    → ((b : ℕ) → first ≤ b → app_gist (side_of board_now b).view ≡ app_gist (side_of board b).view)
     → steps_from board_now first workers ≡ steps_from board first workers
-steps-like board board_now first [] same = refl
-steps-like board board_now first (w ∷ workers) same =
+steps-alike board board_now first [] same = refl
+steps-alike board board_now first (w ∷ workers) same =
     let here : worker_steps (side_of board_now first).view w ≡ worker_steps (side_of board first).view w =
-    ap (λ (side : AppSide). worker_steps side.view w) (same first (omega arith)) in
-    let rest = steps-like board board_now (suc first) workers (λ b later. same b (omega (arith, later))) in
+    ap (λ (v : AppView). worker_steps v w) (same first (omega arith)) in
+    let rest = steps-alike board board_now (suc first) workers (λ b later. same b (omega (arith, later))) in
     omega (arith, here, rest)
 
 -- where one of them went on, all together did by as much
@@ -102,7 +105,8 @@ steps-set board board_now first zero (w ∷ workers) was now at same =
     ap (λ n. worker_steps (side_of board n).view was) e ∙ ap (worker_steps (side_of board first).view) (sym is) in
     let there : worker_steps (side_of board_now (first + 0)).view now ≡ worker_steps (side_of board_now first).view now =
     ap (λ n. worker_steps (side_of board_now n).view now) e in
-    let rest = steps-like board board_now (suc first) workers (λ b later. same b (λ is_first. absurd (omega (arith, later, is_first)))) in
+    let rest = steps-alike board board_now (suc first) workers
+    (λ b later. ap (λ (side : AppSide). app_gist side.view) (same b (λ is_first. absurd (omega (arith, later, is_first))))) in
     omega (arith, here, there, rest)
 steps-set board board_now first (suc i) (w ∷ workers) was now at same =
     let e : first + suc i ≡ suc first + i = omega arith in

@@ -7,6 +7,7 @@ use Rattle.plain_board.specs.Board.{Board}
 use Rattle.replay_turns.specs.declared.outcome.Outcome.{Outcome}
 use Rattle.replay_turns.specs.declared.plan.Plan.{Plan}
 use Rattle.turn_runs.specs.Ran.{TellsOf, Ran, LacksMemory, told_of}
+use Rattle.turn_runs.specs.Rounds.{IsOfPlan}
 use Rattle.turn_runs.specs.Running.{Fits, Running, Plays, AreOver}
 use Rattle.turn_runs.specs.declared.run.Run.{Run}
 use Rattle.turn_runs.proofs.Ended.{end-well, end-told}
@@ -19,14 +20,29 @@ on-err (Err e) P holds = holds
 back : {T : Type 0} (n : ℕ) (xs all : List T) → length xs ≡ n → take n (xs ++ drop (length xs) all) ≡ xs
 back n xs all same = ap (λ k. take k (xs ++ drop (length xs) all)) (sym same) ∙ take-append_seam xs (drop (length xs) all)
 
--- the board fits after the text
-pub text-fits : {S T : Type 0} (left : S → Option (List ℕ)) (faults : S → ℕ) (kept : T → ℕ → Option (List ℕ)) (losses : T → ℕ)
-    (source mid : S) (items was text was_text : List T) (n : ℕ) (opened played : Board) (begun went : Run) → n ≡ length items → was ≡ items
-    → was_text ≡ take n (text ++ drop (length text) items) → Plays left faults kept losses source mid was text opened played begun went
-    → Fits played went (length was_text)
-text-fits left faults kept losses source mid items was text was_text n opened played begun went size is is_text first =
-    let same : was_text ≡ text = is_text ∙ back n text items (first.many ∙ ap length is ∙ sym size) in
-    subst (λ ws. Fits played went (length ws)) (sym same) first.fits
+module _ {S T : Type 0} (left : S → Option (List ℕ)) (faults : S → ℕ) (kept : T → ℕ → Option (List ℕ)) (losses : T → ℕ)
+    (source mid : S) (items was text was_text : List T) (n : ℕ) (opened played : Board) (begun went : Run) (size : n ≡ length items) (is : was ≡ items)
+    (is_text : was_text ≡ take n (text ++ drop (length text) items))
+    (first : Plays left faults kept losses source mid was text opened played begun went) where
+  same-text : was_text ≡ text
+  same-text = is_text ∙ back n text items (first.many ∙ ap length is ∙ sym size)
+
+  -- the board fits after the text
+  pub text-fits : Fits played went (length was_text)
+  text-fits = subst (λ ws. Fits played went (length ws)) (sym same-text) first.fits
+
+  -- and the run is still one of its plan
+  pub text-plan : (plan : Plan) → length plan.ports.items ≤ n
+      → ((first : S) (shelves : List T) → length plan.ports.items ≤ length shelves
+      → Running left faults kept losses first first shelves shelves plan opened begun)
+      → IsOfPlan left faults kept losses mid was_text played went
+  text-plan plan enough begins = record {
+    first = source;
+    firsts = was;
+    plan = plan;
+    runs = subst (λ ws. Running left faults kept losses source mid was ws plan played went) (sym same-text)
+        (first.runs source was plan (begins source was (omega (arith, size, enough, ap length is))));
+  }
 
 module _ {S T : Type 0} (left : S → Option (List ℕ)) (faults : S → ℕ) (kept : T → ℕ → Option (List ℕ)) (losses : T → ℕ) (source mid now : S)
     (items was text was_text rounds : List T) (n : ℕ) (plan : Plan) (opened played over_board : Board) (begun went over_run : Run)

@@ -3,4 +3,5 @@ pub mod Ran
 pub mod Schedule
 pub mod Stuck
 pub mod Steps
+pub mod Rounds
 pub mod Laws

@@ -1,6 +1,6 @@
 -- What a run leaves: the streams on their shelves, what its outcome says, and a board that accounts for it.
-use Rattle.std.specs.Prelude.{◌≡◌, ◌≢◌, ℕ, ◌-◌, ◌^◌, ◌≤◌, ◌==◌, min, ◌⊎◌}
-use Rattle.std.specs.Prelude.{if◌then◌else◌, List, [], ◌∷◌, ◌++◌, length, drop, sum_by}
+use Rattle.std.specs.Prelude.{◌≡◌, ◌≢◌, ℕ, ◌+◌, ◌-◌, ◌*◌, ◌^◌, ◌<◌, ◌≤◌, ◌==◌, min, ◌⊎◌}
+use Rattle.std.specs.Prelude.{if◌then◌else◌, List, [], ◌∷◌, ◌++◌, length, take, drop, sum_by}
 use Rattle.std.specs.Prelude.{Option, Some, None, option_map}
 use Rattle.std.specs.List.{slice_get}
 use Rattle.std.specs.Io.KnownBytes.{Keeps}
@@ -18,13 +18,17 @@ use Rattle.flow_table.specs.Stream.{stream_of}
 use Rattle.frames_read.specs.Ending.{steered_in}
 use Rattle.frames_read.specs.Reading.{HasEnded}
 use Rattle.frames_read.specs.Tally.{tally_of}
-use Rattle.plain_board.specs.Board.{Board}
+use Rattle.board_face.specs.declared.views.app.AppView.{AppView}
+use Rattle.plain_board.specs.Board.{Board, side_of}
 use Rattle.plain_board.specs.Finish.{IsOver}
 use Rattle.plain_board.specs.Sound.{IsSound}
+use Rattle.app_worker.specs.Core.{most_at_once}
 use Rattle.app_worker.specs.Kept.{flow_bytes}
+use Rattle.app_worker.specs.Marks.{marks_of}
+use Rattle.app_worker.specs.Shelves.{AreOfOneLoan}
 use Rattle.app_worker.specs.State.{Quits}
 use Rattle.replay_turns.specs.Account.{AccountsFor, kept_in}
-use Rattle.replay_turns.specs.Counts.{capped, long_in, searches_in}
+use Rattle.replay_turns.specs.Counts.{long_in, searches_in}
 use Rattle.replay_turns.specs.Offered.{AreRefused, WantsRoom, offers_of}
 use Rattle.replay_turns.specs.Outcomes.{IsOutcomeOf}
 use Rattle.replay_turns.specs.declared.outcome.Outcome.{Outcome}
@@ -55,6 +59,20 @@ pub record IsStreamed (stopped : Stopped) (stream bytes : List ℕ) (count : ℕ
   pub counted : stopped ≢ stop.Write → count ≡ length bytes
   pub at_least : count ≤ length bytes
 
+-- A flow of an application whose shelf failed at the flow `torn`. All of what another gained is counted. Of that flow there may
+-- be some bytes more, of one append that failed: they are of one loan, a part of its bytes.
+pub record IsTorn (v : AppView) (torn number count : ℕ) (bytes : List ℕ) : Type 0 where
+  pub exact : number ≢ torn → count ≡ length bytes
+  pub at_once : length bytes ≤ count + most_at_once
+  pub more : count < length bytes → AreOfOneLoan v.taken v.returned (drop count (take (length bytes) (marks_of number v.taken)))
+
+-- The shelf of an application failed at one of its flows, and at no other.
+pub record HasFailed {T : Type 0} (kept : T → ℕ → Option (List ℕ)) (shelves shelves_now : List T) (flows : List Flow) (lines : List FlowLine)
+    (a : ℕ) (v : AppView) : Type 0 where
+  pub torn : ℕ
+  pub each : (number : ℕ) (flow : Flow) (line : FlowLine) → slice_get flows number ≡ Some flow → flow.app ≡ a → slice_get lines number ≡ Some line
+      → Gained (kept_in kept shelves a number) (kept_in kept shelves_now a number) (IsTorn v torn number line.bytes)
+
 -- the bytes of the flows to a port; the count stays at 2^64 - 1 once it is there
 abbrev pub written_to : ℕ → List FlowLine → ℕ
 written_to port lines = min (sum_by (λ (line : FlowLine). if line.port == port then line.bytes else 0) lines) (2 ^ 64 - 1)
@@ -71,6 +89,10 @@ pub record IsAppLine (how : Behaviour) (port losses losses_now : ℕ) (flows : L
   -- its shelf failed, and otherwise none of the shelf's calls did
   pub cause : app.stopped ≡ stop.Write → Rose losses losses_now
   pub still : app.stopped ≢ stop.Write → losses_now ≡ losses
+
+-- the loans of all applications
+abbrev pub all_loans : List AppLine → ℕ
+all_loans apps = sum_by (λ (app : AppLine). app.loans) apps
 
 -- the line of an application, as its state has it
 abbrev pub line_of : ℕ → Worker → AppLine
@@ -132,7 +154,9 @@ pub record Ran {S T : Type 0} (left : S → Option (List ℕ)) (faults : S → �
   pub refused : AreRefused plan.split (offers_of (steered_in plan.ports.items before)) told.refused
   -- the searches for fresh buffers: no more than payloads longer than `split`, and as many found too few as frames were refused
   pub searches : searches_in told.pool ≤ long_in plan.split (offers_of (steered_in plan.ports.items before))
-  pub empty : told.pool.empty ≡ capped (length told.refused)
+  pub empty : told.pool.empty ≡ length told.refused
+  -- no more strays than may follow the loans
+  pub strays : told.pool.strays ≤ plan.how.stray * all_loans told.apps
   -- The stream theorem: each flow's shelf gained a front of what the copying receiver gives of the flow's payloads but those
   -- that were refused, and all of it where the flow's application wasn't stopped.
   pub flow : (number : ℕ) (flow : Flow) → slice_get (flows_of (steered_in plan.ports.items before)) number ≡ Some flow →
@@ -147,6 +171,9 @@ pub record Ran {S T : Type 0} (left : S → Option (List ℕ)) (faults : S → �
       → There (slice_get told.apps number) (IsAppLine plan.how port (losses_in losses shelves number)
       (losses_in losses shelves_now number) told.flows)
   pub many_apps : length told.apps ≡ length plan.ports.items
+  -- Where an application was stopped by its shelf, all that the shelf gained for it is counted, but for a front of one append.
+  pub failed : (number : ℕ) (app : AppLine) → slice_get told.apps number ≡ Some app → app.stopped ≡ stop.Write
+      → HasFailed kept shelves shelves_now (flows_of (steered_in plan.ports.items before)) told.flows number (side_of board number).view
   -- The shelves of no application are as they were.
   pub many_shelves : length shelves_now ≡ length shelves
   pub beyond : drop (length plan.ports.items) shelves_now ≡ drop (length plan.ports.items) shelves

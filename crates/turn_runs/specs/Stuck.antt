@@ -10,6 +10,8 @@ use Rattle.plain_board.specs.Seen.{IsSeenBy, IsSeenByCard}
 use Rattle.app_worker.specs.Turns.{Because, look_of}
 use Rattle.app_worker.specs.declared.turn.Why.{Why}
 use Rattle.turn_runs.specs.Running.{Fits, AreOver}
+use Rattle.turn_runs.specs.declared.role.Role.{Role}
+use Rattle.turn_runs.specs.declared.role.Role.TheVariants.{Card, App}
 use Rattle.turn_runs.specs.declared.run.Run.{Run}
 use Rattle.turn_runs.specs.declared.run.Worker.{Worker}
 
@@ -25,10 +27,19 @@ pub record IsKeptBack (board : Board) (a : ℕ) (w : Worker) : Type 0 where
   pub because : Because why w.state (side_of board a).view
   pub seen : IsSeenBy (look_of why) (app_gist (side_of board a).view) (others_of board a)
 
--- The card can do nothing, and each application has left or is kept back.
+-- It has left or is kept back.
+abbrev pub IsAppStuck : Board → Run → ℕ → Type 0
+IsAppStuck board run a = (w : Worker) → slice_get run.workers.items a ≡ Some w → (w.left ≡ true) ⊎ IsKeptBack board a w
+
+-- The role can do nothing.
+abbrev pub IsStuck : Role → Board → Run → Type 0
+IsStuck Card board run = IsCardStuck board run
+IsStuck (App a) board run = IsAppStuck board run a
+
+-- Nobody can do anything.
 pub record AreStuck (board : Board) (run : Run) : Type 0 where
   pub card : IsCardStuck board run
-  pub app : (a : ℕ) (w : Worker) → slice_get run.workers.items a ≡ Some w → (w.left ≡ true) ⊎ IsKeptBack board a w
+  pub app : (a : ℕ) → IsAppStuck board run a
 
 -- Nobody waits for anybody but where all are gone.
 abbrev pub StuckRunsAreOver : Type 0

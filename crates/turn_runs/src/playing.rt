@@ -1,23 +1,18 @@
 //! Many turns: those of a text, and then rounds.
 
-ghost use Rattle.std.specs.Prelude.{◌↔◌, IsTrue, length};
+ghost use Rattle.std.specs.Prelude.{◌<◌, length, MatchBool};
+ghost use Rattle.turn_runs.specs.Rounds.{IsOfPlan};
 ghost use Rattle.turn_runs.specs.Running.{Fits, Plays, AreOver};
 ghost use Rattle.turn_runs.specs.Schedule.{AreTurns};
+ghost use Rattle.turn_runs.specs.Steps.{run_steps};
+ghost use Rattle.turn_runs.specs.Stuck.{AreStuck};
 
 use crate::role::role_of;
 use crate::stepping::step;
 use crate::{Role, Run};
 use plain_board::PlainBoard;
 use std::alloc::Global;
-use std::sync::Wait;
 use zr_io::{Shelf, Source};
-
-/// Whether the card was closed and every application has left.
-fn is_over(run: &Run) -> bool
-    ensures { IsTrue result ↔ AreOver run.now }
-{
-    run.feed.closed() && run.workers.iter().all(|worker| worker.left)
-}
 
 /// The turns that a text asks for.
 pub fn play_text<S: Source, T: Shelf>(
@@ -34,33 +29,36 @@ pub fn play_text<S: Source, T: Shelf>(
 {
     let apps = run.workers.len() as u32;
     for letter in turns.bytes() {
-        board = step(alloc, board, run, source, shelves, role_of(letter, apps));
+        (board, _) = step(alloc, board, run, source, shelves, role_of(letter, apps));
     }
     board
 }
 
-/// A turn of the card, and then one of each application.
+/// A turn of the card, and then one of each application. `false` says that nothing was done in any of them, and then nobody
+/// can do anything.
 fn play_round<S: Source, T: Shelf>(
     alloc: Global,
     board: PlainBoard,
     run: &mut Run,
     source: &mut S,
     shelves: &mut [T],
-) -> PlainBoard
+) -> (PlainBoard, bool)
     requires fits { Fits board run.old (length shelves.old) }
-    ensures plays { Plays S.left S.faults T.kept T.faults source.old source.new shelves.old shelves.new board result run.old run.new }
+    ensures plays { Plays S.left S.faults T.kept T.faults source.old source.new shelves.old shelves.new board result.0 run.old run.new }
+    ensures answer { MatchBool result.1 (run_steps board run.old < run_steps result.0 run.new) (AreStuck result.0 run.new) }
 {
     let apps = run.workers.len() as u32;
-    let mut board = step(alloc, board, run, source, shelves, Role::Card);
+    let (mut board, mut did) = step(alloc, board, run, source, shelves, Role::Card);
     for app in 0..apps {
-        board = step(alloc, board, run, source, shelves, Role::App(app));
+        let (next, more) = step(alloc, board, run, source, shelves, Role::App(app));
+        board = next;
+        did |= more;
     }
-    board
+    (board, did)
 }
 
-/// Rounds, until the card was closed and every application has left.
-pub fn play_rounds<S: Source, T: Shelf, R: Wait>(
-    rt: &R,
+/// Rounds, until nothing is done in one: then the card was closed, and every application has left.
+pub fn play_rounds<S: Source, T: Shelf>(
     alloc: Global,
     mut board: PlainBoard,
     run: &mut Run,
@@ -68,14 +66,16 @@ pub fn play_rounds<S: Source, T: Shelf, R: Wait>(
     shelves: &mut [T],
 ) -> PlainBoard
     requires fits { Fits board run.old (length shelves.old) }
+    requires plan { IsOfPlan S.left S.faults T.kept T.faults source.old shelves.old board run.old }
     ensures over { AreOver run.new }
     ensures plays { Plays S.left S.faults T.kept T.faults source.old source.new shelves.old shelves.new board result run.old run.new }
 {
-    for _ in rt.forever() {
-        if is_over(run) {
+    loop {
+        let (next, did) = play_round(alloc, board, run, source, shelves);
+        board = next;
+        if !did {
             break;
         }
-        board = play_round(alloc, board, run, source, shelves);
     }
     board
 }

@@ -12,7 +12,6 @@ use plain_board::PlainBoard;
 use replay_turns::{Outcome, Plan};
 use std::alloc::{AllocError, Global};
 use std::collections::hash_map::RandomState;
-use std::sync::Wait;
 use zr_io::{Shelf, Source};
 
 /// Replays a capture over a board for one thread. The turns are those of the text, one a letter: `n` is a turn of the card,
@@ -20,8 +19,7 @@ use zr_io::{Shelf, Source};
 /// left. Shelf `a` takes the flows to the port of place `a` among the plan's. `random` keys the table of flows.
 ///
 /// It answers how the run went, and its board as it stands then.
-pub fn run_turns<S: Source, T: Shelf, R: Wait>(
-    rt: &R,
+pub fn run_turns<S: Source, T: Shelf>(
     alloc: Global,
     random: RandomState,
     source: &mut S,
@@ -41,7 +39,7 @@ pub fn run_turns<S: Source, T: Shelf, R: Wait>(
 {
     let (mut board, mut run) = open::<S, T>(alloc, random, plan)?;
     board = play_text(alloc, board, &mut run, source, shelves, turns);
-    board = play_rounds(rt, alloc, board, &mut run, source, shelves);
+    board = play_rounds(alloc, board, &mut run, source, shelves);
     let outcome = tell(alloc, run, &plan.ports)?;
     Ok((outcome, board))
 }

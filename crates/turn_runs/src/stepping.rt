@@ -1,8 +1,11 @@
 //! One turn of a role.
 
-ghost use Rattle.std.specs.Prelude.{◌<◌, length};
+ghost use Rattle.std.specs.Prelude.{◌<◌, length, MatchBool};
+ghost use Rattle.turn_runs.specs.Rounds.{DidNothing};
 ghost use Rattle.turn_runs.specs.Running.{Fits, Plays};
 ghost use Rattle.turn_runs.specs.Schedule.{IsRole};
+ghost use Rattle.turn_runs.specs.Steps.{run_steps};
+ghost use Rattle.turn_runs.specs.declared.role.Role.TheVariants.{App};
 
 use crate::{Role, Run};
 use app_worker::Turn;
@@ -11,20 +14,22 @@ use replay_turns::{app_step, card_step};
 use std::alloc::Global;
 use zr_io::{Shelf, Source};
 
-/// A turn of an application, unless it has left.
+/// A turn of an application, unless it has left. `false` says that it did nothing.
 fn app_turn<S: Source, T: Shelf>(
     alloc: Global,
     board: PlainBoard,
     run: &mut Run,
     shelves: &mut [T],
     app: u32,
-) -> PlainBoard
+) -> (PlainBoard, bool)
     requires fits { Fits board run.old (length shelves.old) }
     requires app { app < length run.old.workers.items }
-    ensures plays { (source : S) → Plays S.left S.faults T.kept T.faults source source shelves.old shelves.new board result run.old run.new }
+    ensures plays { (source : S) → Plays S.left S.faults T.kept T.faults source source shelves.old shelves.new board result.0 run.old run.new }
+    ensures answer { MatchBool result.1 (run_steps board run.old < run_steps result.0 run.new)
+        (DidNothing (App app) board result.0 run.old run.new) }
 {
     if run.workers[app as usize].left {
-        return board;
+        return (board, false);
     }
     let worker = &mut run.workers[app as usize];
     let (board, turn) = app_step(
@@ -35,10 +40,12 @@ fn app_turn<S: Source, T: Shelf>(
         &mut shelves[app as usize],
     );
     worker.left = matches!(turn, Turn::Finished);
-    board
+    let did = !matches!(turn, Turn::Idle(_));
+    (board, did)
 }
 
-/// A turn of a role. An application that has left does nothing in it.
+/// A turn of a role. An application that has left does nothing in it. `false` says that nothing was done, and then there is
+/// nothing that the role can do.
 pub fn step<S: Source, T: Shelf>(
     alloc: Global,
     board: PlainBoard,
@@ -46,17 +53,19 @@ pub fn step<S: Source, T: Shelf>(
     source: &mut S,
     shelves: &mut [T],
     role: Role,
-) -> PlainBoard
+) -> (PlainBoard, bool)
     requires fits { Fits board run.old (length shelves.old) }
     requires role { IsRole (length run.old.workers.items) role }
-    ensures plays { Plays S.left S.faults T.kept T.faults source.old source.new shelves.old shelves.new board result run.old run.new }
+    ensures plays { Plays S.left S.faults T.kept T.faults source.old source.new shelves.old shelves.new board result.0 run.old run.new }
+    ensures answer { MatchBool result.1 (run_steps board run.old < run_steps result.0 run.new)
+        (DidNothing role board result.0 run.old run.new) }
 {
     match role {
         Role::Card => {
-            let (board, _) = card_step(board, &mut run.feed, source);
+            let turn = card_step(board, &mut run.feed, source);
             // Its answer says that no more records were read than are read at most.
             let _ = run.feed.records();
-            board
+            turn
         }
         Role::App(app) => app_turn::<S, T>(alloc, board, run, shelves, app),
     }

@@ -20,7 +20,6 @@ use std::collections::hash_map::RandomState;
 use std::io::BufReader;
 use std::process::ExitCode;
 use std::rt::{Env, Files};
-use std::sync::Wait;
 use std::{env, io};
 pub use top::zcrx;
 use zr_io::{FileShelf, StdSink, StdSource};
@@ -57,7 +56,7 @@ fn make_shelves<R: Files + AllocGlobal>(rt: &R) -> Result<Vec<FileShelf<&R>>, Al
 }
 
 /// Runs the command over standard input, standard output and the files of the current folder.
-fn start<W: Wait>(rt: &HostRuntime, waiting: &W) -> Result<u8, Fault> {
+fn start(rt: &HostRuntime) -> Result<u8, Fault> {
     let _held = hold_closed_streams(rt).map_err(|error| memory_or(Fault::Write, &error))?;
     let arguments = read_arguments(rt)?;
     let words: Vec<&str> = arguments
@@ -73,7 +72,6 @@ fn start<W: Wait>(rt: &HostRuntime, waiting: &W) -> Result<u8, Fault> {
     let random = RandomState::new(rt).map_err(|_| Fault::Read)?;
     let mut card = Card::Blank;
     let status = zcrx(
-        waiting,
         rt.alloc(),
         random,
         &words,
@@ -99,7 +97,7 @@ fn close(card: Card)
 }
 
 fn main(rt: HostRuntime) -> ExitCode {
-    let status = match start(&rt, &rt) {
+    let status = match start(&rt) {
         Ok(status) => status,
         Err(fault) => fault.number(),
     };

@@ -20,7 +20,6 @@ use replay_turns::{Outcome, Plan};
 use run_report::{Report, answer, write_report};
 use std::alloc::Global;
 use std::collections::hash_map::RandomState;
-use std::sync::Wait;
 use turn_runs::run_turns;
 use zr_io::{Failed, Shelf, Sink, Source};
 use zr_kinds::Fault;
@@ -64,8 +63,7 @@ fn plan_of(ports: Vec<u16>, options: Options) -> Plan
     }
 }
 
-fn run<S: Source, T: Shelf, O: Sink, R: Wait>(
-    rt: &R,
+fn run<S: Source, T: Shelf, O: Sink>(
     alloc: Global,
     random: RandomState,
     command: Replay<'_>,
@@ -89,7 +87,7 @@ fn run<S: Source, T: Shelf, O: Sink, R: Wait>(
     } = command;
     let plan = plan_of(ports, options);
     let text = turns.unwrap_or("");
-    match run_turns(rt, alloc, random, source, shelves, &plan, text) {
+    match run_turns(alloc, random, source, shelves, &plan, text) {
         Ok((outcome, board)) => {
             *card = Card::Plain(board);
             tell(alloc, &outcome, out)
@@ -115,8 +113,7 @@ fn write_capture<O: Sink>(seed: u32, frames: u32, out: &mut O) -> u8
 /// flows to the port of place `a` among the ports, and `random` keys the table of flows; to make one neither source nor
 /// shelves are needed. The board of a run is left in `card`. Answers the status: 0, or the number of the fault that comes
 /// first.
-pub fn zcrx<S: Source + Send, T: Shelf + Send, O: Sink, R: Wait>(
-    rt: &R,
+pub fn zcrx<S: Source + Send, T: Shelf + Send, O: Sink>(
     alloc: Global,
     random: RandomState,
     words: &[&str],
@@ -144,7 +141,7 @@ pub fn zcrx<S: Source + Send, T: Shelf + Send, O: Sink, R: Wait>(
 {
     match read_words(alloc, &*words) {
         Ok(Some(Command::Replay(command))) => {
-            run(rt, alloc, random, command, source, shelves, out, card)
+            run(alloc, random, command, source, shelves, out, card)
         }
         Ok(Some(Command::Make(command))) => write_capture(command.seed, command.frames, out),
         Ok(None) => Fault::Usage.number(),

@@ -8,7 +8,6 @@ use frame_headers::{Seen, read_frame};
 use std::alloc::Global;
 use std::process::Abort;
 use std::random::RandomSource;
-use std::sync::Wait;
 use std::test::*;
 use zr_kinds::{Behaviour, FlowLine, Stopped, Tally};
 
@@ -262,8 +261,8 @@ impl Sums {
 }
 
 /// Everything that is left is as plain copying without the refused frames has it.
-fn check_plain(
-    rt: &(impl Abort + AllocGlobal + RandomSource + Wait),
+pub fn check_plain(
+    rt: &(impl Abort + AllocGlobal + RandomSource),
     name: &str,
     given: &Given<'_>,
     seen: &[Seen<'_>],
@@ -294,7 +293,7 @@ fn check_plain(
 }
 
 fn check_drawn(
-    rt: &(impl Abort + AllocGlobal + RandomSource + Wait),
+    rt: &(impl Abort + AllocGlobal + RandomSource),
     seed: u32,
     sums: &mut Sums,
 ) -> Result<(), Fail> {

@@ -8,13 +8,12 @@ use super::runs::{
 };
 use std::process::Abort;
 use std::random::RandomSource;
-use std::sync::Wait;
 use std::test::*;
 use zr_kinds::{Behaviour, PoolStats, Tally};
 
 /// Three records of one flow, which make this stream by so many loans.
 fn check_order(
-    rt: &(impl Abort + AllocGlobal + RandomSource + Wait),
+    rt: &(impl Abort + AllocGlobal + RandomSource),
     sent: &[Sent<'_>; 3],
     base: u32,
     stream: &[u8],
@@ -71,10 +70,7 @@ struct Row<'a> {
     pool: PoolStats,
 }
 
-fn check_row(
-    rt: &(impl Abort + AllocGlobal + RandomSource + Wait),
-    row: &Row<'_>,
-) -> Result<(), Fail> {
+fn check_row(rt: &(impl Abort + AllocGlobal + RandomSource), row: &Row<'_>) -> Result<(), Fail> {
     let alloc = rt.alloc();
     let stream = stream_bytes(alloc, 65_495)?;
     let bytes = in_sequence(alloc, &stream, row.lengths)?;

@@ -10,7 +10,6 @@ use std::alloc::Global;
 use std::collections::hash_map::RandomState;
 use std::process::Abort;
 use std::random::RandomSource;
-use std::sync::Wait;
 use std::test::*;
 use zr_io::{MemShelf, MemSource};
 use zr_kinds::{AppLine, Behaviour, Fault, FlowLine, PoolStats, Stopped, Tally};
@@ -148,7 +147,7 @@ fn shelves_of(
 
 /// Runs, and ends the board.
 pub fn run(
-    rt: &(impl Abort + AllocGlobal + RandomSource + Wait),
+    rt: &(impl Abort + AllocGlobal + RandomSource),
     given: &Given<'_>,
 ) -> Result<Left, Fail> {
     let alloc = rt.alloc();
@@ -162,15 +161,7 @@ pub fn run(
     let mut shelves = shelves_of(alloc, plan.ports.len(), room, given.shelf_fails)?;
     assert!(rt; shelves.len() >= plan.ports.len());
     let random = RandomState::new(rt)?;
-    let (outcome, board) = run_turns(
-        rt,
-        alloc,
-        random,
-        &mut source,
-        &mut shelves,
-        &plan,
-        given.turns,
-    )?;
+    let (outcome, board) = run_turns(alloc, random, &mut source, &mut shelves, &plan, given.turns)?;
     let free = board.finish().free.len();
     Ok(Left {
         outcome,
@@ -278,7 +269,7 @@ fn check_shelves(rt: &impl Abort, name: &str, streams: &[Stream<'_>], shelves: &
 
 /// Runs, and compares all that is left.
 pub fn check(
-    rt: &(impl Abort + AllocGlobal + RandomSource + Wait),
+    rt: &(impl Abort + AllocGlobal + RandomSource),
     name: &str,
     given: &Given<'_>,
     wanted: &Wanted<'_>,
@@ -309,7 +300,7 @@ pub struct One<'a> {
 }
 
 pub fn check_one(
-    rt: &(impl Abort + AllocGlobal + RandomSource + Wait),
+    rt: &(impl Abort + AllocGlobal + RandomSource),
     name: &str,
     given: &Given<'_>,
     one: &One<'_>,

@@ -7,7 +7,6 @@ use super::runs::{
 use std::alloc::Global;
 use std::process::Abort;
 use std::random::RandomSource;
-use std::sync::Wait;
 use std::test::*;
 use zr_kinds::{AppLine, Behaviour, Stopped};
 
@@ -46,7 +45,7 @@ fn streams_of(stream: &[u8]) -> [Stream<'_>; 2] {
 
 /// The text comes before the rounds and changes nothing of what is left.
 fn check_text(
-    rt: &(impl Abort + AllocGlobal + RandomSource + Wait),
+    rt: &(impl Abort + AllocGlobal + RandomSource),
     bytes: &[u8],
     turns: &str,
     stream: &[u8],

@@ -6,7 +6,6 @@ use std::alloc::Global;
 use std::collections::hash_map::RandomState;
 use std::process::Abort;
 use std::random::RandomSource;
-use std::sync::Wait;
 use std::test::Fail;
 use zr_io::{MemShelf, MemSink, MemSource, Source};
 
@@ -15,7 +14,7 @@ const ROOM: usize = 4_000_000;
 
 /// A replay of port 9000 whose report has to be this.
 pub fn check_report<S: Source + Send>(
-    rt: &(impl Abort + AllocGlobal + RandomSource + Wait),
+    rt: &(impl Abort + AllocGlobal + RandomSource),
     source: &mut S,
     status: u8,
     report: &str,
@@ -31,7 +30,6 @@ pub fn check_report<S: Source + Send>(
     let words = ["replay", "9000"];
     let mut card = Card::Blank;
     let answer = zcrx(
-        rt,
         alloc,
         random,
         &words,

@@ -6,7 +6,6 @@ use pcap_reader::Capture;
 use std::alloc::Global;
 use std::process::Abort;
 use std::random::RandomSource;
-use std::sync::Wait;
 use std::test::Fail;
 use zr_io::MemSource;
 
@@ -33,7 +32,7 @@ const fn made_by<'a>(words: &'a [&'a str]) -> Given<'a> {
 
 /// Calls `make` and compares its status. Source and shelves have to be as before. Gives what went out.
 fn make(
-    rt: &(impl Abort + AllocGlobal + RandomSource + Wait),
+    rt: &(impl Abort + AllocGlobal + RandomSource),
     given: &Given<'_>,
     status: u8,
 ) -> Result<Vec<u8>, Fail> {

@@ -4,7 +4,6 @@ use super::runs::{Given, Row, Stream, check, faultless, first};
 use std::alloc::Global;
 use std::process::Abort;
 use std::random::RandomSource;
-use std::sync::Wait;
 use std::test::Fail;
 
 /// Room for the longest payload of a frame.
@@ -31,10 +30,7 @@ struct Case<'a> {
     report: &'a str,
 }
 
-fn check_case(
-    rt: &(impl Abort + AllocGlobal + RandomSource + Wait),
-    case: &Case<'_>,
-) -> Result<(), Fail> {
+fn check_case(rt: &(impl Abort + AllocGlobal + RandomSource), case: &Case<'_>) -> Result<(), Fail> {
     let alloc = rt.alloc();
     let mut frames = Vec::new(alloc);
     let mut position = 0usize;

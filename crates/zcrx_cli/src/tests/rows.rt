@@ -7,7 +7,6 @@ use super::runs::{Given, Row, check, faultless, first};
 use std::alloc::Global;
 use std::process::Abort;
 use std::random::RandomSource;
-use std::sync::Wait;
 use std::test::Fail;
 
 /// One segment from port 40000 to port 9000 with the bytes `hello`, at sequence number 1001.
@@ -180,7 +179,7 @@ status 0
 
 /// Three records of one flow, whose stream has to be this, lent in so many pieces.
 fn check_order(
-    rt: &(impl Abort + AllocGlobal + RandomSource + Wait),
+    rt: &(impl Abort + AllocGlobal + RandomSource),
     name: &str,
     sent: &[Sent<'_>],
     base: u32,

@@ -6,7 +6,6 @@ use std::alloc::Global;
 use std::collections::hash_map::RandomState;
 use std::process::Abort;
 use std::random::RandomSource;
-use std::sync::Wait;
 use std::test::Fail;
 use zr_io::{MemShelf, MemSink, MemSource, Source};
 
@@ -166,7 +165,7 @@ pub fn check_free(
 
 /// Runs the command.
 pub fn run(
-    rt: &(impl Abort + AllocGlobal + RandomSource + Wait),
+    rt: &(impl Abort + AllocGlobal + RandomSource),
     given: &Given<'_>,
 ) -> Result<Left, Fail> {
     let alloc = rt.alloc();
@@ -179,7 +178,6 @@ pub fn run(
     let random = RandomState::new(rt)?;
     let mut card = Card::Blank;
     let status = zcrx(
-        rt,
         alloc,
         random,
         given.words,
@@ -212,7 +210,7 @@ fn check_board(
 
 /// Replays, compares what is left, and gives what the source's next call gives.
 pub fn check(
-    rt: &(impl Abort + AllocGlobal + RandomSource + Wait),
+    rt: &(impl Abort + AllocGlobal + RandomSource),
     row: &Row<'_>,
 ) -> Result<Vec<u8>, Fail> {
     let Left {

@@ -2,7 +2,7 @@
 use Rattle.std.proofs.Common.{length, inl, refl, sym, ap, subst, ◌∙◌, arith}
 use Rattle.turn_runs.specs.Ran.{TellsOf}
 use Rattle.turn_runs.specs.Schedule.{AreTurns}
-use Rattle.turn_runs.proofs.WholeRun.{on-err, whole-runs, text-fits, run-told, run-lacks}
+use Rattle.turn_runs.proofs.WholeRun.{on-err, whole-runs, text-fits, text-plan, run-told, run-lacks}
 use Rattle.turn_runs.proofs.running.run_turns.Goals as goal
 
 pub returns-clause-ran : goal.returns-clause-ran
@@ -30,6 +30,8 @@ pub play_rounds-board-requires : goal.play_rounds-board-requires
 play_rounds-board-requires g c = record {
   fits = text-fits _ _ _ _ _ _ _ _ _ _ c.args.shelves.now.len _ _ _ _ (omega (arith, c.args.shelves.now.ok)) c.deref_mut.ensures.value
       c.deref_mut-2.ensures.value c.play_text-board.ensures.plays;
+  plan = text-plan _ _ _ _ _ _ _ _ _ _ c.args.shelves.now.len _ _ _ _ (omega (arith, c.args.shelves.now.ok)) c.deref_mut.ensures.value
+      c.deref_mut-2.ensures.value c.play_text-board.ensures.plays c.args.plan.now c.requires.shelves c.in_ok-board.ensures.runs;
 }
 
 pub tell-requires : goal.tell-requires

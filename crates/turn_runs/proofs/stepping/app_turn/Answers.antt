@@ -1,5 +1,6 @@
 -- A turn of an application goes on with the run.
-use Rattle.std.proofs.Common.{◌≡◌, ◌≢◌, true, false, length, get_or, refl, sym, subst, arith}
+use Rattle.std.proofs.Common.{◌≡◌, ◌≢◌, ◌<◌, Bool, true, false, not, length, get_or, refl, sym, ap, ◌∙◌, subst, arith}
+use Rattle.std.specs.Prelude.{MatchBool}
 use Rattle.std.proofs.lemmas.List.{length-set}
 use Rattle.std.proofs.lemmas.Option.{slice_get_read, slice_get-get_or}
 use Rattle.std.specs.Vec.{with_item}
@@ -7,17 +8,24 @@ use Rattle.plain_board.specs.Board.{side_of}
 use Rattle.app_worker.specs.Turns.{Answers}
 use Rattle.app_worker.specs.declared.turn.Turn.TheVariants.{Finished}
 use Rattle.replay_turns.specs.Account.{kept_in}
+use Rattle.turn_runs.specs.Rounds.{DidNothing}
 use Rattle.turn_runs.specs.Running.{losses_in, Fits}
+use Rattle.turn_runs.specs.Steps.{run_steps}
+use Rattle.turn_runs.specs.declared.role.Role.TheVariants.{App}
 use Rattle.turn_runs.specs.declared.run.Run.{Run}
 use Rattle.turn_runs.specs.declared.run.Worker.{Worker}
+use Rattle.turn_runs.proofs.Answering.{gone-idle, app-idles, app-rises}
+use Rattle.turn_runs.proofs.Rising.{turns-rise}
 use Rattle.turn_runs.proofs.Turns.{app-fits, app-runs}
 use Rattle.turn_runs.proofs.Workers.{goes-on}
-use Rattle.turn_runs.proofs.stepping.app_turn.Goals.{in-Finished, in_default}
+use Rattle.turn_runs.proofs.stepping.app_turn.Goals.{in-Finished, in_default, in-Idle, in_default-matches}
 use Rattle.turn_runs.proofs.stepping.app_turn.Goals as goal
 
 pub returns-then-index : goal.returns-then-index
 returns-then-index g c = record {
   plays = λ source. record { fits = c.requires.fits; workers = refl; many = refl; runs = λ first firsts plan runs. runs };
+  answer = gone-idle c.args.board c.args.run.now c.args.app c.index.result.now
+      (slice_get_read c.args.run.now.workers.items _ c.args.app c.index.result.now refl c.requires.app c.index.ensures) c.if-index.true;
 }
 
 pub app_step-board-requires-clause-here : goal.app_step-board-requires-clause-here
@@ -52,7 +60,16 @@ returns g c =
       | in-Finished w ↦ let left : c.match-matches.worker ≡ true = w.worker-is in absurd (cc)
       | in_default w ↦ w.in_default.not-Finished same
     ] in
+    let is_gone : c.app_step-board.result.1 ≡ Finished → w_now.left ≡ true = λ is. elim c.match-matches.branch [
+      | in-Finished w ↦ w.worker-is
+      | in_default w ↦ absurd (w.in_default.not-Finished is)
+    ] in
+    let here : w_was.left ≡ false =
+    let there = slice_get_read c.args.run.now.workers.items _ c.args.app c.index.result.now refl c.requires.app c.index.ensures in
+    let same : w_was ≡ c.index.result.now = cc in ap (λ (w : Worker). w.left) same ∙ c.if-index.false in
     let run_now : Run = record { feed = c.args.run.now.feed; workers = with_item c.args.run.now.workers c.args.app w_now } in
+    let says : Bool → Type 0 = λ did. MatchBool did (run_steps board c.args.run.now < run_steps board_now run_now)
+    (DidNothing (App c.args.app) board board_now c.args.run.now run_now) in
     let finished = λ (left : w_now.left ≡ true). subst
     (λ turn. Answers w_was.state w_now.state old new (g.T.Shelf.faults shelf) (g.T.Shelf.faults shelf_now) turn) (is_left left) step.turns.answer in
     record {
@@ -73,4 +90,12 @@ returns g c =
             (record { fronts = step.fronts _; failed = step.failed _; whole = step.whole _; copies = step.copies; counts = step.counts })
             (λ left. (finished left).2) step.still);
       };
+      answer = elim c.match-matches-2.branch [
+        | in-Idle w ↦ subst (λ is. says (not is)) (sym w.matches-is)
+            (app-idles board board_now c.args.run.now run_now c.args.app w_was w_now is_was refl refl step.card step.others
+            _ _ _ _ c.app_step-board.result.1 step.turns here is_left _ w.in-Idle.is (step.told _ w.in-Idle.is))
+        | in_default-matches w ↦ subst (λ is. says (not is)) (sym w.matches-is)
+            (app-rises board board_now c.args.run.now run_now c.args.app w_was w_now is_was refl refl step.card step.others
+            ((turns-rise w_was w_now old new _ _ _ _ c.app_step-board.result.1 step.turns here is_gone).1 w.in_default-matches.not-Idle))
+      ];
     }
