@@ -17,16 +17,17 @@ use zr_io::{Failed, Shelf};
 use zr_kinds::Rqe;
 
 /// How many bytes are read at once.
-const CHUNK: u32 = 4096;
+pub const CHUNK: usize = 4096;
 
 /// Reads the first `most` bytes of a loan, and appends them to a flow of the shelf. `bytes` counts the appends that went
-/// well.
+/// well. Bytes that stand in `chunk` are written over.
 pub fn read_loan<F: AppFace, T: Shelf>(
     face: &mut F,
     lending: &Lending,
     most: u32,
     flow: u32,
     bytes: &mut u64,
+    chunk: &mut [u8; CHUNK],
     shelf: &mut T,
 ) -> Result<(), Failed>
     requires here { IsHere (F.seen face.old) }
@@ -49,11 +50,10 @@ pub fn read_loan<F: AppFace, T: Shelf>(
     ensures cause { OnErr result (Rose (T.faults shelf.old) (T.faults shelf.new)) }
     ensures beside { F.beside face.new ≡ F.beside face.old }
 {
-    let mut buffer = [0; 4096];
     let mut done = 0;
     while done < most {
-        let n = (most - done).min(CHUNK);
-        let part = &mut buffer[..n as usize];
+        let n = (most - done).min(CHUNK as u32);
+        let part = &mut chunk[..n as usize];
         face.read(&lending.loan, done, part);
         shelf.append(flow, part)?;
         done += n;

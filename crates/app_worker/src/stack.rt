@@ -16,6 +16,7 @@ ghost use Rattle.app_worker.specs.State.{held_len, unsplit_len};
 ghost use Rattle.app_worker.specs.Steps.{OnlyHelds, GaveFront, CutFirst, whole_piece, over_others, Delivered, is_short, IsOut, given_back};
 
 use crate::lending::{lend_copy, lend_piece};
+use crate::reading::CHUNK;
 use board_face::{AppFace, Held, Loan};
 use circular_buffer::HeapCircularBuffer;
 use completion_ring::CqRing;
@@ -318,4 +319,6 @@ pub struct Stack {
     pub copied: u64,
     /// All that is unread is to be read, since a loan in the reserve was posted.
     pub flush: bool,
+    /// The bytes of a loan that are read at once. Only their memory is kept.
+    pub chunk: Box<[u8; CHUNK]>,
 }

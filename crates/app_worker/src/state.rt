@@ -15,6 +15,7 @@ ghost use Rattle.app_worker.specs.Kept.{new_state, IsFresh, flow_bytes};
 ghost use Rattle.app_worker.specs.Moves.{reads_of, reserve_loans};
 ghost use Rattle.app_worker.specs.Turns.{Turns, look_of};
 
+use crate::reading::CHUNK;
 use crate::stack::{Stack, Stray};
 use crate::turn::Turn;
 use crate::turning::find;
@@ -48,7 +49,7 @@ impl Model for AppState {
 
 impl AppState {
     /// An application that has taken no turn, with this many places in its completion ring. It takes the memory for
-    /// its rings, and for the loans that it leaks, here.
+    /// its rings, for the loans that it leaks, and for the bytes that it reads at once, here.
     pub fn new(alloc: Global, app: u32, places: u32, how: Behaviour) -> Result<AppState, AllocError>
         requires least { 1 ≤ places }
         requires most { places ≤ 256 }
@@ -61,6 +62,7 @@ impl AppState {
         let unread = HeapCircularBuffer::with_capacity(alloc, room)?;
         let posted = CqRing::new(alloc, places as usize)?;
         let leaked = HeapCircularBuffer::with_capacity(alloc, how.leak as usize)?;
+        let chunk = Box::new(alloc, [0; CHUNK])?;
         let at_once = how.quit == Some(0);
         let stack = Stack {
             app,
@@ -89,6 +91,7 @@ impl AppState {
             bare: at_once,
             copied: 0,
             flush: false,
+            chunk,
         };
         Ok(AppState { stack })
     }

@@ -146,7 +146,16 @@ pub fn read_one<F: AppFace, T: Shelf>(face: &mut F, st: &mut Stack, shelf: &mut 
     let _next = own.queue.next_position();
     let before = own.bytes;
     let most = wanted(st.how.quit, st.written, lending.loan.place().len);
-    let result = read_loan(face, &lending, most, own.number, &mut own.bytes, shelf);
+    let chunk = &mut *st.chunk;
+    let result = read_loan(
+        face,
+        &lending,
+        most,
+        own.number,
+        &mut own.bytes,
+        chunk,
+        shelf,
+    );
     let gained = own.bytes - before;
     st.written = st.written.saturating_add(gained);
     st.due = Some(lending);

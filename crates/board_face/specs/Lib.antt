@@ -23,4 +23,5 @@ pub mod SlotSteps
 pub mod StepLaws
 pub mod Used
 pub mod OwnBuffers
+pub mod Ended
 pub mod Laws

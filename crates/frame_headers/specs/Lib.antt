@@ -1,2 +1,3 @@
 pub mod FrameClass
 pub mod Seen
+pub mod AddrBytes

@@ -21,12 +21,12 @@ pub fn nic_flush<F: NicFace>(face: &mut F, pool: &mut Pool) -> bool
         × F.tells (NoteInUse app) (nic_gist (F.seen face.new)) (F.beside face.new)) }
     ensures beside { F.beside face.new ≡ F.beside face.old }
 {
-    if let Some(short) = pool.short.take() {
+    if let Some(short) = &pool.short {
         let len = short.note.total as usize;
         if !face.send_linear(short.app, short.note, &short.bytes[..len]) {
-            pool.short = Some(short);
             return false;
         }
+        pool.short = None;
     }
     while let Some(pending) = pool.pieces.pop_front() {
         if let Err(piece) = face.send(pending.app, pending.note, pending.piece) {

@@ -1,23 +1,16 @@
 -- Lists of counts, and the cache.
 use Rattle.std.proofs.Common.{◌≡◌, ℕ, zero, suc, ◌+◌, ◌-◌, ◌*◌, ◌<◌, Bool, true, false, List, [], ◌∷◌, ◌++◌}
 use Rattle.std.proofs.Common.{length, take, set, get_or, refl, ap, sym, ◌∙◌, arith, inl, inr, ⊎_elim, subst, Some}
-use Rattle.std.specs.Prelude.{◌≢◌, ◌⊎◌, ◌/◌, nat_eq, count_by, ◌==◌, slice_get, All, if◌then◌else◌}
+use Rattle.std.specs.Prelude.{◌≢◌, ◌⊎◌, ◌/◌, ◌==◌, slice_get, All, if◌then◌else◌}
 use Rattle.std.proofs.lemmas.List.{get_or-set_same, get_or-set_other}
 use Rattle.std.proofs.lemmas.List.Elements.{All-nil, All-cons}
 use Rattle.std.proofs.lemmas.Nat.{div-mul-add}
 use Rattle.std.proofs.lemmas.Bool.Decides.{eqb_tells}
 use Rattle.circular_buffer.specs.Buffer.{last_item}
-use Rattle.board_face.proofs.ListLemmas.{eqb_same, not-eqb}
-use Rattle.board_face.proofs.Tallies.{weight, tally, tally-append, tally-push}
-use Rattle.board_face.proofs.Parts.{count-tally}
+use Rattle.board_face.proofs.Tallies.{weight, tally}
+pub use Rattle.plain_parts.proofs.FreeLists.{weight-same, weight-other, count-push, count-append}
 
 -- ---- one count raised or lowered
-
-pub weight-same : (b : ℕ) → weight (b == b) ≡ 1
-weight-same b = ap weight (eqb_same b)
-
-pub weight-other : (a b : ℕ) → a ≢ b → weight (a == b) ≡ 0
-weight-other a b other = ap weight (not-eqb a b other)
 
 pub weight-swap : (a b : ℕ) → weight (a == b) ≡ weight (b == a)
 weight-swap a b =
@@ -58,12 +51,6 @@ lowered counts i b there some =
     omega (arith, ap weight t.0, ap (λ n. get_or counts n 0) e))
     (λ t. let ne : b ≢ i = λ e. t.1 (sym e) in omega (arith, ap weight t.0, get_or-set_other counts i b (get_or counts i 0 - 1) 0 ne))
     (eqb_tells i b)
-
-pub count-push : (b x : ℕ) (xs : List ℕ) → count_by (nat_eq b) (xs ++ x ∷ []) ≡ count_by (nat_eq b) xs + weight (b == x)
-count-push b x xs = omega (arith, count-tally (nat_eq b) (xs ++ x ∷ []), count-tally (nat_eq b) xs, tally-push (nat_eq b) xs x)
-
-pub count-append : (b : ℕ) (xs ys : List ℕ) → count_by (nat_eq b) (xs ++ ys) ≡ count_by (nat_eq b) xs + count_by (nat_eq b) ys
-count-append b xs ys = omega (arith, count-tally (nat_eq b) (xs ++ ys), count-tally (nat_eq b) xs, count-tally (nat_eq b) ys, tally-append (nat_eq b) xs ys)
 
 -- ---- a buffer with a holder more, or one less
 

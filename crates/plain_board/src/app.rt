@@ -7,6 +7,7 @@ ghost use Rattle.plain_board.specs.Board.{side_of, others_of, IsLowestFree};
 ghost use Rattle.plain_board.specs.Seen.{IsSeenBy};
 ghost use Rattle.plain_board.specs.Sound.{IsSound};
 
+use crate::contents::Contents;
 use crate::{Others, PlainBoard};
 use board_face::{AppFace, Held, Loan, Own, Polled};
 use std::marker::Model;
@@ -15,8 +16,8 @@ use zr_kinds::{Place, Rqe};
 /// The board in the hands of an application.
 #[derive(Drop)]
 pub struct PlainApp {
-    board: PlainBoard,
-    app: u32,
+    pub(crate) board: Box<Contents>,
+    pub(crate) app: u32,
 }
 
 impl Model for PlainApp {
@@ -25,9 +26,9 @@ impl Model for PlainApp {
 
     ghost Value = { Part };
 
-    ghost view = { λ p. record { board = p.board; app = p.app } };
+    ghost view = { λ p. record { board = p.board.value; app = p.app } };
 
-    ghost invariant = { λ p. p.app < p.board.arrays.layout.reserves };
+    ghost invariant = { λ p. p.app < p.board.value.arrays.layout.reserves };
 }
 
 impl PlainApp {
@@ -35,7 +36,7 @@ impl PlainApp {
     pub fn back(self) -> PlainBoard
         ensures { result ≡ self.board }
     {
-        self.board
+        PlainBoard { board: self.board }
     }
 
     /// What holds of the board, as `PlainBoard::sound` says it.
@@ -44,16 +45,6 @@ impl PlainApp {
         ensures app { self.now.app < self.now.board.arrays.layout.reserves }
     {
         self.board.sound();
-    }
-}
-
-impl PlainBoard {
-    /// The board for an application. `app` is its number, from 0.
-    pub fn app(self, app: u32) -> PlainApp
-        requires { app < self.arrays.layout.reserves }
-        ensures { result ≡ record { board = self; app = app } }
-    {
-        PlainApp { board: self, app }
     }
 }
 

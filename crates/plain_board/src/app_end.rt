@@ -3,11 +3,11 @@ ghost use Rattle.board_face.specs.AppCalls.{IsHere, CanScrub, CanLeave};
 ghost use Rattle.board_face.specs.AppEvents.{scrubbed, left_board};
 ghost use Rattle.plain_board.specs.Board.{side_of, others_of};
 
-use crate::PlainBoard;
+use crate::contents::Contents;
 use plain_parts::{note_at, put, take_back};
 use std::marker::Brand;
 
-impl PlainBoard {
+impl Contents {
     /// Takes back all references that an application still owes.
     pub(crate) fn scrub(&mut self, app: u32)
         requires app { app < self.old.arrays.layout.reserves }

@@ -5,12 +5,12 @@ ghost use Rattle.board_face.specs.AppEvents.{pushed_raw, came_to_rest, fell_quie
 ghost use Rattle.plain_board.specs.Board.{side_of, others_of};
 ghost use Rattle.plain_board.specs.Seen.{AppSawSo};
 
-use crate::PlainBoard;
+use crate::contents::Contents;
 use plain_parts::{note_at, put, put_back, ring_len};
 use std::marker::Brand;
 use zr_kinds::Rqe;
 
-impl PlainBoard {
+impl Contents {
     /// Writes any refill entry, unless the ring is full.
     pub(crate) fn push_raw(&mut self, app: u32, entry: Rqe) -> Result<(), Rqe>
         requires app { app < self.old.arrays.layout.reserves }

@@ -5,13 +5,13 @@ ghost use Rattle.board_face.specs.AppEvents.{has_read, loan_origin, gave, abando
 ghost use Rattle.plain_board.specs.Board.{side_of, others_of};
 ghost use Rattle.plain_board.specs.Seen.{AppSawSo};
 
-use crate::PlainBoard;
+use crate::contents::Contents;
 use board_face::Loan;
 use plain_parts::{load, lower, note_at, put_back, user_index};
 use std::marker::Brand;
 use zr_kinds::{Place, Rqe};
 
-impl PlainBoard {
+impl Contents {
     /// Reads bytes of a loan, from its byte `from` on.
     pub(crate) fn read(&mut self, app: u32, loan: &Loan, from: u32, into: &mut [u8])
         requires app { app < self.old.arrays.layout.reserves }

@@ -3,13 +3,13 @@ ghost use Rattle.board_face.specs.AppCalls.{IsHere, Looked};
 ghost use Rattle.plain_board.specs.Board.{side_of, others_of};
 ghost use Rattle.plain_board.specs.Seen.{AppSawSo};
 
-use crate::PlainBoard;
+use crate::contents::Contents;
 use board_face::{Held, Polled};
 use plain_parts::{note_at, take_front};
 use std::marker::Brand;
 use zr_kinds::Note;
 
-impl PlainBoard {
+impl Contents {
     /// Takes the next note of an application.
     pub(crate) fn poll(&mut self, app: u32, linear: &mut [u8; 256]) -> Polled
         requires app { app < self.old.arrays.layout.reserves }

@@ -4,13 +4,13 @@ ghost use Rattle.board_face.specs.AppEvents.{cut, released, lent};
 ghost use Rattle.board_face.specs.Texts.{front_place, rest_place};
 ghost use Rattle.plain_board.specs.Board.{side_of, others_of};
 
-use crate::PlainBoard;
+use crate::contents::Contents;
 use board_face::{Held, Loan};
 use plain_parts::{came_free, list_if, lower, note_at, raise, user_index};
 use std::marker::Brand;
 use zr_kinds::Place;
 
-impl PlainBoard {
+impl Contents {
     /// Cuts a piece in two behind its first `at` bytes.
     pub(crate) fn cut(&mut self, app: u32, held: Held, at: u32) -> (Held, Held)
         requires app { app < self.old.arrays.layout.reserves }

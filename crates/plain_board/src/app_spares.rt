@@ -6,13 +6,13 @@ ghost use Rattle.board_face.specs.AppEvents.{filled, own_bytes, begin_place, len
 ghost use Rattle.plain_board.specs.Board.{side_of, others_of, IsLowestFree};
 ghost use Rattle.plain_board.specs.Seen.{AppSawSo};
 
-use crate::PlainBoard;
+use crate::contents::Contents;
 use board_face::{Filling, Loan, Own};
 use plain_parts::{filled_up, filling_of, note_at, pick_spare, put, raise, store, user_index};
 use std::marker::Brand;
 use zr_kinds::Place;
 
-impl PlainBoard {
+impl Contents {
     /// Takes a buffer to copy a short payload into: the lowest listed one, or else the reserve.
     pub(crate) fn spare(&mut self, app: u32) -> Option<Own>
         requires app { app < self.old.arrays.layout.reserves }

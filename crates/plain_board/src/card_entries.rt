@@ -3,13 +3,13 @@ ghost use Rattle.board_face.specs.NicCalls.{apps_of, DealtWith};
 ghost use Rattle.plain_board.specs.Board.{IsUntouched};
 ghost use Rattle.plain_board.specs.Seen.{IsJudged, CardSawSo};
 
-use crate::PlainBoard;
+use crate::contents::Contents;
 use board_face::Entry;
 use plain_parts::{came_free, free_if, lower, lower_if_some, owed_buffer, take_front, user_index};
 use std::marker::Brand;
 use zr_kinds::Rqe;
 
-impl PlainBoard {
+impl Contents {
     /// Deals with the next refill entry of an application.
     pub(crate) fn entry(&mut self, app: u32) -> Entry
         requires { app < apps_of self.old.nic.view.setting }

@@ -6,13 +6,13 @@ ghost use Rattle.board_face.specs.Sides.{nic_at};
 ghost use Rattle.board_face.specs.Texts.{IsSplitNote, IsLinearNote};
 ghost use Rattle.plain_board.specs.Seen.{CardSawSo};
 
-use crate::PlainBoard;
+use crate::contents::Contents;
 use board_face::Piece;
 use plain_parts::{NoteSlot, put_back, with_room};
 use std::marker::Brand;
 use zr_kinds::Note;
 
-impl PlainBoard {
+impl Contents {
     /// Sends a note with its piece, unless the ring of the application is full.
     pub(crate) fn send(&mut self, app: u32, note: Note, piece: Piece) -> Result<(), Piece>
         requires open { IsOpen self.old.nic.view }

@@ -4,13 +4,13 @@ ghost use Rattle.board_face.specs.NicEvents.{placed};
 ghost use Rattle.board_face.specs.Sides.{nic_at};
 ghost use Rattle.board_face.specs.Tokens.{filled_by, next_place};
 
-use crate::PlainBoard;
+use crate::contents::Contents;
 use board_face::{Filling, Own, Piece};
 use plain_parts::{filled_up, filling_of, raise, store};
 use std::marker::Brand;
 use zr_kinds::Place;
 
-impl PlainBoard {
+impl Contents {
     /// Stores a text where the buffer's next bytes go.
     pub(crate) fn place(&mut self, own: &mut Own, bytes: &[u8]) -> Piece
         requires open { IsOpen self.old.nic.view }

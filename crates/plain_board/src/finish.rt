@@ -2,13 +2,13 @@ ghost use Rattle.std.specs.Prelude.{◌≡◌, All};
 ghost use Rattle.area_layout.specs.Layout.{pool_buffers};
 ghost use Rattle.plain_board.specs.Finish.{IsOver, free_of, IsEachOnce, HasNoCounts, IsServed};
 
-use crate::PlainBoard;
+use crate::contents::Contents;
 use plain_parts::all_free;
 use zr_kinds::Ended;
 
-impl PlainBoard {
-    /// Ends a board that all have left, and answers its free buffers. It takes no memory.
-    pub fn finish(self) -> Ended
+impl Contents {
+    /// Ends a board that all have left, as `PlainBoard::finish` says it.
+    pub(crate) fn finish(self) -> Ended
         requires { IsOver self }
         ensures order { result.free.items ≡ free_of self.arrays }
         ensures once { IsEachOnce (pool_buffers self.arrays.layout) result.free.items }

@@ -13,6 +13,7 @@ mod board;
 mod card_entries;
 mod card_notes;
 mod card_places;
+mod contents;
 mod finish;
 mod laws;
 mod nic;

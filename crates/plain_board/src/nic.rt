@@ -7,6 +7,7 @@ ghost use Rattle.plain_board.specs.Sound.{IsSound};
 ghost use Rattle.plain_board.specs.Seen.{IsSeenByCard, IsJudged, CardSawSo};
 
 use crate::PlainBoard;
+use crate::contents::Contents;
 use board_face::{AppSide, Entry, NicFace, Own, Piece};
 use std::collections::LinkedList;
 use std::marker::Model;
@@ -15,7 +16,7 @@ use zr_kinds::Note;
 /// The board in the card's hands.
 #[derive(Drop)]
 pub struct PlainNic {
-    board: PlainBoard,
+    pub(crate) board: Box<Contents>,
 }
 
 impl Model for PlainNic {
@@ -23,7 +24,7 @@ impl Model for PlainNic {
 
     ghost Value = { Board };
 
-    ghost view = { λ n. n.board };
+    ghost view = { λ n. n.board.value };
 }
 
 impl PlainNic {
@@ -31,7 +32,7 @@ impl PlainNic {
     pub fn back(self) -> PlainBoard
         ensures { result ≡ self }
     {
-        self.board
+        PlainBoard { board: self.board }
     }
 
     /// What holds of the board, as `PlainBoard::sound` says it.
@@ -39,15 +40,6 @@ impl PlainNic {
         ensures { IsSound self.now }
     {
         self.board.sound();
-    }
-}
-
-impl PlainBoard {
-    /// The board for the card.
-    pub fn nic(self) -> PlainNic
-        ensures { result ≡ self }
-    {
-        PlainNic { board: self }
     }
 }
 

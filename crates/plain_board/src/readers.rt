@@ -4,10 +4,10 @@ ghost use Rattle.board_face.specs.AppCalls.{HasPlace};
 ghost use Rattle.board_face.specs.AppEvents.{reserve_of};
 ghost use Rattle.plain_board.specs.Board.{side_of};
 
-use crate::PlainBoard;
+use crate::contents::Contents;
 use zr_kinds::Place;
 
-impl PlainBoard {
+impl Contents {
     /// The number of an application's reserve buffer.
     pub(crate) fn reserve(&self, app: u32) -> u32
         requires { app < self.now.arrays.layout.reserves }

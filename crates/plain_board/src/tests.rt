@@ -132,9 +132,13 @@ fn callers_run(rt: HostRuntime) -> Result<(), Fail> {
         piece,
     })?;
     assert!(rt; flush(&mut nic, &mut pending).is_none());
-    let mut app = nic.back().app(0);
+    let board = nic.back();
+    board.sound();
+    let mut app = board.app(0);
     assert_eq!(rt; serve(&mut app, 2), Served::NoNote);
-    let mut nic = app.back().nic();
+    let board = app.back();
+    board.sound();
+    let mut nic = board.nic();
     assert_eq!(rt; nic.entry(0), Entry::Honoured);
     Ok(())
 }

@@ -1,3 +1,4 @@
 pub mod Moving
 pub mod NewApps
 pub mod TakingBack
+pub mod FreeLists

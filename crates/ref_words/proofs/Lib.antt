@@ -76,3 +76,4 @@ mod AreaCard
 mod TextsByFree
 mod PhasesByArea
 mod AreaApp
+mod RolesOver

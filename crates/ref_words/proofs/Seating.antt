@@ -22,7 +22,7 @@ module _ {V S : Type 0} (sides : V → List S) (number : S → ℕ) where
       (sides u)) (some-injective x v e) in omega arith
   taken-set k (x ∷ xs) (suc i) v w e = omega (arith, taken-set k xs i v w e)
 
-  taken-at : (k : ℕ) (views : List V) (i : ℕ) (v : V) → get_elem? views i ≡ some v
+  pub taken-at : (k : ℕ) (views : List V) (i : ℕ) (v : V) → get_elem? views i ≡ some v
       → times_in sides number k (sides v) ≤ times_taken sides number k views
   taken-at k [] i v e = absurd (some-ne-none v (sym e))
   taken-at k (x ∷ xs) zero v e = let same : times_in sides number k (sides x) ≡ times_in sides number k (sides v) = ap (λ u. times_in sides number k

@@ -16,3 +16,4 @@ pub mod FreeLaws
 pub mod RestSteps
 pub mod Runs
 pub mod AreaLaws
+pub mod Over

@@ -3,6 +3,7 @@
 
 mod area;
 mod free;
+mod over;
 mod phases;
 mod pool;
 mod roles;
@@ -13,6 +14,7 @@ mod words;
 
 pub use area::{area_steps, k11, k12};
 pub use free::{k18, k19, k20, k21};
+pub use over::what_is_over;
 pub use phases::{k16_end, k22, k23, k24};
 pub use pool::{k4, k5, k6};
 pub use roles::{k1, k2, k3, opened, side_moves};

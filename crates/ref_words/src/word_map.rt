@@ -1,5 +1,5 @@
 ghost use Rattle.std.specs.Prelude.{◌≡◌, ◌+◌, ◌<◌, ◌≤◌};
-ghost use Rattle.area_layout.specs.Layout.{total, area_words, size_of};
+ghost use Rattle.area_layout.specs.Layout.{IsLayout, total, area_words, size_of};
 ghost use Rattle.board_face.specs.NicCalls.{apps_of, free_words_of};
 ghost use Rattle.ref_words.specs.Words.{roles_of, table_words, role_at, phase_at, pool_at, user_at, free_at, area_at};
 ghost use Rattle.ref_words.specs.Words.{note_at, refill_at};
@@ -66,6 +66,23 @@ impl WordMap {
             refills,
             end,
         }
+    }
+
+    /// How the area is cut into buffers.
+    pub fn layout(&self) -> Layout
+        ensures value { result ≡ self.now.layout }
+        ensures sound { IsLayout self.now.layout }
+    {
+        self.layout
+    }
+
+    /// How many slots each ring has.
+    pub fn places(&self) -> u32
+        ensures value { result ≡ self.now.places }
+        ensures some { 1 ≤ result }
+        ensures few { result ≤ 256 }
+    {
+        self.places
     }
 
     /// How many words there are.

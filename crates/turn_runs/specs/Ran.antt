@@ -60,7 +60,7 @@ pub record IsStreamed (stopped : Stopped) (stream bytes : List ℕ) (count : ℕ
   pub at_least : count ≤ length bytes
 
 -- A flow of an application whose shelf failed at the flow `torn`. All of what another gained is counted. Of that flow there may
--- be some bytes more, of one append that failed: they are of one loan, a part of its bytes.
+-- be up to 4,096 bytes more than are counted, all of one loan. An append that went well may be among them.
 pub record IsTorn (v : AppView) (torn number count : ℕ) (bytes : List ℕ) : Type 0 where
   pub exact : number ≢ torn → count ≡ length bytes
   pub at_once : length bytes ≤ count + most_at_once
@@ -171,7 +171,8 @@ pub record Ran {S T : Type 0} (left : S → Option (List ℕ)) (faults : S → �
       → There (slice_get told.apps number) (IsAppLine plan.how port (losses_in losses shelves number)
       (losses_in losses shelves_now number) told.flows)
   pub many_apps : length told.apps ≡ length plan.ports.items
-  -- Where an application was stopped by its shelf, all that the shelf gained for it is counted, but for a front of one append.
+  -- Where an application was stopped by its shelf, all that the shelf gained for it is counted, but for up to 4,096 bytes of one
+  -- flow, all of one loan.
   pub failed : (number : ℕ) (app : AppLine) → slice_get told.apps number ≡ Some app → app.stopped ≡ stop.Write
       → HasFailed kept shelves shelves_now (flows_of (steered_in plan.ports.items before)) told.flows number (side_of board number).view
   -- The shelves of no application are as they were.

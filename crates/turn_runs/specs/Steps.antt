@@ -45,7 +45,8 @@ most_records = 16777216
 abbrev pub most_bytes : ℕ
 most_bytes = 1099159306240
 
--- Each loan comes to four places, its entry is followed by at most `stray` others, and six things come once.
+-- Each loan comes to four places, and its entry is followed by at most `stray` others. The 6 are for the loan that is due, for
+-- the end of its notes, and twice each for having nothing any more and for having left.
 abbrev pub worker_most : ℕ → ℕ
 worker_most stray = most_bytes + 4 * most_bytes + stray * most_bytes + 6
 

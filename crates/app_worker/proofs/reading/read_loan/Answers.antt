@@ -68,7 +68,7 @@ loop-done-preserved g c =
       inv.0,
       omega (arith, n, inv.0, inv.1),
       omega (arith, inv.2, from),
-      omega (arith, length-append c.read.new.into (drop c.min-n.result c.loop-done.buffer), length-drop c.min-n.result c.loop-done.buffer, size, n, inv.3),
+      omega (arith, length-append c.read.new.into (drop c.min-n.result c.loop-done.chunk), length-drop c.min-n.result c.loop-done.chunk, size, n, inv.3),
       only-then v0 v w inv.4 (only-read v l c.loop-done.done c.read.new.into),
       subst (λ k. Gained first after (IsReadTo taken w.reads l (c.loop-done.done + k))) size
           (one-more taken first before after v lie l c.loop-done.done c.read.new.into c.read.new.into out c.requires.note c.read.ensures.copied

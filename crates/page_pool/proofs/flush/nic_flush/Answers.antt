@@ -1,4 +1,4 @@
-use Rattle.std.proofs.Common.{rules, arith, refl, sym, ◌≡◌, ◌∙◌, None, Some}
+use Rattle.std.proofs.Common.{rules, arith, refl, sym, ◌≡◌, None, Some}
 use Rattle.std.proofs.lemmas.List.Elements.{All-head}
 use Rattle.board_face.specs.Texts.{IsSplitNote}
 use Rattle.board_face.proofs.LookLemmas.{NicRose-later}
@@ -12,7 +12,7 @@ pub returns-then-not-send_linear-clause-answer : goal.returns-then-not-send_line
 returns-then-not-send_linear-clause-answer g c =
     let only = c.if-not-send_linear.ensures.view in (
       c.in-Some.short.app,
-      is_short c.in-Some.short refl,
+      is_short c.in-Some.short (search rules),
       only.rose,
       rw (c.if-not-send_linear.ensures.beside, only.event) (c.if-not-send_linear.ensures.told _ only.rose),
     )
@@ -39,13 +39,13 @@ returns-in-Err-clause-answer g c =
 
 pub loop-pending-init : goal.loop-pending-init
 loop-pending-init g c =
-    elim c.match-take.branch [
+    elim c.match-pool.branch [
       | in-Some+else-not-send_linear w ↦
-          let there : c.pool.inside.short ≡ Some w.in-Some.short = sym c.take.ensures.value ∙ w.in-Some.is in
+          let there : c.pool.inside.short ≡ Some w.in-Some.short = w.in-Some.is in
           let pool = sym c.pool.view_is in
           let before = rw pool at c.requires.stands in
           let event = w.if-not-send_linear.ensures.view in
-          rw (c.take.ensures.after, w.face-is) (record {
+          rw (w.pool-inside-is, w.face-is) (record {
             open_still = rw event c.requires.open;
             none = refl;
             stands = rw event (PoolStands-short _ _ _ _ _ before);
@@ -53,13 +53,13 @@ loop-pending-init g c =
             beside = w.if-not-send_linear.ensures.beside;
           })
       | in_default w ↦
-          let none : c.pool.inside.short ≡ None = sym c.take.ensures.value ∙ w.in_default.is in
+          let none : c.pool.inside.short ≡ None = w.in_default.is in
           let pool = sym c.pool.view_is in
-          rw (c.take.ensures.after, w.face-is) (record {
+          rw (w.pool-inside-is, w.face-is) (record {
             open_still = c.requires.open;
-            none = refl;
-            stands = rw (pool, none) at c.requires.stands;
-            sends = rw (pool, none) (OnlySends-none _ _);
+            none = none;
+            stands = rw pool at c.requires.stands;
+            sends = rw pool (OnlySends-none _ _);
             beside = refl;
           })
     ]

@@ -1,0 +1,19 @@
+-- The end of a board that all roles have left: each pool buffer is free once, and every application was served.
+use Rattle.std.specs.Prelude.{◌≡◌, ℕ, ◌<◌, List, length, map, All, nat_eq, count_by}
+use Rattle.board_face.specs.Holders.{sent_to}
+use Rattle.board_face.specs.Relay.{as_taken, IsAsSent, dealt_entries, HasNoLoanStray}
+use Rattle.board_face.specs.declared.views.nic.NicSide.{NicSide}
+use Rattle.board_face.specs.declared.views.app.AppSide.{AppSide}
+
+-- Each pool buffer stands in the list once, and nothing else does.
+pub record IsEachOnce (buffers : ℕ) (free : List ℕ) : Type 0 where
+  pub many : length free ≡ buffers
+  pub once : (b : ℕ) → b < buffers → count_by (nat_eq b) free ≡ 1
+
+-- What an application took is what was sent to it, what it read is what was sent, the card has dealt with each entry that it
+-- wrote, in order, and no entry of a loan was a stray.
+pub record IsServed (nic : NicSide) (app : AppSide) : Type 0 where
+  pub taken : app.view.taken ≡ map as_taken (sent_to app.view.app nic)
+  pub reads : All (IsAsSent (sent_to app.view.app nic)) app.view.reads
+  pub entries : dealt_entries app.view.app nic ≡ map (λ w. w.entry) app.view.written
+  pub strays : HasNoLoanStray nic app

@@ -1,0 +1,10 @@
+-- The application's diary says then that it cut the piece.
+use Rattle.board_face.specs.Sides.{app_at}
+use Rattle.board_face.specs.AppEvents.{cut}
+use Rattle.plain_board.specs.Board.{side_in}
+use Rattle.plain_board.proofs.contents.Contents.cut.Given as goal
+
+abbrev pub ghosts-note_at : goal.ghosts-note_at
+ghosts-note_at a =
+    let x = side_in a.diaries.now.items a.at in
+    record { next = app_at x (cut x.view a.about.0 a.about.1) }

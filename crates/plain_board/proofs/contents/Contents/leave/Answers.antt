@@ -1,0 +1,13 @@
+-- No more changes than that the application left.
+use Rattle.plain_board.proofs.AppFrames.{here-of, others-then}
+use Rattle.plain_board.proofs.Leaving.{IsSound-left}
+use Rattle.plain_board.proofs.contents.Contents.leave.Goals as goal
+
+pub invariant_of-self : goal.invariant_of-self
+invariant_of-self c =
+    let here = here-of _ c.args.app c.self.invariant.0 (rw (← c.self.view_is) at c.requires.app) in
+    let can = rw (← c.self.view_is) at c.requires.can in
+    rw (c.note_at.ensures, c.put.ensures) (IsSound-left _ c.args.app _ c.self.invariant.0 here can, c.self.invariant.1)
+
+pub returns-clause-others : goal.returns-clause-others
+returns-clause-others c = rw (← c.self.view_is, c.note_at.ensures) (others-then c.self.inside.nic c.self.inside.apps.items c.args.app _)

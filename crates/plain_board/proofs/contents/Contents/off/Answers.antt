@@ -1,0 +1,13 @@
+-- A held piece and a loan lie in a buffer of the area.
+use Rattle.std.proofs.Common.{⊎_elim}
+use Rattle.plain_board.proofs.AppFrames.{here-of}
+use Rattle.plain_board.proofs.TokensLie.{held-lies, loan-lies}
+use Rattle.plain_board.proofs.contents.Contents.off.Goals as goal
+
+pub off_of-requires : goal.off_of-requires
+off_of-requires c =
+    let app = rw (← c.self.view_is) at c.requires.app in
+    let here = here-of _ c.args.app c.self.invariant.0 app in
+    let out = rw (← c.self.view_is) at c.requires.out in
+    ⊎_elim (λ held. (held-lies _ c.args.app _ c.self.invariant.0 here c.args.p.now held).0)
+    (λ loan. (loan-lies _ c.args.app _ c.self.invariant.0 here c.args.p.now loan).0) out

@@ -1,0 +1,20 @@
+-- The buffer of a token has room for the text, and fewer holders than a count may have.
+use Rattle.plain_board.proofs.PlacedText.{in_area, is_few, IsSound-placed}
+use Rattle.plain_board.proofs.contents.Contents.place.Goals as goal
+
+pub store-requires : goal.store-requires
+store-requires c =
+    let out = rw (← c.self.view_is) at c.requires.out in
+    rw (c.off_of-at.ensures.value, c.filling_of-filling.ensures) (in_area _ c.args.own.now c.args.bytes.now c.self.invariant.0 out c.requires.fits)
+
+pub raise-requires-clause-fits : goal.raise-requires-clause-fits
+raise-requires-clause-fits c =
+    let out = rw (← c.self.view_is) at c.requires.out in
+    rw c.filling_of-filling.ensures (is_few _ c.args.own.now c.args.bytes.now c.self.invariant.0 out c.requires.fits)
+
+pub invariant_of-self : goal.invariant_of-self
+invariant_of-self c =
+    let out = rw (← c.self.view_is) at c.requires.out in
+    let running = rw (← c.self.view_is) at c.requires.open in
+    rw (c.note.ensures, c.store.ensures, c.raise.ensures, c.off_of-at.ensures.value, c.filling_of-filling.ensures)
+    (IsSound-placed _ c.args.own.now c.args.bytes.now c.self.invariant.0 out c.requires.fits running c.requires.some, c.self.invariant.1)

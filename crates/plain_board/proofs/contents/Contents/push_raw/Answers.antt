@@ -1,0 +1,34 @@
+-- Where the ring is full nothing moves. Else the entry is the last on its way.
+use Rattle.std.proofs.Common.{refl}
+use Rattle.board_face.specs.declared.views.app.AppLook.TheVariants.{RefillInUse}
+use Rattle.plain_board.proofs.AppFrames.{here-of, others-then, side-then}
+use Rattle.plain_board.proofs.AppTold.{IsSound-looked}
+use Rattle.plain_board.proofs.Pushing.{IsSound-pushed, ring-length, told-full}
+use Rattle.plain_board.proofs.contents.Contents.push_raw.Goals as goal
+
+pub invariant_of-self : goal.invariant_of-self
+invariant_of-self c =
+    let here = here-of _ c.args.app c.self.invariant.0 (rw (← c.self.view_is) at c.requires.app) in
+    rw (c.note_at.ensures, c.if-not-put_back.ensures.slots.0) (IsSound-looked _ c.args.app _ RefillInUse c.self.invariant.0 here, c.self.invariant.1)
+
+pub returns-then-not-put_back-clause-told : goal.returns-then-not-put_back-clause-told
+returns-then-not-put_back-clause-told c =
+    let here = here-of _ c.args.app c.self.invariant.0 (rw (← c.self.view_is) at c.requires.app) in
+    rw (← c.self.view_is, c.note_at.ensures, side-then c.self.inside.apps.items c.args.app _ _ here)
+    (told-full _ c.args.app _ c.args.entry c.self.invariant.0 here c.if-not-put_back.ensures.slots.1)
+
+pub returns-then-not-put_back-clause-others : goal.returns-then-not-put_back-clause-others
+returns-then-not-put_back-clause-others c = rw (← c.self.view_is, c.note_at.ensures) (others-then c.self.inside.nic c.self.inside.apps.items c.args.app _)
+
+pub invariant_of-self-2 : goal.invariant_of-self-2
+invariant_of-self-2 c =
+    let here = here-of _ c.args.app c.self.invariant.0 (rw (← c.self.view_is) at c.requires.app) in
+    let idle = rw (← c.self.view_is) at c.requires.idle in
+    let counted = rw (← c.self.view_is) at c.requires.counted in
+    let many = ring-length _ c.args.app _ c.args.entry c.self.invariant.0 here _ _ _ c.if-not-put_back.ensures.slots c.index.ensures c.len-entries.ensures.len
+    in
+    rw (c.note_at-2.ensures, c.put.ensures, c.if-not-put_back.ensures.slots)
+    (IsSound-pushed _ c.args.app _ c.args.entry c.self.invariant.0 here idle counted (c.if-not-put_back.ensures.room refl) _ many, c.self.invariant.1)
+
+pub returns-clause-others : goal.returns-clause-others
+returns-clause-others c = rw (← c.self.view_is, c.note_at-2.ensures) (others-then c.self.inside.nic c.self.inside.apps.items c.args.app _)

@@ -1,0 +1,12 @@
+-- What the application's diary says by the answer.
+use Rattle.board_face.specs.Sides.{app_at}
+use Rattle.board_face.specs.AppEvents.{pushed_raw, app_saw}
+use Rattle.board_face.specs.declared.views.app.AppLook.TheVariants.{RefillInUse}
+use Rattle.plain_board.specs.Board.{side_in}
+use Rattle.plain_board.proofs.contents.Contents.push_raw.Given as goal
+
+abbrev pub ghosts-note_at : goal.ghosts-note_at
+ghosts-note_at a = let x = side_in a.diaries.now.items a.at in record { next = app_at x (app_saw x.view RefillInUse) }
+
+abbrev pub ghosts-note_at-2 : goal.ghosts-note_at-2
+ghosts-note_at-2 a = let x = side_in a.diaries.now.items a.at in record { next = app_at x (pushed_raw x.view a.about) }

@@ -1,0 +1,42 @@
+-- A held piece's buffer has a holder, so its count can be lowered.
+use Rattle.std.proofs.Common.{arith}
+use Rattle.plain_board.proofs.AppFrames.{here-of, others-then, side-then}
+use Rattle.plain_board.proofs.HeldPieces.{there-pool, held-count, is_held}
+use Rattle.plain_board.proofs.Releasing.{IsSound-released}
+use Rattle.plain_board.proofs.contents.Contents.release.Goals as goal
+
+pub lower-left-requires-clause-there : goal.lower-left-requires-clause-there
+lower-left-requires-clause-there c =
+    let within = rw (← c.self.view_is) at c.requires.app in
+    let here = here-of _ c.args.app c.self.invariant.0 within in
+    let out = rw (← c.self.view_is) at c.requires.out in
+    rw c.place-place.ensures (there-pool _ c.args.app _ c.args.held c.self.invariant.0 here out)
+
+pub lower-left-requires-clause-some : goal.lower-left-requires-clause-some
+lower-left-requires-clause-some c =
+    let within = rw (← c.self.view_is) at c.requires.app in
+    let here = here-of _ c.args.app c.self.invariant.0 within in
+    let out = rw (← c.self.view_is) at c.requires.out in
+    rw c.place-place.ensures (omega (
+      arith,
+      held-count _ c.args.app _ c.args.held c.self.invariant.0 here out,
+      is_held _ c.args.app _ c.args.held c.self.invariant.0 here out,
+    ))
+
+pub invariant_of-self : goal.invariant_of-self
+invariant_of-self c =
+    let within = rw (← c.self.view_is) at c.requires.app in
+    let here = here-of _ c.args.app c.self.invariant.0 within in
+    let stays = rw (← c.self.view_is) at c.requires.here in
+    let out = rw (← c.self.view_is) at c.requires.out in
+    rw (c.note_at.ensures, c.list_if.ensures, c.came_free-free.ensures, c.lower-left.ensures.left, c.lower-left.ensures.counts, c.place-place.ensures)
+    (IsSound-released _ c.args.app _ c.args.held c.self.invariant.0 here stays out, c.self.invariant.1)
+
+pub returns-clause-view : goal.returns-clause-view
+returns-clause-view c =
+    let within = rw (← c.self.view_is) at c.requires.app in
+    let here = here-of _ c.args.app c.self.invariant.0 within in
+    rw (← c.self.view_is, c.note_at.ensures, side-then c.self.inside.apps.items c.args.app _ _ here, c.place-place.ensures)
+
+pub returns-clause-others : goal.returns-clause-others
+returns-clause-others c = rw (← c.self.view_is, c.note_at.ensures) (others-then c.self.inside.nic c.self.inside.apps.items c.args.app _)

@@ -1,0 +1,32 @@
+-- Where the ring is full nothing moves. Else the note is the last on its way, and its piece only changes its kind.
+use Rattle.std.proofs.Common.{arith, refl}
+use Rattle.board_face.specs.declared.views.nic.NicLook.TheVariants.{NoteInUse}
+use Rattle.plain_parts.specs.Blank.{blank_app}
+use Rattle.plain_board.proofs.Card.{within-setting}
+use Rattle.plain_board.proofs.Still.{IsSound-saw}
+use Rattle.board_face.proofs.SideLemmas.{IsApp-at}
+use Rattle.plain_board.proofs.NotesSent.{IsSound-sent}
+use Rattle.plain_board.proofs.Seeing.{NicTold-full}
+use Rattle.plain_board.proofs.contents.Contents.send.Goals as goal
+
+pub invariant_of-self : goal.invariant_of-self
+invariant_of-self c = rw (c.note.ensures, c.if-not-put_back.ensures.slots.0) (IsSound-saw _ (NoteInUse c.args.app) c.self.invariant.0, c.self.invariant.1)
+
+pub invariant_of-self-2 : goal.invariant_of-self-2
+invariant_of-self-2 c =
+    let sound = c.self.invariant.0 in
+    let few = within-setting _ _ c.self.invariant.0 (rw (← c.self.view_is) at c.requires.app) in
+    let here = IsApp-at c.self.inside.apps.items c.args.app blank_app sound.set.numbers (let many = sound.set.many in omega arith) in
+    let out = rw (← c.self.view_is, ← c.requires.place) at c.requires.out in
+    let running = rw (← c.self.view_is) at c.requires.open in
+    rw (c.note-2.ensures, c.if-not-put_back.ensures.slots) (
+      IsSound-sent _ c.args.app _ c.args.note _ sound here running out c.requires.fields
+          (c.if-not-put_back.ensures.room refl),
+      c.self.invariant.1,
+    )
+
+pub returns-then-not-put_back-clause-told : goal.returns-then-not-put_back-clause-told
+returns-then-not-put_back-clause-told c =
+    let sound = c.self.invariant.0 in
+    let few = within-setting _ _ c.self.invariant.0 (rw (← c.self.view_is) at c.requires.app) in
+    rw (← c.self.view_is, c.note.ensures) (NicTold-full _ sound c.args.app (let many = sound.set.many in omega arith) c.if-not-put_back.ensures.slots.1)
