@@ -1,6 +1,11 @@
 mod Stepping
+mod LoansCounted
+mod SparesApart
+mod SparesKept
+mod HandsGiven
 mod Dealing
 mod OpenedTable
+mod CardKeeps
 mod Scrubs
 mod EntryTaken
 mod NoteFilled
@@ -10,3 +15,8 @@ mod FreeWords
 mod Quieting
 mod Searching
 mod TextPlaced
+mod LoansOut
+mod AppKept
+mod HeldPlaces
+mod RolesBack
+mod AtDesk

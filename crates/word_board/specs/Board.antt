@@ -1,9 +1,9 @@
 -- What holds of the table between any two steps, and what its seats are.
-use Rattle.std.specs.Prelude.{◌≡◌, ℕ, Bool, true, false, if◌then◌else◌, List, [], ◌∷◌, length, slice_index_or}
+use Rattle.std.specs.Prelude.{◌≡◌, ℕ, ◌<◌, Bool, true, false, if◌then◌else◌, List, [], ◌∷◌, slice_index_or}
 use Rattle.std.specs.Prelude.{slice_index, slice_set, replicate, take, Option, Some, None}
 use Rattle.atomic_table.specs.Table.{State}
 use Rattle.atomic_table.specs.Seated.{TableId}
-use Rattle.area_layout.specs.Layout.{shape_of, total}
+use Rattle.area_layout.specs.Layout.{IsLayout, shape_of, total}
 use Rattle.zr_kinds.specs.declared.place.Note.{Note}
 use Rattle.zr_kinds.specs.declared.ring.Rqe.{Rqe}
 use Rattle.board_face.specs.AppEvents.{scrubbed}
@@ -87,14 +87,19 @@ side_full_taken app note bytes = if note.split then side_took_note app note else
 
 -- ---- what callers see
 
+-- its layout is one, and each ring has a slot
+pub record IsSetting (setting : Setting) : Type 0 where
+  pub layout : IsLayout setting.layout
+  pub places : 0 < setting.places
+
 -- a board: which table it has, and its setting
 pub record TheBoard : Type 0 where
   pub table : TableId
   pub setting : Setting
 
--- The desk: which table it is at, which roles it gave, the card's first, and what the roles did that are back.
+-- The desk: at which board, which roles it gave, the card's first, and what the roles did that are back.
 pub record TheDesk : Type 0 where
-  pub table : TableId
+  pub board : TheBoard
   pub given : List Bool
   pub view : View
 
@@ -107,14 +112,9 @@ pub record TheApp : Type 0 where
   pub board : TheBoard
   pub side : AppSide
 
--- the desk belongs to this board, and has a flag for each of its roles
-pub record BelongsTo (desk : TheDesk) (board : TheBoard) : Type 0 where
-  pub table : desk.table ≡ board.table
-  pub roles : length desk.given ≡ roles_of board.setting
-
 -- a desk that gave nothing
 abbrev pub new_desk : TheBoard → TheDesk
-new_desk board = record { table = board.table; given = replicate (roles_of board.setting) false; view = no_role }
+new_desk board = record { board = board; given = replicate (roles_of board.setting) false; view = no_role }
 
 -- the role was given before
 abbrev pub was_given : TheDesk → ℕ → Bool
@@ -122,7 +122,7 @@ was_given desk r = slice_index_or desk.given r false
 
 -- the desk, once it gave a role
 abbrev pub gave_role : TheDesk → ℕ → TheDesk
-gave_role desk r = record { table = desk.table; given = slice_set desk.given r true; view = dealt_out r desk.view }
+gave_role desk r = record desk { given = slice_set desk.given r true; view = dealt_out r desk.view }
 
 -- the roles that the desk gave are those that its seat dealt out
 abbrev pub HasDealt : List Bool → View → Type 0

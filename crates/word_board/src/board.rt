@@ -1,12 +1,15 @@
 ghost use Rattle.std.specs.Prelude.{◌≡◌, ℕ, ◌+◌, ◌<◌, ◌≤◌, true, false, MatchOption, IfOk};
 ghost use Rattle.board_face.specs.NicCalls.{apps_of};
 ghost use Rattle.board_face.specs.Opened.{new_nic, new_app};
-ghost use Rattle.word_board.specs.Board.{BelongsTo, new_desk, was_given, gave_role};
+ghost use Rattle.word_board.specs.Board.{new_desk, was_given, gave_role};
 
+use crate::app_seat::AppSeat;
+use crate::desk::Desk;
+use crate::hands::NicHand;
 use crate::kinds::{deal_role, take_app_role, take_card_role};
+use crate::nic_seat::NicSeat;
 use crate::opening::opened;
-use crate::rule::{SharedWords, WordSeat};
-use crate::seats::{AppSeat, NicSeat};
+use crate::rule::SharedWords;
 use area_layout::Layout;
 use atomic_table::Table;
 use board_face::Setting;
@@ -22,29 +25,13 @@ pub struct WordBoard {
 }
 
 impl Model for WordBoard {
-    ghost use Rattle.word_board.specs.Board.{TheBoard};
+    ghost use Rattle.word_board.specs.Board.{TheBoard, IsSetting};
 
     ghost Value = { TheBoard };
 
     ghost view = { λ b. record { table = b.words.table.shared.table_id; setting = b.words.map } };
-}
 
-/// The seat without a role: it gives each role's seat once.
-#[derive(Drop)]
-pub struct Desk {
-    seat: WordSeat,
-    given: Vec<bool>,
-}
-
-impl Model for Desk {
-    ghost use Rattle.std.specs.Prelude.{◌≡◌, []};
-    ghost use Rattle.word_board.specs.Board.{TheDesk, HasDealt};
-
-    ghost Value = { TheDesk };
-
-    ghost view = { λ d. record { table = d.seat.table_id; given = d.given.items; view = d.seat.me.0 } };
-
-    ghost invariant = { λ d. (d.seat.id ≡ 0) × (d.seat.me.1 ≡ []) × HasDealt d.given.items d.seat.me.0 };
+    ghost invariant = { λ b. IsSetting b.words.map };
 }
 
 impl WordBoard {
@@ -63,49 +50,44 @@ impl WordBoard {
     {
         let map = WordMap::new(layout, places);
         let words = opened(alloc, &map, layout)?;
-        let given = vec![in alloc; false; 1 + apps as usize]?;
         ref_words::laws::opened();
         let setting = Setting { layout, places };
         let (table, seat) = Table::of_words(alloc, &words, &setting)?;
         let words = SharedWords { table, map };
-        Ok((WordBoard { words }, Desk { seat, given }))
+        let desk = Desk::new(alloc, setting, seat)?;
+        Ok((WordBoard { words }, desk))
     }
 
     /// The card's seat. `None` says that it was given before.
     pub fn nic(&self, desk: &mut Desk) -> Option<NicSeat<'_>>
-        requires { BelongsTo desk.old self.now }
-        ensures desk { BelongsTo desk.new self.now }
+        requires { desk.old.board ≡ self.now }
         ensures given { MatchOption result
             ((was_given desk.old 0 ≡ true) × (desk.new ≡ desk.old))
             (λ seat. (was_given desk.old 0 ≡ false) × (desk.new ≡ gave_role desk.old 0)
             × (seat ≡ record { board = self.now; side = new_nic self.now.setting })) }
     {
-        if desk.given[0] {
+        if desk.nic_given {
             return None;
         }
         let mut seat = deal_role(&self.words, &mut desk.seat, 0);
-        desk.given[0] = true;
+        desk.nic_given = true;
         take_card_role(&self.words, &mut seat);
-        Some(NicSeat::new(self, seat))
+        Some(NicSeat::new(self, seat, NicHand::new()))
     }
 
     /// The seat of an application. `None` says that it was given before.
     pub fn app(&self, desk: &mut Desk, app: u32) -> Option<AppSeat<'_>>
-        requires desk { BelongsTo desk.old self.now }
+        requires desk { desk.old.board ≡ self.now }
         requires app { app < apps_of self.now.setting }
-        ensures desk { BelongsTo desk.new self.now }
         ensures given { MatchOption result
             ((was_given desk.old (1 + app) ≡ true) × (desk.new ≡ desk.old))
             (λ seat. (was_given desk.old (1 + app) ≡ false) × (desk.new ≡ gave_role desk.old (1 + app))
             × (seat ≡ record { board = self.now; side = new_app self.now.setting app })) }
     {
-        let role = 1 + app as usize;
-        if desk.given[role] {
-            return None;
-        }
-        let mut seat = deal_role(&self.words, &mut desk.seat, role);
-        desk.given[role] = true;
+        let kept = &mut desk.hands[app as usize];
+        let hand = kept.take()?;
+        let mut seat = deal_role(&self.words, &mut desk.seat, 1 + app as usize);
         take_app_role(&self.words, &mut seat, app);
-        Some(AppSeat::new(self, seat))
+        Some(AppSeat::new(self, seat, hand))
     }
 }

@@ -8,6 +8,7 @@ mod dealing;
 mod entries;
 mod free;
 mod given_up;
+mod lessons;
 mod notes;
 mod phases;
 mod reads;
@@ -34,6 +35,7 @@ pub(crate) use free::{
     WORD_BITS, list_by_app, list_by_card, look_free_word, pick_buffer, sweep_word,
 };
 pub(crate) use given_up::{Loaded, honour_entry, list_last_by_app, release_piece, shut_buffer};
+pub(crate) use lessons::{look_listed, look_served, look_unheld};
 pub(crate) use notes::{
     look_note, publish_linear, publish_note, send_linear, send_note, store_note,
 };

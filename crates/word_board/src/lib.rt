@@ -2,17 +2,21 @@
 //! seats out. Each step on a word is one function here, which cites the law that it keeps the rule.
 #![tactic(auto)]
 
+mod app_seat;
 mod bits;
 mod board;
+mod desk;
+mod finish;
 mod found;
+mod hands;
 mod kinds;
+mod nic_seat;
 mod opening;
 mod rule;
-mod seats;
 mod steps;
-#[cfg(test)]
-mod tests;
 
-pub use board::{Desk, WordBoard};
+pub use app_seat::AppSeat;
+pub use board::WordBoard;
+pub use desk::Desk;
+pub use nic_seat::NicSeat;
 pub use rule::{After, BoardRule, Deal, Deals, Together, Turns};
-pub use seats::{AppSeat, NicSeat};

@@ -1,4 +1,4 @@
-ghost use Rattle.std.specs.Prelude.{◌≡◌, ℕ, ◌+◌, ◌<◌, ◌≤◌, [], true, map, slice_index, Contains, ◌==◌};
+ghost use Rattle.std.specs.Prelude.{◌≡◌, ℕ, ◌+◌, ◌^◌, ◌<◌, ◌≤◌, [], true, map, slice_index, Contains, ◌==◌};
 ghost use Rattle.area_layout.specs.Layout.{total};
 ghost use Rattle.board_face.specs.AppCalls.{IsHere, HasHeld, HasNoneIn};
 ghost use Rattle.board_face.specs.AppEvents.{cut, reserve_of};
@@ -54,7 +54,8 @@ pub(crate) fn take_reserve(words: &SharedWords, seat: &mut WordSeat, reserve: u3
     add_as::<Brand, u32>(table, seat, word, 1, reserve);
 }
 
-/// An application cuts a held piece in two behind its first `at` bytes: the pool count is raised.
+/// An application cuts a held piece in two behind its first `at` bytes: the pool count is raised. No
+/// piece ends behind what an offset can name.
 pub(crate) fn cut_piece(words: &SharedWords, seat: &mut WordSeat, place: Place, at: u32)
     requires table { seat.old.table_id ≡ words.now.table.shared.table_id }
     requires app { seat.old.me ≡ (app_view (app_of seat.old.me.0), []) }
@@ -64,6 +65,7 @@ pub(crate) fn cut_piece(words: &SharedWords, seat: &mut WordSeat, place: Place, 
     requires rest { at < place.len }
     ensures table { seat.new.table_id ≡ seat.old.table_id }
     ensures event { seat.new.me ≡ (app_view (app_at (app_of seat.old.me.0) (cut (app_of seat.old.me.0).view place at)), []) }
+    ensures ends { place.offset + place.len < 2 ^ 32 }
 {
     laws::k5();
     let word = words.map.pool(place.buffer);

@@ -1,27 +1,28 @@
-ghost use Rattle.std.specs.Prelude.{◌≡◌, ◌<◌, [], true, length, nat_lt, None, Some};
+ghost use Rattle.std.specs.Prelude.{◌≡◌, ◌<◌, [], true, None, Some};
 ghost use Rattle.area_layout.specs.Layout.{total, pool_buffers, judged};
 ghost use Rattle.board_face.specs.NicCalls.{DealtWith, apps_of};
-ghost use Rattle.board_face.specs.NicEvents.{cache_room};
 ghost use Rattle.board_face.specs.SlotSteps.{next_slot};
 ghost use Rattle.board_face.specs.declared.views.nic.Judged.TheVariants.{Not};
 ghost use Rattle.ref_words.specs.Rings.{takes_entry_at};
 ghost use Rattle.ref_words.specs.Seated.{card_view};
 ghost use Rattle.word_board.specs.Board.{card_of};
 
+use crate::found::cache_if;
 use crate::kinds::{Loaded, free_stray, free_void, honour_entry, look_user, take_entry};
 use crate::rule::{SharedWords, WordSeat};
 use area_layout::Layout;
 use board_face::Entry;
+use plain_parts::{CACHE_ROOM, Cache};
 
 /// The card deals with an entry in hand that names this buffer: the application's user count there tells whether it is a return
-/// or a stray.
+/// or a stray. A pool buffer that comes to be free enters the cache where that has room.
 fn deal_with(
     words: &SharedWords,
     seat: &mut WordSeat,
     loaded: Loaded,
     buffer: u32,
     pool: u32,
-    room: bool,
+    cache: &mut Cache,
 ) -> Entry
     requires table { seat.old.table_id ≡ words.now.table.shared.table_id }
     requires card { seat.old.me ≡ (card_view (card_of seat.old.me.0), []) }
@@ -34,11 +35,12 @@ fn deal_with(
     requires names { judged words.now.map.layout loaded.entry ≡ Some buffer }
     requires in_hand { (card_of seat.old.me.0).inside.entry ≡ Some (record { app = loaded.app; entry = loaded.entry; judged = Not }) }
     requires pool { pool ≡ pool_buffers words.now.map.layout }
-    requires room { room ≡ nat_lt (length (card_of seat.old.me.0).view.cache) cache_room }
+    requires cache { cache.old.items ≡ (card_of seat.old.me.0).view.cache }
     requires bare { (card_of seat.old.me.0).inside.hands ≡ [] }
     ensures table { seat.new.table_id ≡ seat.old.table_id }
     ensures card { seat.new.me ≡ (card_view (card_of seat.new.me.0), []) }
     ensures view { DealtWith (card_of seat.old.me.0).view (card_of seat.new.me.0).view loaded.app result }
+    ensures cache { cache.new.items ≡ (card_of seat.new.me.0).view.cache }
     ensures inside { (card_of seat.new.me.0).inside ≡ record (card_of seat.old.me.0).inside {
       entry = None;
       refill_slots = (card_of seat.new.me.0).inside.refill_slots;
@@ -48,23 +50,21 @@ fn deal_with(
         free_stray(words, seat, loaded.app, loaded.slot, loaded.entry);
         return Entry::Stray;
     }
-    let last = honour_entry(words, seat, loaded, buffer, pool, room);
-    if last && buffer < pool {
-        Entry::Freed
-    } else {
-        Entry::Honoured
-    }
+    let room = cache.len() < CACHE_ROOM;
+    let free = honour_entry(words, seat, loaded, buffer, pool, room) && buffer < pool;
+    cache_if(free, buffer, cache);
+    if free { Entry::Freed } else { Entry::Honoured }
 }
 
 /// The card looks at the next slot of an application, and deals with the entry there. A pool buffer that comes to be free by it
-/// is cached where the cache has `room`, and listed else.
+/// enters the cache where that has room, and is listed else.
 pub(crate) fn next_entry(
     words: &SharedWords,
     seat: &mut WordSeat,
     layout: &Layout,
     app: u32,
     slot: u32,
-    room: bool,
+    cache: &mut Cache,
 ) -> Entry
     requires table { seat.old.table_id ≡ words.now.table.shared.table_id }
     requires card { seat.old.me ≡ (card_view (card_of seat.old.me.0), []) }
@@ -74,11 +74,12 @@ pub(crate) fn next_entry(
     requires within { slot < words.now.map.places }
     requires next { slot ≡ takes_entry_at words.now.map (card_of seat.old.me.0) app }
     requires idle { (card_of seat.old.me.0).inside.entry ≡ None }
-    requires room { room ≡ nat_lt (length (card_of seat.old.me.0).view.cache) cache_room }
+    requires cache { cache.old.items ≡ (card_of seat.old.me.0).view.cache }
     requires bare { (card_of seat.old.me.0).inside.hands ≡ [] }
     ensures table { seat.new.table_id ≡ seat.old.table_id }
     ensures card { seat.new.me ≡ (card_view (card_of seat.new.me.0), []) }
     ensures view { DealtWith (card_of seat.old.me.0).view (card_of seat.new.me.0).view app result }
+    ensures cache { cache.new.items ≡ (card_of seat.new.me.0).view.cache }
     ensures inside { (card_of seat.new.me.0).inside ≡ record (card_of seat.old.me.0).inside {
       refill_slots = (card_of seat.new.me.0).inside.refill_slots;
     } }
@@ -91,5 +92,5 @@ pub(crate) fn next_entry(
         return Entry::Stray;
     };
     let loaded = Loaded { app, slot, entry };
-    deal_with(words, seat, loaded, buffer, layout.buffers(), room)
+    deal_with(words, seat, loaded, buffer, layout.buffers(), cache)
 }

@@ -1,4 +1,4 @@
-ghost use Rattle.std.specs.Prelude.{◌≡◌, ℕ, ◌<◌, [], ◌∷◌, true, if◌then◌else◌, Some, MatchOption, Contains};
+ghost use Rattle.std.specs.Prelude.{◌≡◌, ℕ, ◌<◌, [], ◌∷◌, true, if◌then◌else◌, Some, None, MatchOption, Contains};
 ghost use Rattle.board_face.specs.NicCalls.{apps_of};
 ghost use Rattle.board_face.specs.AppEvents.{app_saw, fell_quiet};
 ghost use Rattle.board_face.specs.declared.views.app.AppLook.TheVariants.{NotQuiet};
@@ -40,6 +40,7 @@ pub(crate) fn settle(words: &SharedWords, seat: &mut WordSeat, app: u32, raw: Op
         (λ slot. (slot < words.now.map.places) × ((app_of seat.old.me.0).inside.raw_slot ≡ Some slot)) }
     ensures table { seat.new.table_id ≡ seat.old.table_id }
     ensures event { seat.new.me ≡ (app_view (side_raw_looked (app_of seat.old.me.0) result), []) }
+    ensures still { raw ≡ None → result ≡ true }
 {
     let Some(slot) = raw else {
         return true;

@@ -1,8 +1,9 @@
-ghost use Rattle.std.specs.Prelude.{◌≡◌, ℕ, ◌<◌, [], true, false, Some, ◌==◌};
+ghost use Rattle.std.specs.Prelude.{◌≡◌, ℕ, ◌+◌, ◌^◌, ◌<◌, [], true, false, Some, ◌==◌};
 ghost use Rattle.area_layout.specs.Layout.{total, judged};
 ghost use Rattle.board_face.specs.NicCalls.{apps_of};
 ghost use Rattle.board_face.specs.AppCalls.{HasHeld, HasSpare, IsFilled, CanLend};
 ghost use Rattle.board_face.specs.AppEvents.{lent, lent_own};
+ghost use Rattle.board_face.specs.Returns.{loans_out};
 ghost use Rattle.board_face.specs.Sides.{app_at};
 ghost use Rattle.board_face.specs.Steps.{side_judged, side_user_lowered, side_user_taken};
 ghost use Rattle.board_face.specs.declared.views.nic.Judged.TheVariants.{Not, Owed};
@@ -17,6 +18,7 @@ use std::marker::Brand;
 use zr_kinds::{Place, Rqe};
 
 /// An application lends a held piece: its user count for the buffer is raised, and the piece's reference is the loan's.
+/// No count of loans is large.
 pub(crate) fn lend_held(words: &SharedWords, seat: &mut WordSeat, app: u32, place: Place)
     requires table { seat.old.table_id ≡ words.now.table.shared.table_id }
     requires app { seat.old.me ≡ (app_view (app_of seat.old.me.0), []) }
@@ -28,6 +30,7 @@ pub(crate) fn lend_held(words: &SharedWords, seat: &mut WordSeat, app: u32, plac
     requires unbegun { (app_of seat.old.me.0).inside.scrub_mark ≡ 0 }
     ensures table { seat.new.table_id ≡ seat.old.table_id }
     ensures event { seat.new.me ≡ (app_view (app_at (app_of seat.old.me.0) (lent (app_of seat.old.me.0).view place)), []) }
+    ensures few_out { loans_out place.buffer (app_of seat.old.me.0) + 1 < 2 ^ 64 }
 {
     laws::k7();
     let word = words.map.user(app, place.buffer);
@@ -35,7 +38,7 @@ pub(crate) fn lend_held(words: &SharedWords, seat: &mut WordSeat, app: u32, plac
     add_as::<Brand, Place>(table, seat, word, 1, place);
 }
 
-/// An application lends a spare that it filled: its user count for the buffer is raised.
+/// An application lends a spare that it filled: its user count for the buffer is raised. No count of loans is large.
 pub(crate) fn lend_spare(words: &SharedWords, seat: &mut WordSeat, app: u32, own: Filling)
     requires table { seat.old.table_id ≡ words.now.table.shared.table_id }
     requires app { seat.old.me ≡ (app_view (app_of seat.old.me.0), []) }
@@ -48,6 +51,7 @@ pub(crate) fn lend_spare(words: &SharedWords, seat: &mut WordSeat, app: u32, own
     requires unbegun { (app_of seat.old.me.0).inside.scrub_mark ≡ 0 }
     ensures table { seat.new.table_id ≡ seat.old.table_id }
     ensures event { seat.new.me ≡ (app_view (app_at (app_of seat.old.me.0) (lent_own (app_of seat.old.me.0).view own)), []) }
+    ensures few_out { loans_out own.buffer (app_of seat.old.me.0) + 1 < 2 ^ 64 }
 {
     laws::k7();
     let word = words.map.user(app, own.buffer);

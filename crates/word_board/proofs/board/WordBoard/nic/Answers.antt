@@ -1,6 +1,8 @@
--- The desk's flag and its seat tell the same of the role that was given.
-use Rattle.std.proofs.Common.{rules, ◌≡◌, ◌<◌, false, length, get_or, ap, sym, ◌∙◌, arith, subst}
+-- The desk's flag and its seat tell the same of the role that was given, and the rest of the desk is as it was.
+use Rattle.std.proofs.Common.{rules, ◌≡◌, true, false, ◌∷◌, map, ap, sym, ◌∙◌, arith, subst}
+use Rattle.std.specs.Prelude.{is_none}
 use Rattle.word_board.specs.Board.{HasDealt}
+use Rattle.word_board.specs.Desk.{AreOver, cache_back}
 use Rattle.word_board.proofs.Dealing.{HasDealt-given}
 use Rattle.word_board.proofs.board.WordBoard.nic.Goals as goal
 
@@ -9,10 +11,16 @@ invariant_of-desk c =
     let desk = c.desk.inside in
     let was = c.desk.invariant in
     let did = c.deal_role-seat.ensures in
-    let many = ap (λ d. length d.given) c.desk.view_is in
-    let there : 0 < length desk.given.items = omega (arith, many, c.requires.roles) in
-    let fresh : get_or desk.given.items 0 false ≡ false = search rules in (
+    let fresh : desk.nic_given ≡ false = search rules in
+    let view = ap (λ me. me.0) did.desk in (
       did.number ∙ was.0,
       ap (λ me. me.1) did.desk ∙ was.1,
-      subst (HasDealt _) (sym (ap (λ me. me.0) did.desk)) (HasDealt-given desk.given.items desk.seat.me.0 0 was.2 there fresh),
+      subst (HasDealt (true ∷ map is_none desk.hands.items)) (sym view) (HasDealt-given (desk.nic_given ∷ map is_none desk.hands.items) desk.seat.me.0 0 was.2 (omega arith) fresh),
+      was.3,
+      was.4,
+      subst AreOver (sym view) (record { card = was.5.card; apps = was.5.apps; due = was.5.due }),
+      was.6 ∙ ap (λ v. cache_back v.nics) (sym view),
+      was.7,
+      was.8,
+      was.9,
     )

@@ -1,4 +1,5 @@
 -- What the step leaves the seat, by the number that it found.
+use Rattle.std.specs.Prelude.{◌+◌, ◌^◌, ◌<◌}
 use Rattle.board_face.specs.AppEvents.{cut}
 use Rattle.board_face.specs.Sides.{app_at}
 use Rattle.ref_words.specs.Seated.{app_view}
@@ -9,5 +10,5 @@ abbrev pub ghosts-add_as : goal.ghosts-add_as
 ghosts-add_as a = record {
   after = λ _. app_view (app_at (app_of a.seat.now.me.0) (cut
       (app_of a.seat.now.me.0).view a.about.0 a.about.1));
-  told = λ _. Unit {0};
+  told = λ _. a.about.0.offset + a.about.0.len < 2 ^ 32;
 }

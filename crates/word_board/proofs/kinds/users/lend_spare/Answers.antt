@@ -7,6 +7,8 @@ use Rattle.board_face.specs.Sides.{app_at}
 use Rattle.ref_words.specs.Words.{user_at}
 use Rattle.ref_words.specs.Seated.{app_view}
 use Rattle.word_board.specs.Board.{app_of}
+use Rattle.board_face.specs.Returns.{loans_out}
+use Rattle.word_board.proofs.LoansOut.{loans-few}
 use Rattle.word_board.proofs.Stepping.{app-step, raises-user}
 use Rattle.word_board.proofs.kinds.users.lend_spare.Goals as goal
 
@@ -20,11 +22,11 @@ add_as-requires-clause-allows c =
     ∙ ap (λ k. user_at setting k c.args.own.buffer) (sym c.requires.number)) in
     let few = subst (λ k. k < apps_of setting) (sym c.requires.number) (subst (λ s. c.args.app < apps_of s) words.keyed c.requires.few) in
     let within = subst (λ s. c.args.own.buffer < total s.layout) words.keyed c.requires.within in
-    app-step setting words.table.shared.table_id.slots c.args.seat.now.id c.user-word.result (λ n. (n + 1) % 2 ^ 64) (λ _. Unit {0}) mine next (λ n. refl)
+    app-step setting words.table.shared.table_id.slots c.args.seat.now.id c.user-word.result (λ n. (n + 1) % 2 ^ 64) (λ _. loans_out c.args.own.buffer mine + 1 < 2 ^ 64) mine next (λ n. refl)
     (λ ws nic apps rule here small.
     let law = c.k7.ensures.spare setting ws nic apps mine.view.app mine c.args.own rule here c.requires.out c.requires.filled c.requires.can
     c.requires.unbegun in
-    (raises-user setting ws mine.view.app c.args.own.buffer c.user-word.result at few within rule law.few law.rule, tt))
+    (raises-user setting ws mine.view.app c.args.own.buffer c.user-word.result at few within rule law.few law.rule, loans-few setting ws nic apps mine.view.app c.args.own.buffer mine rule here few within law.few))
     c.args.seat.now.me c.requires.app
 
 pub returns-clause-event : goal.returns-clause-event

@@ -1,6 +1,0 @@
--- Nothing moves.
-use Rattle.plain_board.proofs.Still.{IsSound-ended}
-use Rattle.plain_board.proofs.board.PlainBoard.end.Goals as goal
-
-pub invariant_of-self : goal.invariant_of-self
-invariant_of-self c = let none = rw (← c.self.view_is) at c.requires in rw c.note.ensures (IsSound-ended _ c.self.invariant.0 none, c.self.invariant.1)

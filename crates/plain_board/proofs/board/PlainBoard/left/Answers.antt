@@ -1,6 +1,0 @@
--- Nothing moves.
-use Rattle.plain_board.proofs.Still.{IsSound-asked}
-use Rattle.plain_board.proofs.board.PlainBoard.left.Goals as goal
-
-pub invariant_of-self : goal.invariant_of-self
-invariant_of-self c = rw c.note.ensures (IsSound-asked _ c.args.app _ c.self.invariant.0, c.self.invariant.1)

@@ -1,6 +1,0 @@
--- The card's diary says that it has done nothing.
-use Rattle.board_face.specs.Opened.{new_nic}
-use Rattle.plain_board.proofs.board.PlainBoard.open.Given as goal
-
-abbrev pub ghosts-note : goal.ghosts-note
-ghosts-note a = record { next = new_nic (record { layout = a.about.0; places = a.about.1 }) }

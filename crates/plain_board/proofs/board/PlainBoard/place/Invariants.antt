@@ -1,7 +1,0 @@
--- The card's diary says then that it placed the text.
-use Rattle.board_face.specs.Sides.{nic_at}
-use Rattle.board_face.specs.NicEvents.{placed}
-use Rattle.plain_board.proofs.board.PlainBoard.place.Given as goal
-
-abbrev pub ghosts-note : goal.ghosts-note
-ghosts-note a = record { next = nic_at a.self.now (placed a.self.now.view a.about.0 a.about.1.now) }

@@ -1,7 +1,0 @@
--- The card's diary says then that it closed the buffer.
-use Rattle.board_face.specs.Sides.{nic_at}
-use Rattle.board_face.specs.NicEvents.{shut}
-use Rattle.plain_board.proofs.board.PlainBoard.shut.Given as goal
-
-abbrev pub ghosts-note : goal.ghosts-note
-ghosts-note a = record { next = nic_at a.self.now (shut a.self.now.view a.about.0.now a.about.1) }

@@ -1,0 +1,26 @@
+use Rattle.std.proofs.Common.{◌≤◌, length}
+use Rattle.word_board.specs.Desk.{AreServed}
+use Rattle.word_board.proofs.RolesBack.{lesson, one-card, served-there}
+use Rattle.word_board.proofs.kinds.lessons.look_served.Goals as goal
+
+pub load_as-requires-clause-allows : goal.load_as-requires-clause-allows
+load_as-requires-clause-allows c =
+    let words = c.args.words.now in
+    let setting = words.table.shared.key in
+    let desk = c.args.desk.now in
+    let law = c.what_is_over.ensures in
+    lesson setting words.table.shared.table_id.slots desk.id c.role-word.result
+    (λ _. (length desk.me.0.nics ≤ 1) × AreServed desk.me.0) desk.me
+    (λ s board at. (
+      one-card law setting s board desk.id desk.me.0 at c.requires.over,
+      served-there law setting s board desk.id desk.me.0 at c.requires.over,
+    ))
+
+pub returns-clause-me : goal.returns-clause-me
+returns-clause-me c = c.load_as.ensures.me
+
+pub returns-clause-one : goal.returns-clause-one
+returns-clause-one c = c.load_as.ensures.told.0
+
+pub returns-clause-served : goal.returns-clause-served
+returns-clause-served c = c.load_as.ensures.told.1

@@ -1,0 +1,36 @@
+use Rattle.std.proofs.Common.{◌≡◌, ℕ, ◌≤◌, nat_eq, subst}
+use Rattle.std.specs.Prelude.{count_by}
+use Rattle.area_layout.specs.Layout.{pool_buffers}
+use Rattle.word_board.specs.Board.{card_of}
+use Rattle.word_board.specs.Desk.{AllAreBack, AreServed, HasNoHolders}
+use Rattle.word_board.proofs.RolesBack.{lesson, unheld-there, reserves-there, served-there}
+use Rattle.word_board.proofs.kinds.lessons.look_unheld.Goals as goal
+
+pub load_as-requires-clause-allows : goal.load_as-requires-clause-allows
+load_as-requires-clause-allows c =
+    let words = c.args.words.now in
+    let setting = words.table.shared.key in
+    let desk = c.args.desk.now in
+    let law = c.what_is_over.ensures in
+    let all = subst (λ s. AllAreBack s desk.me.0) words.keyed c.requires.all in
+    lesson setting words.table.shared.table_id.slots desk.id c.role-word.result
+    (λ _. HasNoHolders desk.me.0
+    × ((b : ℕ) → pool_buffers setting.layout ≤ b → count_by (nat_eq b) (card_of desk.me.0).view.cache ≡ 0)
+    × AreServed desk.me.0) desk.me
+    (λ s board at. (
+      unheld-there law setting s board desk.id desk.me.0 at c.requires.over all,
+      reserves-there law setting s board desk.id desk.me.0 at c.requires.over all,
+      served-there law setting s board desk.id desk.me.0 at c.requires.over,
+    ))
+
+pub returns-clause-me : goal.returns-clause-me
+returns-clause-me c = c.load_as.ensures.me
+
+pub returns-clause-holders : goal.returns-clause-holders
+returns-clause-holders c = c.load_as.ensures.told.0
+
+pub returns-clause-reserves : goal.returns-clause-reserves
+returns-clause-reserves c = λ b past. c.load_as.ensures.told.1 b (subst (λ s. pool_buffers s.layout ≤ b) c.args.words.now.keyed past)
+
+pub returns-clause-served : goal.returns-clause-served
+returns-clause-served c = c.load_as.ensures.told.2

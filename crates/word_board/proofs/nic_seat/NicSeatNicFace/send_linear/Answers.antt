@@ -1,0 +1,50 @@
+-- Behind the note the next slot is the one after it.
+use Rattle.std.proofs.Common.{◌≡◌, ◌<◌, ◌+◌, ◌%◌, false, [], get_or, set as set_at, refl, ap, sym, ◌∙◌, subst}
+use Rattle.std.specs.Prelude.{if◌then◌else◌}
+use Rattle.board_face.specs.NicEvents.{sent_linear}
+use Rattle.board_face.specs.SlotSteps.{side_sent_linear, side_note_looked}
+use Rattle.ref_words.specs.Seated.{card_view}
+use Rattle.word_board.specs.Board.{card_of, IsSetting}
+use Rattle.word_board.specs.Hands.{NicKeeps}
+use Rattle.word_board.proofs.CardKeeps.{NicKeeps-sent, note-within, few-apps, own-app}
+use Rattle.word_board.proofs.nic_seat.NicSeatNicFace.send_linear.Goals as goal
+
+pub bounds-self-inside-app : goal.bounds-self-inside-app
+bounds-self-inside-app c =
+    let setting = c.self.inside.board.now.setting in
+    let here = own-app _ _ _ _ c.args.app c.self.invariant.2.set c.self.view_is c.requires.app in
+    few-apps setting c.args.app (subst IsSetting (ap (λ b. b.setting) c.board.view_is) c.board.invariant) here
+
+pub send_linear-requires-clause-within : goal.send_linear-requires-clause-within
+send_linear-requires-clause-within c =
+    let me = c.self.inside in
+    let here = own-app _ _ _ _ c.args.app c.self.invariant.2.set c.self.view_is c.requires.app in
+    let set = ap (λ b. b.setting) c.board.view_is in
+    subst (λ s. get_or me.hand.notes c.args.app 0 < s.places) (sym set)
+    (note-within me.board.now.setting (card_of me.seat.me.0) me.hand.cache.items me.hand.notes me.hand.entries c.self.invariant.2 c.args.app
+    (subst IsSetting set c.board.invariant) here)
+
+pub bounds-self-inside-app-2 : goal.bounds-self-inside-app-2
+bounds-self-inside-app-2 c =
+    let setting = c.self.inside.board.now.setting in
+    let here = own-app _ _ _ _ c.args.app c.self.invariant.2.set c.self.view_is c.requires.app in
+    few-apps setting c.args.app (subst IsSetting (ap (λ b. b.setting) c.board.view_is) c.board.invariant) here
+
+pub invariant_of-self-2 : goal.invariant_of-self-2
+invariant_of-self-2 c =
+    let me = c.self.inside in
+    let nic = card_of me.seat.me.0 in
+    let app = c.args.app in
+    let here = own-app _ _ _ _ app c.self.invariant.2.set c.self.view_is c.requires.app in
+    let set = ap (λ b. b.setting) c.board.view_is in
+    let did : c.send_linear.new.seat.me ≡ (card_view (side_sent_linear nic app c.args.note c.args.bytes.now), []) =
+    c.send_linear.ensures.event
+    ∙ ap (λ went. (card_view (if went then side_sent_linear nic app c.args.note c.args.bytes.now else side_note_looked nic app false), [])) c.if-not-send_linear.false in
+    let slot = c.slot_after.ensures ∙ ap (λ p. (get_or me.hand.notes app 0 + 1) % p) (c.places.ensures.value ∙ ap (λ s. s.places) set) in (
+      c.send_linear.ensures.table ∙ c.self.invariant.0,
+      did ∙ ap (λ m. (card_view (card_of m.0), [])) (sym did),
+      subst (λ m. NicKeeps me.board.now.setting (card_of m.0) me.hand.cache.items (set_at me.hand.notes app c.slot_after.result) me.hand.entries) (sym did)
+          (NicKeeps-sent me.board.now.setting nic me.hand.cache.items me.hand.notes me.hand.entries c.self.invariant.2 (sent_linear nic.view app c.args.note c.args.bytes.now) _
+          (record { app = app; note = c.args.note; bytes = c.args.bytes.now }) c.slot_after.result
+          (subst IsSetting set c.board.invariant) here refl refl refl refl refl slot),
+    )
