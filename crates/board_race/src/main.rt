@@ -1,0 +1,72 @@
+//! `board_race NOTES BYTES` sends so many notes of so many bytes to one application through each board, and prints how long
+//! that took: through the board for one thread, through the board on words by one thread, and by a thread for the card and
+//! one for the application. Without words it sends a few notes through each, and tells no times.
+#![tactic(auto)]
+
+mod lanes;
+mod plain;
+mod plan;
+#[cfg(test)]
+mod tests;
+mod threads;
+mod words;
+
+use anyhow::Context;
+use area_layout::Layout;
+use plain::run_plain;
+use plan::Plan;
+use std::env;
+use std::time::Instant;
+use threads::run_threads;
+use words::run_words;
+
+/// How many notes are sent, and of how many bytes, where no words say so.
+const FEW: (u32, u16) = (1_000, 100);
+
+/// The notes and the bytes that the words ask for.
+fn read_words(words: &[String]) -> anyhow::Result<(u32, u16)> {
+    match words {
+        [notes, bytes] => Ok((notes.parse()?, bytes.parse()?)),
+        _ => Ok(FEW),
+    }
+}
+
+/// A line for a run: how many notes were taken, and how long that took where that is asked for.
+fn print_run(
+    rt: &impl Print,
+    name: &str,
+    taken: Option<u32>,
+    micros: Option<u128>,
+) -> anyhow::Result<()> {
+    let taken = taken.context("a note was lost or had another text")?;
+    match micros {
+        Some(micros) => println!(rt; "{name} {taken} {micros}")?,
+        None => println!(rt; "{name} {taken}")?,
+    }
+    Ok(())
+}
+
+fn main(rt: HostRuntime) -> anyhow::Result<()> {
+    let words: Vec<String> = env::args(&rt)?.skip(1).collect(rt.alloc())?;
+    let (notes, bytes) = read_words(&words)?;
+    let timed = words.len() == 2;
+    let plan = Plan {
+        layout: Layout::new(64, 1, 16_384).context("no layout")?,
+        places: 64,
+        notes,
+        bytes: bytes.min(9_000),
+    };
+    let begin = Instant::now(&rt)?;
+    let taken = run_plain(rt.alloc(), &plan)?;
+    let plain = begin.elapsed(&rt)?.as_micros();
+    print_run(&rt, "plain", taken, timed.then_some(plain))?;
+    let begin = Instant::now(&rt)?;
+    let taken = run_words(rt.alloc(), &plan)?;
+    let alone = begin.elapsed(&rt)?.as_micros();
+    print_run(&rt, "words", taken, timed.then_some(alone))?;
+    let begin = Instant::now(&rt)?;
+    let passed = run_threads(&rt, rt.alloc(), &plan)?.context("a role was not done")?;
+    let threads = begin.elapsed(&rt)?.as_micros();
+    let taken = passed.taken.first().copied().flatten();
+    print_run(&rt, "threads", taken, timed.then_some(threads))
+}
