@@ -1,6 +1,7 @@
 #!/usr/bin/env bash
-# Proves the crates that the program stands on, lowest first, and builds it as crates/zcrx_cli/out/zcrx_cli. A line for
-# each crate says which it is, what it is about, and how many seconds it took.
+# Proves the crates that the program stands on and builds it as crates/zcrx_cli/out/zcrx_cli. A crate is proved once those
+# below it are, as many side by side as there are processors and 4 GiB of memory for each. A line for each crate says which
+# it is, what it is about, and how many seconds it took.
 #
 # usage: tools/prove_program.sh
 #
@@ -12,10 +13,16 @@ command -v rt >/dev/null || {
     echo "prove_program: no command rt, the toolchain's, on the path" >&2
     exit 1
 }
-said=$(mktemp)
-trap 'rm -f "$said"' EXIT
+folder=$(mktemp -d)
+trap 'rm -rf "$folder"' EXIT
 
-declare -A stands_on seen
+# How many crates are proved side by side.
+most=$(nproc)
+room=$(awk '/^MemTotal:/ { print int($2 / 4194304) }' /proc/meminfo)
+[ "$room" -lt "$most" ] && most=$room
+[ "$most" -lt 1 ] && most=1
+
+declare -A stands_on seen state began crate_of
 while IFS=: read -r name others; do
     [[ $name = "#"* ]] || stands_on[${name%% *}]=$others
 done <crates.txt
@@ -49,15 +56,41 @@ prove() {
     fi
 }
 
-number=0
-for crate in "${order[@]}"; do
-    number=$((number + 1))
-    printf 'proving %d of %d: %s (%s) .. ' "$number" "${#order[@]}" "$crate" "$(about "$crate")"
-    began=$SECONDS
-    if ! (prove "$crate") >"$said" 2>&1; then
-        echo "not proved"
-        cat "$said"
+# Whether all that a crate stands on is proved.
+is_ready() {
+    local other
+    for other in ${stands_on[$1]}; do
+        [ -z "${stands_on[$other]+there}" ] || [ "${state[$other]-}" = proved ] || return 1
+    done
+}
+
+# Starts each crate that is ready, as long as there is a place for one more.
+start_ready() {
+    local name
+    for name in "${order[@]}"; do
+        [ "$running" -lt "$most" ] || return
+        [ -z "${state[$name]-}" ] && is_ready "$name" || continue
+        state[$name]=started
+        began[$name]=$SECONDS
+        prove "$name" >"$folder/$name" 2>&1 &
+        crate_of[$!]=$name
+        running=$((running + 1))
+    done
+}
+
+echo "proving ${#order[@]} crates, up to $most side by side"
+running=0
+for ((number = 1; number <= ${#order[@]}; number++)); do
+    start_ready
+    wait -n -p ended
+    status=$?
+    name=${crate_of[$ended]}
+    running=$((running - 1))
+    if [ "$status" -ne 0 ]; then
+        echo "not proved: $name"
+        cat "$folder/$name"
         exit 1
     fi
-    echo "$((SECONDS - began)) s"
+    state[$name]=proved
+    echo "proved $number of ${#order[@]}: $name ($(about "$name")), $((SECONDS - began[$name])) s"
 done
