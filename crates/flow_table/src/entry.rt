@@ -2,7 +2,7 @@
 
 ghost use Rattle.std.specs.Prelude.{◌≡◌, ℕ};
 ghost use Rattle.frame_headers.specs.Seen.{shown};
-ghost use Rattle.flow_table.specs.Flows.{key_of, begins_anew, new_flow, seen_by};
+ghost use Rattle.flow_table.specs.Flows.{key_of, same_key, begins_anew, new_flow, seen_by};
 ghost use Rattle.flow_table.specs.Placing.{steered_to};
 ghost use Rattle.flow_table.specs.Kept.{key_shown, entry_shown};
 
@@ -53,6 +53,16 @@ impl FlowEntry {
             base: first_byte(segment),
             fin: has_fin(segment),
         }
+    }
+
+    /// Whether the segment has the flow's key. The ports come first: they differ most often.
+    pub(crate) fn has_key_of(&self, segment: &Segment<'_>) -> bool
+        ensures { result ≡ same_key (key_shown self.now.key) (key_of (shown segment.now)) }
+    {
+        self.key.sport == segment.sport
+            && self.key.dport == segment.dport
+            && self.key.src == segment.src
+            && self.key.dst == segment.dst
     }
 
     /// Whether the segment, of this key, begins a flow after this one.

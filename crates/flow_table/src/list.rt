@@ -1,7 +1,7 @@
 //! The flows so far, found by their keys.
 
 ghost use Rattle.std.specs.Prelude.{◌≡◌, ◌≢◌, ℕ, ◌+◌, ◌<◌, ◌≤◌, ◌↔◌, [], ◌∷◌, ◌++◌, ◌==◌, if◌then◌else◌};
-ghost use Rattle.std.specs.Prelude.{length, Some, slice_get, option_map, Ok, Err, IfOk, OnOk, OnErr, IsTrue};
+ghost use Rattle.std.specs.Prelude.{length, map, Some, slice_get, option_map, Ok, Err, IfOk, OnOk, OnErr, IsTrue};
 ghost use Rattle.frame_headers.specs.Seen.{shown};
 ghost use Rattle.flow_table.specs.Flows.{Numbered, key_of, newest, number_among, with_segment};
 ghost use Rattle.flow_table.specs.Placing.{steered_to};
@@ -17,6 +17,9 @@ use std::marker::Model;
 
 /// How many flows there may be.
 const MOST_FLOWS: u32 = 65_535;
+
+/// So few flows are looked through for a key, which costs less than to hash it.
+const FEW_FLOWS: usize = 8;
 
 /// The flows so far, in the order of their numbers.
 #[derive(Drop)]
@@ -37,6 +40,21 @@ impl Model for FlowList {
     ghost view = { λ l. map entry_shown l.entries.items };
 
     ghost invariant = { λ l. (length l.entries.items ≤ 65535) × HasNewest l.entries.items l.newest };
+}
+
+// The number of the newest of these flows that has the segment's key.
+fn newest_among(entries: &[FlowEntry], segment: &Segment<'_>) -> Option<u32>
+    requires { length entries.now ≤ 65535 }
+    ensures { result ≡ option_map (λ (found : Numbered). found.number) (newest (key_of (shown segment.now)) (map entry_shown entries.now)) }
+{
+    let mut number = entries.len();
+    while number > 0 {
+        number -= 1;
+        if entries[number].has_key_of(segment) {
+            return Some(number as u32);
+        }
+    }
+    None
 }
 
 impl FlowList {
@@ -67,6 +85,9 @@ impl FlowList {
     fn newest_of(&self, segment: &Segment<'_>) -> Option<u32>
         ensures { result ≡ option_map (λ (found : Numbered). found.number) (newest (key_of (shown segment.now)) self.now) }
     {
+        if self.entries.len() <= FEW_FLOWS {
+            return newest_among(&self.entries, segment);
+        }
         self.newest.get(&Key::of(segment)).copied()
     }
 

@@ -5,6 +5,7 @@ pub mod Parts
 pub mod Judging
 mod Lookups
 pub mod Sound
+mod Rest
 pub mod Gapping
 pub mod Taking
 mod GapByGap

@@ -1,7 +1,7 @@
 -- Why a frame that was accepted is judged alike after its own bytes were taken, and after pops.
 use Rattle.std.proofs.Common.{◌≡◌, ℕ, ◌+◌, ◌-◌, ◌%◌, ◌^◌, ◌<◌, ◌≤◌, nat_lt, true, false, refl, sym, ap, subst, ◌∙◌}
 use Rattle.std.proofs.Common.{⊎_elim, arith}
-use Rattle.std.proofs.lemmas.Bool.{cases_lt, or_from, or_parts, le-ltb, both_ways, or_cases}
+use Rattle.std.proofs.lemmas.Bool.{or_parts, le-ltb, both_ways, or_cases}
 use Rattle.zr_kinds.specs.CopyingReceiver.{lead, accepts}
 use Rattle.tcp_reorder.specs.declared.places.Span.{Span}
 use Rattle.tcp_reorder.specs.Queue.{Kept, Queue, is_kept, end_of, next_of, with_kept, IsSound}
@@ -10,21 +10,11 @@ use Rattle.tcp_reorder.specs.Entering.{CameBy, nothing, took, popped, StaysAccep
 use Rattle.tcp_reorder.proofs.Positions.{EndWithin-with_kept}
 use Rattle.tcp_reorder.proofs.Least.{has-next, has-before, next_of-popped, next_of-with_kept, next_of-within}
 use Rattle.tcp_reorder.proofs.Judging.{judged_alike, parts_accepted}
-use Rattle.tcp_reorder.proofs.Sound.{IsAt, MayBeKept, taken_is_at, popped_is_at}
+use Rattle.tcp_reorder.proofs.Sound.{IsAt, MayBeKept, behind-next, taken_is_at, popped_is_at}
 use Rattle.tcp_reorder.proofs.Taking.{may_be_kept}
 use Rattle.tcp_reorder.proofs.Gapping.{wanted_behind}
 
 module _ {H : Type 0} where
-  -- what is taken lies behind the first missing position
-  pub behind-next : (queue : Queue H) (one : Kept H) → MayBeKept queue one → next_of queue ≤ one.position
-  behind-next queue one may = ⊎_elim
-      (λ (early : one.position < next_of queue). absurd (both_ways _
-      (or_from (nat_lt one.position queue.popped) (is_kept queue.kept one.position) (le-ltb one.position queue.popped may.from)
-      (may.free.free one.position (omega arith) (let some : 0 < one.len = may.some in omega arith)))
-      (has-before queue one.position early)))
-      (λ late. late)
-      (cases_lt one.position (next_of queue))
-
   pub sound-taken : (queue : Queue H) (one : Kept H) → IsSound queue → MayBeKept queue one → IsSound (record queue { kept = with_kept queue.kept one })
   sound-taken queue one sound may =
       let later : Queue H = record queue { kept = with_kept queue.kept one } in

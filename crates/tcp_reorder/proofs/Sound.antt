@@ -21,6 +21,10 @@ pub no_entry : {A : Type 0} (entries : List A) → (0 < length entries → ⊥) 
 no_entry [] none = refl
 no_entry (entry ∷ entries) none = absurd (none (omega arith))
 
+pub no_front : {A : Type 0} (entries : List A) → slice_get entries 0 ≡ None → entries ≡ []
+no_front [] none = refl
+no_front (entry ∷ entries) none = cc
+
 module _ {H : Type 0} where
   pub next_of-low : (queue : Queue H) → IsSound queue → next_of queue ≤ 2 ^ 62
   next_of-low queue sound = next_of-within queue (2 ^ 62) sound.popped sound.in_stream
@@ -118,26 +122,28 @@ module _ {H : Type 0} where
         next = sym next;
       }
 
+  -- where the first piece begins at the first position that wasn't popped, it ends before anything is missing
+  pub first_ends : (queue : Queue H) (one : Kept H) (others : List (Kept H)) → IsSound queue → queue.kept ≡ one ∷ others
+      → one.position ≡ queue.popped → end_of one ≤ next_of queue
+  first_ends queue one others sound is begins = ⊎_elim
+      (λ (early : next_of queue < end_of one).
+      let low : queue.popped ≤ next_of queue = next_of-popped queue in
+      let there : is_kept (one ∷ others) (next_of queue) ≡ true = or_left _ _ (covers-within one (next_of queue) (omega arith) early) in
+      absurd (both_ways _ (has-next queue)
+      (or_right (nat_lt (next_of queue) queue.popped) (is_kept queue.kept (next_of queue)) (ap (λ kept. is_kept kept (next_of queue)) is ∙ there))))
+      (λ late. late)
+      (cases_lt (next_of queue) (end_of one))
+
   -- the piece that leaves was next in the stream: the first missing position stays
   pub popped_is_at : (queue : Queue H) (one : Kept H) (others : List (Kept H)) → IsSound queue → queue.kept ≡ one ∷ others
       → one.position ≡ queue.popped → IsAt (record { base = queue.base; popped = one.position + one.len; kept = others }) (next_of queue)
   popped_is_at queue one others sound is begins =
-      let ends : end_of one ≤ next_of queue = in_order in
+      let ends : end_of one ≤ next_of queue = first_ends queue one others sound is begins in
       let missing : (nat_lt (next_of queue) queue.popped || (covers one (next_of queue) || is_kept others (next_of queue))) ≡ false =
       ap (λ kept. nat_lt (next_of queue) queue.popped || is_kept kept (next_of queue)) (sym is) ∙ has-next queue in
       let parts = or_parts (nat_lt (next_of queue) queue.popped) (covers one (next_of queue) || is_kept others (next_of queue)) missing in
       pulled_is_at queue one others (next_of queue) (next_of queue) sound is (omega arith) (omega arith) (λ p from until. absurd (omega arith))
       (or_parts (covers one (next_of queue)) (is_kept others (next_of queue)) parts.1).1
-    where
-      in_order : end_of one ≤ next_of queue
-      in_order = ⊎_elim
-          (λ (early : next_of queue < end_of one).
-          let low : queue.popped ≤ next_of queue = next_of-popped queue in
-          let there : is_kept (one ∷ others) (next_of queue) ≡ true = or_left _ _ (covers-within one (next_of queue) (omega arith) early) in
-          absurd (both_ways _ (has-next queue)
-          (or_right (nat_lt (next_of queue) queue.popped) (is_kept queue.kept (next_of queue)) (ap (λ kept. is_kept kept (next_of queue)) is ∙ there))))
-          (λ late. late)
-          (cases_lt (next_of queue) (end_of one))
 
   -- it is next in the stream where anything is
   pub front_is_popped : (queue : Queue H) (one : Kept H) (others : List (Kept H)) → IsSound queue → queue.kept ≡ one ∷ others
@@ -156,6 +162,16 @@ module _ {H : Type 0} where
     pub free : IsFree queue.kept one
     pub near : end_of one ≤ next_of queue + 2 ^ 30
     pub low : end_of one ≤ 2 ^ 62
+
+  -- what is taken lies behind the first missing position
+  pub behind-next : (queue : Queue H) (one : Kept H) → MayBeKept queue one → next_of queue ≤ one.position
+  behind-next queue one may = ⊎_elim
+      (λ (early : one.position < next_of queue). absurd (both_ways _
+      (or_from (nat_lt one.position queue.popped) (is_kept queue.kept one.position) (le-ltb one.position queue.popped may.from)
+      (may.free.free one.position (omega arith) (let some : 0 < one.len = may.some in omega arith)))
+      (has-before queue one.position early)))
+      (λ late. late)
+      (cases_lt one.position (next_of queue))
 
   pub apart_with_kept : (queue : Queue H) (one : Kept H) → IsSound queue → MayBeKept queue one → AreApart 0 (with_kept queue.kept one)
   apart_with_kept queue one sound may = AreApart-with_kept 0 queue.kept one (apart_from_0 queue sound) (omega arith) may.some may.small may.free

@@ -1,5 +1,5 @@
--- The map of a `RecvQueue` as a list of kept pieces.
-use Rattle.std.specs.Prelude.{ℕ, List, map}
+-- The first piece and the map of a `RecvQueue` as a list of kept pieces.
+use Rattle.std.specs.Prelude.{ℕ, List, ◌∷◌, map, Option, None, Some}
 use Rattle.tcp_reorder.specs.declared.piece.Piece.{Piece}
 use Rattle.tcp_reorder.specs.Queue.{Kept, Queue}
 
@@ -9,5 +9,10 @@ kept_of entry = record { position = entry.0; len = entry.1.len; piece = entry.1.
 abbrev pub all_kept : {H : Type 0} → List (ℕ × Piece H) → List (Kept H)
 all_kept entries = map kept_of entries
 
-abbrev pub queue_of : {H : Type 0} → ℕ → ℕ → List (ℕ × Piece H) → Queue H
-queue_of base popped entries = record { base = base; popped = popped; kept = all_kept entries }
+-- the entries of the map, behind the piece at the first position that wasn't popped if there is one apart from them
+abbrev pub with_first : {H : Type 0} → ℕ → Option (Piece H) → List (ℕ × Piece H) → List (ℕ × Piece H)
+with_first popped None entries = entries
+with_first popped (Some piece) entries = (popped, piece) ∷ entries
+
+abbrev pub queue_of : {H : Type 0} → ℕ → ℕ → Option (Piece H) → List (ℕ × Piece H) → Queue H
+queue_of base popped first entries = record { base = base; popped = popped; kept = all_kept (with_first popped first entries) }

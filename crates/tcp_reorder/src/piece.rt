@@ -1,7 +1,8 @@
-//! Look-ups among the kept pieces by position.
-ghost use Rattle.std.specs.Prelude.{◌≡◌, ℕ, ◌+◌, ◌^◌, ◌<◌, ◌≤◌, true, false, MatchOption};
+//! Look-ups among the kept pieces by position, and the least of them.
+ghost use Rattle.std.specs.Prelude.{◌≡◌, ℕ, ◌+◌, ◌^◌, ◌<◌, ◌≤◌, [], ◌∷◌, true, false, None, MatchOption, slice_get};
+ghost use Rattle.std.specs.Option.{option_map};
 ghost use Rattle.tcp_reorder.specs.Queue.{AreApart, EndWithin, is_kept};
-ghost use Rattle.tcp_reorder.specs.Pieces.{all_kept};
+ghost use Rattle.tcp_reorder.specs.Pieces.{all_kept, with_first};
 
 use std::collections::BTreeMap;
 
@@ -56,4 +57,38 @@ pub fn next_kept<H>(pieces: &BTreeMap<u64, Piece<H>>, free: u64) -> Option<u64>
 {
     let (begin, _) = pieces.range(free..).next()?;
     Some(*begin)
+}
+
+/// The piece of least position, where `first` is at this position and before all others.
+pub fn least<'a, H>(
+    at: u64,
+    first: &'a Option<Piece<H>>,
+    pieces: &'a BTreeMap<u64, Piece<H>>,
+) -> Option<(u64, &'a Piece<H>)>
+    ensures { option_map (λ one. (one.0, one.1.now)) result ≡ slice_get (with_first at first.now pieces.now.entries) 0 }
+{
+    match first {
+        Some(piece) => Some((at, piece)),
+        None => {
+            let (begin, piece) = pieces.first_key_value()?;
+            Some((*begin, piece))
+        }
+    }
+}
+
+/// Takes the piece of least position out, where `first` is at this position and before all others.
+pub fn pop_least<H>(
+    at: u64,
+    first: &mut Option<Piece<H>>,
+    pieces: &mut BTreeMap<u64, Piece<H>>,
+) -> Option<(u64, Piece<H>)>
+    ensures least { MatchOption result
+        ((with_first at first.old pieces.old.entries ≡ []) × (pieces.new.entries ≡ []))
+        (λ one. with_first at first.old pieces.old.entries ≡ one ∷ pieces.new.entries) }
+    ensures others { first.new ≡ None }
+{
+    match first.take() {
+        Some(piece) => Some((at, piece)),
+        None => pieces.pop_first(),
+    }
 }

@@ -5,7 +5,7 @@ ghost use Rattle.tcp_reorder.specs.Queue.{next_of, IsSound, front_of};
 ghost use Rattle.tcp_reorder.specs.Gaps.{IsFirstGap, AreWanted, AreUnwanted, with_taken, span_of, LosesFirst};
 
 use crate::distance::lead;
-use crate::piece::{Piece, first_free, next_kept};
+use crate::piece::{Piece, first_free, least, next_kept, pop_least};
 use crate::places::{Gap, Span};
 use std::alloc::Global;
 use std::collections::BTreeMap;
@@ -29,7 +29,10 @@ pub struct RecvQueue<H> {
     popped: u64,
     /// The first position that was neither popped nor is kept.
     next: u64,
-    /// By the position of the piece's first byte.
+    /// The piece at the first position that wasn't popped, where nothing was kept when it came. Most come so, and need no
+    /// place in the map.
+    first: Option<Piece<H>>,
+    /// The others, by the position of the piece's first byte.
     pieces: BTreeMap<u64, Piece<H>>,
 }
 
@@ -39,11 +42,12 @@ impl<H> Model for RecvQueue<H> {
 
     ghost Value = { Queue H };
 
-    ghost use Rattle.tcp_reorder.specs.Pieces.{all_kept, queue_of};
+    ghost use Rattle.tcp_reorder.specs.Pieces.{queue_of};
 
-    ghost view = { λ q. queue_of q.base q.popped q.pieces.entries };
+    ghost view = { λ q. queue_of q.base q.popped q.first q.pieces.entries };
 
-    ghost invariant = { λ q. IsSound (queue_of q.base q.popped q.pieces.entries) × (q.next ≡ next_of (queue_of q.base q.popped q.pieces.entries)) };
+    ghost invariant = { λ q. IsSound (queue_of q.base q.popped q.first q.pieces.entries)
+        × (q.next ≡ next_of (queue_of q.base q.popped q.first q.pieces.entries)) };
 }
 
 impl<H> RecvQueue<H> {
@@ -55,6 +59,7 @@ impl<H> RecvQueue<H> {
             base,
             popped: 0,
             next: 0,
+            first: None,
             pieces: BTreeMap::new(alloc),
         }
     }
@@ -117,6 +122,13 @@ impl<H> RecvQueue<H> {
         ensures err { OnErr result (self.new ≡ self.old) }
     {
         let position = self.next + lead(self.base, self.next, seq) - BIAS;
+        if position == self.popped && self.pieces.is_empty() {
+            // The position was free, so there was no first piece.
+            let before = self.first.replace(Piece { len, held: piece });
+            let None = before else { unreachable!() };
+            self.next = position + u64::from(len);
+            return Ok(());
+        }
         match self.pieces.insert(position, Piece { len, held: piece }) {
             Ok(None) => {
                 self.next = first_free(&self.pieces, self.next, END + 1);
@@ -136,9 +148,9 @@ impl<H> RecvQueue<H> {
         ensures front { result ≡ option_map span_of (front_of self.now) }
         ensures none { IsNone result ↔ (self.now.popped ≡ next_of self.now) }
     {
-        match self.pieces.first_key_value() {
-            Some((position, piece)) if *position == self.popped => Some(Span {
-                position: *position,
+        match least(self.popped, &self.first, &self.pieces) {
+            Some((position, piece)) if position == self.popped => Some(Span {
+                position,
                 len: piece.len,
             }),
             _ => None,
@@ -151,8 +163,8 @@ impl<H> RecvQueue<H> {
         ensures none { IsNone result ↔ (self.now.popped ≡ next_of self.now) }
         ensures sound { IsSound self.now }
     {
-        let (position, piece) = self.pieces.first_key_value()?;
-        if *position == self.popped {
+        let (position, piece) = least(self.popped, &self.first, &self.pieces)?;
+        if position == self.popped {
             Some(&piece.held)
         } else {
             None
@@ -172,7 +184,7 @@ impl<H> RecvQueue<H> {
         if self.front().is_none() {
             return None;
         }
-        let (position, piece) = self.pieces.pop_first()?;
+        let (position, piece) = pop_least(self.popped, &mut self.first, &mut self.pieces)?;
         let Piece { len, held } = piece;
         self.popped = position + u64::from(len);
         Some((held, Span { position, len }))
@@ -185,8 +197,8 @@ impl<H> RecvQueue<H> {
         ensures kept { IfNone result (self.new ≡ self.old) }
         ensures popped { IfSome result (λ (piece, span). LosesFirst self.old self.new piece span) }
     {
-        let (position, least) = self.pieces.pop_first()?;
-        let Piece { len, held } = least;
+        let (position, lowest) = pop_least(self.popped, &mut self.first, &mut self.pieces)?;
+        let Piece { len, held } = lowest;
         self.popped = position + u64::from(len);
         self.next = first_free(&self.pieces, self.next.max(self.popped), END + 1);
         Some((held, Span { position, len }))
@@ -200,8 +212,10 @@ impl<H> RecvQueue<H> {
             base: _,
             popped: _,
             next: _,
+            first,
             pieces,
         } = self;
+        let None = first else { unreachable!() };
         pieces.destroy_empty();
     }
 }

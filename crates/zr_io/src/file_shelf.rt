@@ -102,10 +102,11 @@ fn add<R: Files + AllocGlobal>(
     flow: u32,
     piece: &[u8],
 ) -> Result<(), Failed> {
-    if !open.files.contains(&flow) {
-        let file = open_flow(rt, made, open, flow)?;
-        open.files.put(flow, file).map_err(|_| Failed)?;
+    if let Some(file) = open.files.get_mut(&flow) {
+        return send(file, piece);
     }
+    let file = open_flow(rt, made, open, flow)?;
+    open.files.put(flow, file).map_err(|_| Failed)?;
     match open.files.get_mut(&flow) {
         Some(file) => send(file, piece),
         None => Err(Failed),

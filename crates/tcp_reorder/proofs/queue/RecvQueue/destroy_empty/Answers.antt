@@ -1,12 +1,16 @@
-use Rattle.std.proofs.Common.{◌≡◌, ℕ, List, [], ◌∷◌, refl, ap, ◌∙◌}
+use Rattle.std.proofs.Common.{◌≡◌, ℕ, List, [], ◌∷◌, Option, None, Some, refl, ap, ◌∙◌}
 use Rattle.tcp_reorder.specs.declared.piece.Piece.{Piece}
 use Rattle.tcp_reorder.specs.Queue.{Queue}
-use Rattle.tcp_reorder.specs.Pieces.{all_kept}
+use Rattle.tcp_reorder.specs.Pieces.{all_kept, with_first}
 use Rattle.tcp_reorder.proofs.queue.RecvQueue.destroy_empty.Goals as goal
 
-no_entries : {H : Type 0} (es : List (ℕ × Piece H)) → all_kept es ≡ [] → es ≡ []
-no_entries [] none = refl
-no_entries (e ∷ es) none = cc
+no_entries : {H : Type 0} (popped : ℕ) (first : Option (Piece H)) (es : List (ℕ × Piece H)) → all_kept (with_first popped first es) ≡ []
+    → (first ≡ None) × (es ≡ [])
+no_entries popped None [] none = (refl, refl)
+no_entries popped None (e ∷ es) none = cc
+no_entries popped (Some piece) es none = cc
 
 pub destroy_empty-requires : goal.destroy_empty-requires
-destroy_empty-requires g c = no_entries c.self.inside.pieces.entries (ap (λ (queue : Queue g.row.H.Denot). queue.kept) c.self.view_is ∙ c.requires)
+destroy_empty-requires g c =
+    (no_entries c.self.inside.popped c.self.inside.first c.self.inside.pieces.entries
+    (ap (λ (queue : Queue g.row.H.Denot). queue.kept) c.self.view_is ∙ c.requires)).1

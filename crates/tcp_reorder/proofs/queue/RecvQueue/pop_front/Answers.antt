@@ -1,4 +1,4 @@
-use Rattle.std.proofs.Common.{◌≡◌, ◌+◌, sym, ap, ◌∙◌}
+use Rattle.std.proofs.Common.{◌≡◌, ◌+◌, None, sym, ap, ◌∙◌}
 use Rattle.std.proofs.lemmas.Bool.{both_ways}
 use Rattle.tcp_reorder.specs.Queue.{next_of}
 use Rattle.tcp_reorder.specs.Pieces.{kept_of, all_kept, queue_of}
@@ -8,19 +8,19 @@ use Rattle.tcp_reorder.proofs.queue.RecvQueue.pop_front.Goals as goal
 
 -- the queue without its first piece: the first missing position stays
 popped_at : (g : given.Over) (c : goal.After-self-1 g)
-    → IsAt (queue_of c.self.inside.base (c.in_ok-position.position + c.in_ok-position.piece.len) c.pop_first.new.self.entries)
-    (next_of (queue_of c.self.inside.base c.self.inside.popped c.self.inside.pieces.entries))
+    → IsAt (queue_of c.self.inside.base (c.in_ok-position.position + c.in_ok-position.piece.len) None c.pop_least.new.pieces.entries)
+    (next_of (queue_of c.self.inside.base c.self.inside.popped c.self.inside.first c.self.inside.pieces.entries))
 popped_at g c =
-    let queue = queue_of c.self.inside.base c.self.inside.popped c.self.inside.pieces.entries in
+    let queue = queue_of c.self.inside.base c.self.inside.popped c.self.inside.first c.self.inside.pieces.entries in
     let there = λ (missing : queue.popped ≡ next_of queue). both_ways _ (c.front.ensures.none.1 (rw (← c.self.view_is) missing)) c.if-is_none.ensures in
-    front_is_popped queue (kept_of (c.in_ok-position.position, c.in_ok-position.piece)) (all_kept c.pop_first.new.self.entries) c.self.invariant.0
-    (ap all_kept c.in_ok-position.ensures.removal) there
+    front_is_popped queue (kept_of (c.in_ok-position.position, c.in_ok-position.piece)) (all_kept c.pop_least.new.pieces.entries) c.self.invariant.0
+    (ap all_kept c.in_ok-position.ensures.least) there
 
 pub invariant_of-self-2 : goal.invariant_of-self-2
-invariant_of-self-2 g c = rw c.from.ensures ((popped_at g c).sound, c.self.invariant.1 ∙ (popped_at g c).next)
+invariant_of-self-2 g c = rw (c.from.ensures, c.pop_least.ensures.others) ((popped_at g c).sound, c.self.invariant.1 ∙ (popped_at g c).next)
 
 pub returns-clause-sound : goal.returns-clause-sound
-returns-clause-sound g c = rw c.from.ensures (popped_at g c).sound
+returns-clause-sound g c = rw (c.from.ensures, c.pop_least.ensures.others) (popped_at g c).sound
 
 pub returns-clause-next : goal.returns-clause-next
-returns-clause-next g c = rw (← c.self.view_is, c.from.ensures) (sym (popped_at g c).next)
+returns-clause-next g c = rw (← c.self.view_is, c.from.ensures, c.pop_least.ensures.others) (sym (popped_at g c).next)
