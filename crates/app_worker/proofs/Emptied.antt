@@ -17,7 +17,7 @@ use Rattle.app_worker.specs.Core.{AreReadAt, most_at_once, is_copy, IsIn}
 use Rattle.app_worker.proofs.Indexing.{by-place}
 use Rattle.app_worker.specs.State.{State, IsIndex, place_in, Common, FlowEnds, capped, held_len, taken_len, unsplit_len, due_one, app_steps, one_if, read_of}
 use Rattle.app_worker.specs.State.{loan_entries}
-use Rattle.app_worker.specs.Shelves.{IsShelved, AreShelved, AreOfOneLoan, ReadsFront, IsFrontShelved, AreFronts}
+use Rattle.app_worker.specs.Shelves.{kept_loans, IsShelved, AreShelved, AreOfOneLoan, ReadsFront, IsFrontShelved, AreFronts}
 use Rattle.std.proofs.Math.Nat.{mul-le-mul_left}
 use Rattle.std.proofs.Common.{◌*◌, ◌-◌}
 use Rattle.board_face.specs.declared.views.app.WrittenEntry.{WrittenEntry}
@@ -26,7 +26,7 @@ use Rattle.app_worker.proofs.Accounts.{sound-gone}
 use Rattle.app_worker.proofs.Origins.{origins-more, gone-origins}
 use Rattle.app_worker.proofs.Written.{gives-gone, gives-same, gives-count, blocks-moved}
 use Rattle.zr_kinds.specs.declared.place.Place.{Place}
-use Rattle.std.proofs.Math.Seq.{drop-append_seam}
+use Rattle.std.proofs.Math.Seq.{drop-append_seam, drop-length}
 use Rattle.app_worker.specs.Moves.{over_leaked}
 use Rattle.app_worker.specs.Whole.{Torn}
 use Rattle.app_worker.specs.Letting.{FlowFacts, facts_of, Abandons, LetGo}
@@ -90,16 +90,15 @@ shelves-facts first kept flows now old new facts taken reads shelved = record {
   others = λ n none. shelved.others n (sym (total-facts (λ x. if x.number == n then 1 else 0) flows now facts) ∙ none);
 }
 
--- each loan is still one of those that went
-still-lent : (old new : AppView) → ((f : LentPiece → ℕ) → total f new.returned ≡ total f old.returned + total f old.loans) → (x : LentPiece)
-    → IsIn x (old.loans ++ old.returned) → IsIn x (new.loans ++ new.returned)
-still-lent old new back x there = in-right x new.loans new.returned (is-lent-there x new.returned (omega (
-  arith,
-  back (is_that_loan x),
-  total-append (is_that_loan x) old.loans old.returned,
-  in-total (is_that_loan x) x (old.loans ++ old.returned) there,
-  that-loan x,
-)))
+-- Each loan that no entry gave back was out, and is abandoned.
+still-kept : (old new : AppView) (more : List LentPiece) → loan_entries old ≡ length old.returned → drop (loan_entries new) new.returned ≡ more
+    → ((f : LentPiece → ℕ) → total f more ≡ total f old.loans) → (x : LentPiece) → IsIn x (kept_loans old) → IsIn x (kept_loans new)
+still-kept old new more all_given rest went x there =
+    let none : drop (loan_entries old) old.returned ≡ [] = ap (λ n. drop n old.returned) all_given ∙ drop-length old.returned in
+    let out : IsIn x old.loans = subst (IsIn x) (ap (λ ls. old.loans ++ ls) none ∙ append-nil old.loans) there in
+    let gone : IsIn x more = is-lent-there x more
+    (omega (arith, went (is_that_loan x), in-total (is_that_loan x) x old.loans out, that-loan x)) in
+    in-right x new.loans (drop (loan_entries new) new.returned) (subst (IsIn x) (sym rest) gone)
 
 -- the same of a shelf that failed
 front-facts : (taken : List TakenNote) (reads : List Reading) (lent later : List LentPiece) → ((x : LentPiece) → IsIn x lent → IsIn x later)
@@ -140,14 +139,14 @@ fronts-facts first kept taken reads lent later stay f g same shelved =
 
 pub all-fronts-facts : (first kept : ℕ → Option (List ℕ)) (flows now : List FlowQueue) (old new : AppView) → map facts_of now ≡ map facts_of flows
     → new.taken ≡ old.taken → new.reads ≡ old.reads
-    → ((f : LentPiece → ℕ) → total f new.returned ≡ total f old.returned + total f old.loans)
+    → ((x : LentPiece) → IsIn x (kept_loans old) → IsIn x (kept_loans new))
     → AreFronts first kept flows old → AreFronts first kept now new
-all-fronts-facts first kept flows now old new facts taken reads back shelved = record {
-  flows = subst (λ ts. Each (IsFrontShelved first kept ts new.reads (new.loans ++ new.returned)) now) (sym taken)
-      (subst (λ rs. Each (IsFrontShelved first kept old.taken rs (new.loans ++ new.returned)) now) (sym reads)
-      (each-facts (IsFrontShelved first kept old.taken old.reads (old.loans ++ old.returned))
-      (IsFrontShelved first kept old.taken old.reads (new.loans ++ new.returned))
-      (fronts-facts first kept old.taken old.reads (old.loans ++ old.returned) (new.loans ++ new.returned) (still-lent old new back)) flows now facts
+all-fronts-facts first kept flows now old new facts taken reads stay shelved = record {
+  flows = subst (λ ts. Each (IsFrontShelved first kept ts new.reads (kept_loans new)) now) (sym taken)
+      (subst (λ rs. Each (IsFrontShelved first kept old.taken rs (kept_loans new)) now) (sym reads)
+      (each-facts (IsFrontShelved first kept old.taken old.reads (kept_loans old))
+      (IsFrontShelved first kept old.taken old.reads (kept_loans new))
+      (fronts-facts first kept old.taken old.reads (kept_loans old) (kept_loans new) stay) flows now facts
       shelved.flows));
   torn = shelved.torn;
   exact = subst (λ ts. Each (IsExact ts new.reads) now) (sym taken) (subst (λ rs. Each (IsExact old.taken rs) now) (sym reads)
@@ -260,6 +259,8 @@ gone-all was now old v1 v2 v3 new reaped not_yet pushed torn common first second
     (gives-same old new old.returned written setting torn.given) in
     let rest : drop (loan_entries new) new.returned ≡ more = ap (λ n. drop n new.returned) count_entries ∙ ap (drop (length old.returned)) behind
     ∙ drop-append_seam old.returned more in
+    let went : (f : LentPiece → ℕ) → total f more ≡ total f old.loans =
+    λ f. omega (arith, back f, ap (total f) behind, total-append f old.returned more) in
     let read_still : (f : LentPiece → ℕ) → over_read old.taken f (read_of was) ≡ over_due old.taken f was.due
     + over_read old.taken f was.leaked.items = λ f. read-parts old.taken f was.due was.leaked.items in
     let all_leaked : (f : Place → ℕ) → over_leaked f was old ≤ total (λ l. f l.place) (drop (loan_entries new) new.returned) = λ f. omega (
@@ -356,7 +357,8 @@ gone-all was now old v1 v2 v3 new reaped not_yet pushed torn common first second
       };
       steps = steps;
       shelved = λ begin kept shelved. shelves-facts begin kept was.flows now old new facts taken reads shelved;
-      fronts = λ begin kept shelved. all-fronts-facts begin kept was.flows now old new facts taken reads back shelved;
+      fronts = λ begin kept shelved. all-fronts-facts begin kept was.flows now old new facts taken reads
+          (still-kept old new more (gives-count old old.returned torn.given) rest went) shelved;
       none_left = pushed;
       taken = taken;
       left = left;

@@ -20,7 +20,7 @@ use Rattle.app_worker.specs.Marks.{Mark, Numbered}
 use Rattle.app_worker.specs.Core.{total, is_copy, Each, many, short_bytes, own_notes, BeginAt, placed_of, received_note, received_notes, AreReadAt}
 use Rattle.app_worker.specs.Core.{IsIn}
 use Rattle.app_worker.specs.State.{State, Common, FlowEnds, capped, held_len, taken_len, unsplit_len, bytes_if, bytes_of, due_one, app_steps, one_if}
-use Rattle.app_worker.specs.Shelves.{IsShelved, AreShelved, AreOfOneLoan, ReadsFront, IsFrontShelved, AreFronts}
+use Rattle.app_worker.specs.Shelves.{kept_loans, IsShelved, AreShelved, AreOfOneLoan, ReadsFront, IsFrontShelved, AreFronts}
 use Rattle.app_worker.specs.Moves.{Moves}
 use Rattle.app_worker.specs.Whole.{fresh_flow, IsChosen}
 use Rattle.app_worker.proofs.Tokens.{total-append}
@@ -418,14 +418,14 @@ pub fronts-kept : (was : List FlowQueue) (old new : AppView) (t : TakenNote) →
 fronts-kept was old new t took ends first kept shelved =
     let reads : new.reads ≡ old.reads = ap (λ (v : AppView). v.reads) took.view in
     let later : new.taken ≡ old.taken ++ t ∷ [] = ap (λ (v : AppView). v.taken) took.view in
-    let lent : new.loans ++ new.returned ≡ old.loans ++ old.returned = ap (λ (v : AppView). v.loans ++ v.returned) took.view in
+    let lent : kept_loans new ≡ kept_loans old = ap kept_loans took.view in
     record {
       flows = subst (λ ls. Each (IsFrontShelved first kept new.taken new.reads ls) was) (sym lent)
-          (subst (λ ts. Each (IsFrontShelved first kept ts new.reads (old.loans ++ old.returned)) was) (sym later)
-          (subst (λ rs. Each (IsFrontShelved first kept (old.taken ++ t ∷ []) rs (old.loans ++ old.returned)) was) (sym reads)
-          (each-map (IsFrontShelved first kept old.taken old.reads (old.loans ++ old.returned))
-          (IsFrontShelved first kept (old.taken ++ t ∷ []) old.reads (old.loans ++ old.returned)) was
-          (λ f _ e. fronts-note old.taken t f f.queue refl first kept old.reads (old.loans ++ old.returned) e) shelved.flows)));
+          (subst (λ ts. Each (IsFrontShelved first kept ts new.reads (kept_loans old)) was) (sym later)
+          (subst (λ rs. Each (IsFrontShelved first kept (old.taken ++ t ∷ []) rs (kept_loans old)) was) (sym reads)
+          (each-map (IsFrontShelved first kept old.taken old.reads (kept_loans old))
+          (IsFrontShelved first kept (old.taken ++ t ∷ []) old.reads (kept_loans old)) was
+          (λ f _ e. fronts-note old.taken t f f.queue refl first kept old.reads (kept_loans old) e) shelved.flows)));
       torn = shelved.torn;
       exact = subst (λ ts. Each (IsExact ts new.reads) was) (sym later) (subst (λ rs. Each (IsExact (old.taken ++ t ∷ []) rs) was) (sym reads)
           (each-map (λ f. FlowEnds old.taken f × IsExact old.taken old.reads f) (IsExact (old.taken ++ t ∷ []) old.reads) was

@@ -24,9 +24,9 @@ use Rattle.app_worker.specs.Core.{read_out}
 use Rattle.zr_kinds.specs.declared.behaviour.Stopped.{Stopped}
 use Rattle.zr_kinds.specs.declared.behaviour.Stopped.TheVariants as stop
 use Rattle.app_worker.specs.State.{State, read_of, TellsOf, LiesOutside, Working, Common, Quits, FlowEnds, capped, held_len, taken_len, unsplit_len, due_one}
-use Rattle.app_worker.specs.State.{lent_len, loan_len, bytes_if, bytes_of, app_steps, one_if}
+use Rattle.app_worker.specs.State.{lent_len, loan_len, bytes_if, bytes_of, app_steps, one_if, loan_entries}
 use Rattle.board_face.specs.AppEvents.{reserve_of}
-use Rattle.app_worker.specs.Shelves.{IsShelved, AreShelved, AreOfOneLoan, ReadsFront, IsFrontShelved, AreFronts}
+use Rattle.app_worker.specs.Shelves.{kept_loans, IsShelved, AreShelved, AreOfOneLoan, ReadsFront, IsFrontShelved, AreFronts}
 use Rattle.app_worker.specs.Moves.{Moves, KeptSince, reads_of, reserve_loans}
 use Rattle.app_worker.specs.Flushing.{Flushes, loans_so_far}
 use Rattle.std.proofs.lemmas.Bool.{cases_Bool}
@@ -444,7 +444,7 @@ module _ (was : State) (i : ℕ) (own : FlowQueue) (p : Completion × Lending) (
       → AreFronts first kept_now (set was.flows i (record own { bytes = bytes })) new
   fronts-failed bytes most kept kept_now more part gained others first shelved =
       let later : FlowQueue = record own { bytes = bytes } in
-      let out : IsIn (lent_piece old.taken p.1) (new.loans ++ new.returned) = in-left (lent_piece old.taken p.1) new.loans new.returned
+      let out : IsIn (lent_piece old.taken p.1) (kept_loans new) = in-left (lent_piece old.taken p.1) new.loans (drop (loan_entries new) new.returned)
       (subst (IsIn (lent_piece old.taken p.1)) (sym (ap (λ (v : AppView). v.loans) only.view))
       (oldest-out was.notes (at.before ++ own ∷ at.after) p (ps ++ was.posted.entries) was.leaked.items old stood)) in
       let before : Each (IsShelved first kept old.taken old.reads) (at.before ++ own ∷ at.after) = subst
@@ -456,12 +456,12 @@ module _ (was : State) (i : ℕ) (own : FlowQueue) (p : Completion × Lending) (
       (p ∷ (ps ++ was.posted.entries)) was.leaked.items old stood in
       let own_shelved : IsShelved first kept old.taken old.reads own =
       (each-right (IsShelved first kept old.taken old.reads) at.before (own ∷ at.after) before).0 in
-      let flows : Each (IsFrontShelved first kept_now old.taken new.reads (new.loans ++ new.returned)) (at.before ++ later ∷ at.after) =
+      let flows : Each (IsFrontShelved first kept_now old.taken new.reads (kept_loans new)) (at.before ++ later ∷ at.after) =
       each-changed (λ f. FlowStands old.taken (p ∷ (ps ++ was.posted.entries)) f × IsShelved first kept old.taken old.reads f)
-      (IsFrontShelved first kept_now old.taken new.reads (new.loans ++ new.returned)) at.before at.after own later (stood.distinct own.number) both
+      (IsFrontShelved first kept_now old.taken new.reads (kept_loans new)) at.before at.after own later (stood.distinct own.number) both
       (λ f other e. front-other first kept kept_now old.taken (p ∷ (ps ++ was.posted.entries)) old new
-      (new.loans ++ new.returned) f only (others f.number other) e.0 e.1)
-      (front-own first kept kept_now old.taken old new own p.1 bytes most (ps ++ was.posted.entries) (new.loans ++ new.returned) stood.lent.0 out only more part
+      (kept_loans new) f only (others f.number other) e.0 e.1)
+      (front-own first kept kept_now old.taken old new own p.1 bytes most (ps ++ was.posted.entries) (kept_loans new) stood.lent.0 out only more part
       own_stands.holds.popped next own_shelved gained) in
       let exact : Each (λ f. f.number ≢ own.number → IsShelved first kept_now old.taken new.reads f) (at.before ++ later ∷ at.after) =
       each-changed (IsShelved first kept old.taken old.reads) (λ f. f.number ≢ own.number → IsShelved first kept_now old.taken new.reads f)
@@ -471,8 +471,8 @@ module _ (was : State) (i : ℕ) (own : FlowQueue) (p : Completion × Lending) (
         torn = own.number;
         exact = subst (λ ts. Each (λ f. f.number ≢ own.number → IsShelved first kept_now ts new.reads f) (set was.flows i later)) (sym same_taken)
             (subst (Each (λ f. f.number ≢ own.number → IsShelved first kept_now old.taken new.reads f)) (sym (at.set_is later)) exact);
-        flows = subst (λ ts. Each (IsFrontShelved first kept_now ts new.reads (new.loans ++ new.returned)) (set was.flows i later)) (sym same_taken)
-            (subst (Each (IsFrontShelved first kept_now old.taken new.reads (new.loans ++ new.returned))) (sym (at.set_is later)) flows);
+        flows = subst (λ ts. Each (IsFrontShelved first kept_now ts new.reads (kept_loans new)) (set was.flows i later)) (sym same_taken)
+            (subst (Each (IsFrontShelved first kept_now old.taken new.reads (kept_loans new))) (sym (at.set_is later)) flows);
         others = λ n none.
             let gone : many n was.flows ≡ 0 = ap (many n) at.is ∙ sym (many-same at.before at.after own later refl n)
             ∙ sym (ap (many n) (at.set_is later)) ∙ none in

@@ -19,7 +19,7 @@ use Rattle.app_worker.specs.Marks.{AreWholeFrames}
 use Rattle.app_worker.specs.Core.{Each, many, own_notes, BeginAt, placed_of, received_note, received_notes, AreReadAt}
 use Rattle.app_worker.specs.State.{State, Working, Bare, AppStands, FlowEnds, app_steps, furthest}
 use Rattle.app_worker.proofs.Measure.{working-within, bare-within}
-use Rattle.app_worker.specs.Shelves.{IsShelved, AreShelved, ReadsFront, IsFrontShelved, AreFronts}
+use Rattle.app_worker.specs.Shelves.{kept_loans, IsShelved, AreShelved, ReadsFront, IsFrontShelved, AreFronts}
 use Rattle.app_worker.specs.Streams.{IsFront, HasFronts, HasAll}
 use Rattle.app_worker.proofs.InParts.{AreSame, none_some}
 use Rattle.app_worker.proofs.Placing.{values-split}
@@ -143,14 +143,14 @@ fronts-of first kept flows v ends whole shelved flow =
 pub fronts-failed : (first kept : ℕ → Option (List ℕ)) (flows : List FlowQueue) (v : AppView) → Each (FlowEnds v.taken) flows → AreWholeFrames v.taken
     → AreFronts first kept flows v → HasFronts first kept v
 fronts-failed first kept flows v ends whole shelved flow =
-    pick flow flows (λ f. FlowEnds v.taken f × IsFrontShelved first kept v.taken v.reads (v.loans ++ v.returned) f)
+    pick flow flows (λ f. FlowEnds v.taken f × IsFrontShelved first kept v.taken v.reads (kept_loans v) f)
     (Gained (first flow) (kept flow) (IsFront v.taken v.reads (marks_of flow v.taken)))
-    (each-both (FlowEnds v.taken) (IsFrontShelved first kept v.taken v.reads (v.loans ++ v.returned)) flows ends shelved.flows)
+    (each-both (FlowEnds v.taken) (IsFrontShelved first kept v.taken v.reads (kept_loans v)) flows ends shelved.flows)
     (λ none. gained-nothing (first flow) (kept flow) (IsFront v.taken v.reads (marks_of flow v.taken))
     (record { read = []; rest = marks_of flow v.taken; parts = refl; are = tt }) (shelved.others flow none))
     (λ f is both.
     subst (λ n. Gained (first n) (kept n) (IsFront v.taken v.reads (marks_of n v.taken))) is
-    (Gained-weaker (first f.number) (kept f.number) (ReadsFront v.taken v.reads (v.loans ++ v.returned) f) (IsFront v.taken v.reads (marks_of f.number v.taken))
+    (Gained-weaker (first f.number) (kept f.number) (ReadsFront v.taken v.reads (kept_loans v) f) (IsFront v.taken v.reads (marks_of f.number v.taken))
     (λ bytes front.
     let (rest, parts) = front-of-flow f v.taken front.count both.0.begun front.below whole in
     record { read = values_from (placed_of f v.taken).at front.count 0; rest = rest; parts = parts; are = front.are }) both.1.gained))

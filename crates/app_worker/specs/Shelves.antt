@@ -1,5 +1,5 @@
 -- What the shelf has, over any number of steps.
-use Rattle.std.specs.Prelude.{◌≡◌, ◌≢◌, ℕ, ◌+◌, ◌-◌, ◌<◌, ◌≤◌, List, ◌++◌, length, Option, IsSome}
+use Rattle.std.specs.Prelude.{◌≡◌, ◌≢◌, ℕ, ◌+◌, ◌-◌, ◌<◌, ◌≤◌, List, ◌++◌, length, drop, Option, IsSome}
 use Rattle.std.specs.Io.KnownBytes.{Keeps}
 use Rattle.zr_kinds.specs.CopyingReceiver.{values_from}
 use Rattle.zr_io.specs.Moved.{Gained}
@@ -11,10 +11,15 @@ use Rattle.app_worker.specs.declared.stack.FlowQueue.{FlowQueue}
 use Rattle.app_worker.specs.declared.stack.Lending.{Lending}
 use Rattle.app_worker.specs.Marks.{Mark, marks_from}
 use Rattle.app_worker.specs.Core.{Each, many, IsIn, lent_piece, AreReadAt, placed_of, most_at_once}
+use Rattle.app_worker.specs.State.{loan_entries}
 
 -- since `first`, a flow's shelf gained the bytes at its first marks, as many as are counted
 pub record IsShelved (first kept : ℕ → Option (List ℕ)) (taken : List TakenNote) (reads : List Reading) (flow : FlowQueue) : Type 0 where
   pub gained : Gained (first flow.number) (kept flow.number) (λ bytes. AreReadAt taken reads (values_from (placed_of flow taken).at flow.bytes 0) bytes)
+
+-- the loans that no entry gave back: those that are out, and those that were abandoned
+abbrev pub kept_loans : AppView → List LentPiece
+kept_loans v = v.loans ++ drop (loan_entries v) v.returned
 
 -- these are marks of one of these loans, from one of its bytes on
 pub record AreOfOneLoan (taken : List TakenNote) (lent : List LentPiece) (marks : List Mark) : Type 0 where
@@ -25,7 +30,7 @@ pub record AreOfOneLoan (taken : List TakenNote) (lent : List LentPiece) (marks 
   pub within : from + length marks ≤ lending.loan.len
   pub are : marks ≡ marks_from lending.note (lending.at + from) (length marks)
 
--- the bytes at a flow's first marks, at least as many as are counted, and at most those of one append more, of one loan
+-- the bytes at a flow's first marks, at least as many as are counted, and at most those of one append more, of one of these loans
 pub record ReadsFront (taken : List TakenNote) (reads : List Reading) (lent : List LentPiece) (flow : FlowQueue) (bytes : List ℕ) : Type 0 where
   pub count : ℕ
   pub at_least : flow.bytes ≤ count
@@ -40,7 +45,7 @@ pub record IsFrontShelved (first kept : ℕ → Option (List ℕ)) (taken : List
   pub gained : Gained (first flow.number) (kept flow.number) (ReadsFront taken reads lent flow)
 
 pub record AreFronts (first kept : ℕ → Option (List ℕ)) (own : List FlowQueue) (v : AppView) : Type 0 where
-  pub flows : Each (IsFrontShelved first kept v.taken v.reads (v.loans ++ v.returned)) own
+  pub flows : Each (IsFrontShelved first kept v.taken v.reads (kept_loans v)) own
   -- of no flow but this one
   pub torn : ℕ
   pub exact : Each (λ f. f.number ≢ torn → IsShelved first kept v.taken v.reads f) own
