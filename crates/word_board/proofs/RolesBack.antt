@@ -14,6 +14,7 @@ use Rattle.board_face.specs.Counts.{is_user}
 use Rattle.board_face.specs.Ended.{IsServed}
 use Rattle.board_face.specs.Holders.{nic_holders, app_holders, holders_of}
 use Rattle.board_face.specs.Opened.{new_app}
+use Rattle.board_face.specs.Relay.{IsProper}
 use Rattle.board_face.specs.Sides.{IsApp}
 use Rattle.board_face.specs.declared.views.parts.Setting.{Setting}
 use Rattle.board_face.specs.declared.views.nic.NicSide.{NicSide}
@@ -24,7 +25,7 @@ use Rattle.ref_words.specs.Words.{listed_in}
 use Rattle.ref_words.specs.Over.{CardIsOver, AppIsOver, OverLaw}
 use Rattle.ref_words.proofs.Seating.{taken-at}
 use Rattle.word_board.specs.Board.{IsBoard, card_of, first_nic}
-use Rattle.word_board.specs.Desk.{AreOver, AreServed, AllAreBack, HasNoHolders}
+use Rattle.word_board.specs.Desk.{AreOver, AreOfBoard, AreServed, AllAreBack, HasNoHolders}
 
 -- A load that changes nothing tells what the rule says of each table under it.
 pub lesson : (setting : Setting) (slots id i : ℕ) (told : ℕ → Type 0) (me : Me (Unit {0}) View)
@@ -99,6 +100,18 @@ module _ (law : OverLaw) (setting : Setting) (s : State (Unit {0}) View) (board 
       subst (λ nic. IsServed nic (get_or v.apps k e)) (sym (card-there i (get_or v.nics i d) (found-at v.nics i d there)))
       (law.served setting board.words board.nic board.apps (get_or v.apps k e).view.app (get_or v.apps k e) board.rule
       (app-there k (get_or v.apps k e) (found-at v.apps k e within)) (over.apps k e within).left)
+
+  pub known-there : AreOfBoard setting v
+  known-there = record {
+    card = λ i d there.
+        subst (λ (nic : NicSide). (nic.view.setting ≡ setting) × All IsProper nic.view.sent)
+        (sym (card-there i (get_or v.nics i d) (found-at v.nics i d there)))
+        (board.rule.refs.sides.set.card, board.rule.refs.sides.proper);
+    apps = λ k d there.
+        let app = get_or v.apps k d in
+        let here = app-there k app (found-at v.apps k d there) in
+        subst (λ (a : AppSide). a.view.setting ≡ setting) here.is (board.rule.refs.sides.set.others app.view.app app here.there);
+  }
 
   -- ---- all are back
 

@@ -3,6 +3,7 @@ use Rattle.std.specs.Prelude.{◌≡◌, ℕ, ◌<◌, List, [], ◌∷◌, leng
 use Rattle.board_face.specs.NicCalls.{apps_of}
 use Rattle.board_face.specs.Counts.{pool_count, user_count}
 use Rattle.board_face.specs.Ended.{IsServed}
+use Rattle.board_face.specs.Relay.{IsProper}
 use Rattle.board_face.specs.declared.views.parts.Setting.{Setting}
 use Rattle.board_face.specs.declared.views.nic.NicSide.{NicSide}
 use Rattle.ref_words.specs.declared.view.View.{View}
@@ -19,6 +20,11 @@ pub record AreOver (v : View) : Type 0 where
 -- what each application did stands to what the card did
 abbrev pub AreServed : View → Type 0
 AreServed v = All (λ nic. All (IsServed nic) v.apps) v.nics
+
+-- What is back is of one board: each side has its setting, and what the card sent could be sent.
+pub record AreOfBoard (setting : Setting) (v : View) : Type 0 where
+  pub card : All (λ nic. (nic.view.setting ≡ setting) × All IsProper nic.view.sent) v.nics
+  pub apps : All (λ app. app.view.setting ≡ setting) v.apps
 
 -- the cache of the card that is back
 abbrev pub cache_back : List NicSide → List ℕ

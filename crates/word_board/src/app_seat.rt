@@ -7,8 +7,8 @@ ghost use Rattle.word_board.specs.Hands.{AppKeeps};
 use crate::board::WordBoard;
 use crate::hands::{AppHand, slot_after};
 use crate::kinds::{
-    abandon_loan, cut_piece, fall_quiet, fill_text, give_entry, leave_app, lend_held, lend_spare,
-    poll, push_raw, read_text, release_piece, scrub_counts, settle, take_spare,
+    WORD_BITS, abandon_loan, cut_piece, fall_quiet, fill_text, give_entry, leave_app, lend_held,
+    lend_spare, poll, push_raw, read_text, release_piece, scrub_counts, settle, take_spare,
 };
 use crate::rule::WordSeat;
 use board_face::{AppFace, Held, Loan, Own, Polled};
@@ -175,7 +175,7 @@ impl<'a> AppFace for AppSeat<'a> {
         let board = self.board;
         let words = &board.words;
         let layout = words.map.layout();
-        let free_words = layout.buffers().div_ceil(64);
+        let free_words = layout.buffers().div_ceil(WORD_BITS);
         let reserve = layout.buffers() + self.hand.app;
         let buffer = take_spare(words, &mut self.seat, free_words, reserve)?;
         put(&mut self.hand.filled, buffer as usize, 0);

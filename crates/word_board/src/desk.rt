@@ -2,7 +2,7 @@
 ghost use Rattle.std.specs.Prelude.{◌≡◌, [], true, IfOk};
 ghost use Rattle.ref_words.specs.Seated.{no_role, card_view, app_view};
 ghost use Rattle.word_board.specs.Board.{new_desk};
-ghost use Rattle.word_board.specs.Desk.{AreServed, took_back};
+ghost use Rattle.word_board.specs.Desk.{AreOfBoard, AreServed, took_back};
 
 use crate::app_seat::AppSeat;
 use crate::hands::{AppHand, MOST_APPS};
@@ -91,6 +91,7 @@ impl<'a> NicSeat<'a> {
         requires ended { self.side.view.ended ≡ true }
         ensures desk { desk.new ≡ took_back desk.old (card_view self.entry.side) }
         ensures served { AreServed desk.new.view }
+        ensures known { AreOfBoard desk.new.board.setting desk.new.view }
     {
         let NicSeat { board, seat, hand } = self;
         join_seats(&board.words, &mut desk.seat, seat);
@@ -106,6 +107,7 @@ impl<'a> AppSeat<'a> {
         requires left { self.side.view.left ≡ true }
         ensures desk { desk.new ≡ took_back desk.old (app_view self.entry.side) }
         ensures served { AreServed desk.new.view }
+        ensures known { AreOfBoard desk.new.board.setting desk.new.view }
     {
         let AppSeat { board, seat, .. } = self;
         join_seats(&board.words, &mut desk.seat, seat);

@@ -8,8 +8,8 @@ use crate::board::WordBoard;
 use crate::found::{cache_found, cache_if};
 use crate::hands::{NicHand, slot_after};
 use crate::kinds::{
-    end_card, look_left, next_entry, place_text, send_linear, send_note, shut_buffer, sweep_word,
-    take_buffer,
+    WORD_BITS, end_card, look_left, next_entry, place_text, send_linear, send_note, shut_buffer,
+    sweep_word, take_buffer,
 };
 use crate::rule::WordSeat;
 use board_face::{Entry, NicFace, Own, Piece};
@@ -76,7 +76,7 @@ impl<'a> NicFace for NicSeat<'a> {
 
     fn free_words(&self) -> u32 {
         let board = self.board;
-        board.words.map.layout().buffers().div_ceil(64)
+        board.words.map.layout().buffers().div_ceil(WORD_BITS)
     }
 
     fn cached(&self) -> u32 {

@@ -3,12 +3,10 @@ ghost use Rattle.std.specs.Prelude.{◌≡◌, IfOk};
 ghost use Rattle.area_layout.specs.Layout.{IsLayout};
 ghost use Rattle.ref_words.specs.Words.{full_bits, table_of, opened_words};
 
+use crate::kinds::WORD_BITS;
 use area_layout::Layout;
 use ref_words::WordMap;
 use std::alloc::{AllocError, Global};
-
-/// How many pool buffers a word of the free list tells of.
-const WORD_BITS: u32 = 64;
 
 /// A word with its lowest `n` bits set, or all 64.
 fn full_word(n: u32) -> u64

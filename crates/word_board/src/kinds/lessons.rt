@@ -2,7 +2,7 @@
 ghost use Rattle.std.specs.Prelude.{◌≡◌, ℕ, ◌<◌, ◌≤◌, if◌then◌else◌, nat_eq, count_by, length};
 ghost use Rattle.area_layout.specs.Layout.{pool_buffers};
 ghost use Rattle.word_board.specs.Board.{card_of};
-ghost use Rattle.word_board.specs.Desk.{AreOver, AreServed, AllAreBack, HasNoHolders};
+ghost use Rattle.word_board.specs.Desk.{AreOfBoard, AreOver, AreServed, AllAreBack, HasNoHolders};
 
 use crate::kinds::WORD_BITS;
 use crate::rule::{SharedWords, WordSeat};
@@ -19,6 +19,7 @@ pub(crate) fn look_served(words: &SharedWords, desk: &mut WordSeat)
     ensures me { desk.new.me ≡ desk.old.me }
     ensures one { length desk.old.me.0.nics ≤ 1 }
     ensures served { AreServed desk.old.me.0 }
+    ensures known { AreOfBoard words.now.map desk.old.me.0 }
 {
     laws::what_is_over();
     let word = words.map.role(0);

@@ -1,6 +1,6 @@
-use Rattle.std.proofs.Common.{◌≤◌, length}
-use Rattle.word_board.specs.Desk.{AreServed}
-use Rattle.word_board.proofs.RolesBack.{lesson, one-card, served-there}
+use Rattle.std.proofs.Common.{◌≤◌, length, subst, sym}
+use Rattle.word_board.specs.Desk.{AreOfBoard, AreServed}
+use Rattle.word_board.proofs.RolesBack.{lesson, one-card, served-there, known-there}
 use Rattle.word_board.proofs.kinds.lessons.look_served.Goals as goal
 
 pub load_as-requires-clause-allows : goal.load_as-requires-clause-allows
@@ -10,10 +10,11 @@ load_as-requires-clause-allows c =
     let desk = c.args.desk.now in
     let law = c.what_is_over.ensures in
     lesson setting words.table.shared.table_id.slots desk.id c.role-word.result
-    (λ _. (length desk.me.0.nics ≤ 1) × AreServed desk.me.0) desk.me
+    (λ _. (length desk.me.0.nics ≤ 1) × AreServed desk.me.0 × AreOfBoard setting desk.me.0) desk.me
     (λ s board at. (
       one-card law setting s board desk.id desk.me.0 at c.requires.over,
       served-there law setting s board desk.id desk.me.0 at c.requires.over,
+      known-there law setting s board desk.id desk.me.0 at c.requires.over,
     ))
 
 pub returns-clause-me : goal.returns-clause-me
@@ -24,3 +25,6 @@ returns-clause-one c = c.load_as.ensures.told.0
 
 pub returns-clause-served : goal.returns-clause-served
 returns-clause-served c = c.load_as.ensures.told.1
+
+pub returns-clause-known : goal.returns-clause-known
+returns-clause-known c = subst (λ s. AreOfBoard s c.args.desk.now.me.0) (sym c.args.words.now.keyed) c.load_as.ensures.told.2
