@@ -21,9 +21,13 @@ for bytes in 100 1000 9000; do
     for ((run = 0; run < runs; run++)); do
         "$program" "$notes" "$bytes"
     done | awk -v bytes="$bytes" -v notes="$notes" '
-        $2 != notes { print "boards: not all notes came" > "/dev/stderr"; exit 1 }
+        $2 != notes { lost = 1 }
         !($1 in best) || $3 < best[$1] { best[$1] = $3 }
         END {
+            if (lost || NR == 0) {
+                print "boards: not all notes came" > "/dev/stderr"
+                exit 1
+            }
             split("plain words threads", name, " ")
             for (i = 1; i <= 3; i++) {
                 second = best[name[i]] / 1000000

@@ -1,6 +1,6 @@
 //! `board_race NOTES BYTES` sends so many notes of so many bytes to one application through each board, and prints how long
 //! that took: through the board for one thread, through the board on words by one thread, and by a thread for the card and
-//! one for the application. Without words it sends a few notes through each, and tells no times.
+//! one for the application. A note has 1 to 16,384 bytes. Without words it sends a few notes through each, and tells no times.
 #![tactic(auto)]
 
 mod lanes;
@@ -11,7 +11,7 @@ mod tests;
 mod threads;
 mod words;
 
-use anyhow::Context;
+use anyhow::{Context, bail};
 use area_layout::Layout;
 use plain::run_plain;
 use plan::Plan;
@@ -23,11 +23,21 @@ use words::run_words;
 /// How many notes are sent, and of how many bytes, where no words say so.
 const FEW: (u32, u16) = (1_000, 100);
 
+/// How many bytes a buffer has, and so a note at most.
+const SIZE: u16 = 16_384;
+
 /// The notes and the bytes that the words ask for.
 fn read_words(words: &[String]) -> anyhow::Result<(u32, u16)> {
     match words {
-        [notes, bytes] => Ok((notes.parse()?, bytes.parse()?)),
-        _ => Ok(FEW),
+        [] => Ok(FEW),
+        [notes, bytes] => {
+            let bytes = bytes.parse()?;
+            if !(1..=SIZE).contains(&bytes) {
+                bail!("a note has 1 to {SIZE} bytes");
+            }
+            Ok((notes.parse()?, bytes))
+        }
+        _ => bail!("usage: board_race [NOTES BYTES]"),
     }
 }
 
@@ -49,12 +59,12 @@ fn print_run(
 fn main(rt: HostRuntime) -> anyhow::Result<()> {
     let words: Vec<String> = env::args(&rt)?.skip(1).collect(rt.alloc())?;
     let (notes, bytes) = read_words(&words)?;
-    let timed = words.len() == 2;
+    let timed = !words.is_empty();
     let plan = Plan {
-        layout: Layout::new(64, 1, 16_384).context("no layout")?,
+        layout: Layout::new(64, 1, u32::from(SIZE)).context("no layout")?,
         places: 64,
         notes,
-        bytes: bytes.min(9_000),
+        bytes,
     };
     let begin = Instant::now(&rt)?;
     let taken = run_plain(rt.alloc(), &plan)?;

@@ -2,6 +2,7 @@ ghost use Rattle.std.specs.Prelude.{◌≡◌, ◌≤◌};
 ghost use Rattle.face_table.specs.CardHand.{IsCardHand};
 ghost use Rattle.face_table.specs.AppHand.{IsAppHand};
 
+mod texts;
 mod threads;
 
 use area_layout::Layout;

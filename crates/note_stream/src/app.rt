@@ -50,7 +50,8 @@ impl Receiver {
         }
     }
 
-    /// Gives the last loan back where that is still due, and then looks for the next note. `into` has room for one text.
+    /// Gives the last loan back where that is still due, and then looks for the next note. `into` has as many bytes as a text;
+    /// one of another length is wrong.
     pub fn go<F: AppFace>(&mut self, face: &mut F, into: &mut [u8]) -> Took
         requires { IsReceiver (F.seen face.old) self.old.loan }
         ensures hand { IsReceiver (F.seen face.new) self.new.loan }
@@ -72,17 +73,19 @@ impl Receiver {
         }
     }
 
-    /// Lends a held piece, and reads it.
+    /// Lends a held piece, and reads it. It is wrong where it isn't the next note's, with as many bytes as there is room for.
     fn read_held<F: AppFace>(&mut self, face: &mut F, note: Note, held: Held, into: &mut [u8])
         requires { HasOneHeld (F.seen face.old) held }
         ensures number { (F.seen face.new).app ≡ (F.seen face.old).app }
         ensures hand { IsReceiver (F.seen face.new) self.new.loan }
         ensures beside { F.beside face.new ≡ F.beside face.old }
     {
+        let room = into.len();
         let loan = face.lend(held);
-        let len = (loan.place().len as usize).min(into.len());
-        face.read(&loan, 0, &mut into[..len]);
-        if note.frame != self.taken || !is_text(self.app, self.taken, &into[..len]) {
+        let len = loan.place().len as usize;
+        let text = &mut into[..len.min(room)];
+        face.read(&loan, 0, text);
+        if note.frame != self.taken || len != room || !is_text(self.app, self.taken, text) {
             self.wrong = self.wrong.saturating_add(1);
         }
         self.taken = self.taken.saturating_add(1);

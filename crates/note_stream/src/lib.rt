@@ -8,4 +8,3 @@ mod texts;
 
 pub use app::{Receiver, Took, leave, receive_all};
 pub use card::{Sender, gather, send_all};
-pub use texts::{MOST_BYTES, is_text, note_of, write_text};
