@@ -1,7 +1,8 @@
 -- The end of a board that all roles have left: each pool buffer is free once, and every application was served.
-use Rattle.std.specs.Prelude.{◌≡◌, ℕ, ◌<◌, List, length, map, All, nat_eq, count_by}
+use Rattle.std.specs.Prelude.{◌≡◌, ℕ, ◌<◌, true, List, length, map, All, nat_eq, count_by}
 use Rattle.board_face.specs.Holders.{sent_to}
-use Rattle.board_face.specs.Relay.{as_taken, IsAsSent, dealt_entries, HasNoLoanStray}
+use Rattle.board_face.specs.Relay.{as_taken, IsAsSent, IsProper, dealt_entries, HasNoLoanStray}
+use Rattle.board_face.specs.Sides.{AreNumbered, HaveOneSetting}
 use Rattle.board_face.specs.declared.views.nic.NicSide.{NicSide}
 use Rattle.board_face.specs.declared.views.app.AppSide.{AppSide}
 
@@ -17,3 +18,13 @@ pub record IsServed (nic : NicSide) (app : AppSide) : Type 0 where
   pub reads : All (IsAsSent (sent_to app.view.app nic)) app.view.reads
   pub entries : dealt_entries app.view.app nic ≡ map (λ w. w.entry) app.view.written
   pub strays : HasNoLoanStray nic app
+
+-- The sides of a board on which all is over: the card has ended and every application left, each with its number and one for each
+-- that the board has. What was sent could be sent, and every application was served.
+pub record HaveEnded (nic : NicSide) (apps : List AppSide) : Type 0 where
+  pub card : nic.view.ended ≡ true
+  pub left : All (λ app. app.view.left ≡ true) apps
+  pub numbers : AreNumbered 0 apps
+  pub one_setting : HaveOneSetting nic apps
+  pub proper : All IsProper nic.view.sent
+  pub served : All (IsServed nic) apps

@@ -9,6 +9,7 @@ pub mod AppCalls
 pub mod Judged
 pub mod Sides
 pub mod Opened
+pub mod Blank
 pub mod Holders
 pub mod Counts
 pub mod FreeOnce

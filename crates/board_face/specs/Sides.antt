@@ -1,6 +1,7 @@
 -- The sides of a board after an event of a view, and the applications in the order of their numbers.
 use Rattle.std.specs.Prelude.{◌≡◌, ℕ, suc, ◌<◌, List, [], ◌∷◌, length, slice_index_or, slice_set, All, ⊤}
 use Rattle.board_face.specs.NicCalls.{apps_of}
+use Rattle.board_face.specs.Blank.{blank_app}
 use Rattle.board_face.specs.declared.views.nic.NicView.{NicView}
 use Rattle.board_face.specs.declared.views.nic.NicSide.{NicSide}
 use Rattle.board_face.specs.declared.views.app.AppView.{AppView}
@@ -28,6 +29,10 @@ pub record IsApp (apps : List AppSide) (a : ℕ) (app : AppSide) : Type 0 where
   pub there : a < length apps
   pub is : slice_index_or apps a app ≡ app
   pub number : app.view.app ≡ a
+
+-- the side of an application, by its place
+abbrev pub side_in : List AppSide → ℕ → AppSide
+side_in apps a = slice_index_or apps a blank_app
 
 -- the applications have these numbers in order, from the first on
 abbrev pub AreNumbered : ℕ → List AppSide → Type 0

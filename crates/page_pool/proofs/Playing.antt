@@ -8,9 +8,10 @@ use Rattle.board_face.specs.NicCalls.{IsOpen, HasNoToken}
 use Rattle.board_face.specs.declared.views.parts.Setting.{Setting}
 use Rattle.board_face.specs.declared.views.app.AppView.{AppView}
 use Rattle.face_callers.specs.Reader.{HasNothing}
-use Rattle.plain_parts.specs.Blank.{blank_app}
+use Rattle.board_face.specs.Blank.{blank_app}
 use Rattle.plain_parts.specs.Opened.{new_apps}
-use Rattle.plain_board.specs.Board.{Board, side_in, side_of, others_of}
+use Rattle.board_face.specs.Sides.{side_in}
+use Rattle.plain_board.specs.Board.{Board, side_of, others_of}
 
 -- An application is there, has nothing out, and hasn't scrubbed.
 pub record IsIdle (v : AppView) : Type 0 where

@@ -8,7 +8,7 @@ use Rattle.std.proofs.lemmas.List.Elements.{All-set}
 use Rattle.std.proofs.Math.Seq.{map-set_same}
 use Rattle.std.proofs.lemmas.Bool.Decides.{eqb_tells}
 use Rattle.area_layout.specs.Layout.{total}
-use Rattle.board_face.specs.Sides.{IsApp}
+use Rattle.board_face.specs.Sides.{IsApp, side_in}
 use Rattle.board_face.specs.Counts.{pool_count, user_count, EndedWereReturned}
 use Rattle.board_face.specs.FreeOnce.{AreFreeOnce, free_places}
 use Rattle.board_face.specs.Relay.{Relayed}
@@ -24,9 +24,9 @@ use Rattle.board_face.proofs.Parts.{app_count, user_part, count-tally}
 use Rattle.board_face.proofs.OwnBufferLemmas.{LieInOwn-app, LieInOwn-side}
 use Rattle.board_face.proofs.Tallies.{weight, tally, tally-flat, total-set}
 use Rattle.plain_parts.specs.Counts.{user_at}
-use Rattle.plain_parts.specs.Blank.{blank_app}
+use Rattle.board_face.specs.Blank.{blank_app}
 use Rattle.plain_board.specs.declared.others.Others.{Others}
-use Rattle.plain_board.specs.Board.{Arrays, Board, setting_of, side_in, side_of}
+use Rattle.plain_board.specs.Board.{Arrays, Board, setting_of, side_of}
 use Rattle.plain_board.specs.Returns.{AreReturns, entries_on_way, loans_out, reach_of}
 use Rattle.plain_board.specs.Sound.{IsSound, IsRing, IsSet, IsAtRest, AreCounted, AreRelayed, AreFlags, AreKept, AreDue, AreBooked, IsPhased, ArePhased}
 use Rattle.plain_board.specs.Sound.{notes_of, refills_of, taken_of}

@@ -9,7 +9,7 @@ use Rattle.zr_kinds.specs.declared.ring.Rqe.{Rqe}
 use Rattle.circular_buffer.specs.Buffer.{buffer}
 use Rattle.area_layout.specs.Layout.{total, judged}
 use Rattle.board_face.specs.Judged.{fate_of}
-use Rattle.board_face.specs.Sides.{nic_at}
+use Rattle.board_face.specs.Sides.{nic_at, side_in}
 use Rattle.board_face.specs.Looks.{NicTold}
 use Rattle.board_face.specs.NicEvents.{nic_gist, nic_saw, holder_look, shut, passed_over, looks_by_stray}
 use Rattle.board_face.specs.Opened.{new_nic}
@@ -22,9 +22,9 @@ use Rattle.board_face.specs.declared.views.nic.NicView.{NicView}
 use Rattle.board_face.proofs.FreeLemmas.{user_count-le}
 use Rattle.board_face.proofs.LookLemmas.{NicTold-none, NicTold-one, NicTold-two}
 use Rattle.board_face.proofs.RelayLemmas.{way-taken}
-use Rattle.plain_parts.specs.Blank.{blank_app}
+use Rattle.board_face.specs.Blank.{blank_app}
 use Rattle.plain_parts.specs.Counts.{user_at}
-use Rattle.plain_board.specs.Board.{Arrays, Board, side_in}
+use Rattle.plain_board.specs.Board.{Arrays, Board}
 use Rattle.plain_board.specs.Returns.{entries_on_way}
 use Rattle.plain_board.specs.Sound.{IsSound, notes_of, refills_of}
 use Rattle.plain_board.specs.Seen.{card_of, IsSeenByCard, IsJudged}

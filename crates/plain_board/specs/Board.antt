@@ -1,13 +1,14 @@
 -- The board for one thread as plain data: what each role has done and knows, and the arrays.
-use Rattle.std.specs.Prelude.{◌≡◌, ℕ, ◌*◌, ◌+◌, ◌≤◌, Bool, true, false, List, [], replicate, slice_index, slice_index_or, slice_set}
+use Rattle.std.specs.Prelude.{◌≡◌, ℕ, ◌*◌, ◌+◌, ◌≤◌, Bool, true, false, List, [], replicate, slice_index, slice_set}
 use Rattle.circular_buffer.specs.Buffer.{Buffer, buffer}
 use Rattle.zr_kinds.specs.declared.ring.Rqe.{Rqe}
 use Rattle.area_layout.specs.Layout.{Shape, pool_buffers, total, begin_of}
 use Rattle.board_face.specs.Opened.{new_nic}
+use Rattle.board_face.specs.Sides.{side_in}
 use Rattle.board_face.specs.declared.views.parts.Setting.{Setting}
 use Rattle.board_face.specs.declared.views.nic.NicSide.{NicSide}
 use Rattle.board_face.specs.declared.views.app.AppSide.{AppSide}
-use Rattle.plain_parts.specs.Blank.{blank_app}
+use Rattle.board_face.specs.Blank.{blank_app}
 use Rattle.plain_parts.specs.Free.{listed_in}
 use Rattle.plain_parts.specs.Opened.{new_apps}
 use Rattle.plain_parts.specs.declared.slots.NoteSlot.{NoteSlot}
@@ -57,9 +58,6 @@ pub record Part : Type 0 where
   pub app : ℕ
 
 -- the side of an application
-abbrev pub side_in : List AppSide → ℕ → AppSide
-side_in apps a = slice_index_or apps a blank_app
-
 abbrev pub side_of : Board → ℕ → AppSide
 side_of board a = side_in board.apps a
 

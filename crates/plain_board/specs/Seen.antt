@@ -19,7 +19,8 @@ use Rattle.board_face.specs.declared.views.app.AppLook.TheVariants.{NoNote, Card
 use Rattle.board_face.specs.declared.views.app.AppView.{AppView}
 use Rattle.board_face.specs.declared.views.app.AppSide.{AppSide}
 use Rattle.plain_board.specs.declared.others.Others.{Others}
-use Rattle.plain_board.specs.Board.{Board, side_in, side_of, others_of}
+use Rattle.board_face.specs.Sides.{side_in}
+use Rattle.plain_board.specs.Board.{Board, side_of, others_of}
 use Rattle.plain_board.specs.Returns.{entries_on_way, is_raw}
 
 -- ---- the card

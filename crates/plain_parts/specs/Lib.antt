@@ -1,4 +1,3 @@
-pub mod Blank
 pub mod Opened
 pub mod Counts
 pub mod Free

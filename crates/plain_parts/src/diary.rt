@@ -13,13 +13,13 @@ pub trait Next<V> {
 }
 
 impl Next<NicSide> for Brand {
-    ghost use Rattle.plain_parts.specs.Blank.{blank_nic};
+    ghost use Rattle.board_face.specs.Blank.{blank_nic};
 
     ghost next = { blank_nic };
 }
 
 impl Next<AppSide> for Brand {
-    ghost use Rattle.plain_parts.specs.Blank.{blank_app};
+    ghost use Rattle.board_face.specs.Blank.{blank_app};
 
     ghost next = { blank_app };
 }

@@ -1,7 +1,8 @@
 -- Where what stands beside an application is as before, so are the sides of the other applications.
 use Rattle.std.proofs.Common.{◌≡◌, ◌≢◌, ℕ, sym, ◌∙◌, ap, subst, get_or-set_other}
-use Rattle.plain_board.specs.Board.{Board, side_in, side_of, others_of}
-use Rattle.plain_parts.specs.Blank.{blank_app}
+use Rattle.board_face.specs.Sides.{side_in}
+use Rattle.plain_board.specs.Board.{Board, side_of, others_of}
+use Rattle.board_face.specs.Blank.{blank_app}
 use Rattle.board_face.specs.declared.views.app.AppView.{AppView}
 use Rattle.plain_board.specs.declared.others.Others.{Others}
 

@@ -7,7 +7,7 @@ use Rattle.std.proofs.lemmas.Option.{get_or_from_slice_get, slice_get_within}
 use Rattle.board_face.specs.NicCalls.{apps_of}
 use Rattle.board_face.specs.AppEvents.{app_gist}
 use Rattle.board_face.specs.declared.views.app.AppLook.TheVariants as look
-use Rattle.plain_parts.specs.Blank.{blank_app}
+use Rattle.board_face.specs.Blank.{blank_app}
 use Rattle.plain_board.specs.Board.{Board, side_of, others_of}
 use Rattle.plain_board.specs.Seen.{IsSeenBy}
 use Rattle.plain_board.specs.Returns.{entries_on_way, is_raw}
@@ -15,12 +15,13 @@ use Rattle.app_worker.specs.State.{Bare, Working}
 use Rattle.app_worker.specs.Turns.{Because, look_of}
 use Rattle.app_worker.specs.declared.turn.Why.{Why}
 use Rattle.app_worker.specs.declared.turn.Why.TheVariants.{NoNote, RefillFull, Unsettled, ReserveHeld, NotQuiet}
-use Rattle.turn_runs.specs.Running.{Fits, AreOver}
+use Rattle.run_end.specs.Running.{AreOver}
+use Rattle.turn_runs.specs.Running.{Fits}
 use Rattle.turn_runs.specs.Stuck.{IsCardStuck, IsKeptBack, StuckRunsAreOver}
-use Rattle.turn_runs.specs.declared.run.Run.{Run}
-use Rattle.turn_runs.specs.declared.run.Worker.{Worker}
-use Rattle.turn_runs.proofs.AppLines.{there}
-use Rattle.turn_runs.proofs.Gone.{side-is}
+use Rattle.run_end.specs.declared.run.Run.{Run}
+use Rattle.run_end.specs.declared.run.Worker.{Worker}
+use Rattle.run_end.proofs.AppLines.{there}
+use Rattle.turn_runs.proofs.BoardOver.{side-is}
 use Rattle.turn_runs.proofs.Reserve.{not-held}
 
 -- It is kept back by nothing but that no note has come.
@@ -56,7 +57,7 @@ module _ (board : Board) (run : Run) (shelves : ℕ) (fits : Fits board run shel
   by-why a w at within none Unsettled because seen =
       let empty : count_by is_raw (entries_on_way board.nic (side_of board a)) ≡ 0 = rw none refl in absurd (omega (arith, empty, seen))
   by-why a w at within none ReserveHeld because seen =
-      let stands = (fits.worker a w at).stands in
+      let stands = (fits.roles.worker a w at).stands in
       let works = subst (λ b. MatchBool b (Bare w.state (side_of board a).view) (Working w.state (side_of board a).view)) because.0.live stands.mode in
       absurd (not-held board a (side_of board a) w.state fits.sound (side-is board run shelves fits a within) works stands.common because.0
       none seen.1)
@@ -79,7 +80,7 @@ module _ (board : Board) (run : Run) (shelves : ℕ) (fits : Fits board run shel
       let some = card-places board run shelves fits in
       ⊎_elim
       (λ left.
-      let gone = (fits.worker a own.0 own.1).gone left in
+      let gone = (fits.roles.worker a own.0 own.1).gone left in
       let phase = fits.sound.phased.sides a blank_app (side-is board run shelves fits a within).there in
       let empty = ap length (phase.ended (phase.left gone.0).ended).1 in absurd (omega (arith, empty, some, full)))
       (λ (waits : WaitsForNote board a own.0). let empty = ap length waits.seen.1 in absurd (omega (arith, empty, some, full)))
@@ -90,7 +91,7 @@ module _ (board : Board) (run : Run) (shelves : ℕ) (fits : Fits board run shel
   has-left a w at within = ⊎_elim
       (λ left. left)
       (λ (waits : WaitsForNote board a w).
-      let ended : board.nic.view.ended ≡ true = fits.ready.fits.ended card-closed in
+      let ended : board.nic.view.ended ≡ true = fits.roles.ready.fits.ended card-closed in
       let on : board.nic.view.ended ≡ false = waits.seen.0 in
       absurd (let wrong : true ≡ false = sym ended ∙ on in let none : ⊥ = cc in none))
       (waiting a w at)

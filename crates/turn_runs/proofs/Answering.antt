@@ -13,7 +13,8 @@ use Rattle.board_face.specs.declared.views.app.AppView.{AppView}
 use Rattle.board_face.specs.declared.views.nic.NicSide.{NicSide}
 use Rattle.board_face.specs.declared.views.nic.NicView.{NicView}
 use Rattle.page_pool.specs.Dealing.{CountsStrays}
-use Rattle.plain_board.specs.Board.{Board, side_in, side_of, others_of}
+use Rattle.board_face.specs.Sides.{side_in}
+use Rattle.plain_board.specs.Board.{Board, side_of, others_of}
 use Rattle.plain_board.specs.Seen.{IsSeenBy, IsSeenByCard}
 use Rattle.app_worker.specs.Core.{Each}
 use Rattle.app_worker.specs.Stages.{NoneInReserve}
@@ -29,8 +30,8 @@ use Rattle.turn_runs.specs.Rounds.{DidNothing}
 use Rattle.turn_runs.specs.Steps.{worker_steps, steps_from, run_steps}
 use Rattle.turn_runs.specs.Stuck.{IsKeptBack}
 use Rattle.turn_runs.specs.declared.role.Role.TheVariants.{Card, App}
-use Rattle.turn_runs.specs.declared.run.Run.{Run}
-use Rattle.turn_runs.specs.declared.run.Worker.{Worker}
+use Rattle.run_end.specs.declared.run.Run.{Run}
+use Rattle.run_end.specs.declared.run.Worker.{Worker}
 use Rattle.turn_runs.proofs.Rising.{steps-alike, steps-set}
 
 -- ---- the card

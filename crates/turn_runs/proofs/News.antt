@@ -9,11 +9,12 @@ use Rattle.board_face.specs.Opened.{new_app, new_app_view, new_apps}
 use Rattle.board_face.specs.declared.views.parts.Setting.{Setting}
 use Rattle.board_face.specs.declared.views.app.AppSide.{AppSide}
 use Rattle.board_face.specs.declared.views.app.AppView.{AppView}
-use Rattle.plain_board.specs.Board.{Board, new_board, side_in, side_of}
+use Rattle.board_face.specs.Sides.{side_in}
+use Rattle.plain_board.specs.Board.{Board, new_board, side_of}
 use Rattle.app_worker.specs.Kept.{IsFresh, is_nothing}
 use Rattle.replay_turns.specs.declared.plan.Plan.{Plan}
-use Rattle.turn_runs.specs.Running.{IsNew, WorkerFits, WorkerRuns}
-use Rattle.turn_runs.specs.declared.run.Worker.{Worker}
+use Rattle.run_end.specs.Running.{IsNew, WorkerFits, WorkerRuns}
+use Rattle.run_end.specs.declared.run.Worker.{Worker}
 
 side-new : (s : Setting) (first n a number : ℕ) → number ≡ first + a → a < n → side_in (new_apps s first n) a ≡ new_app s number
 side-new s first zero a number is below = absurd (omega arith)

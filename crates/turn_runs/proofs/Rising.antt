@@ -16,7 +16,7 @@ use Rattle.board_face.specs.AppEvents.{app_gist}
 use Rattle.board_face.specs.declared.views.app.AppSide.{AppSide}
 use Rattle.plain_board.specs.Board.{Board, side_of}
 use Rattle.turn_runs.specs.Steps.{worker_steps, steps_from, TurnsRise}
-use Rattle.turn_runs.specs.declared.run.Worker.{Worker}
+use Rattle.run_end.specs.declared.run.Worker.{Worker}
 
 bare-stays : (was now : Bool) → (was ≡ true → now ≡ true) → one_if was ≤ one_if now
 bare-stays true now stays = omega (arith, ap one_if (stays refl))

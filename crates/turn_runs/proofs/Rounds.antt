@@ -19,8 +19,8 @@ use Rattle.turn_runs.specs.Running.{Fits}
 use Rattle.turn_runs.specs.Steps.{steps_from, run_steps}
 use Rattle.turn_runs.specs.Stuck.{IsCardStuck, IsKeptBack, IsAppStuck, AreStuck}
 use Rattle.turn_runs.specs.declared.role.Role.TheVariants.{Card, App}
-use Rattle.turn_runs.specs.declared.run.Run.{Run}
-use Rattle.turn_runs.specs.declared.run.Worker.{Worker}
+use Rattle.run_end.specs.declared.run.Run.{Run}
+use Rattle.run_end.specs.declared.run.Worker.{Worker}
 use Rattle.turn_runs.proofs.AllLeft.{WaitsForNote, kept-waits}
 use Rattle.turn_runs.proofs.Answering.{because-stays}
 use Rattle.turn_runs.proofs.Rising.{steps-alike}

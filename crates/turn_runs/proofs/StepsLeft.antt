@@ -3,10 +3,11 @@ use Rattle.std.proofs.Common.{◌≡◌, ℕ, ◌-◌, ◌<◌, ◌≤◌, List,
 use Rattle.std.specs.List.{slice_get}
 use Rattle.plain_board.specs.Board.{Board}
 use Rattle.turn_runs.specs.Rounds.{IsOfPlan}
-use Rattle.turn_runs.specs.Running.{Plays, Running}
+use Rattle.run_end.specs.Running.{Running}
+use Rattle.turn_runs.specs.Running.{Plays}
 use Rattle.turn_runs.specs.Steps.{run_steps, run_most}
-use Rattle.turn_runs.specs.declared.run.Run.{Run}
-use Rattle.turn_runs.specs.declared.run.Worker.{Worker}
+use Rattle.run_end.specs.declared.run.Run.{Run}
+use Rattle.run_end.specs.declared.run.Worker.{Worker}
 use Rattle.turn_runs.proofs.Bounds.{runs-within}
 
 -- how many entries may follow each loan, which is the same for all applications
@@ -37,7 +38,7 @@ module _ {S T : Type 0} (left : S → Option (List ℕ)) (faults : S → ℕ) (k
   pub still-of : IsOfPlan left faults kept losses source_now shelves_now board_now now
   still-of = record { first = of.first; firsts = of.firsts; plan = of.plan; runs = plays.runs of.first of.firsts of.plan of.runs }
 
-  most-is : (run : Run) (mid : S) (there : List T) (at : Board) → Running left faults kept losses of.first mid of.firsts there of.plan at run
+  most-is : (run : Run) (mid : S) (there : List T) (at : Board) → Running left faults kept losses of.first mid of.firsts there of.plan at.nic at.apps run
       → most_of run ≡ run_most (length of.plan.ports.items) of.plan.how.stray
   most-is run mid there at runs =
       let some = runs.plan_is.some in

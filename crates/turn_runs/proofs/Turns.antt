@@ -5,19 +5,21 @@ use Rattle.std.proofs.lemmas.List.{length-set, drop-set-lt}
 use Rattle.std.specs.List.{slice_get}
 use Rattle.board_face.specs.declared.views.app.AppSide.{AppSide}
 use Rattle.board_face.specs.declared.views.parts.Setting.{Setting}
-use Rattle.plain_board.specs.Board.{Board, side_in, side_of, setting_of}
+use Rattle.board_face.specs.Sides.{side_in}
+use Rattle.plain_board.specs.Board.{Board, side_of, setting_of}
 use Rattle.plain_board.specs.Sound.{IsSound}
 use Rattle.replay_turns.specs.Account.{kept_in}
 use Rattle.board_face.specs.declared.views.nic.Dealt.{Dealt}
 use Rattle.board_face.specs.declared.views.nic.NicSide.{NicSide}
 use Rattle.replay_turns.specs.Feed.{FeedState, IsReady, FeedStands}
 use Rattle.replay_turns.specs.Turns.{Plays as CardPlays}
-use Rattle.turn_runs.proofs.DealtEntries.{dealt-of}
 use Rattle.replay_turns.specs.declared.plan.Plan.{Plan}
-use Rattle.turn_runs.specs.Running.{losses_in, Fits, Running, Plays, WorkerFits, WorkerRuns}
-use Rattle.turn_runs.specs.declared.run.Run.{Run}
-use Rattle.turn_runs.specs.declared.run.Worker.{Worker}
-use Rattle.turn_runs.proofs.Places.{InSet, here, there, in-set, get-set_same, get-set_other, get-within, kept-here, kept-there, losses-here, losses-there}
+use Rattle.run_end.specs.Running.{losses_in, Running, WorkerFits, WorkerRuns}
+use Rattle.turn_runs.specs.Running.{Fits, Plays}
+use Rattle.run_end.specs.declared.run.Run.{Run}
+use Rattle.run_end.specs.declared.run.Worker.{Worker}
+use Rattle.run_end.proofs.DealtEntries.{dealt-of}
+use Rattle.run_end.proofs.Places.{InSet, here, there, in-set, get-set_same, get-set_other, get-within, kept-here, kept-there, losses-here, losses-there}
 
 -- ---- the board
 
@@ -47,18 +49,21 @@ module _ (board board_now : Board) (was now : Run) (workers : now.workers.items 
   pub card-fits : (n : ℕ) → Fits board was n → Fits board_now now n
   card-fits n fits = record {
     sound = sound_now;
-    ready = ready;
+    roles = record {
+      ready = ready;
+      worker = λ a w is. subst (λ all. WorkerFits (side_in all a).view w) (sym apps)
+          (fits.roles.worker a w (ap (λ items. slice_get items a) (sym workers) ∙ is));
+    };
     many = ap length workers ∙ fits.many ∙ sym (reserves-same board board_now fits.sound sound_now (ap length apps));
     shelves_enough = let same : length now.workers.items ≡ length was.workers.items = ap length workers in omega (arith, same, fits.shelves_enough);
-    worker = λ a w is. subst (λ all. WorkerFits (side_in all a).view w) (sym apps) (fits.worker a w (ap (λ items. slice_get items a) (sym workers) ∙ is));
   }
 
   pub card-runs : {S T : Type 0} (left : S → Option (List ℕ)) (faults : S → ℕ) (kept : T → ℕ → Option (List ℕ)) (losses : T → ℕ)
       (first source source_now : S) (firsts shelves : List T) (plan : Plan) → Fits board was (length shelves)
-      → (runs : Running left faults kept losses first source firsts shelves plan board was)
+      → (runs : Running left faults kept losses first source firsts shelves plan board.nic board.apps was)
       → (more : List (List ℕ)) → FeedStands left faults first source_now plan.ports.items plan.split more now.feed board_now.nic.view
       → now.feed.tally.records ≤ 16777216 → (read : FeedState) → CardPlays read now.feed board.nic.view board_now.nic.view
-      → Running left faults kept losses first source_now firsts shelves plan board_now now
+      → Running left faults kept losses first source_now firsts shelves plan board_now.nic board_now.apps now
   card-runs left faults kept losses first source source_now firsts shelves plan fits runs more stands records read plays =
       let some : 0 < length board.apps =
       omega (arith, runs.many, fits.many, fits.sound.set.many, runs.plan_is.some) in
@@ -94,22 +99,24 @@ module _ (board board_now : Board) (was now : Run) (app : ℕ) (w_was w_now : Wo
   pub app-fits : (n : ℕ) → Fits board was n → WorkerFits (side_of board_now app).view w_now → Fits board_now now n
   app-fits n fits worker_now = record {
     sound = sound_now;
-    ready = subst (λ f. IsReady f board_now.nic.view) (sym feed_is) (subst (λ nic. IsReady was.feed nic.view) (sym nic_is) fits.ready);
+    roles = record {
+      ready = subst (λ f. IsReady f board_now.nic.view) (sym feed_is) (subst (λ nic. IsReady was.feed nic.view) (sym nic_is) fits.roles.ready);
+      worker = λ a w is. elim (get-now a w is) [
+        | here at same ↦ subst (λ b. WorkerFits (side_of board_now b).view w) (sym at)
+            (subst (λ x. WorkerFits (side_of board_now app).view x) (sym same) worker_now)
+        | there other is_there ↦ subst (λ side. WorkerFits side.view w) (sym (others a other)) (fits.roles.worker a w is_there)
+      ];
+    };
     many = many-now ∙ fits.many ∙ sym (reserves-same board board_now fits.sound sound_now many_apps);
     shelves_enough = let same = many-now in omega (arith, same, fits.shelves_enough);
-    worker = λ a w is. elim (get-now a w is) [
-      | here at same ↦ subst (λ b. WorkerFits (side_of board_now b).view w) (sym at)
-          (subst (λ x. WorkerFits (side_of board_now app).view x) (sym same) worker_now)
-      | there other is_there ↦ subst (λ side. WorkerFits side.view w) (sym (others a other)) (fits.worker a w is_there)
-    ];
   }
 
   pub app-runs : {S T : Type 0} (left : S → Option (List ℕ)) (faults : S → ℕ) (kept : T → ℕ → Option (List ℕ)) (losses : T → ℕ)
       (first source : S) (firsts shelves : List T) (plan : Plan) (shelf shelf_now : T) → slice_get shelves app ≡ Some shelf
-      → Running left faults kept losses first source firsts shelves plan board was
+      → Running left faults kept losses first source firsts shelves plan board.nic board.apps was
       → (WorkerRuns (kept_in kept firsts app) (kept shelf) (losses_in losses firsts app) (losses shelf) plan.how (side_of board app).view w_was
       → WorkerRuns (kept_in kept firsts app) (kept shelf_now) (losses_in losses firsts app) (losses shelf_now) plan.how (side_of board_now app).view w_now)
-      → Running left faults kept losses first source firsts (set shelves app shelf_now) plan board_now now
+      → Running left faults kept losses first source firsts (set shelves app shelf_now) plan board_now.nic board_now.apps now
   app-runs left faults kept losses first source firsts shelves plan shelf shelf_now shelf_is runs goes =
       let later = set shelves app shelf_now in
       let within : app < length shelves = get-within shelves app shelf shelf_is in

@@ -6,11 +6,13 @@ use Rattle.std.proofs.Math.Seq.{take-append_seam}
 use Rattle.plain_board.specs.Board.{Board}
 use Rattle.replay_turns.specs.declared.outcome.Outcome.{Outcome}
 use Rattle.replay_turns.specs.declared.plan.Plan.{Plan}
-use Rattle.turn_runs.specs.Ran.{TellsOf, Ran, LacksMemory, told_of}
+use Rattle.run_end.specs.Ran.{TellsOf, Ran, LacksMemory, told_of}
 use Rattle.turn_runs.specs.Rounds.{IsOfPlan}
-use Rattle.turn_runs.specs.Running.{Fits, Running, Plays, AreOver}
-use Rattle.turn_runs.specs.declared.run.Run.{Run}
-use Rattle.turn_runs.proofs.Ended.{end-well, end-told}
+use Rattle.run_end.specs.Running.{Running, AreOver}
+use Rattle.turn_runs.specs.Running.{Fits, Plays}
+use Rattle.run_end.specs.declared.run.Run.{Run}
+use Rattle.run_end.proofs.Ended.{end-well, end-told}
+use Rattle.turn_runs.proofs.BoardOver.{have-ended}
 
 pub on-err : {A E : Type 0} (r : Result A E) (P : Type 0) → P → OnErr r P
 on-err (Ok x) P holds = tt
@@ -34,13 +36,13 @@ module _ {S T : Type 0} (left : S → Option (List ℕ)) (faults : S → ℕ) (k
   -- and the run is still one of its plan
   pub text-plan : (plan : Plan) → length plan.ports.items ≤ n
       → ((first : S) (shelves : List T) → length plan.ports.items ≤ length shelves
-      → Running left faults kept losses first first shelves shelves plan opened begun)
+      → Running left faults kept losses first first shelves shelves plan opened.nic opened.apps begun)
       → IsOfPlan left faults kept losses mid was_text played went
   text-plan plan enough begins = record {
     first = source;
     firsts = was;
     plan = plan;
-    runs = subst (λ ws. Running left faults kept losses source mid was ws plan played went) (sym same-text)
+    runs = subst (λ ws. Running left faults kept losses source mid was ws plan played.nic played.apps went) (sym same-text)
         (first.runs source was plan (begins source was (omega (arith, size, enough, ap length is))));
   }
 
@@ -49,7 +51,7 @@ module _ {S T : Type 0} (left : S → Option (List ℕ)) (faults : S → ℕ) (k
     (size : n ≡ length items) (enough : length plan.ports.items ≤ n) (is : was ≡ items)
     (is_text : was_text ≡ take n (text ++ drop (length text) items))
     (begins : (first : S) (shelves : List T) → length plan.ports.items ≤ length shelves
-    → Running left faults kept losses first first shelves shelves plan opened begun)
+    → Running left faults kept losses first first shelves shelves plan opened.nic opened.apps begun)
     (first : Plays left faults kept losses source mid was text opened played begun went)
     (second : Plays left faults kept losses mid now was_text rounds played over_board went over_run) where
   text-size : length text ≡ n
@@ -62,7 +64,7 @@ module _ {S T : Type 0} (left : S → Option (List ℕ)) (faults : S → ℕ) (k
   ends-with : take n (rounds ++ drop (length rounds) (take n (text ++ drop (length text) items))) ≡ rounds
   ends-with = back n rounds (take n (text ++ drop (length text) items)) (second.many ∙ ap length text-is ∙ text-size)
 
-  pub whole-runs : Running left faults kept losses source now items rounds plan over_board over_run
+  pub whole-runs : Running left faults kept losses source now items rounds plan over_board.nic over_board.apps over_run
   whole-runs =
       let one = subst (λ ws. Plays left faults kept losses source mid ws text opened played begun went) is first in
       let two = subst (λ ws. Plays left faults kept losses mid now ws rounds played over_board went over_run) text-is second in
@@ -71,12 +73,21 @@ module _ {S T : Type 0} (left : S → Option (List ℕ)) (faults : S → ℕ) (k
   module _ (over : AreOver over_run) where
     pub run-told : (outcome : Outcome) → TellsOf over_run plan.ports.items outcome
         → Ran left faults kept losses source now items (take n (rounds ++ drop (length rounds) (take n (text ++ drop (length text) items)))) plan
-        (told_of outcome) over_board
-    run-told outcome tells = subst (λ shelves. Ran left faults kept losses source now items shelves plan (told_of outcome) over_board) (sym ends-with)
-        (end-well left faults kept losses source now items rounds plan over_board over_run outcome second.fits whole-runs over tells)
+        (told_of outcome) over_board.nic over_board.apps
+    run-told outcome tells =
+        subst (λ shelves. Ran left faults kept losses source now items shelves plan (told_of outcome) over_board.nic over_board.apps) (sym ends-with)
+        (end-well left faults kept losses source now items rounds plan over_board.nic over_board.apps over_run outcome
+        (have-ended over_board over_run (length rounds) second.fits over) second.fits.roles over whole-runs tells)
 
     pub run-lacks : LacksMemory left faults kept losses source now items
         (take n (rounds ++ drop (length rounds) (take n (text ++ drop (length text) items)))) plan
     run-lacks =
-        let told = end-told left faults kept losses source now items rounds plan over_board over_run second.fits whole-runs over in
-        inr (told.0, over_board, subst (λ shelves. Ran left faults kept losses source now items shelves plan told.0 over_board) (sym ends-with) told.1)
+        let told = end-told left faults kept losses source now items rounds plan over_board.nic over_board.apps over_run
+        (have-ended over_board over_run (length rounds) second.fits over) second.fits.roles over whole-runs in
+        inr (
+          told.0,
+          over_board.nic,
+          over_board.apps,
+          subst
+              (λ shelves. Ran left faults kept losses source now items shelves plan told.0 over_board.nic over_board.apps) (sym ends-with) told.1,
+        )

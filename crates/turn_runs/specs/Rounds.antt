@@ -5,10 +5,10 @@ use Rattle.board_face.specs.NicEvents.{nic_gist}
 use Rattle.page_pool.specs.Dealing.{CountsStrays}
 use Rattle.plain_board.specs.Board.{Board, side_of}
 use Rattle.replay_turns.specs.declared.plan.Plan.{Plan}
-use Rattle.turn_runs.specs.Running.{Running}
+use Rattle.run_end.specs.Running.{Running}
 use Rattle.turn_runs.specs.Stuck.{IsStuck}
 use Rattle.turn_runs.specs.declared.role.Role.{Role}
-use Rattle.turn_runs.specs.declared.run.Run.{Run}
+use Rattle.run_end.specs.declared.run.Run.{Run}
 
 -- All is as it was, but for looks and what the applications know of their refill slots.
 pub record StandsStill (board board_now : Board) (was now : Run) : Type 0 where
@@ -30,4 +30,4 @@ pub record IsOfPlan {S T : Type 0} (left : S → Option (List ℕ)) (faults : S 
   pub first : S
   pub firsts : List T
   pub plan : Plan
-  pub runs : Running left faults kept losses first source firsts shelves plan board run
+  pub runs : Running left faults kept losses first source firsts shelves plan board.nic board.apps run

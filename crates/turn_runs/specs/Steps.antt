@@ -9,9 +9,10 @@ use Rattle.app_worker.specs.declared.turn.Turn.TheVariants.{Idle, Finished}
 use Rattle.app_worker.specs.declared.turn.Why.{Why}
 use Rattle.replay_turns.specs.Feed.{feed_steps}
 use Rattle.replay_turns.specs.declared.plan.Plan.{Plan}
-use Rattle.turn_runs.specs.Running.{Fits, Running}
-use Rattle.turn_runs.specs.declared.run.Run.{Run}
-use Rattle.turn_runs.specs.declared.run.Worker.{Worker}
+use Rattle.run_end.specs.Running.{Running}
+use Rattle.turn_runs.specs.Running.{Fits}
+use Rattle.run_end.specs.declared.run.Run.{Run}
+use Rattle.run_end.specs.declared.run.Worker.{Worker}
 
 -- ---- how far it has come
 
@@ -61,5 +62,5 @@ run_most apps stray = most_records + most_bytes + 2 + apps * entries_most stray 
 abbrev pub RunsStayWithin : {S T : Type 0} → (S → Option (List ℕ)) → (S → ℕ) → (T → ℕ → Option (List ℕ)) → (T → ℕ) → Type 0
 RunsStayWithin {S} {T} left faults kept losses =
     (source source_now : S) (shelves shelves_now : List T) (plan : Plan) (board : Board) (run : Run)
-    → Fits board run (length shelves_now) → Running left faults kept losses source source_now shelves shelves_now plan board run
+    → Fits board run (length shelves_now) → Running left faults kept losses source source_now shelves shelves_now plan board.nic board.apps run
     → run_steps board run ≤ run_most (length plan.ports.items) plan.how.stray

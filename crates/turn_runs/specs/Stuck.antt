@@ -9,11 +9,12 @@ use Rattle.plain_board.specs.Board.{Board, side_of, others_of}
 use Rattle.plain_board.specs.Seen.{IsSeenBy, IsSeenByCard}
 use Rattle.app_worker.specs.Turns.{Because, look_of}
 use Rattle.app_worker.specs.declared.turn.Why.{Why}
-use Rattle.turn_runs.specs.Running.{Fits, AreOver}
+use Rattle.run_end.specs.Running.{AreOver}
+use Rattle.turn_runs.specs.Running.{Fits}
 use Rattle.turn_runs.specs.declared.role.Role.{Role}
 use Rattle.turn_runs.specs.declared.role.Role.TheVariants.{Card, App}
-use Rattle.turn_runs.specs.declared.run.Run.{Run}
-use Rattle.turn_runs.specs.declared.run.Worker.{Worker}
+use Rattle.run_end.specs.declared.run.Run.{Run}
+use Rattle.run_end.specs.declared.run.Worker.{Worker}
 
 -- Each refill ring is empty and, unless the card was closed, a note ring is full.
 pub record IsCardStuck (board : Board) (run : Run) : Type 0 where

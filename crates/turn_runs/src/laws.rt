@@ -1,20 +1,7 @@
-ghost use Rattle.turn_runs.specs.Laws.{RunsAreTold, RunsEndWell};
 ghost use Rattle.turn_runs.specs.Steps.{RunsStayWithin, TurnsRise};
 ghost use Rattle.turn_runs.specs.Stuck.{StuckRunsAreOver};
 
 use zr_io::{Shelf, Source};
-
-/// Once the card was closed and every application has left, the outcome that is told is that of the run, and the board
-/// accounts for it. It does nothing: its contract is the law.
-pub fn runs_end_well<S: Source, T: Shelf>()
-    ensures { RunsEndWell S.left S.faults T.kept T.faults }
-{}
-
-/// Once the card was closed and every application has left, there is something to tell of the run, whether there is memory
-/// for it or not. It does nothing: its contract is the law.
-pub fn runs_are_told<S: Source, T: Shelf>()
-    ensures { RunsAreTold S.left S.faults T.kept T.faults }
-{}
 
 /// A run in which nobody can do anything is over: the card was closed, and every application has left. It does nothing: its
 /// contract is the law.

@@ -2,29 +2,15 @@
 
 ghost use Rattle.std.specs.Prelude.{◌≡◌, ℕ, ◌≤◌, List, length, IfOk};
 ghost use Rattle.replay_turns.specs.Plan.{IsPlan};
-ghost use Rattle.turn_runs.specs.Running.{AreNew, Fits, Running};
+ghost use Rattle.run_end.specs.Running.{Running};
+ghost use Rattle.turn_runs.specs.Running.{Fits};
 
-use crate::{Run, Worker};
-use app_worker::AppState;
 use plain_board::PlainBoard;
 use replay_turns::{Feed, Plan, new_feeds_stand};
+use run_end::{Run, new_workers};
 use std::alloc::{AllocError, Global};
 use std::collections::hash_map::RandomState;
 use zr_io::{Shelf, Source};
-
-/// The applications of a plan, which have taken no turn.
-fn workers_of(alloc: Global, plan: &Plan) -> Result<Vec<Worker>, AllocError>
-    requires { IsPlan plan.now }
-    ensures { IfOk result (λ workers. AreNew plan.now workers.items) }
-{
-    let apps = plan.ports.len() as u32;
-    let mut workers = Vec::with_capacity(alloc, plan.ports.len())?;
-    for app in 0..apps {
-        let state = AppState::new(alloc, app, plan.ring, plan.how)?;
-        workers.push(Worker { state, left: false })?;
-    }
-    Ok(workers)
-}
 
 /// Opens the board of a plan, at which nobody has taken a turn. The keys of the flows are hashed with `random`.
 pub fn open<S: Source, T: Shelf>(
@@ -36,12 +22,12 @@ pub fn open<S: Source, T: Shelf>(
     ensures fits { IfOk result (λ it. (shelves : ℕ) → length plan.now.ports.items ≤ shelves → Fits it.0 it.1 shelves) }
     ensures many { IfOk result (λ it. length it.1.workers.items ≡ length plan.now.ports.items) }
     ensures runs { IfOk result (λ it. (source : S) (shelves : List T) → length plan.now.ports.items ≤ length shelves
-        → Running S.left S.faults T.kept T.faults source source shelves shelves plan.now it.0 it.1) }
+        → Running S.left S.faults T.kept T.faults source source shelves shelves plan.now it.0.nic it.0.apps it.1) }
 {
     let layout = plan.layout().unwrap();
     let board = PlainBoard::open(alloc, layout, plan.ports.len() as u32, plan.ring)?;
     let feed = Feed::new(alloc, random, plan)?;
-    let workers = workers_of(alloc, plan)?;
+    let workers = new_workers(alloc, plan)?;
     board.sound();
     new_feeds_stand::<S>();
     Ok((board, Run { feed, workers }))

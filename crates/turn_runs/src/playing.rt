@@ -2,15 +2,17 @@
 
 ghost use Rattle.std.specs.Prelude.{◌<◌, length, MatchBool};
 ghost use Rattle.turn_runs.specs.Rounds.{IsOfPlan};
-ghost use Rattle.turn_runs.specs.Running.{Fits, Plays, AreOver};
+ghost use Rattle.run_end.specs.Running.{AreOver};
+ghost use Rattle.turn_runs.specs.Running.{Fits, Plays};
 ghost use Rattle.turn_runs.specs.Schedule.{AreTurns};
 ghost use Rattle.turn_runs.specs.Steps.{run_steps};
 ghost use Rattle.turn_runs.specs.Stuck.{AreStuck};
 
+use crate::Role;
 use crate::role::role_of;
 use crate::stepping::step;
-use crate::{Role, Run};
 use plain_board::PlainBoard;
+use run_end::Run;
 use std::alloc::Global;
 use zr_io::{Shelf, Source};
 

@@ -1,15 +1,16 @@
 //! A whole run.
 
 ghost use Rattle.std.specs.Prelude.{◌≡◌, ◌≤◌, length, vec_len, IfOk, OnErr};
+ghost use Rattle.plain_board.specs.Sound.{IsSound};
 ghost use Rattle.replay_turns.specs.Plan.{IsPlan};
-ghost use Rattle.turn_runs.specs.Ran.{Ran, LacksMemory, told_of};
+ghost use Rattle.run_end.specs.Ran.{Ran, LacksMemory, told_of};
 ghost use Rattle.turn_runs.specs.Schedule.{AreTurns};
 
-use crate::ending::tell;
 use crate::opening::open;
 use crate::playing::{play_rounds, play_text};
 use plain_board::PlainBoard;
 use replay_turns::{Outcome, Plan};
+use run_end::tell;
 use std::alloc::{AllocError, Global};
 use std::collections::hash_map::RandomState;
 use zr_io::{Shelf, Source};
@@ -31,9 +32,11 @@ pub fn run_turns<S: Source, T: Shelf>(
     requires shelves { length plan.now.ports.items ≤ vec_len shelves.old }
     requires turns { AreTurns (length plan.now.ports.items) turns.now }
     ensures many { vec_len shelves.new ≡ vec_len shelves.old }
-    // The stream theorem, what the outcome says, and that the board accounts for the run.
+    // The stream theorem, what the outcome says, and that all is over at the board and it accounts for the run.
     ensures ran { IfOk result (λ it. Ran S.left S.faults T.kept T.faults source.old source.new shelves.old.items shelves.new.items plan.now
-        (told_of it.0) it.1) }
+        (told_of it.0) it.1.nic it.1.apps) }
+    // The board is sound too.
+    ensures sound { IfOk result (λ it. IsSound it.1) }
     // Want of memory comes before the first turn or behind the last.
     ensures lacks { OnErr result (LacksMemory S.left S.faults T.kept T.faults source.old source.new shelves.old.items shelves.new.items plan.now) }
 {

@@ -7,10 +7,11 @@ ghost use Rattle.turn_runs.specs.Schedule.{IsRole};
 ghost use Rattle.turn_runs.specs.Steps.{run_steps};
 ghost use Rattle.turn_runs.specs.declared.role.Role.TheVariants.{App};
 
-use crate::{Role, Run};
+use crate::Role;
 use app_worker::Turn;
 use plain_board::PlainBoard;
 use replay_turns::{app_step, card_step};
+use run_end::Run;
 use std::alloc::Global;
 use zr_io::{Shelf, Source};
 

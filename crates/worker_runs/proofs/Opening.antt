@@ -5,7 +5,8 @@ use Rattle.board_face.specs.AppCalls.{IsHere}
 use Rattle.board_face.specs.Opened.{new_app_view, new_apps}
 use Rattle.board_face.specs.declared.views.parts.Setting.{Setting}
 use Rattle.board_face.specs.declared.views.app.AppView.{AppView}
-use Rattle.plain_board.specs.Board.{Board, new_board, side_in, side_of}
+use Rattle.board_face.specs.Sides.{side_in}
+use Rattle.plain_board.specs.Board.{Board, new_board, side_of}
 use Rattle.app_worker.specs.Kept.{IsFresh}
 
 pub begun : (board : Board) (layout : Shape) (places : ℕ) → board ≡ new_board layout places → 1 ≡ layout.reserves

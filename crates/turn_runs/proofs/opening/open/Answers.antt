@@ -8,7 +8,7 @@ use Rattle.board_face.specs.declared.views.nic.Dealt.{Dealt}
 use Rattle.replay_turns.specs.Feed.{FeedState}
 use Rattle.plain_board.specs.Board.{Board}
 use Rattle.replay_turns.specs.Plan.{layout_of}
-use Rattle.turn_runs.proofs.Places.{get-within}
+use Rattle.run_end.proofs.Places.{get-within}
 use Rattle.turn_runs.proofs.News.{begun, new-fits, new-runs}
 use Rattle.turn_runs.proofs.opening.open.Goals as goal
 
@@ -25,12 +25,14 @@ returns-clause-fits g c shelves enough =
     ap (λ (b : Board). b.arrays.layout.reserves) c.in_ok-board.ensures in
     record {
       sound = c.sound.ensures;
-      ready = rw c.in_ok-board.ensures (c.in_ok-feed.ensures.ready _ refl (record { owns = refl; pieces = refl }) (sym reserves));
+      roles = record {
+        ready = rw c.in_ok-board.ensures (c.in_ok-feed.ensures.ready _ refl (record { owns = refl; pieces = refl }) (sym reserves));
+        worker = λ a w is. let within = get-within c.in_ok-workers.workers.items a w is in
+            new-fits c.args.plan.now _ a _ w (begun c.in_ok-board.board c.unwrap-layout.result c.args.plan.now.ring a c.in_ok-board.ensures
+            (omega (arith, within, many, reserves))) (c.in_ok-workers.ensures.each a w is);
+      };
       many = many ∙ sym reserves ∙ sym board_reserves;
       shelves_enough = omega (arith, many, enough);
-      worker = λ a w is. let within = get-within c.in_ok-workers.workers.items a w is in
-          new-fits c.args.plan.now _ a _ w (begun c.in_ok-board.board c.unwrap-layout.result c.args.plan.now.ring a c.in_ok-board.ensures
-          (omega (arith, within, many, reserves))) (c.in_ok-workers.ensures.each a w is);
     }
 
 pub returns-clause-runs : goal.returns-clause-runs

@@ -1,6 +1,6 @@
 -- A whole run.
 use Rattle.std.proofs.Common.{length, inl, refl, sym, ap, subst, ◌∙◌, arith}
-use Rattle.turn_runs.specs.Ran.{TellsOf}
+use Rattle.run_end.specs.Ran.{TellsOf}
 use Rattle.turn_runs.specs.Schedule.{AreTurns}
 use Rattle.turn_runs.proofs.WholeRun.{on-err, whole-runs, text-fits, text-plan, run-told, run-lacks}
 use Rattle.turn_runs.proofs.running.run_turns.Goals as goal

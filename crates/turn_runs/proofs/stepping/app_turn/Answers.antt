@@ -9,15 +9,16 @@ use Rattle.app_worker.specs.Turns.{Answers}
 use Rattle.app_worker.specs.declared.turn.Turn.TheVariants.{Finished}
 use Rattle.replay_turns.specs.Account.{kept_in}
 use Rattle.turn_runs.specs.Rounds.{DidNothing}
-use Rattle.turn_runs.specs.Running.{losses_in, Fits}
+use Rattle.run_end.specs.Running.{losses_in}
+use Rattle.turn_runs.specs.Running.{Fits}
 use Rattle.turn_runs.specs.Steps.{run_steps}
 use Rattle.turn_runs.specs.declared.role.Role.TheVariants.{App}
-use Rattle.turn_runs.specs.declared.run.Run.{Run}
-use Rattle.turn_runs.specs.declared.run.Worker.{Worker}
+use Rattle.run_end.specs.declared.run.Run.{Run}
+use Rattle.run_end.specs.declared.run.Worker.{Worker}
 use Rattle.turn_runs.proofs.Answering.{gone-idle, app-idles, app-rises}
 use Rattle.turn_runs.proofs.Rising.{turns-rise}
 use Rattle.turn_runs.proofs.Turns.{app-fits, app-runs}
-use Rattle.turn_runs.proofs.Workers.{goes-on}
+use Rattle.run_end.proofs.Workers.{goes-on}
 use Rattle.turn_runs.proofs.stepping.app_turn.Goals.{in-Finished, in_default, in-Idle, in_default-matches}
 use Rattle.turn_runs.proofs.stepping.app_turn.Goals as goal
 
@@ -30,12 +31,12 @@ returns-then-index g c = record {
 
 pub app_step-board-requires-clause-here : goal.app_step-board-requires-clause-here
 app_step-board-requires-clause-here g c =
-    (c.requires.fits.worker c.args.app c.index.result.now
+    (c.requires.fits.roles.worker c.args.app c.index.result.now
     (slice_get_read c.args.run.now.workers.items _ c.args.app c.index.result.now refl c.requires.app c.index.ensures)).here c.if-index.false
 
 pub app_step-board-requires-clause-stands : goal.app_step-board-requires-clause-stands
 app_step-board-requires-clause-stands g c =
-    (c.requires.fits.worker c.args.app c.index_mut-worker.result.now
+    (c.requires.fits.roles.worker c.args.app c.index_mut-worker.result.now
     (slice_get_read c.args.run.now.workers.items _ c.args.app c.index_mut-worker.result.now refl c.requires.app c.index_mut-worker.ensures.value)).stands
 
 pub returns : goal.returns

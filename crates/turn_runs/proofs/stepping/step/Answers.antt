@@ -3,7 +3,7 @@ use Rattle.std.proofs.Common.{◌<◌, ◌≤◌, refl, sym, subst}
 use Rattle.std.specs.Prelude.{MatchBool}
 use Rattle.turn_runs.specs.Rounds.{DidNothing}
 use Rattle.turn_runs.specs.Steps.{run_steps}
-use Rattle.turn_runs.specs.declared.run.Run.{Run}
+use Rattle.run_end.specs.declared.run.Run.{Run}
 use Rattle.turn_runs.proofs.Answering.{card-answers}
 use Rattle.turn_runs.proofs.Turns.{card-fits, card-runs}
 use Rattle.turn_runs.proofs.stepping.step.Goals as goal

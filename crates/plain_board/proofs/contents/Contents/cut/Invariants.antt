@@ -1,7 +1,6 @@
 -- The application's diary says then that it cut the piece.
-use Rattle.board_face.specs.Sides.{app_at}
+use Rattle.board_face.specs.Sides.{app_at, side_in}
 use Rattle.board_face.specs.AppEvents.{cut}
-use Rattle.plain_board.specs.Board.{side_in}
 use Rattle.plain_board.proofs.contents.Contents.cut.Given as goal
 
 abbrev pub ghosts-note_at : goal.ghosts-note_at

@@ -3,7 +3,7 @@ use Rattle.std.proofs.Common.{◌≡◌, ℕ, ◌<◌, refl, ap, sym, ◌∙◌,
 use Rattle.board_face.proofs.LookLemmas.{NicRose-nic_saw}
 use Rattle.board_face.specs.declared.views.nic.NicLook.TheVariants.{RingEmpty}
 use Rattle.area_layout.specs.Layout.{judged, pool_buffers}
-use Rattle.plain_parts.specs.Blank.{blank_app}
+use Rattle.board_face.specs.Blank.{blank_app}
 use Rattle.std.specs.Prelude.{◌==◌, ◌&&◌, nat_lt, Bool, true, false}
 use Rattle.std.proofs.Common.{◌≤◌, ⊎_elim}
 use Rattle.std.proofs.lemmas.Bool.{ltb-true, lt-ltb, cases_lt}

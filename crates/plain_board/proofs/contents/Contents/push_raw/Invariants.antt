@@ -1,8 +1,7 @@
 -- What the application's diary says by the answer.
-use Rattle.board_face.specs.Sides.{app_at}
+use Rattle.board_face.specs.Sides.{app_at, side_in}
 use Rattle.board_face.specs.AppEvents.{pushed_raw, app_saw}
 use Rattle.board_face.specs.declared.views.app.AppLook.TheVariants.{RefillInUse}
-use Rattle.plain_board.specs.Board.{side_in}
 use Rattle.plain_board.proofs.contents.Contents.push_raw.Given as goal
 
 abbrev pub ghosts-note_at : goal.ghosts-note_at

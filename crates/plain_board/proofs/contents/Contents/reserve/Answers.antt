@@ -1,7 +1,7 @@
 -- An application's setting is the board's, and its number is where it stands.
 use Rattle.std.proofs.Common.{ap, arith}
 use Rattle.area_layout.specs.Layout.{pool_buffers}
-use Rattle.plain_parts.specs.Blank.{blank_app}
+use Rattle.board_face.specs.Blank.{blank_app}
 use Rattle.plain_board.proofs.AppFrames.{here-of, has-setting}
 use Rattle.plain_board.proofs.contents.Contents.reserve.Goals as goal
 

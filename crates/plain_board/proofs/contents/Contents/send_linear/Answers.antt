@@ -1,7 +1,7 @@
 -- Where the ring is full nothing moves. Else the note is the last on its way, with its bytes.
 use Rattle.std.proofs.Common.{◌∙◌, ap, take, arith, refl}
 use Rattle.board_face.specs.declared.views.nic.NicLook.TheVariants.{NoteInUse}
-use Rattle.plain_parts.specs.Blank.{blank_app}
+use Rattle.board_face.specs.Blank.{blank_app}
 use Rattle.plain_board.proofs.Card.{within-setting}
 use Rattle.plain_board.proofs.Still.{IsSound-saw}
 use Rattle.board_face.proofs.SideLemmas.{IsApp-at}
