@@ -1,0 +1,7 @@
+mod CardTurns
+mod LaneTurns
+mod NewWorkers
+mod SideBySide
+mod AllOver
+mod Reversed
+mod Told

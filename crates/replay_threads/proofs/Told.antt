@@ -1,0 +1,34 @@
+-- What is told of a run that was played, with the shelves that were set aside behind those of its applications.
+use Rattle.std.proofs.Common.{◌≡◌, ℕ, List, ◌++◌, Option, inr, sym, subst}
+use Rattle.std.specs.Prelude.{Result, Ok, Err, OnErr}
+use Rattle.replay_turns.specs.declared.outcome.Outcome.{Outcome}
+use Rattle.replay_turns.specs.declared.plan.Plan.{Plan}
+use Rattle.run_end.specs.Laws.{RunsAreTold, RunsEndWell}
+use Rattle.run_end.specs.Ran.{LacksMemory, Ran, TellsOf, told_of}
+use Rattle.run_end.specs.Running.{Running}
+use Rattle.run_end.specs.declared.run.Run.{Run}
+use Rattle.word_board.specs.Board.{TheDesk, card_of}
+use Rattle.replay_threads.specs.Played.{HasPlayed}
+
+pub on-err : {A E : Type 0} (r : Result A E) (P : Type 0) → P → OnErr r P
+on-err (Ok x) P holds = tt
+on-err (Err e) P holds = holds
+
+module _ {S T : Type 0} (left : S → Option (List ℕ)) (faults : S → ℕ) (kept : T → ℕ → Option (List ℕ)) (losses : T → ℕ)
+    (source source_now : S) (all mid mid_now all_now more : List T) (plan : Plan) (desk : TheDesk) (run : Run)
+    (first : all ≡ mid ++ more) (last : all_now ≡ mid_now ++ more)
+    (played : HasPlayed left faults kept losses source source_now mid mid_now plan desk run) where
+  runs : Running left faults kept losses source source_now all all_now plan (card_of desk.view) desk.view.apps run
+  runs = subst (λ xs. Running left faults kept losses source source_now xs all_now plan (card_of desk.view) desk.view.apps run) (sym first)
+      (subst (λ xs. Running left faults kept losses source source_now (mid ++ more) xs plan (card_of desk.view) desk.view.apps run) (sym last)
+      (played.runs more))
+
+  pub run-told : RunsEndWell left faults kept losses → (outcome : Outcome) → TellsOf run plan.ports.items outcome
+      → Ran left faults kept losses source source_now all all_now plan (told_of outcome) (card_of desk.view) desk.view.apps
+  run-told law outcome tells =
+      law source source_now all all_now plan (card_of desk.view) desk.view.apps run outcome played.ended played.fit played.over runs tells
+
+  pub run-lacks : RunsAreTold left faults kept losses → LacksMemory left faults kept losses source source_now all all_now plan
+  run-lacks law =
+      let told = law source source_now all all_now plan (card_of desk.view) desk.view.apps run played.ended played.fit played.over runs in
+      inr (told.0, card_of desk.view, desk.view.apps, told.1)

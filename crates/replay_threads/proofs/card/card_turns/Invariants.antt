@@ -1,0 +1,6 @@
+-- The turns so far.
+use Rattle.replay_threads.specs.Cards.{CardGoes}
+use Rattle.replay_threads.proofs.card.card_turns.Given as goal
+
+abbrev pub invariant-loop : goal.invariant-loop
+invariant-loop g l = CardGoes g.S.Source.left g.S.Source.faults l.fn.source l.source l.fn.card l.card

@@ -1,0 +1,12 @@
+-- One turn more.
+use Rattle.replay_threads.proofs.LaneTurns.{lane_more}
+use Rattle.replay_threads.proofs.lane.lane_turns.Goals as goal
+
+pub returns-then-lane_turn : goal.returns-then-lane_turn
+returns-then-lane_turn g c = record {
+  goes = lane_more g.T.Shelf.kept g.T.Shelf.faults c.args.lane.now c.loop.lane c.lane_turn.new.lane c.loop.invariant c.lane_turn.ensures.goes;
+}
+
+pub loop-preserved : goal.loop-preserved
+loop-preserved g c =
+    lane_more g.T.Shelf.kept g.T.Shelf.faults c.args.lane.now c.loop.lane c.lane_turn.new.lane c.loop.invariant c.lane_turn.ensures.goes

@@ -1,0 +1,19 @@
+-- All turns of a run: every role is back at the desk.
+use Rattle.std.specs.Prelude.{ℕ, List, ◌++◌, Option}
+use Rattle.board_face.specs.Ended.{HaveEnded}
+use Rattle.replay_turns.specs.declared.plan.Plan.{Plan}
+use Rattle.run_end.specs.Running.{AreOver, RolesFit, Running}
+use Rattle.run_end.specs.declared.run.Run.{Run}
+use Rattle.word_board.specs.Board.{TheDesk, card_of}
+use Rattle.word_board.specs.Desk.{AllAreBack}
+
+-- All is over and back at the desk, and the run of the plan went on to there, with whatever shelves stand behind those of its
+-- applications.
+pub record HasPlayed {S T : Type 0} (left : S → Option (List ℕ)) (faults : S → ℕ) (kept : T → ℕ → Option (List ℕ)) (losses : T → ℕ)
+    (source source_now : S) (shelves shelves_now : List T) (plan : Plan) (desk : TheDesk) (run : Run) : Type 0 where
+  pub back : AllAreBack desk.board.setting desk.view
+  pub ended : HaveEnded (card_of desk.view) desk.view.apps
+  pub fit : RolesFit (card_of desk.view) desk.view.apps run
+  pub over : AreOver run
+  pub runs : (more : List T)
+      → Running left faults kept losses source source_now (shelves ++ more) (shelves_now ++ more) plan (card_of desk.view) desk.view.apps run

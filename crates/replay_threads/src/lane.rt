@@ -1,0 +1,143 @@
+//! An application at its seat: its turns, and the loop of its thread.
+ghost use Rattle.std.specs.Prelude.{◌≡◌, true, All, IsTrue};
+ghost use Rattle.run_end.specs.Running.{WorkerFits};
+ghost use Rattle.replay_threads.specs.Lanes.{AllFit, LaneGoes, AllGo};
+
+use crate::beside::{Beside, IDLE};
+use crate::gate::Gate;
+use app_worker::{Turn, app_turn};
+use crossbeam_utils::Backoff;
+use run_end::Worker;
+use std::alloc::Global;
+use std::thread::{self, Threads};
+use word_board::AppSeat;
+use zr_io::Shelf;
+
+/// How many applications a board has at most.
+const MOST_APPS: usize = 8;
+
+/// An application between two of its turns, with its shelf.
+pub struct Lane<'b, T> {
+    pub seat: AppSeat<'b>,
+    pub worker: Worker,
+    pub shelf: T,
+    /// Its number at the gate.
+    pub who: u32,
+    /// How many turns it has taken.
+    pub turns: u64,
+}
+
+/// A turn of the application, unless it has left. `false` says that nothing was done.
+fn lane_turn<T: Shelf, G: Gate>(alloc: Global, gate: &G, lane: &mut Lane<'_, T>) -> bool
+    requires fits { WorkerFits lane.old.seat.side.view lane.old.worker }
+    ensures goes { LaneGoes T.kept T.faults lane.old lane.new }
+{
+    if lane.worker.left {
+        return false;
+    }
+    gate.at(lane.who, lane.turns);
+    lane.turns = lane.turns.saturating_add(1);
+    let turn = app_turn(
+        alloc,
+        &mut lane.seat,
+        &mut lane.worker.state,
+        &mut lane.shelf,
+    );
+    lane.worker.left = matches!(turn, Turn::Finished);
+    !matches!(turn, Turn::Idle(_))
+}
+
+/// Turns, until something is done in one. `false` says that nothing was done in many, and that the card takes none.
+fn lane_turns<T: Shelf, G: Gate>(
+    alloc: Global,
+    gate: &G,
+    beside: &Beside,
+    answered: &mut u64,
+    lane: &mut Lane<'_, T>,
+) -> bool
+    requires fits { WorkerFits lane.old.seat.side.view lane.old.worker }
+    ensures goes { LaneGoes T.kept T.faults lane.old lane.new }
+{
+    let backoff = Backoff::new();
+    for _ in 0..IDLE {
+        let asked = beside.asked();
+        if lane_turn(alloc, gate, lane) {
+            return true;
+        }
+        beside.answer(asked, answered);
+        backoff.snooze();
+    }
+    beside.card_runs()
+}
+
+/// The turns of the application, until it has left, or nothing is done in many and the card takes none.
+fn lane_loop<T: Shelf, G: Gate>(alloc: Global, gate: &G, beside: &Beside, lane: &mut Lane<'_, T>)
+    requires fits { WorkerFits lane.old.seat.side.view lane.old.worker }
+    ensures goes { LaneGoes T.kept T.faults lane.old lane.new }
+{
+    let mut answered = 0;
+    // The bound is never reached. By it the loop is seen to end.
+    for _ in 0..u64::MAX {
+        if lane.worker.left || !lane_turns(alloc, gate, beside, &mut answered, lane) {
+            return;
+        }
+    }
+}
+
+/// The application's loop.
+fn run_lane<T: Shelf, G: Gate>(alloc: Global, gate: &G, beside: &Beside, lane: &mut Lane<'_, T>)
+    requires fits { WorkerFits lane.old.seat.side.view lane.old.worker }
+    ensures goes { LaneGoes T.kept T.faults lane.old lane.new }
+{
+    beside.begin();
+    lane_loop(alloc, gate, beside, lane);
+    beside.end(lane.worker.left);
+}
+
+/// The turns of all applications, side by side.
+pub fn run_lanes<T: Shelf + Send, G: Gate + Sync, R: Threads + Sync>(
+    rt: &R,
+    alloc: Global,
+    gate: &G,
+    beside: &Beside,
+    lanes: &mut [Lane<'_, T>],
+)
+    requires fit { AllFit lanes.old }
+    ensures go { AllGo T.kept T.faults lanes.old lanes.new }
+{
+    thread::for_each_mut(
+        rt,
+        lanes,
+        MOST_APPS,
+        &|_, lane| {
+            run_lane(alloc, gate, beside, lane);
+        },
+    );
+}
+
+/// A turn of each application that hasn't left, in this thread.
+pub fn round<T: Shelf + Send, G: Gate + Sync, R: Threads + Sync>(
+    rt: &R,
+    alloc: Global,
+    gate: &G,
+    lanes: &mut [Lane<'_, T>],
+)
+    requires fit { AllFit lanes.old }
+    ensures go { AllGo T.kept T.faults lanes.old lanes.new }
+{
+    thread::for_each_mut(
+        rt,
+        lanes,
+        1,
+        &|_, lane| {
+            lane_turn(alloc, gate, lane);
+        },
+    );
+}
+
+/// Whether every application has left.
+pub fn have_left<T>(lanes: &[Lane<'_, T>]) -> bool
+    ensures { IsTrue result → All (λ lane. lane.worker.left ≡ true) lanes.now }
+{
+    lanes.iter().all(|lane| lane.worker.left)
+}

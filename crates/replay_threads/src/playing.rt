@@ -1,0 +1,117 @@
+//! All turns of a run: the roles side by side, and rounds for what is left.
+ghost use Rattle.std.specs.Prelude.{◌≡◌, true, All, IsTrue};
+ghost use Rattle.replay_turns.specs.Feed.{IsReady};
+ghost use Rattle.replay_threads.specs.Cards.{CardGoes};
+ghost use Rattle.replay_threads.specs.Lanes.{AllFit, AllGo};
+
+use crate::beside::{Beside, IDLE};
+use crate::card::{Card, card_turn, run_card};
+use crate::gate::Gate;
+use crate::lane::{Lane, have_left, round, run_lanes};
+use std::alloc::Global;
+use std::sync::Wait;
+use std::thread::{Threads, join_mut};
+use zr_io::{Shelf, Source};
+
+/// The loops of the card and of the applications.
+fn join_loops<S: Source + Send, T: Shelf + Send, G: Gate + Sync, R: Threads + Sync>(
+    rt: &R,
+    alloc: Global,
+    gate: &G,
+    beside: &Beside,
+    source: &mut S,
+    card: &mut Card<'_>,
+    lanes: &mut [Lane<'_, T>],
+)
+    requires ready { IsReady card.old.feed card.old.seat.side.view }
+    requires fit { AllFit lanes.old }
+    ensures card { CardGoes S.left S.faults source.old source.new card.old card.new }
+    ensures lanes { AllGo T.kept T.faults lanes.old lanes.new }
+{
+    join_mut(
+        rt,
+        &mut ||
+            requires { IsReady card.now.feed card.now.seat.side.view }
+        { run_card(gate, beside, source, card) },
+        &mut ||
+            requires { AllFit lanes.now }
+        { run_lanes(rt, alloc, gate, beside, lanes) },
+    );
+}
+
+/// The card and the applications side by side, until each is over, or has done nothing for long and none goes on.
+fn play_beside<S: Source + Send, T: Shelf + Send, G: Gate + Sync, R: Threads + Sync>(
+    rt: &R,
+    alloc: Global,
+    gate: &G,
+    source: &mut S,
+    card: &mut Card<'_>,
+    lanes: &mut [Lane<'_, T>],
+)
+    requires ready { IsReady card.old.feed card.old.seat.side.view }
+    requires fit { AllFit lanes.old }
+    ensures card { CardGoes S.left S.faults source.old source.new card.old card.new }
+    ensures lanes { AllGo T.kept T.faults lanes.old lanes.new }
+{
+    let beside = Beside::new();
+    join_loops(rt, alloc, gate, &beside, source, card, lanes);
+}
+
+/// Whether the card was closed and every application has left.
+fn are_over<T>(card: &Card<'_>, lanes: &[Lane<'_, T>]) -> bool
+    ensures closed { IsTrue result → card.now.feed.closed ≡ true }
+    ensures left { IsTrue result → All (λ lane. lane.worker.left ≡ true) lanes.now }
+{
+    card.feed.closed() && have_left(lanes)
+}
+
+/// Rounds, a turn of the card and then one of each application, until all are over. `false` says that after many they aren't.
+fn play_rounds<S: Source, T: Shelf + Send, G: Gate + Sync, R: Threads + Sync>(
+    rt: &R,
+    alloc: Global,
+    gate: &G,
+    source: &mut S,
+    card: &mut Card<'_>,
+    lanes: &mut [Lane<'_, T>],
+) -> bool
+    requires ready { IsReady card.old.feed card.old.seat.side.view }
+    requires fit { AllFit lanes.old }
+    ensures card { CardGoes S.left S.faults source.old source.new card.old card.new }
+    ensures lanes { AllGo T.kept T.faults lanes.old lanes.new }
+    ensures closed { IsTrue result → card.new.feed.closed ≡ true }
+    ensures left { IsTrue result → All (λ lane. lane.worker.left ≡ true) lanes.new }
+{
+    for _ in 0..IDLE {
+        if are_over(card, lanes) {
+            return true;
+        }
+        card_turn(gate, source, card);
+        round(rt, alloc, gate, lanes);
+    }
+    are_over(card, lanes)
+}
+
+/// All turns of a run: side by side, and where loops ended before all were over, rounds, and side by side again.
+pub fn play<S: Source + Send, T: Shelf + Send, G: Gate + Sync, R: Threads + Wait + Sync>(
+    rt: &R,
+    alloc: Global,
+    gate: &G,
+    source: &mut S,
+    card: &mut Card<'_>,
+    lanes: &mut [Lane<'_, T>],
+)
+    requires ready { IsReady card.old.feed card.old.seat.side.view }
+    requires fit { AllFit lanes.old }
+    ensures card { CardGoes S.left S.faults source.old source.new card.old card.new }
+    ensures lanes { AllGo T.kept T.faults lanes.old lanes.new }
+    ensures closed { card.new.feed.closed ≡ true }
+    ensures left { All (λ lane. lane.worker.left ≡ true) lanes.new }
+{
+    for _ in rt.forever() {
+        play_beside(rt, alloc, gate, source, card, lanes);
+        if play_rounds(rt, alloc, gate, source, card, lanes) {
+            return;
+        }
+    }
+    unreachable!()
+}

@@ -1,0 +1,149 @@
+//! A whole run.
+ghost use Rattle.std.specs.Prelude.{◌≡◌, ◌+◌, ◌-◌, ◌<◌, ◌≤◌, ℕ, [], length, vec_len, vec_capacity, IfOk, OnErr};
+ghost use Rattle.board_face.specs.NicCalls.{apps_of, IsOpen, HasNoToken};
+ghost use Rattle.board_face.specs.declared.views.nic.NicView.{NicView};
+ghost use Rattle.replay_turns.specs.Feed.{IsReady, new_feed};
+ghost use Rattle.replay_turns.specs.Plan.{IsPlan, layout_of};
+ghost use Rattle.run_end.specs.Ran.{Ran, LacksMemory, told_of};
+ghost use Rattle.run_end.specs.Running.{AreNew};
+ghost use Rattle.word_board.specs.Board.{card_of, new_desk};
+ghost use Rattle.word_board.specs.Desk.{AllAreBack};
+ghost use Rattle.replay_threads.specs.Played.{HasPlayed};
+
+use crate::card::Card;
+use crate::gate::Gate;
+use crate::lane::Lane;
+use crate::moving::move_last;
+use crate::playing::play;
+use crate::seating::{close_lanes, open_lanes};
+use replay_turns::{Feed, Outcome, Plan, new_feeds_stand};
+use run_end::{Run, new_workers, runs_are_told, runs_end_well, tell};
+use std::alloc::{AllocError, Global};
+use std::collections::hash_map::RandomState;
+use std::sync::Wait;
+use std::thread::Threads;
+use word_board::{Desk, WordBoard};
+use zr_io::{Shelf, Source};
+
+/// Room for the lanes of so many applications, and for so many shelves that have none.
+fn rooms<'b, T>(
+    alloc: Global,
+    apps: usize,
+    beyond: usize,
+) -> Result<(Vec<Lane<'b, T>>, Vec<T>), AllocError>
+    ensures lanes { IfOk result (λ it. (it.0.items ≡ []) × (apps ≤ vec_capacity it.0)) }
+    ensures aside { IfOk result (λ it. (it.1.items ≡ []) × (beyond ≤ vec_capacity it.1)) }
+{
+    let lanes: Vec<Lane<'b, T>> = Vec::with_capacity(alloc, apps)?;
+    match Vec::with_capacity(alloc, beyond) {
+        Ok(aside) => Ok((lanes, aside)),
+        Err(error) => {
+            lanes.destroy_empty();
+            Err(error)
+        }
+    }
+}
+
+/// All turns of the run of a plan, from a board at which nothing has happened, until every role is back at the desk. It takes
+/// no memory for itself.
+fn play_seated<'b, S: Source + Send, T: Shelf + Send, G: Gate + Sync, R: Threads + Wait + Sync>(
+    rt: &R,
+    alloc: Global,
+    gate: &G,
+    source: &mut S,
+    shelves: &mut Vec<T>,
+    plan: &Plan,
+    board: &'b WordBoard,
+    desk: &mut Desk,
+    lanes: Vec<Lane<'b, T>>,
+    run: Run,
+) -> Run
+    requires plan { IsPlan plan.now }
+    requires desk { desk.old ≡ new_desk board.now }
+    requires setting { board.now.setting ≡ record { layout = layout_of plan.now; places = plan.now.ring } }
+    requires feed { run.feed ≡ new_feed plan.now.ports.items plan.now.split }
+    requires ready { (v : NicView) → IsOpen v → HasNoToken v → length plan.now.ports.items ≡ apps_of v.setting → IsReady run.feed v }
+    requires workers { AreNew plan.now run.workers.items }
+    requires shelves { vec_len shelves.old ≡ length plan.now.ports.items }
+    requires lanes { (lanes.items ≡ []) × (length plan.now.ports.items ≤ vec_capacity lanes) }
+    ensures played { HasPlayed S.left S.faults T.kept T.faults source.old source.new shelves.old.items shelves.new.items plan.now desk.new result }
+    ensures board { desk.new.board ≡ desk.old.board }
+    ensures many { vec_len shelves.new ≡ vec_len shelves.old }
+    ensures room { vec_capacity shelves.new ≡ vec_capacity shelves.old }
+{
+    let Run { feed, mut workers } = run;
+    let Some(seat) = board.nic(desk) else {
+        unreachable!()
+    };
+    let mut lanes = lanes;
+    open_lanes(board, desk, &mut workers, shelves, &mut lanes);
+    new_feeds_stand::<S>();
+    let mut card = Card {
+        seat,
+        feed,
+        turns: 0,
+        gone: 0,
+        ahead: plan.buffers / 2,
+    };
+    play(rt, alloc, gate, source, &mut card, lanes.as_mut_slice());
+    let Card { seat, feed, .. } = card;
+    // Its answer says that no more records were read than are read at most.
+    let _ = feed.records();
+    seat.back(desk);
+    close_lanes(lanes, desk, &mut workers, shelves);
+    Run { feed, workers }
+}
+
+/// Replays a capture with threads, over the board on words: the card and each application have a thread of their own, where
+/// threads can be made, and take turns at their seats until they are over, or have done nothing for long and none goes on. What
+/// is left then goes round in this thread, for many rounds, and then with threads again, until all have left. Shelf `a` takes the flows to the port of place `a` among the plan's. `random` keys the table of flows, and
+/// `gate` is told of each turn before it is taken.
+///
+/// It answers how the run went, and the board with its desk as they stand then.
+pub fn run_threads<S: Source + Send, T: Shelf + Send, G: Gate + Sync, R: Threads + Wait + Sync>(
+    rt: &R,
+    alloc: Global,
+    random: RandomState,
+    source: &mut S,
+    shelves: &mut Vec<T>,
+    plan: &Plan,
+    gate: &G,
+) -> Result<(Outcome, WordBoard, Desk), AllocError>
+    requires plan { IsPlan plan.now }
+    requires shelves { length plan.now.ports.items ≤ vec_len shelves.old }
+    ensures many { vec_len shelves.new ≡ vec_len shelves.old }
+    // The stream theorem, what the outcome says, and that all is over at the board and it accounts for the run.
+    ensures ran { IfOk result (λ it. Ran S.left S.faults T.kept T.faults source.old source.new shelves.old.items shelves.new.items plan.now
+        (told_of it.0) (card_of it.2.view) it.2.view.apps) }
+    // The board is the plan's, and every role is back at its desk, so it may be finished.
+    ensures setting { IfOk result (λ it. it.1.setting ≡ record { layout = layout_of plan.now; places = plan.now.ring }) }
+    ensures back { IfOk result (λ it. (it.2.board ≡ it.1) × AllAreBack it.1.setting it.2.view) }
+    // Want of memory comes before the first turn or behind the last.
+    ensures lacks { OnErr result (LacksMemory S.left S.faults T.kept T.faults source.old source.new shelves.old.items shelves.new.items plan.now) }
+{
+    let layout = plan.layout().unwrap();
+    let apps = plan.ports.len();
+    let (board, mut desk) = WordBoard::open(alloc, layout, apps as u32, plan.ring)?;
+    let feed = Feed::new(alloc, random, plan)?;
+    let workers = new_workers(alloc, plan)?;
+    let (lanes, mut aside) = rooms(alloc, apps, shelves.len() - apps)?;
+    move_last(shelves, apps, &mut aside);
+    let run = play_seated(
+        rt,
+        alloc,
+        gate,
+        source,
+        shelves,
+        plan,
+        &board,
+        &mut desk,
+        lanes,
+        Run { feed, workers },
+    );
+    move_last(&mut aside, 0, shelves);
+    aside.destroy_empty();
+    runs_end_well::<S, T>();
+    runs_are_told::<S, T>();
+    let outcome = tell(alloc, run, &plan.ports)?;
+    Ok((outcome, board, desk))
+}
