@@ -4,8 +4,9 @@
 usage: tools/few_descriptors.py
 
 64 flows go to one port with 64 descriptors, and 512 flows to 8 ports with 256, in turn and one port's flows after
-another's. Each flow comes three times, so that a file that was closed is appended to again. The status is 0 where each
-run ends with status 0 and each stream is right.
+another's. Each flow comes three times, so that a file that was closed is appended to again. The eight ports go by turns on one
+thread: with threads each keeps up to 64 files open whatever the others do, which wants about 520 descriptors. The status is 0
+where each run ends with status 0 and each stream is right.
 
 ZCRX=FILE names another program than crates/zcrx_cli/out/zcrx_cli, which `make build` leaves there.
 """
@@ -60,6 +61,8 @@ def capture(ports, flows, port_of):
 def replay(program, ports, descriptors, bytes_in, folder):
     """The status of a replay in a folder, with so many descriptors."""
     words = [str(FIRST_PORT + port) for port in range(ports)]
+    if ports > 1:
+        words = ["--turns=n", *words]
     limit = lambda: resource.setrlimit(resource.RLIMIT_NOFILE, (descriptors, descriptors))
     run = subprocess.run(
         [program, "replay", *words], input=bytes_in, cwd=folder, preexec_fn=limit, stdout=subprocess.DEVNULL)

@@ -1,6 +1,7 @@
 #!/usr/bin/env bash
-# Replays the capture of `make 7 100000`, about 108 MB, twice with `--turns n` and once by rounds, and compares: the same report
-# each time, 25,000,000 bytes in each of the four flows, and the same streams. Outside the gate; a few seconds.
+# Replays the capture of `make 7 100000`, about 108 MB, twice with `--turns n` and once with threads, and compares: the same
+# report by turns, 25,000,000 bytes in each of the four flows, and the same streams. With threads there are more buffers than
+# the rings can hold notes for. Outside the gate; a few seconds.
 #
 # usage: tools/large_run.sh        ZCRX=FILE names another program than crates/zcrx_cli/out/zcrx_cli
 set -eu
@@ -19,11 +20,13 @@ replay() { # FOLDER OPTION..
 }
 replay first --turns n
 replay again --turns n
-replay rounds
+replay threads --buffers 4096 --size 16384
 diff -r first again
 for flow in 0 1 2 3; do
-    cmp "first/flow-$flow.bin" "rounds/flow-$flow.bin"
-    grep -q "^flow $flow port $((9000 + flow)) base 4294960000 bytes 25000000 fin no$" first/report
-    grep -q "^app $flow port $((9000 + flow)) written 25000000 loans 25000 copied 0 stopped no$" first/report
+    cmp "first/flow-$flow.bin" "threads/flow-$flow.bin"
+    for run in first threads; do
+        grep -q "^flow $flow port $((9000 + flow)) base 4294960000 bytes 25000000 fin no$" $run/report
+        grep -q "^app $flow port $((9000 + flow)) written 25000000 loans 25000 copied 0 stopped no$" $run/report
+    done
 done
-echo "large run: the same report and streams each time"
+echo "large run: the same streams each time, and by turns the same report"

@@ -5,16 +5,27 @@
 #
 # usage: tools/prove_program.sh
 #
-# What is proved is kept in crates/*/out, so that a second run takes seconds. Where a crate isn't proved, what the check
-# said follows, and the status is 1.
-set -u
+# What is proved is kept in crates/*/out, so a second run proves nothing again. Where a crate isn't proved, what the check
+# said follows, what runs beside it is stopped, and the status is 1.
+set -um
 cd "$(dirname "$0")/.." || exit 1
 command -v rt >/dev/null || {
     echo "prove_program: no command rt, the toolchain's, on the path" >&2
     exit 1
 }
 folder=$(mktemp -d)
-trap 'rm -rf "$folder"' EXIT
+declare -A stands_on seen state began crate_of
+
+# Ends what still runs, each check with what it started, when the script ends.
+finish() {
+    local job
+    for job in "${!crate_of[@]}"; do
+        kill -- "-$job" 2>/dev/null
+    done
+    rm -rf "$folder"
+}
+trap finish EXIT
+trap 'exit 130' INT TERM
 
 # How many crates are proved side by side.
 most=$(nproc)
@@ -22,7 +33,6 @@ room=$(awk '/^MemTotal:/ { print int($2 / 4194304) }' /proc/meminfo)
 [ "$room" -lt "$most" ] && most=$room
 [ "$most" -lt 1 ] && most=1
 
-declare -A stands_on seen state began crate_of
 while IFS=: read -r name others; do
     [[ $name = "#"* ]] || stands_on[${name%% *}]=$others
 done <crates.txt
@@ -72,7 +82,7 @@ start_ready() {
         [ -z "${state[$name]-}" ] && is_ready "$name" || continue
         state[$name]=started
         began[$name]=$SECONDS
-        prove "$name" >"$folder/$name" 2>&1 &
+        prove "$name" </dev/null >"$folder/$name" 2>&1 &
         crate_of[$!]=$name
         running=$((running + 1))
     done
@@ -85,6 +95,7 @@ for ((number = 1; number <= ${#order[@]}; number++)); do
     wait -n -p ended
     status=$?
     name=${crate_of[$ended]}
+    unset "crate_of[$ended]"
     running=$((running - 1))
     if [ "$status" -ne 0 ]; then
         echo "not proved: $name"

@@ -2,7 +2,7 @@
 use Rattle.std.proofs.Common.{◌≡◌, ℕ, zero, suc, ◌+◌, ◌-◌, ◌<◌, ◌≤◌, List, [], ◌∷◌, length, drop, Option, None, Some}
 use Rattle.std.proofs.Common.{refl, sym, ap, ◌∙◌, arith}
 use Rattle.std.specs.List.{slice_get}
-use Rattle.turn_runs.specs.Ran.{There}
+use Rattle.run_end.specs.Ran.{There}
 
 pub there : {A : Type 0} (found : Option A) (P : A → Type 0) → There found P → (value : A) × (found ≡ Some value) × P value
 there None P is = absurd is

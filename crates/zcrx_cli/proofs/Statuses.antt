@@ -20,11 +20,12 @@ use Rattle.zr_io.proofs.Moved.{Took-weaker}
 use Rattle.frames_read.specs.Ending.{Ended, ended_of}
 use Rattle.frames_read.specs.Reading.{ShowsEnding, BreaksOff, TakenEnds, IsEnding, IsReadToEnd}
 use Rattle.frames_read.proofs.Endings.{some-weaker}
-use Rattle.plain_board.specs.Board.{Board}
+use Rattle.board_face.specs.declared.views.nic.NicSide.{NicSide}
+use Rattle.board_face.specs.declared.views.app.AppSide.{AppSide}
 use Rattle.replay_turns.specs.Offered.{WantsRoom}
 use Rattle.replay_turns.specs.declared.plan.Plan.{Plan}
-use Rattle.turn_runs.specs.Running.{losses_in, losses_or}
-use Rattle.turn_runs.specs.Ran.{Ran, Told}
+use Rattle.run_end.specs.Running.{losses_in, losses_or}
+use Rattle.run_end.specs.Ran.{Ran, Told}
 use Rattle.command_words.specs.Words.{ReplayShown}
 use Rattle.zcrx_cli.specs.Planned.{IsPlanOf}
 use Rattle.zcrx_cli.specs.declared.card.Card.{Card}
@@ -33,7 +34,7 @@ use Rattle.run_report.specs.Report.{Reports, answer_of}
 use Rattle.run_report.specs.declared.report.Unreported.{Unreported}
 use Rattle.run_report.specs.declared.report.Unreported.TheVariants as unreported
 use Rattle.zcrx_cli.specs.Status.{is_memory, is_write, any_stopped, end_number, status_from, status_of}
-use Rattle.zcrx_cli.specs.StreamTheorem.{IsStatusOf, IsStatus, IsBrokenOff, Replays, Tells}
+use Rattle.zcrx_cli.specs.StreamTheorem.{IsStatusOf, IsStatus, IsBrokenOff, RanWith, Replays, Tells}
 
 -- ---- the ways in which a reading ends
 
@@ -206,8 +207,8 @@ module _ (wanting lost : Bool) (end : Option Fault) {answer refusals refusals_no
 -- ---- the parts of what a replay leaves
 
 module _ {S T : Type 0} {left : S → Option (List ℕ)} {failed : S → ℕ} {kept : T → ℕ → Option (List ℕ)} {losses : T → ℕ}
-    {source source_now : S} {shelves shelves_now : List T} {plan : Plan} {outcome : Told} {board : Board} {answer refusals refusals_now : ℕ}
-    (replayed : Ran left failed kept losses source source_now shelves shelves_now plan outcome board)
+    {source source_now : S} {shelves shelves_now : List T} {plan : Plan} {outcome : Told} {nic : NicSide} {apps : List AppSide} {answer refusals refusals_now : ℕ}
+    (replayed : Ran left failed kept losses source source_now shelves shelves_now plan outcome nic apps)
     (is : IsAnswer (status_of outcome) answer refusals refusals_now) where
   abbrev pub lost : Bool
   lost = any_stopped is_write outcome.apps
@@ -323,12 +324,13 @@ told_well refusals refusals_now said answer (Err unreported.Write) still is not_
 
 module _ {S T O : Type 0} {left : S → Option (List ℕ)} {failed : S → ℕ} {kept : T → ℕ → Option (List ℕ)} {losses : T → ℕ}
     (sent : O → Option (List ℕ)) (refusals : O → ℕ) {source source_now : S} {shelves shelves_now : List T} (out out_now : O)
-    {plan : Plan} {outcome : Told} {board : Board} {answer : ℕ}
-    (ran : Ran left failed kept losses source source_now shelves shelves_now plan outcome board) where
-  pub replays : (told : ReplayShown) (card_now : Card) → IsPlanOf told.ports told.options plan → card_now ≡ Card.Plain board
+    {plan : Plan} {outcome : Told} {answer : ℕ} where
+  pub replays : (told : ReplayShown) (card_now : Card) → IsPlanOf told.ports told.options plan
+      → RanWith left failed kept losses source source_now shelves shelves_now card_now told.turns plan outcome
       → Tells (sent out) (sent out_now) (refusals out) (refusals out_now) outcome answer
       → Replays left failed kept losses sent refusals source source_now shelves shelves_now out out_now card_now told answer
-  replays told card_now planned card_is tells =
+  replays told card_now planned with tells =
+      let ran = with.ran in
       let is : IsAnswer (status_of outcome) answer (refusals out) (refusals out_now) = is_answer (sent out) (sent out_now) (refusals out)
       (refusals out_now) (status_of outcome) answer _ tells.reported tells.report tells.answered in
       let same : plan.ports.items ≡ told.ports = planned.ports_are in
@@ -336,9 +338,7 @@ module _ {S T O : Type 0} {left : S → Option (List ℕ)} {failed : S → ℕ} 
         plan = plan;
         planned = planned;
         outcome = outcome;
-        board = board;
-        ran = ran;
-        card_is = card_is;
+        ran = with;
         reported = tells.reported;
         report = tells.report;
         answered = tells.answered;

@@ -4,17 +4,19 @@ use Rattle.std.specs.List.{list_any, slice_get}
 use Rattle.zr_kinds.specs.declared.fault.Fault.{Fault}
 use Rattle.zr_kinds.specs.declared.fault.Fault.TheVariants.{Cut}
 use Rattle.zr_io.specs.Moved.{Rose, Took}
+use Rattle.board_face.specs.declared.views.nic.NicSide.{NicSide}
+use Rattle.board_face.specs.declared.views.app.AppSide.{AppSide}
 use Rattle.command_words.specs.Words.{ReplayShown, Shown, replay, make}
 use Rattle.frames_read.specs.Ending.{ended_of}
 use Rattle.frames_read.specs.Reading.{IsReadToEnd}
-use Rattle.plain_board.specs.Board.{Board}
 use Rattle.zr_kinds.specs.declared.behaviour.Stopped.TheVariants as stop
 use Rattle.zr_kinds.specs.declared.outcome.AppLine.{AppLine}
 use Rattle.replay_turns.specs.declared.plan.Plan.{Plan}
-use Rattle.turn_runs.specs.Running.{losses_in}
-use Rattle.turn_runs.specs.Ran.{Ran, LacksMemory, Told}
+use Rattle.run_end.specs.Running.{losses_in}
+use Rattle.run_end.specs.Ran.{Ran, LacksMemory, Told}
 use Rattle.run_report.specs.Report.{report_of, Reports, answer_of}
 use Rattle.run_report.specs.declared.report.Unreported.{Unreported}
+use Rattle.zcrx_cli.specs.Cards.{HasOver, HasSides, IsOfWay}
 use Rattle.zcrx_cli.specs.Planned.{IsPlanOf}
 use Rattle.zcrx_cli.specs.Status.{end_number, status_of}
 use Rattle.zcrx_cli.specs.Making.{Makes}
@@ -37,17 +39,26 @@ abbrev pub text_of : Told → List ℕ
 text_of outcome =
     report_of outcome.tally outcome.apps outcome.flows outcome.refused outcome.pool (status_of outcome)
 
+-- What a run leaves, by turns or by threads: the streams, what its outcome says, and in the card the board of the run, which accounts for
+-- it and may be finished.
+pub record RanWith {S T : Type 0} (left : S → Option (List ℕ)) (failed : S → ℕ) (kept : T → ℕ → Option (List ℕ)) (losses : T → ℕ)
+    (source source_now : S) (shelves shelves_now : List T) (card_now : Card) (turns : Option (List ℕ)) (plan : Plan) (outcome : Told) : Type 0 where
+  pub nic : NicSide
+  pub apps : List AppSide
+  pub ran : Ran left failed kept losses source source_now shelves shelves_now plan outcome nic apps
+  pub sides : HasSides card_now nic apps
+  pub over : HasOver card_now
+  pub way : IsOfWay turns card_now
+
 -- What a replay leaves of its source, its shelves and its sink, which board is in the card, and what its answer says.
 pub record Replays {S T O : Type 0} (left : S → Option (List ℕ)) (failed : S → ℕ) (kept : T → ℕ → Option (List ℕ)) (losses : T → ℕ)
     (sent : O → Option (List ℕ)) (refusals : O → ℕ)
     (source source_now : S) (shelves shelves_now : List T) (out out_now : O) (card_now : Card) (told : ReplayShown) (answer : ℕ) : Type 0 where
   pub plan : Plan
   pub planned : IsPlanOf told.ports told.options plan
-  -- The stream theorem, what the lines of the report say, and that the board accounts for the run and may be finished.
+  -- The stream theorem, what the lines of the report say, and the board in the card.
   pub outcome : Told
-  pub board : Board
-  pub ran : Ran left failed kept losses source source_now shelves shelves_now plan outcome board
-  pub card_is : card_now ≡ Card.Plain board
+  pub ran : RanWith left failed kept losses source source_now shelves shelves_now card_now told.turns plan outcome
   -- The report, with the status of that outcome, went out whole; or not, and then the answer says so.
   pub reported : Result (Unit {0}) Unreported
   pub report : Reports (sent out) (sent out_now) (refusals out) (refusals out_now) (text_of outcome) reported

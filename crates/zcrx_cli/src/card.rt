@@ -1,6 +1,7 @@
 //! The board of a run, as it stands behind the run.
 
 use plain_board::PlainBoard;
+use word_board::{Desk, WordBoard};
 use zr_kinds::Ended;
 
 /// The board of a run, once it is over.
@@ -8,8 +9,10 @@ use zr_kinds::Ended;
 pub enum Card {
     /// There was no run.
     Blank,
-    /// A board for one thread.
+    /// The board for one thread.
     Plain(PlainBoard),
+    /// The board on words, and its desk with all that its roles did.
+    Words(WordBoard, Desk),
 }
 
 impl Card {
@@ -23,6 +26,7 @@ impl Card {
         match self {
             Card::Blank => unreachable!(),
             Card::Plain(board) => board.finish(),
+            Card::Words(board, desk) => board.finish(desk),
         }
     }
 }

@@ -15,11 +15,14 @@ mod top;
 
 pub use card::Card;
 use descriptors::hold_closed_streams;
-use std::alloc::{AllocError, Global};
+use replay_threads::NoGate;
+use std::alloc::AllocError;
 use std::collections::hash_map::RandomState;
 use std::io::BufReader;
 use std::process::ExitCode;
 use std::rt::{Env, Files};
+use std::sync::Wait;
+use std::thread::Threads;
 use std::{env, io};
 pub use top::zcrx;
 use zr_io::{FileShelf, StdSink, StdSource};
@@ -55,8 +58,8 @@ fn make_shelves<R: Files + AllocGlobal>(rt: &R) -> Result<Vec<FileShelf<&R>>, Al
     Ok(shelves)
 }
 
-/// Runs the command over standard input, standard output and the files of the current folder.
-fn start(rt: &HostRuntime) -> Result<u8, Fault> {
+/// Runs the command over standard input, standard output and the files of the current folder, by these threads.
+fn start(rt: &HostRuntime, threads: &(impl Threads + Wait + Sync)) -> Result<u8, Fault> {
     let _held = hold_closed_streams(rt).map_err(|error| memory_or(Fault::Write, &error))?;
     let arguments = read_arguments(rt)?;
     let words: Vec<&str> = arguments
@@ -72,12 +75,14 @@ fn start(rt: &HostRuntime) -> Result<u8, Fault> {
     let random = RandomState::new(rt).map_err(|_| Fault::Read)?;
     let mut card = Card::Blank;
     let status = zcrx(
+        threads,
         rt.alloc(),
         random,
         &words,
         &mut source,
         &mut shelves,
         &mut out,
+        &NoGate,
         &mut card,
     );
     close(card);
@@ -97,7 +102,7 @@ fn close(card: Card)
 }
 
 fn main(rt: HostRuntime) -> ExitCode {
-    let status = match start(&rt) {
+    let status = match start(&rt, &rt) {
         Ok(status) => status,
         Err(fault) => fault.number(),
     };

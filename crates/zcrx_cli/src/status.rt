@@ -1,7 +1,7 @@
 //! The status of a replay.
 
 ghost use Rattle.std.specs.Prelude.{◌≡◌};
-ghost use Rattle.turn_runs.specs.Ran.{told_of};
+ghost use Rattle.run_end.specs.Ran.{told_of};
 ghost use Rattle.zcrx_cli.specs.Status.{is_memory, is_write, any_stopped, status_of};
 
 use replay_turns::Outcome;

@@ -12,4 +12,5 @@ mod records;
 mod reordered;
 mod rows;
 mod runs;
+mod threads;
 mod words;

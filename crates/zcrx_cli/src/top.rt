@@ -1,25 +1,29 @@
 //! The top call: a command's words, a source, eight shelves and a sink.
 
-ghost use Rattle.std.specs.Prelude.{◌≡◌, ◌≢◌, ℕ, ◌≤◌, ◌<◌, ◌⊎◌, None, Some, IfSome, Ok, map, length, take, nat_eq, vec_len};
+ghost use Rattle.std.specs.Prelude.{◌≡◌, ◌≢◌, ℕ, ◌≤◌, ◌<◌, ◌⊎◌, None, Some, IfSome, IfOk, OnErr, Ok, map, length, option_map, take, nat_eq, vec_len};
 ghost use Rattle.std.specs.Io.KnownBytes.{Appends};
 ghost use Rattle.zr_io.specs.Moved.{Rose};
 ghost use Rattle.cap_make.specs.GeneratedCapture.{generated_capture};
 ghost use Rattle.command_words.specs.Options.{AreInRange};
 ghost use Rattle.command_words.specs.Words.{IsPortList, IsReplay, reading_of, replay_shown};
 ghost use Rattle.replay_turns.specs.Plan.{IsPlan};
-ghost use Rattle.turn_runs.specs.Ran.{told_of};
+ghost use Rattle.run_end.specs.Ran.{LacksMemory, told_of};
+ghost use Rattle.turn_runs.specs.Schedule.{AreTurns};
 ghost use Rattle.zcrx_cli.specs.Cards.{IsClosed};
 ghost use Rattle.zcrx_cli.specs.Planned.{IsPlanOf};
-ghost use Rattle.zcrx_cli.specs.StreamTheorem.{Commands, IsUntouched, Lacks, Replays, Tells};
+ghost use Rattle.zcrx_cli.specs.StreamTheorem.{Commands, IsUntouched, Lacks, RanWith, Replays, Tells};
 
 use crate::card::Card;
 use crate::status::status_of;
 use cap_make::make;
 use command_words::{Command, Options, Replay, read_words};
+use replay_threads::{Gate, run_threads};
 use replay_turns::{Outcome, Plan};
 use run_report::{Report, answer, write_report};
-use std::alloc::Global;
+use std::alloc::{AllocError, Global};
 use std::collections::hash_map::RandomState;
+use std::sync::Wait;
+use std::thread::Threads;
 use turn_runs::run_turns;
 use zr_io::{Failed, Shelf, Sink, Source};
 use zr_kinds::Fault;
@@ -63,13 +67,54 @@ fn plan_of(ports: Vec<u16>, options: Options) -> Plan
     }
 }
 
-fn run<S: Source, T: Shelf, O: Sink>(
+/// Runs the plan: by the text of turns where there is one, and then its board is the one for one thread; or by threads over
+/// the board on words. The board is left in the card.
+fn play<S: Source + Send, T: Shelf + Send, G: Gate + Sync, R: Threads + Wait + Sync>(
+    rt: &R,
+    alloc: Global,
+    random: RandomState,
+    source: &mut S,
+    shelves: &mut Vec<T>,
+    plan: &Plan,
+    turns: Option<&str>,
+    gate: &G,
+    card: &mut Card,
+) -> Result<Outcome, AllocError>
+    requires plan { IsPlan plan.now }
+    requires shelves { length plan.now.ports.items ≤ vec_len shelves.old }
+    requires turns { IfSome turns (λ text. AreTurns (length plan.now.ports.items) text.now) }
+    ensures many { vec_len shelves.new ≡ vec_len shelves.old }
+    ensures ran { IfOk result (λ outcome. RanWith S.left S.faults T.kept T.faults source.old source.new shelves.old.items shelves.new.items card.new
+        (option_map (λ text. text.now) turns.entry) plan.now (told_of outcome)) }
+    ensures lacks { OnErr result (LacksMemory S.left S.faults T.kept T.faults source.old source.new shelves.old.items shelves.new.items plan.now
+        × (card.new ≡ card.old)) }
+{
+    match turns {
+        Some(text) => {
+            let (outcome, board) = run_turns(alloc, random, source, shelves, plan, text)?;
+            *card = Card::Plain(board);
+            Ok(outcome)
+        }
+        None => {
+            let (outcome, board, desk) = run_threads(
+                rt, alloc, random, source, shelves, plan, gate,
+            )?;
+            *card = Card::Words(board, desk);
+            Ok(outcome)
+        }
+    }
+}
+
+/// Replays a capture as a command asks for, and writes the report.
+fn replay<S: Source + Send, T: Shelf + Send, O: Sink, G: Gate + Sync, R: Threads + Wait + Sync>(
+    rt: &R,
     alloc: Global,
     random: RandomState,
     command: Replay<'_>,
     source: &mut S,
     shelves: &mut Vec<T>,
     out: &mut O,
+    gate: &G,
     card: &mut Card,
 ) -> u8
     requires told { IsReplay command }
@@ -86,12 +131,8 @@ fn run<S: Source, T: Shelf, O: Sink>(
         turns,
     } = command;
     let plan = plan_of(ports, options);
-    let text = turns.unwrap_or("");
-    match run_turns(alloc, random, source, shelves, &plan, text) {
-        Ok((outcome, board)) => {
-            *card = Card::Plain(board);
-            tell(alloc, &outcome, out)
-        }
+    match play(rt, alloc, random, source, shelves, &plan, turns, gate, card) {
+        Ok(outcome) => tell(alloc, &outcome, out),
         Err(_) => Fault::Memory.number(),
     }
 }
@@ -111,15 +152,18 @@ fn write_capture<O: Sink>(seed: u32, frames: u32, out: &mut O) -> u8
 
 /// Runs the command that `words`, the words after the program's name, ask for. To replay a capture shelf `a` takes the
 /// flows to the port of place `a` among the ports, and `random` keys the table of flows; to make one neither source nor
-/// shelves are needed. The board of a run is left in `card`. Answers the status: 0, or the number of the fault that comes
-/// first.
-pub fn zcrx<S: Source + Send, T: Shelf + Send, O: Sink>(
+/// shelves are needed. With a text of turns a replay goes by these on one thread. Without one the card and each application
+/// have a thread of their own, and `gate` is asked before each of their turns. The board of a run is left in `card`. Answers
+/// the status: 0, or the number of the fault that comes first.
+pub fn zcrx<S: Source + Send, T: Shelf + Send, O: Sink, G: Gate + Sync, R: Threads + Wait + Sync>(
+    rt: &R,
     alloc: Global,
     random: RandomState,
     words: &[&str],
     source: &mut S,
     shelves: &mut Vec<T>,
     out: &mut O,
+    gate: &G,
     card: &mut Card,
 ) -> u8
     requires shelves { vec_len shelves.old ≡ 8 }
@@ -141,7 +185,7 @@ pub fn zcrx<S: Source + Send, T: Shelf + Send, O: Sink>(
 {
     match read_words(alloc, &*words) {
         Ok(Some(Command::Replay(command))) => {
-            run(alloc, random, command, source, shelves, out, card)
+            replay(rt, alloc, random, command, source, shelves, out, gate, card)
         }
         Ok(Some(Command::Make(command))) => write_capture(command.seed, command.frames, out),
         Ok(None) => Fault::Usage.number(),

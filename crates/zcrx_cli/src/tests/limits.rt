@@ -2,11 +2,14 @@
 use super::frames::{FILE_HEADER, SYN, Sent, frame, record_of, to_9000};
 use super::runs::{check_free, free_buffers};
 use crate::{Card, SHELVES, zcrx};
+use replay_threads::NoGate;
 use std::alloc::Global;
 use std::collections::hash_map::RandomState;
 use std::process::Abort;
 use std::random::RandomSource;
+use std::sync::Wait;
 use std::test::Fail;
+use std::thread::Threads;
 use zr_io::{MemShelf, MemSink, MemSource, Source};
 
 /// How many bytes the report of 65,535 flows has at most.
@@ -14,7 +17,7 @@ const ROOM: usize = 4_000_000;
 
 /// A replay of port 9000 whose report has to be this.
 pub fn check_report<S: Source + Send>(
-    rt: &(impl Abort + AllocGlobal + RandomSource),
+    rt: &(impl Abort + AllocGlobal + RandomSource + Threads + Wait + Sync),
     source: &mut S,
     status: u8,
     report: &str,
@@ -30,12 +33,14 @@ pub fn check_report<S: Source + Send>(
     let words = ["replay", "9000"];
     let mut card = Card::Blank;
     let answer = zcrx(
+        rt,
         alloc,
         random,
         &words,
         source,
         &mut shelves,
         &mut out,
+        &NoGate,
         &mut card,
     );
     assert!(rt; out.bytes() == report.as_bytes(), "another report");

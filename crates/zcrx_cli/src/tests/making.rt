@@ -6,14 +6,16 @@ use pcap_reader::Capture;
 use std::alloc::Global;
 use std::process::Abort;
 use std::random::RandomSource;
+use std::sync::Wait;
 use std::test::Fail;
+use std::thread::Threads;
 use zr_io::MemSource;
 
 /// More bytes than any capture here has.
 const ROOM: usize = 2_500_000;
 
 /// How many bytes of each flow the longest capture here has.
-const LONG: usize = 500_000;
+pub const LONG: usize = 500_000;
 
 /// The sequence number of the first byte of each flow.
 const BASE: u32 = 4_294_960_000;
@@ -22,7 +24,7 @@ const BASE: u32 = 4_294_960_000;
 const UNREAD: &[u8] = b"left alone";
 
 /// A call of `make` where no call of the sink fails.
-const fn made_by<'a>(words: &'a [&'a str]) -> Given<'a> {
+pub const fn made_by<'a>(words: &'a [&'a str]) -> Given<'a> {
     Given {
         words,
         sink_room: ROOM,
@@ -31,8 +33,8 @@ const fn made_by<'a>(words: &'a [&'a str]) -> Given<'a> {
 }
 
 /// Calls `make` and compares its status. Source and shelves have to be as before. Gives what went out.
-fn make(
-    rt: &(impl Abort + AllocGlobal + RandomSource),
+pub fn make(
+    rt: &(impl Abort + AllocGlobal + RandomSource + Threads + Wait + Sync),
     given: &Given<'_>,
     status: u8,
 ) -> Result<Vec<u8>, Fail> {
@@ -87,7 +89,7 @@ fn faulty_words_of_make_are_answered_by_2(rt: HostRuntime) -> Result<(), Fail> {
 }
 
 /// The bytes of a flow of this number, with the seed 7, from position 0 on.
-fn bytes_of(alloc: Global, flow: usize, count: usize) -> Result<Vec<u8>, Fail> {
+pub fn bytes_of(alloc: Global, flow: usize, count: usize) -> Result<Vec<u8>, Fail> {
     let mut bytes = Vec::with_capacity(alloc, count)?;
     let mut byte = 7u8;
     for _ in 0..flow {
@@ -151,6 +153,8 @@ fn two_thousand_frames_are_replayed(rt: HostRuntime) -> Result<(), Fail> {
         given: Given {
             words: &[
                 "replay",
+                "--turns",
+                "n",
                 "--buffers",
                 "2000",
                 "9000",

@@ -8,7 +8,9 @@ use frame_headers::{Seen, read_frame};
 use std::alloc::Global;
 use std::process::Abort;
 use std::random::RandomSource;
+use std::sync::Wait;
 use std::test::Fail;
+use std::thread::Threads;
 
 /// The ports that are replayed.
 const PORTS: [u16; 2] = [9000, 9001];
@@ -131,7 +133,7 @@ fn plain_streams(alloc: Global, seen: &[Seen<'_>], count: usize) -> Result<Vec<V
 
 /// Replays these frames: streams, and the report but for loans and the pool's line, have to be what the plain programs say.
 pub fn check_plain(
-    rt: &(impl Abort + AllocGlobal + RandomSource),
+    rt: &(impl Abort + AllocGlobal + RandomSource + Threads + Wait + Sync),
     name: &str,
     frames: &[Vec<u8>],
 ) -> Result<(), Fail> {

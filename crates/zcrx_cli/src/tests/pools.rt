@@ -1,10 +1,13 @@
 //! Runs over few buffers and short rings, and applications that keep, leak, stray and quit.
 use super::frames::{ACK, FIN, PSH_ACK, SYN, Sent, capture, capture_of, frame, to_9000};
-use super::runs::{Given, Row, Stream, check, faultless, first};
+use super::runs::{Given, Row, Stream, check, check_behind, faultless, first};
+use replay_threads::{Gate, NoGate};
 use std::alloc::Global;
 use std::process::Abort;
 use std::random::RandomSource;
+use std::sync::Wait;
 use std::test::Fail;
+use std::thread::Threads;
 
 /// Room for the longest payload of a frame.
 const LONG: usize = 65_536;
@@ -30,7 +33,10 @@ struct Case<'a> {
     report: &'a str,
 }
 
-fn check_case(rt: &(impl Abort + AllocGlobal + RandomSource), case: &Case<'_>) -> Result<(), Fail> {
+fn check_case(
+    rt: &(impl Abort + AllocGlobal + RandomSource + Threads + Wait + Sync),
+    case: &Case<'_>,
+) -> Result<(), Fail> {
     let alloc = rt.alloc();
     let mut frames = Vec::new(alloc);
     let mut position = 0usize;
@@ -265,9 +271,12 @@ status 0
     check_case(&rt, &case)
 }
 
-/// Both keep their loans to the end, and quit within the second.
-#[test]
-fn applications_leak_and_quit(rt: HostRuntime) -> Result<(), Fail> {
+/// Two applications that keep their first two loans and stop at 100 bytes, each with two pieces of 80. The gate is asked
+/// before each turn.
+pub fn check_leak_and_quit<G: Gate + Sync>(
+    rt: &(impl Abort + AllocGlobal + RandomSource + Threads + Wait + Sync),
+    gate: &G,
+) -> Result<(), Fail> {
     let alloc = rt.alloc();
     let (front, back) = (bytes_from(alloc, 0, 80)?, bytes_from(alloc, 80, 80)?);
     let to_9001 = |seq: u32, text| Sent {
@@ -305,8 +314,14 @@ pool fast 0 refill 0 slow 1 empty 0 strays 0
 status 0
 ",
     };
-    check(&rt, &row)?;
+    check_behind(rt, &row, gate)?;
     Ok(())
+}
+
+/// Both keep their loans to the end, and quit within the second.
+#[test]
+fn applications_leak_and_quit(rt: HostRuntime) -> Result<(), Fail> {
+    check_leak_and_quit(&rt, &NoGate)
 }
 
 /// A shelf, the source and the sink fail at their first call.

@@ -7,7 +7,9 @@ use super::runs::{Given, Row, check, faultless, first};
 use std::alloc::Global;
 use std::process::Abort;
 use std::random::RandomSource;
+use std::sync::Wait;
 use std::test::Fail;
+use std::thread::Threads;
 
 /// One segment from port 40000 to port 9000 with the bytes `hello`, at sequence number 1001.
 const HELLO: [u8; 99] = [
@@ -179,7 +181,7 @@ status 0
 
 /// Three records of one flow, whose stream has to be this, lent in so many pieces.
 fn check_order(
-    rt: &(impl Abort + AllocGlobal + RandomSource),
+    rt: &(impl Abort + AllocGlobal + RandomSource + Threads + Wait + Sync),
     name: &str,
     sent: &[Sent<'_>],
     base: u32,

@@ -2,11 +2,14 @@
 ghost use Rattle.zcrx_cli.specs.Cards.{IsClosed};
 
 use crate::{Card, SHELVES, zcrx};
+use replay_threads::{Gate, NoGate};
 use std::alloc::Global;
 use std::collections::hash_map::RandomState;
 use std::process::Abort;
 use std::random::RandomSource;
+use std::sync::Wait;
 use std::test::Fail;
+use std::thread::Threads;
 use zr_io::{MemShelf, MemSink, MemSource, Source};
 
 /// How many flows a shelf has room for.
@@ -163,10 +166,11 @@ pub fn check_free(
     Ok(())
 }
 
-/// Runs the command.
-pub fn run(
-    rt: &(impl Abort + AllocGlobal + RandomSource),
+/// Runs the command. The gate is asked before each turn on threads.
+pub fn run_behind<G: Gate + Sync>(
+    rt: &(impl Abort + AllocGlobal + RandomSource + Threads + Wait + Sync),
     given: &Given<'_>,
+    gate: &G,
 ) -> Result<Left, Fail> {
     let alloc = rt.alloc();
     assert!(rt; given.most >= 1);
@@ -178,12 +182,14 @@ pub fn run(
     let random = RandomState::new(rt)?;
     let mut card = Card::Blank;
     let status = zcrx(
+        rt,
         alloc,
         random,
         given.words,
         &mut source,
         &mut shelves,
         &mut out,
+        gate,
         &mut card,
     );
     Ok(Left {
@@ -193,6 +199,14 @@ pub fn run(
         shelves,
         next: next_of(alloc, &mut source)?,
     })
+}
+
+/// Runs the command.
+pub fn run(
+    rt: &(impl Abort + AllocGlobal + RandomSource + Threads + Wait + Sync),
+    given: &Given<'_>,
+) -> Result<Left, Fail> {
+    run_behind(rt, given, &NoGate)
 }
 
 /// With status 2 there is no board, and with any other each buffer of the pool is free.
@@ -208,10 +222,11 @@ fn check_board(
     check_free(rt, row.name, free, row.given.buffers)
 }
 
-/// Replays, compares what is left, and gives what the source's next call gives.
-pub fn check(
-    rt: &(impl Abort + AllocGlobal + RandomSource),
+/// Replays, compares what is left, and gives what the source's next call gives. The gate is asked before each turn on threads.
+pub fn check_behind<G: Gate + Sync>(
+    rt: &(impl Abort + AllocGlobal + RandomSource + Threads + Wait + Sync),
     row: &Row<'_>,
+    gate: &G,
 ) -> Result<Vec<u8>, Fail> {
     let Left {
         status,
@@ -219,10 +234,18 @@ pub fn check(
         sent,
         shelves,
         next,
-    } = run(rt, &row.given)?;
+    } = run_behind(rt, &row.given, gate)?;
     assert_eq!(rt; str::from_utf8(&sent)?, row.report, "{}", row.name);
     assert_eq!(rt; status, row.status, "{}", row.name);
     check_shelves(rt, row.name, row.streams, &shelves);
     check_board(rt, row, free)?;
     Ok(next)
+}
+
+/// Replays, compares what is left, and gives what the source's next call gives.
+pub fn check(
+    rt: &(impl Abort + AllocGlobal + RandomSource + Threads + Wait + Sync),
+    row: &Row<'_>,
+) -> Result<Vec<u8>, Fail> {
+    check_behind(rt, row, &NoGate)
 }

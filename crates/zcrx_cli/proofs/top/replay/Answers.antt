@@ -1,23 +1,23 @@
 -- The outcome is told, and the board is in the card; or there was no memory for a board or an outcome.
-use Rattle.std.proofs.Common.{inl, inr, refl}
+use Rattle.std.proofs.Common.{inl, inr, refl, ◌∙◌}
 use Rattle.command_words.specs.Words.{replay_shown}
 use Rattle.zcrx_cli.proofs.Statuses.{replays}
-use Rattle.zcrx_cli.proofs.top.run.Goals as goal
+use Rattle.zcrx_cli.proofs.top.replay.Goals as goal
 
 pub returns-in-Ok : goal.returns-in-Ok
 returns-in-Ok g c = record {
-  replays = inl (replays g.O.Sink.sent g.O.Sink.faults c.args.out.now c.tell.new.out c.in-Ok.ensures.ran (replay_shown c.args.command) _
-      c.plan_of-plan.ensures.told refl c.tell.ensures);
+  replays = inl (replays g.O.Sink.sent g.O.Sink.faults c.args.out.now c.tell.new.out (replay_shown c.args.command) _
+      c.plan_of-plan.ensures.told c.in-Ok.ensures.ran c.tell.ensures);
 }
 
 pub returns : goal.returns
 returns g c = record {
   replays = inr (record {
     answer_is = c.number.ensures;
-    card_is = c.requires.blank;
+    card_is = c.in-Err.ensures.lacks.1 ∙ c.requires.blank;
     out_is = refl;
     plan = c.plan_of-plan.result;
     planned = c.plan_of-plan.ensures.told;
-    lacks = c.in-Err.ensures.lacks;
+    lacks = c.in-Err.ensures.lacks.0;
   });
 }

@@ -1,0 +1,177 @@
+//! Replays by threads, whose turns a gate holds up.
+use super::making::{LONG, bytes_of, made_by, make};
+use super::pools::check_leak_and_quit;
+use super::runs::{Given, Left, Stream, check_free, check_shelves, faultless, run_behind};
+use replay_threads::Gate;
+use std::alloc::Global;
+use std::hint::spin_loop;
+use std::sync::atomic::{AtomicU64, Ordering};
+use std::test::Fail;
+
+/// How often an application looks whether the other has come.
+const LOOKS: u32 = 100_000_000;
+
+/// How often a run is held up in another way.
+const RUNS: u32 = 200;
+
+/// Holds each of two applications at its first turn until the other has come there too.
+#[derive(Drop)]
+struct Meeting {
+    first: AtomicU64,
+    second: AtomicU64,
+    /// How many have met the other.
+    met: AtomicU64,
+}
+
+impl Meeting {
+    fn meet(&self, own: &AtomicU64, other: &AtomicU64) {
+        own.store(1, Ordering::SeqCst);
+        for _ in 0..LOOKS {
+            if other.load(Ordering::SeqCst) == 1 {
+                self.met.fetch_add(1, Ordering::SeqCst);
+                return;
+            }
+            spin_loop();
+        }
+    }
+}
+
+impl Gate for Meeting {
+    fn at(&self, who: u32, turn: u64) {
+        match (who, turn) {
+            (1, 0) => self.meet(&self.first, &self.second),
+            (2, 0) => self.meet(&self.second, &self.first),
+            _ => {}
+        }
+    }
+}
+
+/// Each of two applications comes to its first turn while the other waits at its own.
+#[test]
+fn applications_have_threads_of_their_own(rt: HostRuntime) -> Result<(), Fail> {
+    let gate = Meeting {
+        first: AtomicU64::new(0),
+        second: AtomicU64::new(0),
+        met: AtomicU64::new(0),
+    };
+    check_leak_and_quit(&rt, &gate)?;
+    assert_eq!(&rt; gate.met.load(Ordering::SeqCst), 2);
+    Ok(())
+}
+
+/// Holds one role up before turns that are drawn.
+#[derive(Drop)]
+struct Delay {
+    who: u32,
+    seed: u32,
+}
+
+impl Delay {
+    /// Of this run, the card or one of so many applications.
+    const fn of_run(run: u32, apps: u32) -> Delay {
+        Delay {
+            who: run % (apps + 1),
+            seed: run,
+        }
+    }
+}
+
+impl Gate for Delay {
+    fn at(&self, who: u32, turn: u64) {
+        let [drawn, ..] = turn
+            .wrapping_add(u64::from(self.seed))
+            .wrapping_mul(0x9e37_79b9_7f4a_7c15)
+            .to_be_bytes();
+        if who == self.who && drawn < 32 {
+            for _ in 0..u32::from(drawn) * 64 {
+                spin_loop();
+            }
+        }
+    }
+}
+
+/// The report says the same whoever is held up.
+#[test]
+fn leak_and_quit_go_alike_whoever_is_held_up(rt: HostRuntime) -> Result<(), Fail> {
+    for run in 0..RUNS {
+        check_leak_and_quit(&rt, &Delay::of_run(run, 2))?;
+    }
+    Ok(())
+}
+
+/// The report without the counts of searches that found enough: these depend on when buffers come back.
+fn without_searches(alloc: Global, report: &str) -> Result<String, Fail> {
+    let mut text = String::new(alloc);
+    for line in report.lines() {
+        match line.split_once(" empty ") {
+            Some((_, counts)) => {
+                text.push_str("pool empty ")?;
+                text.push_str(counts)?;
+            }
+            None => text.push_str(line)?,
+        }
+        text.push_str("\n")?;
+    }
+    Ok(text)
+}
+
+/// What four flows of 500 pieces come to with as many buffers as pieces.
+const FOUR_FLOWS: &str = "\
+capture records 2000 tcp 2000 steered 2000 other 0 fragment 0 cut 0 bad 0
+app 0 port 9000 written 500000 loans 500 copied 0 stopped no
+app 1 port 9001 written 500000 loans 500 copied 0 stopped no
+app 2 port 9002 written 500000 loans 500 copied 0 stopped no
+app 3 port 9003 written 500000 loans 500 copied 0 stopped no
+flow 0 port 9000 base 4294960000 bytes 500000 fin no
+flow 1 port 9001 base 4294960000 bytes 500000 fin no
+flow 2 port 9002 base 4294960000 bytes 500000 fin no
+flow 3 port 9003 base 4294960000 bytes 500000 fin no
+pool empty 0 strays 0
+status 0
+";
+
+/// The words of a replay of four flows with 2,000 buffers.
+const WORDS: [&str; 7] = [
+    "replay",
+    "--buffers",
+    "2000",
+    "9000",
+    "9001",
+    "9002",
+    "9003",
+];
+
+/// Four applications with threads of their own have the same streams and counts whoever is held up.
+#[test]
+fn four_flows_go_alike_whoever_is_held_up(rt: HostRuntime) -> Result<(), Fail> {
+    let alloc = rt.alloc();
+    let made = make(&rt, &made_by(&["make", "7", "2000"]), 0)?;
+    let bytes = [
+        bytes_of(alloc, 0, LONG)?,
+        bytes_of(alloc, 1, LONG)?,
+        bytes_of(alloc, 2, LONG)?,
+        bytes_of(alloc, 3, LONG)?,
+    ];
+    let mut streams = Vec::new(alloc);
+    for (app, bytes) in bytes.iter().enumerate() {
+        let flow = u32::try_from(app)?;
+        streams.push(Stream { app, flow, bytes })?;
+    }
+    let given = Given {
+        words: &WORDS,
+        buffers: 2000,
+        most: 65_536,
+        stream_room: LONG,
+        ..faultless(&made)
+    };
+    for number in 0..RUNS {
+        let left = run_behind(&rt, &given, &Delay::of_run(number, 4))?;
+        assert_eq!(&rt; left.status, 0, "run {number}");
+        let told = without_searches(alloc, str::from_utf8(&left.sent)?)?;
+        assert_eq!(&rt; told.as_str(), FOUR_FLOWS, "run {number}");
+        let Left { free, shelves, .. } = left;
+        check_shelves(&rt, "four flows", &streams, &shelves);
+        check_free(&rt, "four flows", free, given.buffers)?;
+    }
+    Ok(())
+}
