@@ -1,26 +1,28 @@
 #!/usr/bin/env bash
-# Compares zcrx with tcpflow, capture by capture: time, time per frame, peak memory, and whether both wrote the same bytes.
+# Compares zcrx, with threads and by turns on one thread (`--turns n`), with tcpflow, capture by capture: time, time per frame,
+# peak memory, and whether all wrote the same bytes.
 #
 # usage: bench/compare.sh [RUNS [CASE..]]
 #
 #   one        one flow in order; and zcrx on a capture twice as long, which shows whether its memory grows with it
-#   four       four flows to four ports, interleaved, each in order
+#   two, four, eight
+#              so many flows to as many ports, interleaved, each in order
 #   reordered  the same with every second pair of a flow's frames swapped, and 6 in 100 frames beginning 100 bytes early:
 #              the capture that `zcrx make` makes
 #   waiting    one flow whose first payload comes last, behind 1,000, 10,000 and 40,000 kept pieces
 #
-# Where pieces wait the pool has buffers for all of them.
+# Where pieces wait the pool has buffers for all of them. No frame may be refused.
 #
-# RUNS is 5 if left out, and the cases are all four. ZCRX=FILE names another program than crates/zcrx_cli/out/zcrx_cli,
-# which `make build` leaves there. The captures are made in bench/captures/ and kept; all else there is removed. Needs
-# python3, GNU time, tcpflow and about 900 MB of disk. The status is 0 where both programs ended well and wrote the same
+# RUNS is 5 if left out, and the cases are all six. CPUS=N runs each program on the first N processors alone.
+# ZCRX=FILE names another program than crates/zcrx_cli/out/zcrx_cli, which `make build` leaves there. The captures are made in bench/captures/ and kept; all else there is removed. Needs
+# python3, GNU time, tcpflow and about 1.3 GB of disk. The status is 0 where all ended well and wrote the same
 # bytes.
 set -u
 export LC_ALL=C
 
 runs=${1:-5}
 cases=("${@:2}")
-[ ${#cases[@]} -gt 0 ] || cases=(one four reordered waiting)
+[ ${#cases[@]} -gt 0 ] || cases=(one two four eight reordered waiting)
 top=$(cd "$(dirname "$0")/.." && pwd)
 work=$top/bench/captures
 zcrx=$(realpath -m "${ZCRX:-$top/crates/zcrx_cli/out/zcrx_cli}")
@@ -30,6 +32,10 @@ kept_counts=(1000 10000 40000)
 
 # What zcrx is told beside the ports.
 options=()
+
+# What a program is started by.
+pinned=()
+[ -z "${CPUS-}" ] || pinned=(taskset -c "0-$((CPUS - 1))")
 
 # Buffers for 65,536 payloads of 1,000 bytes.
 roomy=(--buffers 4096 --size 16384)
@@ -44,7 +50,7 @@ fail() {
 }
 
 require_programs() {
-    [[ $runs =~ ^[1-9][0-9]*$ ]] || fail "usage: bench/compare.sh [RUNS [one | four | reordered | waiting]..]"
+    [[ $runs =~ ^[1-9][0-9]*$ ]] || fail "usage: bench/compare.sh [RUNS [one | two | four | eight | reordered | waiting]..]"
     [ -x "$zcrx" ] || fail "no program $zcrx: run 'make build' first"
     [ -x /usr/bin/time ] || fail "no /usr/bin/time: install Debian's package time"
     if ! command -v tcpflow >/dev/null; then
@@ -67,16 +73,17 @@ measure() {
     rm -rf "${work:?}/$name"
     mkdir "$work/$name" && cd "$work/$name" || exit 1
     local began=${EPOCHREALTIME/./}
-    /usr/bin/time -q -f %M -o "$work/$name.peak" "$@" <"$capture" >"$work/$name.said"
+    /usr/bin/time -q -f %M -o "$work/$name.peak" "${pinned[@]}" "$@" <"$capture" >"$work/$name.said"
     local status=$? ended=${EPOCHREALTIME/./}
     [ $status -eq 0 ] || fail "$name ended with status $status"
     echo "$((ended - began)) $(cat "$work/$name.peak")" >>"$work/$name.runs"
 }
 
-# run_zcrx NAME CAPTURE FLOWS
+# run_zcrx NAME CAPTURE FLOWS OPTION..
 run_zcrx() {
-    measure "$1" "$2" "$zcrx" replay "${options[@]}" $(seq 9000 $((8999 + $3)))
+    measure "$1" "$2" "$zcrx" replay "${options[@]}" "${@:4}" $(seq 9000 $((8999 + $3)))
     [ "$(tail -n 1 "$work/$1.said")" = "status 0" ] || fail "zcrx reported: $(tail -n 1 "$work/$1.said")"
+    ! grep -q '^refused ' "$work/$1.said" || fail "zcrx refused frames"
 }
 
 run_tcpflow() { # CAPTURE
@@ -96,9 +103,13 @@ ratio() { awk -v a="$1" -v b="$2" 'BEGIN { printf "%.2f", a / b }'; }
 
 print_table() { # FRAMES
     printf '%-8s %8s %8s %12s %12s\n' '' 'best s' 'median s' 'us a frame' 'peak KiB'
-    row zcrx "$1"
-    row tcpflow "$1"
-    echo "zcrx / tcpflow: best $(ratio "$(best zcrx)" "$(best tcpflow)"), median $(ratio "$(median zcrx)" "$(median tcpflow)")"
+    local name
+    for name in zcrx turns tcpflow; do
+        row $name "$1"
+    done
+    for name in zcrx turns; do
+        echo "$name / tcpflow: best $(ratio "$(best $name)" "$(best tcpflow)"), median $(ratio "$(median $name)" "$(median tcpflow)")"
+    done
 }
 
 # The file in which tcpflow writes flow F of a capture.
@@ -109,6 +120,7 @@ compare_bytes() { # FLOWS
     for ((flow = 0; flow < $1; flow++)); do
         cmp "$work/zcrx/flow-$flow.bin" "$work/tcpflow/$(tcpflow_file $flow)" || fail "the streams of flow $flow differ"
     done
+    diff -r "$work/zcrx" "$work/turns" || fail "the streams of zcrx differ"
     [ "$(ls "$work/zcrx" | wc -l)" -eq "$1" ] || fail "zcrx wrote other files: $(ls "$work/zcrx")"
     echo "same bytes: $(cat "$work"/zcrx/flow-*.bin | wc -c) in $1 flow(s)"
 }
@@ -122,9 +134,10 @@ compare() {
     local run
     for ((run = 0; run < runs; run++)); do
         run_zcrx zcrx "$capture" "$flows"
+        run_zcrx turns "$capture" "$flows" --turns n
         run_tcpflow "$capture"
     done
-    echo "$title: $count frames, $(stat -c %s "$capture") bytes; $runs runs of each, in turn"
+    echo "$title: $count frames, $(stat -c %s "$capture") bytes; $runs runs of each, in turn, on ${CPUS:-$(nproc)} processors"
     print_table "$count"
     compare_bytes "$flows"
 }
@@ -134,10 +147,13 @@ compare_memory() {
     run_zcrx longer "$work/one-longer.pcap" 1
     [ "$(stat -c %s "$work/longer/flow-0.bin")" -eq $((2000 * frames)) ] || fail "the longer stream has another length"
     echo "zcrx on a capture twice as long: peak $(peak longer) KiB, against $(peak zcrx) KiB"
+    rm "$work/longer.runs"
+    run_zcrx longer "$work/one-longer.pcap" 1 --turns n
+    echo "by turns: peak $(peak longer) KiB, against $(peak turns) KiB"
 }
 
 remove_outputs() {
-    rm -rf "${work:?}"/{zcrx,tcpflow,longer}{,.peak,.said,.runs}
+    rm -rf "${work:?}"/{zcrx,turns,tcpflow,longer}{,.peak,.said,.runs}
 }
 
 run_case() {
@@ -148,7 +164,9 @@ run_case() {
         compare "one flow in order" 1 one.pcap $frames "$writer" 7 $frames
         compare_memory
         ;;
+    two) compare "two flows in order" 2 two.pcap $frames "$writer" 7 $frames --flows 2 ;;
     four) compare "four flows in order" 4 four.pcap $frames "$writer" 7 $frames --flows 4 ;;
+    eight) compare "eight flows in order" 8 eight.pcap $frames "$writer" 7 $frames --flows 8 ;;
     reordered) compare "four flows, swapped and overlapping" 4 reordered.pcap $frames "$zcrx" make 7 $frames ;;
     waiting)
         options=("${roomy[@]}")
