@@ -1,6 +1,6 @@
 # rt, the toolchain's command, proves and builds; see `rt help`.
 
-.PHONY: build install demo test bench
+.PHONY: build install demo first_look test bench
 
 PREFIX ?= /usr/local
 
@@ -17,8 +17,12 @@ install: build
 demo-data/hello.pcap: tools/demo_capture.py tools/frames.py
 	tools/demo_capture.py >$@
 
-demo: build
+# A first look, and then what is proved.
+demo: first_look build
 	tools/demo.sh
+
+first_look:
+	tools/first_look.sh
 
 test:
 	.ci/run
