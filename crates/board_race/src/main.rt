@@ -3,6 +3,8 @@
 //! one for the application. A note has 1 to 16,384 bytes. Without words it sends a few notes through each, and tells no times.
 #![tactic(auto)]
 
+ghost use Rattle.std.specs.Prelude.{◌≤◌, IfOk};
+
 mod lanes;
 mod plain;
 mod plan;
@@ -27,12 +29,14 @@ const FEW: (u32, u16) = (1_000, 100);
 const SIZE: u16 = 16_384;
 
 /// The notes and the bytes that the words ask for.
-fn read_words(words: &[String]) -> anyhow::Result<(u32, u16)> {
+fn read_words(words: &[String]) -> anyhow::Result<(u32, u16)>
+    ensures { IfOk result (λ asked. asked.1 ≤ 16384) }
+{
     match words {
         [] => Ok(FEW),
         [notes, bytes] => {
-            let bytes = bytes.parse()?;
-            if !(1..=SIZE).contains(&bytes) {
+            let bytes: u16 = bytes.parse()?;
+            if bytes < 1 || bytes > SIZE {
                 bail!("a note has 1 to {SIZE} bytes");
             }
             Ok((notes.parse()?, bytes))
