@@ -68,9 +68,10 @@ struct Delay {
 
 impl Delay {
     /// Of this run, the card or one of so many applications.
-    const fn of_run(run: u32, apps: u32) -> Delay {
+    fn of_run(run: u32, apps: u8) -> Delay {
+        let roles = u32::from(apps) + 1;
         Delay {
-            who: run % (apps + 1),
+            who: run % roles,
             seed: run,
         }
     }
