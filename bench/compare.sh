@@ -13,10 +13,10 @@
 #
 # Where pieces wait the pool has buffers for all of them. No frame may be refused.
 #
-# RUNS is 5 if left out, and the cases are all six. CPUS=N runs each program on the first N processors alone.
-# ZCRX=FILE names another program than crates/zcrx_cli/out/zcrx_cli, which `make build` leaves there. The captures are made in bench/captures/ and kept; all else there is removed. Needs
-# python3, GNU time, tcpflow and about 1.3 GB of disk. The status is 0 where all ended well and wrote the same
-# bytes.
+# RUNS is 5 if left out, and the cases are all six. CPUS=N runs each program on the first N processors alone. ZCRX=FILE names
+# another program than crates/zcrx_cli/out/zcrx_cli, which `make build` leaves there. The captures are made in bench/captures/
+# and kept; all else there is removed. Needs python3, GNU time, tcpflow and about 1.3 GB of disk. The status is 0 where all ended
+# well and wrote the same bytes.
 set -u
 export LC_ALL=C
 
