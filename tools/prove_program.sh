@@ -19,6 +19,7 @@ declare -A stands_on seen state began crate_of
 # Ends what still runs, each check with what it started, when the script ends.
 finish() {
     local job
+    exec 2>/dev/null
     for job in "${!crate_of[@]}"; do
         kill -- "-$job" 2>/dev/null
     done
