@@ -12,16 +12,18 @@ pub feeds_stand : {S : Type 0} (left : S → Option (List ℕ)) (faults : S → 
 feeds_stand left faults source ports split v none none_dealt =
     let nothing = steered-nothing ports in
     record {
-      ports_are = refl;
-      split_is = refl;
-      comes = (refl, refl);
-      tally_is = rw nothing refl;
-      flows_are = rw nothing refl;
-      settled = record {
-        settled = [];
-        awaits = rw nothing refl;
-        refused_are = record { rise = no_pairs; each = All-nil _ };
-        shown = rw none refl;
+      knows = record {
+        ports_are = refl;
+        split_is = refl;
+        tally_is = rw nothing refl;
+        flows_are = rw nothing refl;
+        settled = record {
+          settled = [];
+          awaits = rw nothing refl;
+          refused_are = record { rise = no_pairs; each = All-nil _ };
+          shown = rw none refl;
+        };
+        counted = rw (nothing, none_dealt) (record { searches = omega arith; empty = refl; strays = refl });
       };
-      counted = rw (nothing, none_dealt) (record { searches = omega arith; empty = refl; strays = refl });
+      comes = (refl, refl);
     }

@@ -1,6 +1,7 @@
 pub mod Steering
 pub mod Taking
 pub mod Nexts
+pub mod Further
 pub mod PlayLemmas
 pub mod Lines
 pub mod OffersRise

@@ -1,5 +1,6 @@
 -- What the next record of a source is to the reading.
-use Rattle.std.proofs.Common.{◌≡◌, ℕ, List, [], ◌∷◌, ◌++◌, Option, Some, None, is_some, Ok, Err, refl, sym, ap, ◌∙◌}
+use Rattle.std.proofs.Common.{◌≡◌, ℕ, List, [], ◌∷◌, ◌++◌, Option, Some, None, Result, Ok, Err, refl, sym, ap, ◌∙◌}
+use Rattle.std.specs.Prelude.{MatchResult, IsErrOf}
 use Rattle.zr_kinds.specs.declared.fault.Fault.{Fault}
 use Rattle.zr_kinds.specs.declared.fault.Fault.TheVariants.{Memory}
 use Rattle.zr_io.specs.Moved.{Took}
@@ -21,7 +22,7 @@ module _ {S : Type 0} (Wants : List (List ℕ) → List ℕ → Type 0) (left : 
   pub next-gives : (later : Reading) → later ≡ capture → (found : Option Record) (frame : List ℕ) → Gives capture.order (left old) (left now) frame
       (Ok found)
       → HasReadCause (faults old) (faults now) (Ok found)
-      → NextGives Wants left faults first now ports (stage.Open later) (frames_of records) frame (Ok (is_some found))
+      → NextGives Wants left faults first now ports (stage.Open later) (frames_of records) frame (Ok found)
   next-gives later kept None frame gives cause = ends-without Wants read (left now) (faults now) (cause.still (λ failed. cc)) gives.0 gives.1
   next-gives later kept (Some found) frame gives cause =
       let still : faults now ≡ faults old = cause.still (λ failed. cc) in
@@ -45,3 +46,12 @@ module _ {S : Type 0} (Wants : List (List ℕ) → List ℕ → Type 0) (left : 
       → HasEnded Wants (left first) (left now) (faults first) (faults now) ports (frames_of records) (Some fault)
   next-ends fault frame gives cause wants = ends-by Wants read (left now) (faults now) fault gives.0 gives.1 gives.2 wants
       (λ by. cause.read (ap Err by)) (λ other. cause.still (λ failed. other (cc)))
+
+  pub next-all : (later : Reading) (result : Result (Option Record) Fault) (frame : List ℕ)
+      → MatchResult result (λ _. later ≡ capture) (λ fault. later ≡ record capture { fault = Some fault })
+      → Gives capture.order (left old) (left now) frame result
+      → HasReadCause (faults old) (faults now) result
+      → (IsErrOf result Memory → Took (left old) (left now) (WantsMemory capture.order))
+      → NextGives Wants left faults first now ports (stage.Open later) (frames_of records) frame result
+  next-all later (Ok found) frame kept gives cause wants = next-gives later kept found frame gives cause
+  next-all later (Err fault) frame kept gives cause wants = next-ends fault frame gives cause (λ by. wants (ap Err by))

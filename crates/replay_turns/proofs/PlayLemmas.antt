@@ -1,6 +1,7 @@
 -- What the parts of a turn do at the face: how far they come, and that they do nothing where they say so.
 use Rattle.std.proofs.Common.{◌≡◌, inl, inr, ℕ, ◌+◌, ◌<◌, ◌≤◌, Bool, true, false, List, [], ◌∷◌, ◌++◌, length, Option, Some}
-use Rattle.std.proofs.Common.{None, option_to_list, refl, sym, ap, subst, ◌∙◌, length-append, arith}
+use Rattle.std.proofs.Common.{None, option_to_list, ◌⊎◌, ⊎_elim, refl, sym, ap, subst, ◌∙◌, length-append, arith}
+use Rattle.std.specs.Prelude.{MatchBool}
 use Rattle.std.proofs.lemmas.List.{length-map}
 use Rattle.std.proofs.lemmas.List.Elements.{All-head}
 use Rattle.zr_kinds.specs.declared.outcome.PoolStats.{PoolStats}
@@ -18,11 +19,11 @@ use Rattle.page_pool.specs.declared.pool.Pending.{Pending}
 use Rattle.page_pool.specs.declared.pool.Short.{Short}
 use Rattle.page_pool.specs.Searching.{SearchEnd}
 use Rattle.page_pool.specs.Dealing.{DrainsRings, CountsStrays}
-use Rattle.page_pool.specs.Pool.{PoolState, PoolStands, OnlySends, IsNextApp, is_short, is_piece, pending_count, all_notes, short_note, piece_notes}
+use Rattle.page_pool.specs.Pool.{PoolState, PoolStands, HasNonePending, OnlySends, IsNextApp, is_short, is_piece, pending_count, all_notes, short_note, piece_notes}
 use Rattle.page_pool.specs.Offer.{ClosesCurrent, LooksFor, not_needed, searched, Accepts, Refuses}
 use Rattle.replay_turns.specs.declared.intake.Intake.{Intake}
 use Rattle.replay_turns.specs.Feed.{card_steps}
-use Rattle.replay_turns.specs.Turns.{IsIdle}
+use Rattle.replay_turns.specs.Turns.{HasLooked, IsIdle}
 use Rattle.replay_turns.specs.Parts.{feed_of}
 
 -- ---- pending notes
@@ -58,6 +59,15 @@ no_items : {A : Type 0} (xs : List A) → length xs ≡ 0 → xs ≡ []
 no_items [] none = refl
 no_items (x ∷ xs) none = absurd (omega (arith, none))
 
+-- nothing is pending, or there is a cause
+pub flushed-or : (all : Bool) (pool now : PoolState) (Cause : Type 0) → now ≡ record pool { stats = now.stats } → MatchBool all (HasNonePending pool) Cause
+    → HasNonePending now ⊎ Cause
+flushed-or true pool now Cause same none = inl (record {
+  short = ap (λ (p : PoolState). p.short) same ∙ none.short;
+  pieces = ap (λ (p : PoolState). p.pieces) same ∙ none.pieces;
+})
+flushed-or false pool now Cause same cause = inr cause
+
 -- ---- notes that had to wait, and rings that were drained
 
 module _ (was pool now : PoolState) (old mid new : NicView) (count : ℕ) (stood : PoolStands was old) (stands : PoolStands pool mid)
@@ -75,13 +85,13 @@ module _ (was pool now : PoolState) (old mid new : NicView) (count : ℕ) (stood
   still-pending = ap pending_count now_is
 
   -- nothing changed
-  pub put_off-idle : {B : Type 0} (tells : NicLook → NicView → B → Type 0) (beside beside_now : B) (intake : Intake) (closed : Bool) (app : ℕ)
-      → pending_count was ≤ pending_count now → count ≡ 0 → IsNextApp pool app → NicRose (NoteInUse app) old mid → tells (NoteInUse app)
-      (nic_gist mid) beside
+  pub looked-idle : {B : Type 0} (Rests : Type 0) (tells : NicLook → NicView → B → Type 0) (beside beside_now : B) (intake : Intake) (closed : Bool)
+      → pending_count was ≤ pending_count now → count ≡ 0
+      → (Rests ⊎ ((app : ℕ) × IsNextApp pool app × NicRose (NoteInUse app) old mid × tells (NoteInUse app) (nic_gist mid) beside))
       → nic_gist new ≡ nic_gist mid → beside_now ≡ beside
       → ((a : ℕ) → a < apps_of mid.setting → NicRose (RingEmpty a) mid new × tells (RingEmpty a) (nic_gist new) beside_now)
-      → IsIdle tells beside_now (feed_of intake was closed) (feed_of intake now closed) old new
-  put_off-idle tells beside beside_now intake closed app many none next rose told still same rings =
+      → HasLooked Rests tells beside_now (feed_of intake was closed) (feed_of intake now closed) old new
+  looked-idle Rests tells beside beside_now intake closed many none waits still same rings =
       let gone : sends.gone ≡ [] = no_items sends.gone (omega (arith, gone-count, still-pending, many)) in
       let stayed = sends.still gone in
       let setting : mid.setting ≡ old.setting = ap (λ (v : NicView). v.setting) sends.view in
@@ -92,13 +102,22 @@ module _ (was pool now : PoolState) (old mid new : NicView) (count : ℕ) (stood
         stats = subst (λ more. CountsStrays was.stats now.stats more) dealt (subst (λ s. CountsStrays s now.stats drains.more) stats drains.strays);
         view = still ∙ ap nic_gist stayed.1;
         rings = λ a few. let ring = rings a (omega (arith, few, ap apps_of setting)) in (NicRose-later old mid new (RingEmpty a) sends.looks ring.0, ring.1);
-        notes = inr (
+        notes = ⊎_elim (λ rests. inl rests) (λ (app, next, rose, told). inr (
           app,
           omega (arith, next-below pool mid app stands next, ap apps_of setting),
           NicRose-before old mid new (NoteInUse app) rose drains.deals.looks,
           rw (still, same) told,
-        );
+        )) waits;
       }
+
+  pub put_off-idle : {B : Type 0} (tells : NicLook → NicView → B → Type 0) (beside beside_now : B) (intake : Intake) (closed : Bool) (app : ℕ)
+      → pending_count was ≤ pending_count now → count ≡ 0 → IsNextApp pool app → NicRose (NoteInUse app) old mid → tells (NoteInUse app)
+      (nic_gist mid) beside
+      → nic_gist new ≡ nic_gist mid → beside_now ≡ beside
+      → ((a : ℕ) → a < apps_of mid.setting → NicRose (RingEmpty a) mid new × tells (RingEmpty a) (nic_gist new) beside_now)
+      → IsIdle tells beside_now (feed_of intake was closed) (feed_of intake now closed) old new
+  put_off-idle tells beside beside_now intake closed app many none next rose told still same rings =
+      looked-idle (closed ≡ true) tells beside beside_now intake closed many none (inr (app, next, rose, told)) still same rings
 
 -- ---- a frame that was settled
 

@@ -114,7 +114,7 @@ pub feeds-whole : {S : Type 0} (left : S → Option (List ℕ)) (faults : S → 
 feeds-whole left faults first source ports split frames feed nic stands proper a =
     let mine : All IsProper (sent_to a nic) = All-filter (λ (s : SentNote). s.app == a) IsProper nic.view.sent proper in
     proper-whole (sent_to a nic) mine
-    (sent-linked ports frames a split (sent_to a nic) (has-sent ports frames a split feed.refused feed.at_hand feed.pool nic stands.settled))
+    (sent-linked ports frames a split (sent_to a nic) (has-sent ports frames a split feed.refused feed.at_hand feed.pool nic stands.knows.settled))
 
 own-first : (flows : List Flow) (a : ℕ) (sent later : List SentNote) → All (IsOfOwnFlow flows a) (sent ++ later) → All (IsOfOwnFlow flows a) sent
 own-first flows a [] later own = All-nil (IsOfOwnFlow flows a)
@@ -124,8 +124,8 @@ own-first flows a (s ∷ sent) later own = All-cons (IsOfOwnFlow flows a) s sent
 pub feeds-own : {S : Type 0} (left : S → Option (List ℕ)) (faults : S → ℕ) → FeedsSendOwn left faults
 feeds-own left faults first source ports split frames feed nic stands a =
     let flows : List Flow = flows_of (steered_in ports frames) in
-    let has = has-sent ports frames a split feed.refused feed.at_hand feed.pool nic stands.settled in
-    subst (λ known. All (IsOfOwnFlow known a) (sent_to a nic)) (sym stands.flows_are)
+    let has = has-sent ports frames a split feed.refused feed.at_hand feed.pool nic stands.knows.settled in
+    subst (λ known. All (IsOfOwnFlow known a) (sent_to a nic)) (sym stands.knows.flows_are)
     (own-first flows a (sent_to a nic) has.pending (shown-own flows a split has.os (sent_to a nic ++ has.pending) has.good.own has.shown))
 
 pub offers-apps : OffersHaveApps

@@ -61,7 +61,7 @@ pub closed_show : {S : Type 0} (left : S → Option (List ℕ)) (faults : S → 
 closed_show left faults first source ports split frames feed nic stands ready closed a =
     let none = ready.fits.sent closed in
     let settled : AreSettled split (offers_of (steered_in ports frames)) feed.refused None (all_notes feed.pool nic.view) =
-    rw (ready.fits.none closed) at stands.settled in
+    rw (ready.fits.none closed) at stands.knows.settled in
     let notes : all_notes feed.pool nic.view ≡ nic.view.sent = rw (none.short, none.pieces) (append-nil nic.view.sent) in
     shown-to split a (without feed.refused (offers_of (steered_in ports frames))) nic.view.sent
     (subst (λ os. ShowFrames split (without feed.refused os) nic.view.sent) settled.awaits

@@ -68,17 +68,21 @@ pub record IsReady (feed : FeedState) (v : NicView) : Type 0 where
   pub fits : Fits feed v
   pub waits : feed.at_hand ≢ None → 0 < pending_count feed.pool
 
--- These frames were read since the source was as at first. They are counted, their flows are known, the notes that were
--- sent and those that are pending show what was offered of them, and the pool's counts say how that went.
-pub record FeedStands {S : Type 0} (left : S → Option (List ℕ)) (faults : S → ℕ) (first now : S) (ports : List ℕ) (split : ℕ)
-    (frames : List (List ℕ)) (feed : FeedState) (v : NicView) : Type 0 where
+-- These frames came. They are counted, their flows are known, the notes that were sent and those that are pending show what was
+-- offered of them, and the pool's counts say how that went.
+pub record FeedKnows (ports : List ℕ) (split : ℕ) (frames : List (List ℕ)) (feed : FeedState) (v : NicView) : Type 0 where
   pub ports_are : feed.ports ≡ ports
   pub split_is : feed.pool.split ≡ split
-  pub comes : ComesTo (WantsRoom split ports) left faults first now ports feed.stage frames
   pub tally_is : feed.tally ≡ tally_of ports frames
   pub flows_are : feed.flows ≡ flows_of (steered_in ports frames)
   pub settled : AreSettled split (offers_of (steered_in ports frames)) feed.refused feed.at_hand (all_notes feed.pool v)
   pub counted : AreCounted split (offers_of (steered_in ports frames)) feed.refused feed.at_hand v.dealt feed.pool.stats
+
+-- And they were read since the source was as at first.
+pub record FeedStands {S : Type 0} (left : S → Option (List ℕ)) (faults : S → ℕ) (first now : S) (ports : List ℕ) (split : ℕ)
+    (frames : List (List ℕ)) (feed : FeedState) (v : NicView) : Type 0 where
+  pub knows : FeedKnows ports split frames feed v
+  pub comes : ComesTo (WantsRoom split ports) left faults first now ports feed.stage frames
 
 -- A new feed has read nothing.
 abbrev pub NewFeedsStand : {S : Type 0} → (S → Option (List ℕ)) → (S → ℕ) → Type 0

@@ -1,16 +1,20 @@
 -- What the card keeps of what it reads.
-use Rattle.std.specs.Prelude.{◌≡◌, ℕ, ◌⊎◌, true, false, List, [], ◌∷◌, ◌++◌, length, Option, Some, None, Result, Ok, Err}
+use Rattle.std.specs.Prelude.{◌≡◌, ℕ, ◌⊎◌, false, List, [], ◌∷◌, ◌++◌, length, Option, Some, None, Result, Ok, Err}
 use Rattle.zr_kinds.specs.declared.fault.Fault.{Fault}
 use Rattle.zr_kinds.specs.declared.fault.Fault.TheVariants.{Memory}
 use Rattle.flow_table.specs.Steered.{Steered}
 use Rattle.flow_table.specs.Flows.{flows_of, flows_with}
 use Rattle.flow_table.specs.KnownFlows.{KnownFlows}
 use Rattle.frames_read.specs.Ending.{steered_in, flow_ending, BeginsFlow, ending_at}
-use Rattle.frames_read.specs.Reading.{HasEnded, EndsAt}
+use Rattle.frames_read.specs.Reading.{EndsAt}
 use Rattle.frames_read.specs.Tally.{tally_of}
 use Rattle.replay_turns.specs.declared.intake.Route.{Route}
 use Rattle.replay_turns.specs.declared.intake.Intake.{Intake}
-use Rattle.replay_turns.specs.Coming.{ComesTo, is_over}
+use Rattle.replay_turns.specs.declared.intake.Stage.{Stage}
+use Rattle.replay_turns.specs.declared.intake.Stage.TheVariants as stage
+use Rattle.replay_turns.specs.declared.arrived.Arrived.{Arrived}
+use Rattle.replay_turns.specs.declared.arrived.Arrived.TheVariants as arrived
+use Rattle.replay_turns.specs.Coming.{is_over}
 use Rattle.replay_turns.specs.Offered.{offered_one, offer_next, WantsRoom, IsLong}
 use Rattle.replay_turns.specs.Hand.{offered_by, at_hand}
 
@@ -54,34 +58,37 @@ pub record IsReadable (intake : Intake) : Type 0 where
   pub none : intake.hand ≡ None
   pub goes : is_over intake.stage ≡ false
 
--- A frame more was taken, and it is at hand where it is offered; or the reading ended, and none is.
-pub record ReadsFrame {S : Type 0} (left : S → Option (List ℕ)) (faults : S → ℕ) (first now : S) (ports : List ℕ) (frames : List (List ℕ))
-    (intake : Intake) : Type 0 where
-  pub frame : List ℕ
-  pub comes : ComesTo (WantsRoom intake.split ports) left faults first now ports intake.stage (frames ++ frame ∷ [])
-  pub on : is_over intake.stage ≡ false
-  pub knows : Knows ports (frames ++ frame ∷ []) intake
-  pub hand : at_hand intake.hand intake.bytes.items ≡ offer_next ports frames frame
+-- Nothing changed but how far the reading has come, and the vector of the last frame.
+pub record OnlyOpens (was now : Intake) : Type 0 where
+  pub hand : now.hand ≡ was.hand
+  pub tally : now.counting.tally ≡ was.counting.tally
+  pub table : now.table ≡ was.table
+  pub refused : now.refused.items ≡ was.refused.items
+  pub split : now.split ≡ was.split
 
-pub record ReadsEnd {S : Type 0} (left : S → Option (List ℕ)) (faults : S → ℕ) (first now : S) (ports : List ℕ) (frames : List (List ℕ))
-    (intake : Intake) : Type 0 where
-  pub comes : ComesTo (WantsRoom intake.split ports) left faults first now ports intake.stage frames
-  pub over : is_over intake.stage ≡ true
-  pub knows : Knows ports frames intake
-  pub hand : intake.hand ≡ None
+-- what arrives is for an intake that wants it
+abbrev pub IsTimely : Intake → Arrived → Type 0
+IsTimely intake (arrived.Frame found bytes) = IsReadable intake
+IsTimely intake arrived.Nothing = Unit {0}
+IsTimely intake (arrived.Over end) = IsReadable intake
 
-abbrev pub Reads : {S : Type 0} → (S → Option (List ℕ)) → (S → ℕ) → S → S → List ℕ → List (List ℕ) → Intake → Type 0
-Reads left faults first now ports frames intake =
-    ReadsFrame left faults first now ports frames intake ⊎ ReadsEnd left faults first now ports frames intake
+abbrev pub counts_as : Arrived → ℕ
+counts_as (arrived.Frame found bytes) = 1
+counts_as arrived.Nothing = 0
+counts_as (arrived.Over end) = 1
 
--- with an ending that isn't noted yet
-pub record ReadsFault {S : Type 0} (left : S → Option (List ℕ)) (faults : S → ℕ) (first now : S) (ports : List ℕ) (frames : List (List ℕ))
-    (intake : Intake) (fault : Fault) : Type 0 where
-  pub ended : HasEnded (WantsRoom intake.split ports) (left first) (left now) (faults first) (faults now) ports frames (Some fault)
-  pub knows : Knows ports frames intake
-  pub hand : intake.hand ≡ None
+-- the reading goes on, or this fault ended it
+abbrev pub IsStageAfter : Stage → Stage → Result (Unit {0}) Fault → Type 0
+IsStageAfter was now (Ok done) = now ≡ was
+IsStageAfter was now (Err fault) = now ≡ stage.Over (Some fault)
 
-abbrev pub ReadsOr : {S : Type 0} → (S → Option (List ℕ)) → (S → ℕ) → S → S → List ℕ → List (List ℕ) → Intake → Result
-    (Unit {0}) Fault → Type 0
-ReadsOr left faults first now ports frames intake (Ok done) = Reads left faults first now ports frames intake
-ReadsOr left faults first now ports frames intake (Err fault) = ReadsFault left faults first now ports frames intake fault
+-- The frame was taken, and is at hand where it is offered; or it ended the reading, and none is.
+abbrev pub TakesOrEnds : ℕ → List ℕ → List (List ℕ) → List ℕ → Stage → Intake → Type 0
+TakesOrEnds split ports frames frame was intake =
+    (result : Result (Unit {0}) Fault) × TakesFrame split ports frames frame intake result × IsStageAfter was intake.stage result
+
+-- What arrived was taken in.
+abbrev pub TakesIn : ℕ → List ℕ → List (List ℕ) → Stage → Intake → Arrived → Type 0
+TakesIn split ports frames was intake (arrived.Frame found bytes) = TakesOrEnds split ports frames bytes.items was intake
+TakesIn split ports frames was intake arrived.Nothing = Knows ports frames intake
+TakesIn split ports frames was intake (arrived.Over end) = Knows ports frames intake × (intake.hand ≡ None) × (intake.stage ≡ stage.Over end)

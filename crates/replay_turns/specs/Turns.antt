@@ -1,5 +1,6 @@
 -- What a turn of the card does.
 use Rattle.std.specs.Prelude.{◌≡◌, ℕ, ◌<◌, ◌⊎◌, true, false, List, [], ◌∷◌, ◌++◌, Option, Some, None}
+use Rattle.zr_kinds.specs.declared.fault.Fault.{Fault}
 use Rattle.board_face.specs.Looks.{NicRose}
 use Rattle.board_face.specs.NicCalls.{apps_of}
 use Rattle.board_face.specs.NicEvents.{nic_gist}
@@ -13,9 +14,14 @@ use Rattle.page_pool.specs.Frames.{Offered, offered}
 use Rattle.page_pool.specs.Dealing.{DrainsRings, CountsStrays}
 use Rattle.page_pool.specs.Pool.{PoolState, HasNonePending, IsNextApp, OnlySends, Closes}
 use Rattle.page_pool.specs.Offer.{Offers}
+use Rattle.frames_read.specs.Ending.{ending_at}
+use Rattle.frames_read.specs.Reading.{EndsAt}
+use Rattle.replay_turns.specs.declared.arrived.Arrived.{Arrived}
+use Rattle.replay_turns.specs.declared.arrived.Arrived.TheVariants as arrived
+use Rattle.replay_turns.specs.declared.intake.Stage.TheVariants as stage
 use Rattle.replay_turns.specs.Coming.{is_over}
-use Rattle.replay_turns.specs.Offered.{offer_next}
-use Rattle.replay_turns.specs.Feed.{FeedState, FeedStands, WantsRecord}
+use Rattle.replay_turns.specs.Offered.{WantsRoom, offer_next}
+use Rattle.replay_turns.specs.Feed.{FeedState, FeedKnows, FeedStands, WantsRecord}
 
 -- ---- reading
 
@@ -28,6 +34,37 @@ ReadsOne ports now frames more =
 -- and nothing else of the feed changed
 abbrev pub OnlyReads : FeedState → FeedState → Type 0
 OnlyReads was now = now ≡ record was { stage = now.stage; tally = now.tally; flows = now.flows; at_hand = now.at_hand }
+
+-- ---- what arrives
+
+-- It brings nothing where a frame is at hand, and once the reading has ended.
+abbrev pub MayArrive : FeedState → Arrived → Type 0
+MayArrive feed (arrived.Frame found bytes) = WantsRecord feed
+MayArrive feed arrived.Nothing = Unit {0}
+MayArrive feed (arrived.Over end) = WantsRecord feed
+
+-- One more frame came, and is at hand where it is offered.
+pub record TakesOne (ports : List ℕ) (was now : FeedState) (frames : List (List ℕ)) (frame : List ℕ) (more : List (List ℕ)) : Type 0 where
+  pub more_are : more ≡ frames ++ frame ∷ []
+  pub goes : ending_at ports frames frame ≡ None
+  pub hand : now.at_hand ≡ offer_next ports frames frame
+  pub stage_is : now.stage ≡ was.stage
+
+-- A frame came that ends the reading: nothing of it was taken.
+pub record EndsOn (split : ℕ) (ports : List ℕ) (now : FeedState) (frames : List (List ℕ)) (frame : List ℕ) (more : List (List ℕ)) : Type 0 where
+  pub fault : Fault
+  pub ends : EndsAt (WantsRoom split ports) ports frames frame fault
+  pub more_are : more ≡ frames
+  pub hand : now.at_hand ≡ None
+  pub stage_is : now.stage ≡ stage.Over (Some fault)
+
+-- What arrived was taken.
+abbrev pub Receives : ℕ → List ℕ → FeedState → FeedState → List (List ℕ) → List (List ℕ) → Arrived → Type 0
+Receives split ports was now frames more (arrived.Frame found bytes) =
+    TakesOne ports was now frames bytes.items more ⊎ EndsOn split ports now frames bytes.items more
+Receives split ports was now frames more arrived.Nothing = (now ≡ was) × (more ≡ frames)
+Receives split ports was now frames more (arrived.Over end) =
+    (more ≡ frames) × (now.at_hand ≡ None) × (now.stage ≡ stage.Over end)
 
 -- ---- the frame at hand
 
@@ -76,14 +113,48 @@ pub record FeedTurns {S : Type 0} (left : S → Option (List ℕ)) (faults : S �
   pub plays : Plays read now old new
   pub stands : FeedStands left faults first source ports split more now new
 
+-- ---- a step, by what arrived
+
+-- A record is wanted, and none has come yet.
+abbrev pub IsAwaiting : FeedState → Arrived → Type 0
+IsAwaiting feed (arrived.Frame found bytes) = ⊥
+IsAwaiting feed arrived.Nothing = WantsRecord feed
+IsAwaiting feed (arrived.Over end) = ⊥
+
+-- Until one comes, what is pending is sent, up to a slot in use, and the rings are drained.
+abbrev pub KeepsUp : FeedState → FeedState → NicView → NicView → Type 0
+KeepsUp was now old new =
+    (pool : PoolState) × (mid : NicView) × OnlySends was.pool pool old mid
+    × (HasNonePending pool ⊎ ((app : ℕ) × IsNextApp pool app × NicRose (NoteInUse app) old mid))
+    × ((count : ℕ) × DrainsRings pool.stats now.pool.stats mid new count × (now ≡ record was { pool = record pool { stats = now.pool.stats } }))
+
+-- A step: what arrived is taken, and then the rest is done.
+pub record FeedSteps (ports : List ℕ) (split : ℕ) (frames : List (List ℕ)) (came : Arrived) (was now : FeedState) (old new : NicView) : Type 0 where
+  pub taken : FeedState
+  pub more : List (List ℕ)
+  pub only : OnlyReads was taken
+  pub receives : Receives split ports was taken frames more came
+  pub done : (¬ IsAwaiting was came × Plays taken now old new) ⊎ (IsAwaiting was came × KeepsUp taken now old new)
+  pub stage_is : now.stage ≡ taken.stage
+  pub knows : FeedKnows ports split more now new
+
 -- ---- a turn that did nothing
 
--- Nothing changed but looks: each refill ring was seen empty in this turn and, before closing, a next note slot in use; and
--- that is so, where the board tells it.
-pub record IsIdle {B : Type 0} (tells : NicLook → NicView → B → Type 0) (beside : B) (was now : FeedState) (old new : NicView) : Type 0 where
+-- Nothing changed but looks: each refill ring was seen empty in this turn, and either it rests for this reason or a next note
+-- slot was seen in use; and that is so, where the board tells it.
+pub record HasLooked {B : Type 0} (Rests : Type 0) (tells : NicLook → NicView → B → Type 0) (beside : B) (was now : FeedState)
+    (old new : NicView) : Type 0 where
   pub feed : now ≡ record was { pool = record was.pool { stats = now.pool.stats } }
   pub stats : CountsStrays was.pool.stats now.pool.stats []
   pub view : nic_gist new ≡ nic_gist old
   pub rings : (a : ℕ) → a < apps_of old.setting → NicRose (RingEmpty a) old new × tells (RingEmpty a) (nic_gist new) beside
-  pub notes : (was.closed ≡ true)
+  pub notes : Rests
       ⊎ ((app : ℕ) × (app < apps_of old.setting) × NicRose (NoteInUse app) old new × tells (NoteInUse app) (nic_gist new) beside)
+
+-- It rests once the card was closed.
+abbrev pub IsIdle : {B : Type 0} → (NicLook → NicView → B → Type 0) → B → FeedState → FeedState → NicView → NicView → Type 0
+IsIdle tells beside was now old new = HasLooked (was.closed ≡ true) tells beside was now old new
+
+-- And where a record is awaited, once nothing is pending.
+abbrev pub HasRested : FeedState → FeedState → Arrived → Type 0
+HasRested was now came = (was.closed ≡ true) ⊎ (IsAwaiting was came × HasNonePending now.pool)

@@ -1,12 +1,13 @@
 //! The card's part of a replay: what it keeps from turn to turn.
 
-ghost use Rattle.std.specs.Prelude.{◌≡◌, ◌<◌, ◌≤◌, true, length, get_or, IfOk, Some, option_map, vec_len};
+ghost use Rattle.std.specs.Prelude.{◌≡◌, ◌<◌, ◌≤◌, true, length, get_or, is_some, IfOk, None, Some, option_map, vec_len};
 ghost use Rattle.std.specs.List.{slice_get};
 ghost use Rattle.flow_table.specs.Flows.{Flow};
 ghost use Rattle.replay_turns.specs.Plan.{IsPlan};
 ghost use Rattle.board_face.specs.NicCalls.{apps_of, IsOpen, HasNoToken};
 ghost use Rattle.board_face.specs.declared.views.nic.NicView.{NicView};
 ghost use Rattle.replay_turns.specs.Feed.{IsReady, new_feed, end_of};
+ghost use Rattle.replay_turns.specs.Coming.{is_over};
 ghost use Rattle.replay_turns.specs.Hand.{HaveApps};
 ghost use Rattle.replay_turns.specs.Outcomes.{AreLinesOf, HavePorts, IsOutcomeOf};
 
@@ -59,6 +60,7 @@ impl Feed {
                 refused: Vec::new(alloc),
                 hand: None,
                 split: plan.split,
+                alloc,
             },
             pool: Pool::new(plan.split),
             closed: false,
@@ -70,6 +72,28 @@ impl Feed {
         ensures { result ≡ self.now.closed }
     {
         self.closed
+    }
+
+    /// Whether a frame is at hand, which is offered before another is taken.
+    pub fn at_hand(&self) -> bool
+        ensures { result ≡ is_some self.now.at_hand }
+    {
+        self.intake.hand.is_some()
+    }
+
+    /// Whether the reading has ended.
+    pub fn ended(&self) -> bool
+        ensures { result ≡ is_over self.now.stage }
+    {
+        self.intake.is_over()
+    }
+
+    /// The vector of the frame that was taken last, which isn't wanted any more.
+    pub fn spare(&mut self) -> Vec<u8>
+        requires none { self.old.at_hand ≡ None }
+        ensures same { self.new ≡ self.old }
+    {
+        self.intake.spare()
     }
 
     /// How many records were read so far.

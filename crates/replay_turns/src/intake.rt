@@ -7,12 +7,13 @@ ghost use Rattle.replay_turns.specs.Hand.{HaveApps, HandFits, HasRoom};
 use flow_table::FlowTable;
 use frames_read::Counting;
 use pcap_reader::Capture;
+use std::alloc::Global;
 use zr_kinds::Fault;
 
 /// How far the reading has come.
 #[derive(Debug, Drop)]
 pub enum Stage {
-    /// Nothing was read, not even the file header.
+    /// No file header was read here.
     Unopened,
     /// The reading goes on.
     Open(Capture),
@@ -49,6 +50,8 @@ pub struct Intake {
     pub hand: Option<Route>,
     /// The greatest payload that is never refused, in bytes.
     pub split: u32,
+    /// What empty vectors are made of.
+    pub alloc: Global,
     ghost apps: { HaveApps table.ports table.flows },
     ghost hand_fits: { ForSome hand (HandFits table.ports bytes.items) },
     ghost room: { ForSome hand (HasRoom split refused.items (vec_capacity refused)) },

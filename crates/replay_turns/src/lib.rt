@@ -1,6 +1,7 @@
 //! Turns: what the card does in one, over any source and any board, and how a run of them goes.
 #![tactic(auto)]
 
+mod arrived;
 mod feed;
 mod intake;
 mod laws;
@@ -8,10 +9,13 @@ mod outcome;
 mod plan;
 mod playing;
 mod reading;
+mod receiving;
 mod steps;
 mod turn;
 
+pub use arrived::Arrived;
 pub use feed::Feed;
+pub use intake::Stage;
 pub use laws::{
     accounts_give_streams, closed_feeds_show, feeds_send_own, feeds_send_whole,
     first_notes_are_whole, new_feeds_stand, offers_have_apps, own_notes_mark_no_other,
@@ -20,4 +24,4 @@ pub use laws::{
 pub use outcome::Outcome;
 pub use plan::Plan;
 pub use steps::{app_step, card_step};
-pub use turn::nic_turn;
+pub use turn::{nic_step, nic_turn};

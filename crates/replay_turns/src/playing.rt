@@ -1,6 +1,6 @@
 //! The part of a turn that is played at the face: the frame at hand is offered, or the card finishes.
 
-ghost use Rattle.std.specs.Prelude.{◌≡◌, ◌≢◌, ◌⊎◌, ℕ, ◌<◌, ◌≤◌, length, true, false, Some, None};
+ghost use Rattle.std.specs.Prelude.{◌≡◌, ◌≢◌, ◌⊎◌, ℕ, ◌<◌, ◌≤◌, Bool, length, true, false, Some, None};
 ghost use Rattle.board_face.specs.Looks.{NicRose};
 ghost use Rattle.board_face.specs.NicCalls.{apps_of, IsOpen};
 ghost use Rattle.board_face.specs.NicEvents.{nic_gist};
@@ -13,7 +13,7 @@ ghost use Rattle.replay_turns.specs.Offered.{payload_in};
 ghost use Rattle.replay_turns.specs.Hand.{offered_by};
 ghost use Rattle.replay_turns.specs.Coming.{is_over};
 ghost use Rattle.replay_turns.specs.Feed.{Fits, card_steps};
-ghost use Rattle.replay_turns.specs.Turns.{OffersHand, Finishes, Plays, IsIdle};
+ghost use Rattle.replay_turns.specs.Turns.{OffersHand, Finishes, KeepsUp, Plays, HasLooked, IsIdle};
 ghost use Rattle.replay_turns.specs.Parts.{feed_of};
 ghost use Rattle.replay_turns.specs.declared.intake.Intake.{Intake as TheIntake};
 
@@ -127,6 +127,27 @@ pub fn finish<F: NicFace>(pool: &mut Pool, closed: &mut bool, face: &mut F) -> b
         *closed = true;
         return true;
     }
+    let dealt = nic_drain(face, pool);
+    pool.pending() < pending || dealt > 0
+}
+
+/// Sends what is pending, up to a slot in use, and drains. `false` says that nothing changed.
+pub fn keep_up<F: NicFace>(pool: &mut Pool, face: &mut F) -> bool
+    requires open { IsOpen (F.seen face.old) }
+    requires stands { PoolStands pool.old (F.seen face.old) }
+    ensures stands { PoolStands pool.new (F.seen face.new) }
+    ensures keeps_up { (intake : TheIntake) (closed : Bool) → KeepsUp (feed_of intake pool.old closed) (feed_of intake pool.new closed)
+        (F.seen face.old) (F.seen face.new) }
+    ensures split { pool.new.split ≡ pool.old.split }
+    ensures setting { (F.seen face.new).setting ≡ (F.seen face.old).setting }
+    ensures open { IsOpen (F.seen face.new) }
+    ensures rises { result ≡ true → card_steps false (F.seen face.old) < card_steps false (F.seen face.new) }
+    ensures idle { result ≡ false → (intake : TheIntake) (closed : Bool) → HasLooked (HasNonePending pool.new) F.tells (F.beside face.new)
+        (feed_of intake pool.old closed) (feed_of intake pool.new closed) (F.seen face.old) (F.seen face.new) }
+    ensures beside { F.beside face.new ≡ F.beside face.old }
+{
+    let pending = pool.pending();
+    nic_flush(face, pool);
     let dealt = nic_drain(face, pool);
     pool.pending() < pending || dealt > 0
 }

@@ -157,5 +157,5 @@ module _ {S T : Type 0} (left : S → Option (List ℕ)) (faults : S → ℕ) (k
             no-flow-read (kept_in kept shelves a) (kept_in kept shelves_now a) (losses_in losses shelves a) (losses_in losses shelves_now a) plan.how
             app own.0 (runs.worker a own.0 own.1) has.whole number
             (ap (marks_of number) has.taken ∙ own-marks (flows_of (steered_in plan.ports.items runs.frames)) a (sent_to a nic) has.own number none);
-        strays_are = runs.feed.counted.strays;
+        strays_are = runs.feed.knows.counted.strays;
       }

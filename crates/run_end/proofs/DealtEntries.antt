@@ -15,7 +15,7 @@ use Rattle.page_pool.specs.Offer.{ClosesCurrent, LooksFor, not_needed, searched}
 use Rattle.page_pool.specs.Searching.{SearchEnd}
 use Rattle.page_pool.specs.Pool.{Closes}
 use Rattle.replay_turns.specs.Feed.{FeedState}
-use Rattle.replay_turns.specs.Turns.{Plays, drains, offers, finishes, rests, Settles}
+use Rattle.replay_turns.specs.Turns.{Plays, drains, offers, finishes, rests, Settles, KeepsUp}
 use Rattle.replay_turns.proofs.PlayLemmas.{closed-dealt}
 
 closed-setting : (current : Option Filling) (old new : NicView) → ClosesCurrent current old new → new.setting ≡ old.setting
@@ -77,3 +77,12 @@ module _ (n : ℕ) where
       (λ (waits, more). drained pool.stats now.pool.stats mid new more.0 more.1 setting before)
       end
   dealt-of was now old new (rests on none over same still) many all = subst (λ (v : NicView). All IsOne v.dealt) (sym still) all
+
+  -- nor while it keeps up with the applications
+  pub dealt-up : (was now : FeedState) (old new : NicView) → KeepsUp was now old new → apps_of old.setting ≡ n → All IsOne old.dealt
+      → All IsOne new.dealt
+  dealt-up was now old new (pool, mid, sends, rest, (count, drains_it, same)) many all =
+      let view = sends.view in
+      let setting : apps_of mid.setting ≡ n = ap (λ (v : NicView). apps_of v.setting) view ∙ many in
+      let before : All IsOne mid.dealt = subst (All IsOne) (sym (ap (λ (v : NicView). v.dealt) view)) all in
+      drained pool.stats now.pool.stats mid new count drains_it setting before

@@ -94,11 +94,11 @@ module _ {S T : Type 0} (left : S → Option (List ℕ)) (faults : S → ℕ) (k
       (accounts left faults kept losses source source_now shelves shelves_now plan nic apps run ended fits over runs)))
 
   counts-are : AreCounts (flows_of (steered_in plan.ports.items runs.frames)) run.workers.items tells.counts
-  counts-are = subst (λ flows. AreCounts flows run.workers.items tells.counts) runs.feed.flows_are tells.are
+  counts-are = subst (λ flows. AreCounts flows run.workers.items tells.counts) runs.feed.knows.flows_are tells.are
 
   lines-are : AreLinesOf (flows_of (steered_in plan.ports.items runs.frames)) tells.counts told_is.flows
-  lines-are = subst (λ flows. AreLinesOf flows tells.counts told_is.flows) runs.feed.flows_are
-      (tells.flows (ports-of-lines plan.ports.items run.workers.items runs.many ∙ sym runs.feed.ports_are))
+  lines-are = subst (λ flows. AreLinesOf flows tells.counts told_is.flows) runs.feed.knows.flows_are
+      (tells.flows (ports-of-lines plan.ports.items run.workers.items runs.many ∙ sym runs.feed.knows.ports_are))
 
   app-line-at : (a port : ℕ) (w : Worker) → slice_get plan.ports.items a ≡ Some port → slice_get run.workers.items a ≡ Some w
       → slice_get told_is.apps a ≡ Some (line_of port w)
@@ -108,14 +108,14 @@ module _ {S T : Type 0} (left : S → Option (List ℕ)) (faults : S → ℕ) (k
   refused-are : AreRefused plan.split (offers_of (steered_in plan.ports.items runs.frames)) told_is.refused
   refused-are =
       let settled : AreSettled plan.split (offers_of (steered_in plan.ports.items runs.frames)) run.feed.refused None _ =
-      rw (fits.ready.fits.none over.card) at runs.feed.settled in
+      rw (fits.ready.fits.none over.card) at runs.feed.knows.settled in
       subst (AreRefused plan.split (offers_of (steered_in plan.ports.items runs.frames))) (sym tells.refused)
       (subst (λ offers. AreRefused plan.split offers run.feed.refused) settled.awaits settled.refused_are)
 
   counted : AreCounted plan.split (offers_of (steered_in plan.ports.items runs.frames)) told_is.refused None nic.view.dealt told_is.pool
   counted =
       let pool : AreCounted plan.split (offers_of (steered_in plan.ports.items runs.frames)) run.feed.refused None nic.view.dealt _ =
-      rw (fits.ready.fits.none over.card) at runs.feed.counted in
+      rw (fits.ready.fits.none over.card) at runs.feed.knows.counted in
       subst (λ refused. AreCounted plan.split (offers_of (steered_in plan.ports.items runs.frames)) refused None nic.view.dealt told_is.pool)
       (sym tells.refused)
       (subst (λ (stats : PoolStats). AreCounted plan.split (offers_of (steered_in plan.ports.items runs.frames)) run.feed.refused None
@@ -255,7 +255,7 @@ module _ {S T : Type 0} (left : S → Option (List ℕ)) (faults : S → ℕ) (k
     before = runs.frames;
     ended = subst (HasEnded _ (left source) (left source_now) (faults source) (faults source_now) plan.ports.items runs.frames) (sym tells.end)
         (comes-over _ left faults source source_now plan.ports.items run.feed.stage runs.frames (fits.ready.fits.over over.card) runs.feed.comes);
-    tally = tells.tally ∙ runs.feed.tally_is;
+    tally = tells.tally ∙ runs.feed.knows.tally_is;
     refused = refused-are;
     searches = searched;
     empty = found-none;
@@ -293,4 +293,5 @@ pub end-told : {S T : Type 0} (left : S → Option (List ℕ)) (faults : S → �
     → RunsAreTold left faults kept losses
 end-told left faults kept losses source source_now shelves shelves_now plan nic apps run ended fits over runs =
     let told_is = all-told run plan.ports.items in
-    (told_is, ran left faults kept losses source source_now shelves shelves_now plan nic apps run told_is ended fits over runs (all-tells run plan.ports.items))
+    let tells = all-tells run plan.ports.items in
+    (told_is, tells.end, ran left faults kept losses source source_now shelves shelves_now plan nic apps run told_is ended fits over runs tells)

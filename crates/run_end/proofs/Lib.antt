@@ -17,3 +17,5 @@ pub mod Strays
 pub mod Ended
 pub mod Telling
 pub mod Workers
+pub mod NewWorkers
+pub mod ReadOn

@@ -104,9 +104,9 @@ module _ {S T : Type 0} (left : S → Option (List ℕ)) (faults : S → ℕ) (k
     (runs : Running left faults kept losses source source_now shelves shelves_now plan nic apps run) where
   -- no more frames were read than are read at most
   pub frames-read : length runs.frames ≤ 16777216
-  frames-read = let read = ap (λ t. t.records) runs.feed.tally_is in let most = runs.records in omega (arith, read, most)
+  frames-read = let read = ap (λ t. t.records) runs.feed.knows.tally_is in let most = runs.records in omega (arith, read, most)
 
   -- the notes that were sent tell of no more bytes than the records have
   pub notes-few : All IsProper nic.view.sent → AreFew most_sent nic.view.sent
   notes-few proper =
-      sent-few plan.split plan.ports.items runs.frames run.feed.refused run.feed.at_hand nic.view.sent _ runs.feed.settled frames-read proper
+      sent-few plan.split plan.ports.items runs.frames run.feed.refused run.feed.at_hand nic.view.sent _ runs.feed.knows.settled frames-read proper

@@ -9,11 +9,12 @@ use Rattle.zr_kinds.specs.declared.behaviour.Behaviour.{Behaviour}
 use Rattle.zr_kinds.specs.declared.behaviour.Stopped.{Stopped}
 use Rattle.zr_kinds.specs.declared.behaviour.Stopped.TheVariants as stop
 use Rattle.zr_kinds.specs.declared.fault.Fault.{Fault}
+use Rattle.zr_kinds.specs.declared.fault.Fault.TheVariants.{Memory, TooManyFlows}
 use Rattle.zr_kinds.specs.declared.outcome.AppLine.{AppLine}
 use Rattle.zr_kinds.specs.declared.outcome.FlowLine.{FlowLine}
 use Rattle.zr_kinds.specs.declared.outcome.PoolStats.{PoolStats}
 use Rattle.zr_kinds.specs.declared.outcome.Tally.{Tally}
-use Rattle.zr_io.specs.Moved.{Rose, Gained}
+use Rattle.zr_io.specs.Moved.{Rose, Gained, Took}
 use Rattle.flow_table.specs.Flows.{Flow, flows_of}
 use Rattle.flow_table.specs.Stream.{stream_of}
 use Rattle.frames_read.specs.Ending.{steered_in}
@@ -197,3 +198,20 @@ LacksMemory left faults kept losses source source_now shelves shelves_now plan =
     IsUntouched source source_now shelves shelves_now
     ⊎ ((told : Told) × (nic : NicSide) × (apps : List AppSide)
     × Ran left faults kept losses source source_now shelves shelves_now plan told nic apps)
+
+-- ---- a capture that is read beside the card
+
+-- The source as the ending of the reading left it, and as it is now. Only where the card ended the reading, by want of memory or by
+-- a flow too many, may a reading beside it have gone on.
+pub record HasReadOn {S : Type 0} (left : S → Option (List ℕ)) (faults : S → ℕ) (at now : S) (end : Option Fault) : Type 0 where
+  pub same : end ≢ Some Memory → end ≢ Some TooManyFlows → at ≡ now
+  pub taken : Took (left at) (left now) (λ bytes. Unit {0})
+  pub later : faults at ≤ faults now
+
+-- `LacksMemory` of a run whose capture is read beside the card.
+abbrev pub LacksMemoryBeside : {S T : Type 0} → (S → Option (List ℕ)) → (S → ℕ) → (T → ℕ → Option (List ℕ)) → (T → ℕ) → S → S
+    → List T → List T → Plan → Type 0
+LacksMemoryBeside {S} {T} left faults kept losses source source_now shelves shelves_now plan =
+    IsUntouched source source_now shelves shelves_now
+    ⊎ ((at : S) × (told : Told) × (nic : NicSide) × (apps : List AppSide) × HasReadOn left faults at source_now told.end
+    × Ran left faults kept losses source at shelves shelves_now plan told nic apps)

@@ -89,5 +89,5 @@ module _ {S T : Type 0} (left : S → Option (List ℕ)) (faults : S → ℕ) (k
           over_board.nic,
           over_board.apps,
           subst
-              (λ shelves. Ran left faults kept losses source now items shelves plan told.0 over_board.nic over_board.apps) (sym ends-with) told.1,
+              (λ shelves. Ran left faults kept losses source now items shelves plan told.0 over_board.nic over_board.apps) (sym ends-with) told.2,
         )

@@ -8,8 +8,9 @@ use Rattle.board_face.specs.declared.views.nic.Dealt.{Dealt}
 use Rattle.replay_turns.specs.Feed.{FeedState}
 use Rattle.plain_board.specs.Board.{Board}
 use Rattle.replay_turns.specs.Plan.{layout_of}
+use Rattle.run_end.proofs.NewWorkers.{new-fits, new-runs}
 use Rattle.run_end.proofs.Places.{get-within}
-use Rattle.turn_runs.proofs.News.{begun, new-fits, new-runs}
+use Rattle.turn_runs.proofs.News.{begun}
 use Rattle.turn_runs.proofs.opening.open.Goals as goal
 
 pub returns-clause-many : goal.returns-clause-many

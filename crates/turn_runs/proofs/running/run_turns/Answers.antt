@@ -41,6 +41,6 @@ tell-requires g c =
     c.in_ok-board.ensures.runs c.play_text-board.ensures.plays c.play_rounds-board.ensures.plays in
     record {
       over = c.play_rounds-board.ensures.over;
-      ports = runs.feed.ports_are ∙ sym c.deref.ensures.value;
+      ports = runs.feed.knows.ports_are ∙ sym c.deref.ensures.value;
       many = runs.many ∙ ap length (sym c.deref.ensures.value);
     }
