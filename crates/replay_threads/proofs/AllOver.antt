@@ -16,19 +16,20 @@ use Rattle.board_face.specs.declared.views.nic.Dealt.{Dealt}
 use Rattle.board_face.specs.declared.views.nic.NicSide.{NicSide}
 use Rattle.board_face.specs.declared.views.nic.NicView.{NicView}
 use Rattle.replay_turns.specs.Account.{kept_in}
-use Rattle.replay_turns.specs.Feed.{FeedState, FeedStands, IsReady, NewFeedsStand, new_feed}
+use Rattle.replay_turns.specs.Feed.{FeedState, IsReady, NewFeedsStand, new_feed}
 use Rattle.replay_turns.specs.Plan.{IsPlan, layout_of}
 use Rattle.replay_turns.specs.declared.plan.Plan.{Plan}
 use Rattle.run_end.specs.Running.{AreNew, AreOver, RolesFit, Running, WorkerFits, WorkerRuns, losses_in}
 use Rattle.run_end.specs.declared.run.Run.{Run}
 use Rattle.run_end.specs.declared.run.Worker.{Worker}
+use Rattle.run_end.proofs.NewWorkers.{new-runs}
 use Rattle.run_end.proofs.Places.{kept-here, losses-here}
 use Rattle.word_board.specs.Board.{TheBoard, TheDesk, card_of, first_nic}
 use Rattle.word_board.specs.Desk.{AllAreBack, AreOfBoard, AreServed}
 use Rattle.replay_threads.specs.declared.lane.Lane.{Lane}
-use Rattle.replay_threads.specs.Cards.{CardStands}
+use Rattle.replay_threads.specs.Cards.{CardStands, nothing}
 use Rattle.replay_threads.specs.Played.{HasPlayed}
-use Rattle.replay_threads.proofs.NewWorkers.{new-runs}
+use Rattle.replay_threads.proofs.Joined.{HasReadAll}
 use Rattle.replay_threads.proofs.SideBySide.{HaveGone, IsAt, is-at, numbered, is-numbered, get-front}
 
 -- the same by other names
@@ -37,14 +38,15 @@ runs-as : (how : Behaviour) (first as_first kept_now as_kept : ℕ → Option (L
     → WorkerRuns as_first as_kept as_l as_m how as_v as_w → WorkerRuns first kept_now l m how v w
 runs-as how first as_first kept_now as_kept l as_l m as_m v as_v w as_w a b c d e f runs = rw (a, b, c, d, e, f) runs
 
--- a card that has read nothing
+-- a card to which nothing was sent
 pub card-begins : {S : Type 0} (left : S → Option (List ℕ)) (faults : S → ℕ) (source : S) (ports : List ℕ) (split : ℕ) (feed : FeedState) (v : NicView)
-    → NewFeedsStand left faults → feed ≡ new_feed ports split → v.sent ≡ [] → v.dealt ≡ [] → CardStands left faults source source ports split feed v
-card-begins left faults source ports split feed v stand is sent dealt = record {
+    → NewFeedsStand left faults → feed ≡ new_feed ports split → v.sent ≡ [] → v.dealt ≡ [] → CardStands ports split [] feed v
+card-begins left faults source ports split feed v stand is sent dealt = rw is (record {
   frames = [];
-  stands = subst (λ f. FeedStands left faults source source ports split [] f v) (sym is) (stand source ports split v sent dealt);
+  knows = (stand source ports split v sent dealt).knows;
+  brought = nothing;
   dealt = subst (All (λ (d : Dealt). d.app < length ports)) (sym dealt) (All-nil (λ (d : Dealt). d.app < length ports));
-}
+})
 
 module _ {S T : Type 0} (left : S → Option (List ℕ)) (faults : S → ℕ) (kept : T → ℕ → Option (List ℕ)) (losses : T → ℕ)
     (source source_now : S) (shelves shelves_now : List T) (plan : Plan) (plan_is : IsPlan plan)
@@ -57,7 +59,7 @@ module _ {S T : Type 0} (left : S → Option (List ℕ)) (faults : S → ℕ) (k
     (served : AreServed desk.view) (known : AreOfBoard desk.board.setting desk.view)
     (run : Run) (workers_are : run.workers.items ≡ map (λ (lane : Lane T). lane.worker) vs)
     (many : length vs ≡ length us)
-    (ready : IsReady run.feed nic.view) (stands : CardStands left faults source source_now plan.ports.items plan.split run.feed nic.view)
+    (ready : IsReady run.feed nic.view) (read : HasReadAll left faults source source_now plan.ports.items plan.split run.feed nic.view)
     (records : run.feed.tally.records ≤ 16777216) (closed : run.feed.closed ≡ true)
     (have_left : All (λ (lane : Lane T). (lane.worker.left ≡ true) × (lane.seat.side.view.left ≡ true)) vs) where
   abbrev sides : List AppSide
@@ -159,11 +161,11 @@ module _ {S T : Type 0} (left : S → Option (List ℕ)) (faults : S → ℕ) (k
   behind : (xs more : List T) → length xs ≡ length plan.ports.items → drop (length plan.ports.items) (xs ++ more) ≡ more
   behind xs more same = ap (λ n. drop n (xs ++ more)) (sym same) ∙ drop-append_seam xs more
 
-  runs : (more : List T) → Running left faults kept losses source source_now (shelves ++ more) (shelves_now ++ more) plan nic desk.view.apps run
+  runs : (more : List T) → Running left faults kept losses source read.at (shelves ++ more) (shelves_now ++ more) plan nic desk.view.apps run
   runs more = record {
     plan_is = plan_is;
-    frames = stands.frames;
-    feed = stands.stands;
+    frames = read.frames;
+    feed = read.stands;
     setting = nic-known.0 ∙ desk-setting;
     many = ap length workers_are ∙ (length-map vs (λ (lane : Lane T). lane.worker) ∙ many-vs);
     worker = λ a w is. subst
@@ -172,7 +174,7 @@ module _ {S T : Type 0} (left : S → Option (List ℕ)) (faults : S → ℕ) (k
     many_shelves = length-append shelves_now more ∙ (ap (λ n. n + length more) (many-shelves-now ∙ sym many-shelves) ∙ sym (length-append shelves more));
     beyond = behind shelves_now more many-shelves-now ∙ sym (behind shelves more many-shelves);
     records = records;
-    dealt = stands.dealt;
+    dealt = read.dealt;
   }
 
   card : nic ≡ card_of desk.view
@@ -184,5 +186,7 @@ module _ {S T : Type 0} (left : S → Option (List ℕ)) (faults : S → ℕ) (k
     ended = subst (λ n. HaveEnded n desk.view.apps) card ended;
     fit = subst (λ n. RolesFit n desk.view.apps run) card fit;
     over = over;
-    runs = λ more. subst (λ n. Running left faults kept losses source source_now (shelves ++ more) (shelves_now ++ more) plan n desk.view.apps run) card (runs more);
+    at = read.at;
+    ahead = read.ahead;
+    runs = λ more. subst (λ n. Running left faults kept losses source read.at (shelves ++ more) (shelves_now ++ more) plan n desk.view.apps run) card (runs more);
   }

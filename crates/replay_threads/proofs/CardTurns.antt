@@ -1,12 +1,24 @@
 -- The card goes on: looks for leaves change nothing that it stands by, and turns come behind turns.
-use Rattle.std.proofs.Common.{◌≡◌, ℕ, List, length, Option, refl, sym, ap, subst, ◌∙◌}
+use Rattle.std.proofs.Common.{◌≡◌, ◌∷◌, ◌++◌, [], ⊎_elim, inl, inr, ℕ, List, length, true, false, refl, sym, ap, subst, ◌∙◌}
 use Rattle.board_face.specs.declared.views.nic.NicLook.{NicLook}
 use Rattle.board_face.specs.declared.views.nic.NicView.{NicView}
-use Rattle.replay_turns.specs.Feed.{FeedState, IsReady, FeedStands}
-use Rattle.replay_turns.specs.Turns.{FeedTurns}
-use Rattle.run_end.proofs.DealtEntries.{dealt-of}
+use Rattle.replay_turns.specs.Coming.{is_over}
+use Rattle.replay_turns.specs.Feed.{FeedState, FeedKnows, IsReady}
+use Rattle.replay_turns.specs.Turns.{FeedSteps, MayArrive, Receives}
+use Rattle.replay_turns.specs.declared.arrived.Arrived.{Arrived}
+use Rattle.replay_turns.specs.declared.arrived.Arrived.TheVariants as arrived
+use Rattle.replay_turns.specs.declared.intake.Stage.{Stage}
+use Rattle.replay_turns.specs.declared.intake.Stage.TheVariants as stage
+use Rattle.run_end.proofs.DealtEntries.{dealt-of, dealt-up}
+use Rattle.rtrb.specs.Ring.{received}
+use Rattle.std.specs.Global.{Vec}
+use Rattle.pcap_reader.specs.declared.capture.Record.{Record}
+use Rattle.replay_threads.specs.Carried.{MayFollow, arrived_of}
+use Rattle.replay_threads.specs.declared.carried.Carried.TheVariants as carried
+use Rattle.replay_threads.proofs.Rings.{consumer-same, consumer-then}
 use Rattle.replay_threads.specs.declared.card.Card.{Card}
-use Rattle.replay_threads.specs.Cards.{CardLooks, CardStands, CardGoes}
+use Rattle.replay_threads.specs.declared.carried.Carried.{Carried}
+use Rattle.replay_threads.specs.Cards.{IsFrame, Brought, nothing, frame, ends, over, dropped, Came, CardLooks, CardTakes, CardStands, CardGoes, CardDrops}
 
 -- ---- looks for leaves
 
@@ -33,68 +45,132 @@ ready-looked feed v gone looks ready = record {
   waits = ready.waits;
 }
 
-stands-looked : {S : Type 0} (left : S → Option (List ℕ)) (faults : S → ℕ) (first now : S) (ports : List ℕ) (split : ℕ) (feed : FeedState) (v : NicView)
-    (gone : List ℕ) (looks : List NicLook) → CardStands left faults first now ports split feed v
-    → CardStands left faults first now ports split feed (record v { gone = gone; looks = looks })
-stands-looked left faults first now ports split feed v gone looks so = record {
+stands-looked : (ports : List ℕ) (split : ℕ) (messages : List Carried) (feed : FeedState) (v : NicView) (gone : List ℕ) (looks : List NicLook)
+    → CardStands ports split messages feed v → CardStands ports split messages feed (record v { gone = gone; looks = looks })
+stands-looked ports split messages feed v gone looks so = record {
   frames = so.frames;
-  stands = record {
-    ports_are = so.stands.ports_are;
-    split_is = so.stands.split_is;
-    comes = so.stands.comes;
-    tally_is = so.stands.tally_is;
-    flows_are = so.stands.flows_are;
-    settled = so.stands.settled;
-    counted = so.stands.counted;
+  knows = record {
+    ports_are = so.knows.ports_are;
+    split_is = so.knows.split_is;
+    tally_is = so.knows.tally_is;
+    flows_are = so.knows.flows_are;
+    settled = so.knows.settled;
+    counted = so.knows.counted;
   };
+  brought = so.brought;
   dealt = so.dealt;
 }
 
+-- ---- what was sent
+
+-- as long as the reading goes on
+still-on : (split : ℕ) (ports : List ℕ) (messages : List Carried) (frames : List (List ℕ)) (at : Stage) → is_over at ≡ false
+    → Brought split ports messages frames at → at ≡ stage.Unopened
+still-on split ports _ _ _ goes nothing = refl
+still-on split ports _ _ _ goes (frame before frames m bytes was follows is more) = refl
+still-on split ports _ _ _ goes (ends before frames m bytes fault was follows is by) = absurd (cc)
+still-on split ports _ _ _ goes (over before frames m end was follows is) = absurd (cc)
+still-on split ports _ _ _ goes (dropped before frames m end was follows) = absurd (cc)
+
+on-stage : (split : ℕ) (ports : List ℕ) (messages : List Carried) (frames : List (List ℕ)) (at : Stage) → is_over at ≡ false
+    → Brought split ports messages frames at → Brought split ports messages frames stage.Unopened
+on-stage split ports messages frames at goes was = subst (Brought split ports messages frames) (still-on split ports messages frames at goes was) was
+
+frame-is : (m : Carried) (r : Record) (bytes : Vec ℕ) → arrived_of m ≡ arrived.Frame r bytes → IsFrame m bytes.items
+frame-is (carried.Frame number found content) r bytes is = (let same : content ≡ bytes = cc in ap (λ v. v.items) same)
+frame-is (carried.Over end) r bytes is = absurd (cc)
+
+module _ (split : ℕ) (ports : List ℕ) (old new : List Carried) (was taken : FeedState) (frames more : List (List ℕ))
+    (stood : Brought split ports old frames was.stage) where
+  brought-more : (came : Arrived) → MayArrive was came → Came old new came → Receives split ports was taken frames more came
+      → Brought split ports new more taken.stage
+  brought-more (arrived.Frame found bytes) may (m, new_is, follows, is) (inl takes) =
+      let on = still-on split ports old frames was.stage may.goes stood in
+      rw (new_is, takes.more_are, takes.stage_is, on)
+      (frame old frames m bytes.items (on-stage split ports old frames was.stage may.goes stood) follows (frame-is m found bytes is) takes.goes)
+  brought-more (arrived.Frame found bytes) may (m, new_is, follows, is) (inr by) =
+      rw (new_is, by.more_are, by.stage_is)
+      (ends old frames m bytes.items by.fault (on-stage split ports old frames was.stage may.goes stood) follows (frame-is m found bytes is) by.ends)
+  brought-more arrived.Nothing may same (taken_is, more_are) = rw (same, more_are, taken_is) stood
+  brought-more (arrived.Over end) may (m, new_is, follows, is) (more_are, hand, stage_is) =
+      rw (new_is, more_are, stage_is) (over old frames m end (on-stage split ports old frames was.stage may.goes stood) follows is)
+
 -- ---- a turn
 
-module _ {S : Type 0} (left : S → Option (List ℕ)) (faults : S → ℕ) where
-  pub goes_same : (source : S) (card : Card) → IsReady card.feed card.seat.side.view → CardGoes left faults source source card card
-  goes_same source card ready = record { board = refl; ready = ready; ports = refl; stands = λ first ports split so. so }
+pub goes_same : (card : Card) → IsReady card.feed card.seat.side.view → CardGoes card card
+goes_same card ready = record { board = refl; ready = ready; ports = refl; ring = consumer-same card.frames; stands = λ ports split so. so }
 
-  pub goes_more : (a b c : S) (u v w : Card) → CardGoes left faults a b u v → CardGoes left faults b c v w → CardGoes left faults a c u w
-  goes_more a b c u v w before after = record {
-    board = after.board ∙ before.board;
-    ready = after.ready;
-    ports = after.ports ∙ before.ports;
-    stands = λ first ports split so. after.stands first ports split (before.stands first ports split so);
-  }
+pub goes_more : (u v w : Card) → CardGoes u v → CardGoes v w → CardGoes u w
+goes_more u v w before after = record {
+  board = after.board ∙ before.board;
+  ready = after.ready;
+  ports = after.ports ∙ before.ports;
+  ring = consumer-then u.frames v.frames w.frames before.ring after.ring;
+  stands = λ ports split so. after.stands ports split (before.stands ports split so);
+}
 
-  turn-stands : (first source source_now : S) (ports : List ℕ) (split : ℕ) (was now : FeedState) (old new : NicView) → IsReady was old
-      → ((frames : List (List ℕ)) → FeedStands left faults first source ports split frames was old
-      → FeedTurns left faults first source_now ports split frames was now old new)
-      → CardStands left faults first source ports split was old → CardStands left faults first source_now ports split now new
-  turn-stands first source source_now ports split was now old new ready turns so =
-      let turned = turns so.frames so.stands in
+step-stands : (ports : List ℕ) (split : ℕ) (messages_old messages_new : List Carried) (came : Arrived) (was now : FeedState) (old new : NicView)
+    → IsReady was old → MayArrive was came → Came messages_old messages_new came
+    → ((frames : List (List ℕ)) → FeedKnows ports split frames was old → FeedSteps ports split frames came was now old new)
+    → CardStands ports split messages_old was old → CardStands ports split messages_new now new
+step-stands ports split messages_old messages_new came was now old new ready may came_is steps so =
+    let step = steps so.frames so.knows in
+    let many = sym ready.fits.apps ∙ ap length so.knows.ports_are in
+    record {
+      frames = step.more;
+      knows = step.knows;
+      brought = subst (Brought split ports messages_new step.more) (sym step.stage_is)
+          (brought-more split ports messages_old messages_new was step.taken so.frames step.more so.brought came may came_is step.receives);
+      dealt = ⊎_elim (λ plays. dealt-of (length ports) step.taken now old new plays.1 many so.dealt)
+          (λ keeps. dealt-up (length ports) step.taken now old new keeps.1 many so.dealt) step.done;
+    }
+
+module _ (was came_by mid now : Card) (came : Arrived) (ready : IsReady was.feed was.seat.side.view)
+    (takes : CardTakes was came_by came) (may : MayArrive came_by.feed came)
+    (ready_mid : IsReady mid.feed mid.seat.side.view) (board : mid.seat.board ≡ came_by.seat.board) (ports_are : mid.feed.ports ≡ came_by.feed.ports)
+    (same_ring : mid.frames ≡ came_by.frames)
+    (steps : (ports : List ℕ) (split : ℕ) (frames : List (List ℕ)) → FeedKnows ports split frames came_by.feed came_by.seat.side.view
+    → FeedSteps ports split frames came came_by.feed mid.feed came_by.seat.side.view mid.seat.side.view)
+    (looks : CardLooks mid now) where
+  pub goes_turn : CardGoes was now
+  goes_turn =
+      let view = sym looks.view in
+      let feed = sym looks.feed in
+      let gone = now.seat.side.view.gone in
+      let seen = now.seat.side.view.looks in
       record {
-        frames = turned.more;
-        stands = turned.stands;
-        dealt = dealt-of (length ports) turned.read now old new turned.plays (sym ready.fits.apps ∙ ap length so.stands.ports_are) so.dealt;
+        board = looks.board ∙ (board ∙ ap (λ seat. seat.board) takes.seat);
+        ready = subst (λ f. IsReady f now.seat.side.view) feed (subst (IsReady mid.feed) view (ready-looked mid.feed mid.seat.side.view gone seen ready_mid));
+        ports = ap (λ (f : FeedState). f.ports) looks.feed ∙ (ports_are ∙ ap (λ (f : FeedState). f.ports) takes.feed);
+        ring = rw (looks.frames, same_ring) takes.ring;
+        stands = λ ports split so.
+            subst (λ f. CardStands ports split (received now.frames) f now.seat.side.view) feed
+            (subst (CardStands ports split (received now.frames) mid.feed) view
+            (stands-looked ports split (received now.frames) mid.feed mid.seat.side.view gone seen
+            (rw (looks.frames, same_ring) (step-stands ports split (received was.frames) (received came_by.frames) came came_by.feed mid.feed
+            came_by.seat.side.view mid.seat.side.view (rw (takes.feed, takes.seat) ready) may takes.came_is (steps ports split)
+            (rw (takes.feed, takes.seat) so)))));
       }
 
-  module _ (source source_now : S) (was mid now : Card) (ready : IsReady was.feed was.seat.side.view) (ready_mid : IsReady mid.feed mid.seat.side.view)
-      (board : mid.seat.board ≡ was.seat.board) (ports_are : mid.feed.ports ≡ was.feed.ports)
-      (turns : (first : S) (ports : List ℕ) (split : ℕ) (frames : List (List ℕ))
-      → FeedStands left faults first source ports split frames was.feed was.seat.side.view
-      → FeedTurns left faults first source_now ports split frames was.feed mid.feed was.seat.side.view mid.seat.side.view)
-      (looks : CardLooks mid now) where
-    pub goes_turn : CardGoes left faults source source_now was now
-    goes_turn =
-        let view = sym looks.view in
-        let feed = sym looks.feed in
-        let gone = now.seat.side.view.gone in
-        let seen = now.seat.side.view.looks in
-        record {
-          board = looks.board ∙ board;
-          ready = subst (λ f. IsReady f now.seat.side.view) feed (subst (IsReady mid.feed) view (ready-looked mid.feed mid.seat.side.view gone seen ready_mid));
-          ports = ap (λ (f : FeedState). f.ports) looks.feed ∙ ports_are;
-          stands = λ first ports split so.
-              subst (λ f. CardStands left faults first source_now ports split f now.seat.side.view) feed
-              (subst (CardStands left faults first source_now ports split mid.feed) view
-              (stands-looked left faults first source_now ports split mid.feed mid.seat.side.view gone seen
-              (turn-stands first source source_now ports split was.feed mid.feed was.seat.side.view mid.seat.side.view ready (turns first ports split) so)));
-        }
+-- ---- messages that are dropped
+
+-- Once the reading has ended, what comes is dropped.
+pub drop-brought : (split : ℕ) (ports : List ℕ) (before : List Carried) (frames : List (List ℕ)) (m : Carried) (at : Stage) → is_over at ≡ true
+    → Brought split ports before frames at → MayFollow before m → Brought split ports (before ++ m ∷ []) frames at
+drop-brought split ports before frames m stage.Unopened ended was follows = absurd (cc)
+drop-brought split ports before frames m (stage.Open capture) ended was follows = absurd (cc)
+drop-brought split ports before frames m (stage.Over end) ended was follows = dropped before frames m end was follows
+
+pub goes_drop : (was now : Card) → IsReady was.feed was.seat.side.view → is_over was.feed.stage ≡ true → CardDrops was now → CardGoes was now
+goes_drop was now ready ended drops = record {
+  board = ap (λ seat. seat.board) drops.seat;
+  ready = rw (drops.feed, drops.seat) ready;
+  ports = ap (λ (f : FeedState). f.ports) drops.feed;
+  ring = drops.ring;
+  stands = λ ports split so. rw (drops.feed, drops.seat, drops.taken) (record {
+    frames = so.frames;
+    knows = so.knows;
+    brought = drop-brought split ports (received was.frames) so.frames drops.message was.feed.stage ended so.brought drops.follows;
+    dealt = so.dealt;
+  });
+}

@@ -1,6 +1,8 @@
+mod Rings
 mod CardTurns
 mod LaneTurns
-mod NewWorkers
+mod ReaderTurns
+mod Joined
 mod SideBySide
 mod AllOver
 mod Reversed

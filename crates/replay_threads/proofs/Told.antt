@@ -4,7 +4,7 @@ use Rattle.std.specs.Prelude.{Result, Ok, Err, OnErr}
 use Rattle.replay_turns.specs.declared.outcome.Outcome.{Outcome}
 use Rattle.replay_turns.specs.declared.plan.Plan.{Plan}
 use Rattle.run_end.specs.Laws.{RunsAreTold, RunsEndWell}
-use Rattle.run_end.specs.Ran.{LacksMemory, Ran, TellsOf, told_of}
+use Rattle.run_end.specs.Ran.{HasReadOn, LacksMemoryBeside, Ran, TellsOf, told_of}
 use Rattle.run_end.specs.Running.{Running}
 use Rattle.run_end.specs.declared.run.Run.{Run}
 use Rattle.word_board.specs.Board.{TheDesk, card_of}
@@ -18,17 +18,28 @@ module _ {S T : Type 0} (left : S → Option (List ℕ)) (faults : S → ℕ) (k
     (source source_now : S) (all mid mid_now all_now more : List T) (plan : Plan) (desk : TheDesk) (run : Run)
     (first : all ≡ mid ++ more) (last : all_now ≡ mid_now ++ more)
     (played : HasPlayed left faults kept losses source source_now mid mid_now plan desk run) where
-  runs : Running left faults kept losses source source_now all all_now plan (card_of desk.view) desk.view.apps run
-  runs = subst (λ xs. Running left faults kept losses source source_now xs all_now plan (card_of desk.view) desk.view.apps run) (sym first)
-      (subst (λ xs. Running left faults kept losses source source_now (mid ++ more) xs plan (card_of desk.view) desk.view.apps run) (sym last)
+  runs : Running left faults kept losses source played.at all all_now plan (card_of desk.view) desk.view.apps run
+  runs = subst (λ xs. Running left faults kept losses source played.at xs all_now plan (card_of desk.view) desk.view.apps run) (sym first)
+      (subst (λ xs. Running left faults kept losses source played.at (mid ++ more) xs plan (card_of desk.view) desk.view.apps run) (sym last)
       (played.runs more))
 
   pub run-told : RunsEndWell left faults kept losses → (outcome : Outcome) → TellsOf run plan.ports.items outcome
-      → Ran left faults kept losses source source_now all all_now plan (told_of outcome) (card_of desk.view) desk.view.apps
-  run-told law outcome tells =
-      law source source_now all all_now plan (card_of desk.view) desk.view.apps run outcome played.ended played.fit played.over runs tells
+      → (at : S) × HasReadOn left faults at source_now outcome.end
+      × Ran left faults kept losses source at all all_now plan (told_of outcome) (card_of desk.view) desk.view.apps
+  run-told law outcome tells = (
+    played.at,
+    subst (HasReadOn left faults played.at source_now) (sym tells.is.end) played.ahead,
+    law source played.at all all_now plan (card_of desk.view) desk.view.apps run outcome played.ended played.fit played.over runs tells,
+  )
 
-  pub run-lacks : RunsAreTold left faults kept losses → LacksMemory left faults kept losses source source_now all all_now plan
+  pub run-lacks : RunsAreTold left faults kept losses → LacksMemoryBeside left faults kept losses source source_now all all_now plan
   run-lacks law =
-      let told = law source source_now all all_now plan (card_of desk.view) desk.view.apps run played.ended played.fit played.over runs in
-      inr (told.0, card_of desk.view, desk.view.apps, told.1)
+      let told = law source played.at all all_now plan (card_of desk.view) desk.view.apps run played.ended played.fit played.over runs in
+      inr (
+        played.at,
+        told.0,
+        card_of desk.view,
+        desk.view.apps,
+        subst (HasReadOn left faults played.at source_now) (sym told.1) played.ahead,
+        told.2,
+      )

@@ -1,7 +1,9 @@
 -- All turns of a run: every role is back at the desk.
 use Rattle.std.specs.Prelude.{ℕ, List, ◌++◌, Option}
 use Rattle.board_face.specs.Ended.{HaveEnded}
+use Rattle.replay_turns.specs.Feed.{end_of}
 use Rattle.replay_turns.specs.declared.plan.Plan.{Plan}
+use Rattle.run_end.specs.Ran.{HasReadOn}
 use Rattle.run_end.specs.Running.{AreOver, RolesFit, Running}
 use Rattle.run_end.specs.declared.run.Run.{Run}
 use Rattle.word_board.specs.Board.{TheDesk, card_of}
@@ -15,5 +17,8 @@ pub record HasPlayed {S T : Type 0} (left : S → Option (List ℕ)) (faults : S
   pub ended : HaveEnded (card_of desk.view) desk.view.apps
   pub fit : RolesFit (card_of desk.view) desk.view.apps run
   pub over : AreOver run
+  -- the source as the ending of the reading left it
+  pub at : S
+  pub ahead : HasReadOn left faults at source_now (end_of run.feed.stage)
   pub runs : (more : List T)
-      → Running left faults kept losses source source_now (shelves ++ more) (shelves_now ++ more) plan (card_of desk.view) desk.view.apps run
+      → Running left faults kept losses source at (shelves ++ more) (shelves_now ++ more) plan (card_of desk.view) desk.view.apps run

@@ -1,21 +1,30 @@
 //! The card at its seat: its turns, and the loop of its thread.
-ghost use Rattle.std.specs.Prelude.{◌≡◌, true, IsTrue};
+ghost use Rattle.std.specs.Prelude.{◌≡◌, true, None, IsTrue};
 ghost use Rattle.replay_turns.specs.Feed.{IsReady};
-ghost use Rattle.replay_threads.specs.Cards.{CardGoes, CardLooks};
+ghost use Rattle.replay_turns.specs.Turns.{MayArrive};
+ghost use Rattle.rtrb.specs.Ring.{IsPair, received, sent};
+ghost use Rattle.replay_threads.specs.Cards.{CardGoes, CardLooks, CardTakes};
 
 use crate::beside::{Beside, IDLE, Pace};
+use crate::carried::{Carried, InOrder};
 use crate::gate::Gate;
 use board_face::NicFace;
 use crossbeam_utils::Backoff;
-use replay_turns::{Feed, nic_turn};
+use replay_turns::{Arrived, Feed, nic_step};
+use rtrb::{Consumer, Producer};
+use std::alloc::Global;
+use std::sync::Wait;
 use word_board::NicSeat;
-use zr_io::Source;
 
 /// The card between two of its turns.
 #[derive(Drop)]
 pub struct Card<'b> {
     pub seat: NicSeat<'b>,
     pub feed: Feed,
+    /// What the reading sends.
+    pub frames: Consumer<Carried, Global, InOrder>,
+    /// The vectors of frames that were taken go back to it.
+    pub spares: Producer<Vec<u8>, Global>,
     /// How many turns it has taken.
     pub turns: u64,
     /// How many applications it has seen leave: the first so many.
@@ -43,84 +52,103 @@ fn see_leave(card: &mut Card<'_>) -> bool
     left
 }
 
+/// What has come for the next turn. The vector of the frame before goes back to the reading, if there is room.
+fn arrive(card: &mut Card<'_>) -> Arrived
+    ensures may { MayArrive card.new.feed result }
+    ensures takes { CardTakes card.old card.new result }
+{
+    if card.feed.at_hand() || card.feed.ended() {
+        return Arrived::Nothing;
+    }
+    match card.frames.pop() {
+        Ok(Carried::Frame(_, record, bytes)) => {
+            let _ = card.spares.push(card.feed.spare());
+            Arrived::Frame(record, bytes)
+        }
+        Ok(Carried::Over(end)) => Arrived::Over(end),
+        Err(_) => Arrived::Nothing,
+    }
+}
+
 /// A turn of the card, unless it is over. `false` says that nothing was done.
-pub fn card_turn<S: Source, G: Gate>(gate: &G, source: &mut S, card: &mut Card<'_>) -> bool
+pub fn card_turn<G: Gate>(gate: &G, card: &mut Card<'_>) -> bool
     requires ready { IsReady card.old.feed card.old.seat.side.view }
-    ensures goes { CardGoes S.left S.faults source.old source.new card.old card.new }
+    ensures goes { CardGoes card.old card.new }
 {
     if is_over(card) {
         return false;
     }
     gate.at(0, card.turns);
     card.turns = card.turns.saturating_add(1);
-    let did = nic_turn(&mut card.feed, source, &mut card.seat);
+    let arrived = arrive(card);
+    let did = nic_step(&mut card.feed, arrived, &mut card.seat);
     see_leave(card) || did
 }
 
 /// A turn of the card, once the applications aren't too far behind.
-fn paced_turn<S: Source, G: Gate>(
+fn paced_turn<G: Gate, R: Wait>(
+    rt: &R,
     gate: &G,
     beside: &Beside,
     pace: &mut Pace,
-    source: &mut S,
     card: &mut Card<'_>,
 ) -> bool
     requires ready { IsReady card.old.feed card.old.seat.side.view }
-    ensures goes { CardGoes S.left S.faults source.old source.new card.old card.new }
+    ensures goes { CardGoes card.old card.new }
 {
-    pace.keep(beside, card.seat.apps());
+    pace.keep(rt, beside, card.seat.apps());
     let before = card.seat.cached();
-    let did = card_turn(gate, source, card);
+    let did = card_turn(gate, card);
     pace.count(before, card.seat.cached());
     did
 }
 
-/// Turns, until something is done in one. `false` says that nothing was done in many.
-fn card_turns<S: Source, G: Gate>(
+/// Turns, until something is done in one. `false` says that nothing was done in many, and that the capture isn't read.
+fn card_turns<G: Gate, R: Wait>(
+    rt: &R,
     gate: &G,
     beside: &Beside,
     pace: &mut Pace,
-    source: &mut S,
     card: &mut Card<'_>,
 ) -> bool
     requires ready { IsReady card.old.feed card.old.seat.side.view }
-    ensures goes { CardGoes S.left S.faults source.old source.new card.old card.new }
+    ensures goes { CardGoes card.old card.new }
 {
     let backoff = Backoff::new();
-    for _ in 0..IDLE {
-        if paced_turn(gate, beside, pace, source, card) {
+    for idle in 0..IDLE {
+        if paced_turn(rt, gate, beside, pace, card) {
             return true;
         }
-        backoff.snooze();
+        beside.rest_card(rt, idle, &backoff);
     }
-    false
+    beside.is_reading()
 }
 
 /// The turns of the card, until it is over, nothing is done in many, or an application stays behind.
-fn card_loop<S: Source, G: Gate>(gate: &G, beside: &Beside, source: &mut S, card: &mut Card<'_>)
+fn card_loop<G: Gate, R: Wait>(rt: &R, gate: &G, beside: &Beside, card: &mut Card<'_>)
     requires ready { IsReady card.old.feed card.old.seat.side.view }
-    ensures goes { CardGoes S.left S.faults source.old source.new card.old card.new }
+    ensures goes { CardGoes card.old card.new }
 {
     let mut pace = Pace::new(card.ahead);
     // The bound is never reached. By it the loop is seen to end.
     for _ in 0..u64::MAX {
-        if is_over(card)
-            || beside.is_halted()
-            || !card_turns(gate, beside, &mut pace, source, card)
-        {
+        if card.feed.ended() {
+            beside.stop_reading();
+        }
+        if is_over(card) || beside.is_halted() || !card_turns(rt, gate, beside, &mut pace, card) {
             return;
         }
     }
 }
 
 /// The card's loop. It begins once all applications have begun theirs.
-pub fn run_card<S: Source, G: Gate>(gate: &G, beside: &Beside, source: &mut S, card: &mut Card<'_>)
+pub fn run_card<G: Gate, R: Wait>(rt: &R, gate: &G, beside: &Beside, card: &mut Card<'_>)
     requires ready { IsReady card.old.feed card.old.seat.side.view }
-    ensures goes { CardGoes S.left S.faults source.old source.new card.old card.new }
+    ensures goes { CardGoes card.old card.new }
 {
     if beside.all_begin(card.seat.apps()) {
         beside.set_card(true);
-        card_loop(gate, beside, source, card);
+        card_loop(rt, gate, beside, card);
         beside.set_card(false);
     }
 }

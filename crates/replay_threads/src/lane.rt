@@ -3,26 +3,24 @@ ghost use Rattle.std.specs.Prelude.{◌≡◌, true, All, IsTrue};
 ghost use Rattle.run_end.specs.Running.{WorkerFits};
 ghost use Rattle.replay_threads.specs.Lanes.{AllFit, LaneGoes, AllGo};
 
-use crate::beside::{Beside, IDLE};
+use crate::beside::{Beside, IDLE, MOST_APPS};
 use crate::gate::Gate;
 use app_worker::{Turn, app_turn};
 use crossbeam_utils::Backoff;
 use run_end::Worker;
 use std::alloc::Global;
+use std::sync::Wait;
 use std::thread::{self, Threads};
 use word_board::AppSeat;
 use zr_io::Shelf;
-
-/// How many applications a board has at most.
-const MOST_APPS: usize = 8;
 
 /// An application between two of its turns, with its shelf.
 pub struct Lane<'b, T> {
     pub seat: AppSeat<'b>,
     pub worker: Worker,
     pub shelf: T,
-    /// Its number at the gate.
-    pub who: u32,
+    /// Its number.
+    pub app: u32,
     /// How many turns it has taken.
     pub turns: u64,
 }
@@ -35,7 +33,7 @@ fn lane_turn<T: Shelf, G: Gate>(alloc: Global, gate: &G, lane: &mut Lane<'_, T>)
     if lane.worker.left {
         return false;
     }
-    gate.at(lane.who, lane.turns);
+    gate.at(lane.app.saturating_add(1), lane.turns);
     lane.turns = lane.turns.saturating_add(1);
     let turn = app_turn(
         alloc,
@@ -48,7 +46,8 @@ fn lane_turn<T: Shelf, G: Gate>(alloc: Global, gate: &G, lane: &mut Lane<'_, T>)
 }
 
 /// Turns, until something is done in one. `false` says that nothing was done in many, and that the card takes none.
-fn lane_turns<T: Shelf, G: Gate>(
+fn lane_turns<T: Shelf, G: Gate, R: Wait>(
+    rt: &R,
     alloc: Global,
     gate: &G,
     beside: &Beside,
@@ -59,43 +58,55 @@ fn lane_turns<T: Shelf, G: Gate>(
     ensures goes { LaneGoes T.kept T.faults lane.old lane.new }
 {
     let backoff = Backoff::new();
-    for _ in 0..IDLE {
+    for idle in 0..IDLE {
         let asked = beside.asked();
         if lane_turn(alloc, gate, lane) {
             return true;
         }
         beside.answer(asked, answered);
-        backoff.snooze();
+        beside.rest_lane(rt, lane.app, idle, &backoff);
     }
     beside.card_runs()
 }
 
 /// The turns of the application, until it has left, or nothing is done in many and the card takes none.
-fn lane_loop<T: Shelf, G: Gate>(alloc: Global, gate: &G, beside: &Beside, lane: &mut Lane<'_, T>)
+fn lane_loop<T: Shelf, G: Gate, R: Wait>(
+    rt: &R,
+    alloc: Global,
+    gate: &G,
+    beside: &Beside,
+    lane: &mut Lane<'_, T>,
+)
     requires fits { WorkerFits lane.old.seat.side.view lane.old.worker }
     ensures goes { LaneGoes T.kept T.faults lane.old lane.new }
 {
     let mut answered = 0;
     // The bound is never reached. By it the loop is seen to end.
     for _ in 0..u64::MAX {
-        if lane.worker.left || !lane_turns(alloc, gate, beside, &mut answered, lane) {
+        if lane.worker.left || !lane_turns(rt, alloc, gate, beside, &mut answered, lane) {
             return;
         }
     }
 }
 
 /// The application's loop.
-fn run_lane<T: Shelf, G: Gate>(alloc: Global, gate: &G, beside: &Beside, lane: &mut Lane<'_, T>)
+fn run_lane<T: Shelf, G: Gate, R: Wait>(
+    rt: &R,
+    alloc: Global,
+    gate: &G,
+    beside: &Beside,
+    lane: &mut Lane<'_, T>,
+)
     requires fits { WorkerFits lane.old.seat.side.view lane.old.worker }
     ensures goes { LaneGoes T.kept T.faults lane.old lane.new }
 {
     beside.begin();
-    lane_loop(alloc, gate, beside, lane);
+    lane_loop(rt, alloc, gate, beside, lane);
     beside.end(lane.worker.left);
 }
 
 /// The turns of all applications, side by side.
-pub fn run_lanes<T: Shelf + Send, G: Gate + Sync, R: Threads + Sync>(
+pub fn run_lanes<T: Shelf + Send, G: Gate + Sync, R: Threads + Wait + Sync>(
     rt: &R,
     alloc: Global,
     gate: &G,
@@ -110,7 +121,7 @@ pub fn run_lanes<T: Shelf + Send, G: Gate + Sync, R: Threads + Sync>(
         lanes,
         MOST_APPS,
         &|_, lane| {
-            run_lane(alloc, gate, beside, lane);
+            run_lane(rt, alloc, gate, beside, lane);
         },
     );
 }

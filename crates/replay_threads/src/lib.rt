@@ -1,15 +1,21 @@
-//! Whole runs with threads: the card and each application side by side, each by a thread of its own, at the seats of the board
-//! on words. Their turns are those of a run by one thread.
+//! Whole runs with threads: the capture is read, the card runs and each application runs side by side, each by a thread of its
+//! own. The roles are at the seats of the board on words, and a ring takes the frames from the reading to the card. Their turns
+//! are those of a run by one thread.
 #![tactic(auto)]
 
 mod beside;
 mod card;
+mod carried;
+mod dropping;
 mod gate;
 mod lane;
 mod moving;
 mod playing;
+mod reader;
+mod reading;
 mod running;
 mod seating;
+mod sleeping;
 
 pub use gate::{Gate, NoGate};
 pub use running::run_threads;

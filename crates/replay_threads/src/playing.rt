@@ -1,60 +1,89 @@
-//! All turns of a run: the roles side by side, and rounds for what is left.
+//! All turns of a run: the reading and the roles side by side, and rounds for what is left.
 ghost use Rattle.std.specs.Prelude.{◌≡◌, true, All, IsTrue};
 ghost use Rattle.replay_turns.specs.Feed.{IsReady};
 ghost use Rattle.replay_threads.specs.Cards.{CardGoes};
+ghost use Rattle.replay_threads.specs.Reader.{ReaderGoes};
 ghost use Rattle.replay_threads.specs.Lanes.{AllFit, AllGo};
 
 use crate::beside::{Beside, IDLE};
 use crate::card::{Card, card_turn, run_card};
 use crate::gate::Gate;
 use crate::lane::{Lane, have_left, round, run_lanes};
+use crate::reader::Reader;
+use crate::reading::{read_turn, run_reader};
 use std::alloc::Global;
 use std::sync::Wait;
 use std::thread::{Threads, join_mut};
 use zr_io::{Shelf, Source};
 
-/// The loops of the card and of the applications.
-fn join_loops<S: Source + Send, T: Shelf + Send, G: Gate + Sync, R: Threads + Sync>(
+/// The loops of the reading and of the card.
+fn join_reading<S: Source + Send, G: Gate + Sync, R: Threads + Wait + Sync>(
+    rt: &R,
+    gate: &G,
+    beside: &Beside,
+    source: &mut S,
+    reader: &mut Reader,
+    card: &mut Card<'_>,
+)
+    requires ready { IsReady card.old.feed card.old.seat.side.view }
+    ensures reader { ReaderGoes S.left S.faults source.old source.new reader.old reader.new }
+    ensures card { CardGoes card.old card.new }
+{
+    join_mut(
+        rt,
+        &mut || run_reader(rt, beside, source, reader),
+        &mut ||
+            requires { IsReady card.now.feed card.now.seat.side.view }
+        { run_card(rt, gate, beside, card) },
+    );
+}
+
+/// The loops of all.
+fn join_loops<S: Source + Send, T: Shelf + Send, G: Gate + Sync, R: Threads + Wait + Sync>(
     rt: &R,
     alloc: Global,
     gate: &G,
     beside: &Beside,
     source: &mut S,
+    reader: &mut Reader,
     card: &mut Card<'_>,
     lanes: &mut [Lane<'_, T>],
 )
     requires ready { IsReady card.old.feed card.old.seat.side.view }
     requires fit { AllFit lanes.old }
-    ensures card { CardGoes S.left S.faults source.old source.new card.old card.new }
+    ensures reader { ReaderGoes S.left S.faults source.old source.new reader.old reader.new }
+    ensures card { CardGoes card.old card.new }
     ensures lanes { AllGo T.kept T.faults lanes.old lanes.new }
 {
     join_mut(
         rt,
         &mut ||
             requires { IsReady card.now.feed card.now.seat.side.view }
-        { run_card(gate, beside, source, card) },
+        { join_reading(rt, gate, beside, source, reader, card) },
         &mut ||
             requires { AllFit lanes.now }
         { run_lanes(rt, alloc, gate, beside, lanes) },
     );
 }
 
-/// The card and the applications side by side, until each is over, or has done nothing for long and none goes on.
-fn play_beside<S: Source + Send, T: Shelf + Send, G: Gate + Sync, R: Threads + Sync>(
+/// The reading, the card and the applications side by side, until each is over, or has done nothing for long and none goes on.
+fn play_beside<S: Source + Send, T: Shelf + Send, G: Gate + Sync, R: Threads + Wait + Sync>(
     rt: &R,
     alloc: Global,
     gate: &G,
     source: &mut S,
+    reader: &mut Reader,
     card: &mut Card<'_>,
     lanes: &mut [Lane<'_, T>],
 )
     requires ready { IsReady card.old.feed card.old.seat.side.view }
     requires fit { AllFit lanes.old }
-    ensures card { CardGoes S.left S.faults source.old source.new card.old card.new }
+    ensures reader { ReaderGoes S.left S.faults source.old source.new reader.old reader.new }
+    ensures card { CardGoes card.old card.new }
     ensures lanes { AllGo T.kept T.faults lanes.old lanes.new }
 {
     let beside = Beside::new();
-    join_loops(rt, alloc, gate, &beside, source, card, lanes);
+    join_loops(rt, alloc, gate, &beside, source, reader, card, lanes);
 }
 
 /// Whether the card was closed and every application has left.
@@ -65,18 +94,30 @@ fn are_over<T>(card: &Card<'_>, lanes: &[Lane<'_, T>]) -> bool
     card.feed.closed() && have_left(lanes)
 }
 
-/// Rounds, a turn of the card and then one of each application, until all are over. `false` says that after many they aren't.
+/// A turn of the reading, as long as the card wants more of the capture.
+fn read_on<S: Source>(source: &mut S, reader: &mut Reader, card: &Card<'_>)
+    ensures goes { ReaderGoes S.left S.faults source.old source.new reader.old reader.new }
+{
+    if !card.feed.ended() {
+        read_turn(reader, source);
+    }
+}
+
+/// Rounds, a turn of the reading, one of the card and then one of each application, until all are over. `false` says that
+/// after many they aren't.
 fn play_rounds<S: Source, T: Shelf + Send, G: Gate + Sync, R: Threads + Sync>(
     rt: &R,
     alloc: Global,
     gate: &G,
     source: &mut S,
+    reader: &mut Reader,
     card: &mut Card<'_>,
     lanes: &mut [Lane<'_, T>],
 ) -> bool
     requires ready { IsReady card.old.feed card.old.seat.side.view }
     requires fit { AllFit lanes.old }
-    ensures card { CardGoes S.left S.faults source.old source.new card.old card.new }
+    ensures reader { ReaderGoes S.left S.faults source.old source.new reader.old reader.new }
+    ensures card { CardGoes card.old card.new }
     ensures lanes { AllGo T.kept T.faults lanes.old lanes.new }
     ensures closed { IsTrue result → card.new.feed.closed ≡ true }
     ensures left { IsTrue result → All (λ lane. lane.worker.left ≡ true) lanes.new }
@@ -85,7 +126,8 @@ fn play_rounds<S: Source, T: Shelf + Send, G: Gate + Sync, R: Threads + Sync>(
         if are_over(card, lanes) {
             return true;
         }
-        card_turn(gate, source, card);
+        read_on(source, reader, card);
+        card_turn(gate, card);
         round(rt, alloc, gate, lanes);
     }
     are_over(card, lanes)
@@ -97,19 +139,21 @@ pub fn play<S: Source + Send, T: Shelf + Send, G: Gate + Sync, R: Threads + Wait
     alloc: Global,
     gate: &G,
     source: &mut S,
+    reader: &mut Reader,
     card: &mut Card<'_>,
     lanes: &mut [Lane<'_, T>],
 )
     requires ready { IsReady card.old.feed card.old.seat.side.view }
     requires fit { AllFit lanes.old }
-    ensures card { CardGoes S.left S.faults source.old source.new card.old card.new }
+    ensures reader { ReaderGoes S.left S.faults source.old source.new reader.old reader.new }
+    ensures card { CardGoes card.old card.new }
     ensures lanes { AllGo T.kept T.faults lanes.old lanes.new }
     ensures closed { card.new.feed.closed ≡ true }
     ensures left { All (λ lane. lane.worker.left ≡ true) lanes.new }
 {
     for _ in rt.forever() {
-        play_beside(rt, alloc, gate, source, card, lanes);
-        if play_rounds(rt, alloc, gate, source, card, lanes) {
+        play_beside(rt, alloc, gate, source, reader, card, lanes);
+        if play_rounds(rt, alloc, gate, source, reader, card, lanes) {
             return;
         }
     }

@@ -4,17 +4,20 @@ ghost use Rattle.board_face.specs.NicCalls.{apps_of, IsOpen, HasNoToken};
 ghost use Rattle.board_face.specs.declared.views.nic.NicView.{NicView};
 ghost use Rattle.replay_turns.specs.Feed.{IsReady, new_feed};
 ghost use Rattle.replay_turns.specs.Plan.{IsPlan, layout_of};
-ghost use Rattle.run_end.specs.Ran.{Ran, LacksMemory, told_of};
+ghost use Rattle.run_end.specs.Ran.{HasReadOn, LacksMemoryBeside, Ran, told_of};
 ghost use Rattle.run_end.specs.Running.{AreNew};
 ghost use Rattle.word_board.specs.Board.{card_of, new_desk};
 ghost use Rattle.word_board.specs.Desk.{AllAreBack};
 ghost use Rattle.replay_threads.specs.Played.{HasPlayed};
+ghost use Rattle.replay_threads.specs.Reader.{IsOpened};
 
 use crate::card::Card;
+use crate::dropping::drop_rest;
 use crate::gate::Gate;
 use crate::lane::Lane;
 use crate::moving::move_last;
 use crate::playing::play;
+use crate::reading::{Opened, open_reading};
 use crate::seating::{close_lanes, open_lanes};
 use replay_turns::{Feed, Outcome, Plan, new_feeds_stand};
 use run_end::{Run, new_workers, runs_are_told, runs_end_well, tell};
@@ -56,6 +59,7 @@ fn play_seated<'b, S: Source + Send, T: Shelf + Send, G: Gate + Sync, R: Threads
     board: &'b WordBoard,
     desk: &mut Desk,
     lanes: Vec<Lane<'b, T>>,
+    reading: Opened,
     run: Run,
 ) -> Run
     requires plan { IsPlan plan.now }
@@ -66,6 +70,7 @@ fn play_seated<'b, S: Source + Send, T: Shelf + Send, G: Gate + Sync, R: Threads
     requires workers { AreNew plan.now run.workers.items }
     requires shelves { vec_len shelves.old ≡ length plan.now.ports.items }
     requires lanes { (lanes.items ≡ []) × (length plan.now.ports.items ≤ vec_capacity lanes) }
+    requires reading { IsOpened reading }
     ensures played { HasPlayed S.left S.faults T.kept T.faults source.old source.new shelves.old.items shelves.new.items plan.now desk.new result }
     ensures board { desk.new.board ≡ desk.old.board }
     ensures many { vec_len shelves.new ≡ vec_len shelves.old }
@@ -78,14 +83,30 @@ fn play_seated<'b, S: Source + Send, T: Shelf + Send, G: Gate + Sync, R: Threads
     let mut lanes = lanes;
     open_lanes(board, desk, &mut workers, shelves, &mut lanes);
     new_feeds_stand::<S>();
+    let Opened {
+        mut reader,
+        frames,
+        spares,
+    } = reading;
     let mut card = Card {
         seat,
         feed,
+        frames,
+        spares,
         turns: 0,
         gone: 0,
         ahead: plan.buffers / 2,
     };
-    play(rt, alloc, gate, source, &mut card, lanes.as_mut_slice());
+    play(
+        rt,
+        alloc,
+        gate,
+        source,
+        &mut reader,
+        &mut card,
+        lanes.as_mut_slice(),
+    );
+    drop_rest(&mut reader, &mut card);
     let Card { seat, feed, .. } = card;
     // Its answer says that no more records were read than are read at most.
     let _ = feed.records();
@@ -112,20 +133,23 @@ pub fn run_threads<S: Source + Send, T: Shelf + Send, G: Gate + Sync, R: Threads
     requires plan { IsPlan plan.now }
     requires shelves { length plan.now.ports.items ≤ vec_len shelves.old }
     ensures many { vec_len shelves.new ≡ vec_len shelves.old }
-    // The stream theorem, what the outcome says, and that all is over at the board and it accounts for the run.
-    ensures ran { IfOk result (λ it. Ran S.left S.faults T.kept T.faults source.old source.new shelves.old.items shelves.new.items plan.now
+    // The stream theorem, what the outcome says, and that all is over at the board and it accounts for the run. `at` is the source as
+    // the ending of the reading left it.
+    ensures ran { IfOk result (λ it. (at : S) × HasReadOn S.left S.faults at source.new it.0.end
+        × Ran S.left S.faults T.kept T.faults source.old at shelves.old.items shelves.new.items plan.now
         (told_of it.0) (card_of it.2.view) it.2.view.apps) }
     // The board is the plan's, and every role is back at its desk, so it may be finished.
     ensures setting { IfOk result (λ it. it.1.setting ≡ record { layout = layout_of plan.now; places = plan.now.ring }) }
     ensures back { IfOk result (λ it. (it.2.board ≡ it.1) × AllAreBack it.1.setting it.2.view) }
     // Want of memory comes before the first turn or behind the last.
-    ensures lacks { OnErr result (LacksMemory S.left S.faults T.kept T.faults source.old source.new shelves.old.items shelves.new.items plan.now) }
+    ensures lacks { OnErr result (LacksMemoryBeside S.left S.faults T.kept T.faults source.old source.new shelves.old.items shelves.new.items plan.now) }
 {
     let layout = plan.layout().unwrap();
     let apps = plan.ports.len();
     let (board, mut desk) = WordBoard::open(alloc, layout, apps as u32, plan.ring)?;
     let feed = Feed::new(alloc, random, plan)?;
     let workers = new_workers(alloc, plan)?;
+    let reading = open_reading(alloc)?;
     let (lanes, mut aside) = rooms(alloc, apps, shelves.len() - apps)?;
     move_last(shelves, apps, &mut aside);
     let run = play_seated(
@@ -138,6 +162,7 @@ pub fn run_threads<S: Source + Send, T: Shelf + Send, G: Gate + Sync, R: Threads
         &board,
         &mut desk,
         lanes,
+        reading,
         Run { feed, workers },
     );
     move_last(&mut aside, 0, shelves);

@@ -44,7 +44,7 @@ pub fn open_lanes<'b, T>(
             seat,
             worker,
             shelf,
-            who: 1 + app,
+            app,
             turns: 0,
         });
     }
@@ -79,7 +79,7 @@ pub fn close_lanes<T>(
             seat,
             worker,
             shelf,
-            who: _,
+            app: _,
             turns: _,
         } = lane;
         seat.back(desk);

@@ -3,4 +3,4 @@ use Rattle.replay_threads.specs.Cards.{CardGoes}
 use Rattle.replay_threads.proofs.card.card_loop.Given as goal
 
 abbrev pub invariant-loop : goal.invariant-loop
-invariant-loop g l = CardGoes g.S.Source.left g.S.Source.faults l.fn.source l.source l.fn.card l.card
+invariant-loop g l = CardGoes l.fn.card l.card

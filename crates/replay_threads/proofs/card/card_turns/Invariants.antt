@@ -2,5 +2,5 @@
 use Rattle.replay_threads.specs.Cards.{CardGoes}
 use Rattle.replay_threads.proofs.card.card_turns.Given as goal
 
-abbrev pub invariant-loop : goal.invariant-loop
-invariant-loop g l = CardGoes g.S.Source.left g.S.Source.faults l.fn.source l.source l.fn.card l.card
+abbrev pub invariant-loop-idle : goal.invariant-loop-idle
+invariant-loop-idle g l = CardGoes l.fn.card l.card

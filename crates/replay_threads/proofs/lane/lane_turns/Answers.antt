@@ -4,9 +4,9 @@ use Rattle.replay_threads.proofs.lane.lane_turns.Goals as goal
 
 pub returns-then-lane_turn : goal.returns-then-lane_turn
 returns-then-lane_turn g c = record {
-  goes = lane_more g.T.Shelf.kept g.T.Shelf.faults c.args.lane.now c.loop.lane c.lane_turn.new.lane c.loop.invariant c.lane_turn.ensures.goes;
+  goes = lane_more g.T.Shelf.kept g.T.Shelf.faults c.args.lane.now c.loop-idle.lane c.lane_turn.new.lane c.loop-idle.invariant c.lane_turn.ensures.goes;
 }
 
-pub loop-preserved : goal.loop-preserved
-loop-preserved g c =
-    lane_more g.T.Shelf.kept g.T.Shelf.faults c.args.lane.now c.loop.lane c.lane_turn.new.lane c.loop.invariant c.lane_turn.ensures.goes
+pub loop-idle-preserved : goal.loop-idle-preserved
+loop-idle-preserved g c =
+    lane_more g.T.Shelf.kept g.T.Shelf.faults c.args.lane.now c.loop-idle.lane c.lane_turn.new.lane c.loop-idle.invariant c.lane_turn.ensures.goes

@@ -1,9 +1,11 @@
 -- The turns so far.
 use Rattle.replay_threads.specs.Cards.{CardGoes}
 use Rattle.replay_threads.specs.Lanes.{AllGo}
+use Rattle.replay_threads.specs.Reader.{ReaderGoes}
 use Rattle.replay_threads.proofs.playing.play.Given as goal
 
 abbrev pub invariant-loop : goal.invariant-loop
 invariant-loop g l =
-    CardGoes g.S.Source.left g.S.Source.faults l.fn.source l.source l.fn.card l.card
+    ReaderGoes g.S.Source.left g.S.Source.faults l.fn.source l.source l.fn.reader l.reader
+    × CardGoes l.fn.card l.card
     × AllGo g.T.Shelf.kept g.T.Shelf.faults l.fn.lanes l.lanes

@@ -9,6 +9,13 @@ use Rattle.replay_threads.specs.declared.lane.Lane.{Lane}
 use Rattle.replay_threads.specs.Lanes.{AllFit, AllGo, AreAtBoard}
 use Rattle.replay_threads.proofs.AllOver.{card-begins, has-played}
 use Rattle.replay_threads.proofs.SideBySide.{All-reverse, All-reversed, at-board, go-reverse, have-gone, lanes-left, new-lanes-fit, written-whole}
+use Rattle.std.specs.Prelude.{option_to_list}
+use Rattle.rtrb.specs.Ring.{received}
+use Rattle.replay_turns.specs.Coming.{is_over}
+use Rattle.replay_turns.specs.Feed.{FeedState}
+use Rattle.replay_threads.specs.Carried.{MayFollow}
+use Rattle.replay_threads.proofs.CardTurns.{goes_more}
+use Rattle.replay_threads.proofs.Joined.{all-read}
 use Rattle.replay_threads.proofs.running.play_seated.Goals as goal
 
 pub play-requires-clause-fit : goal.play-requires-clause-fit
@@ -65,6 +72,15 @@ returns-clause-played g c =
     let opened = c.open_lanes.ensures in
     let closed = c.close_lanes.ensures in
     let card = c.play.new.card in
+    let left = g.S.Source.left in
+    let faults = g.S.Source.faults in
+    let untouched = c.requires.reading in
+    let reads = c.play.ensures.reader in
+    let dropped = c.drop_rest.ensures in
+    let goes = goes_more _ card c.drop_rest.new.card c.play.ensures.card c.drop_rest.ensures.goes in
+    let reader = c.drop_rest.new.reader in
+    let made : reads.more ≡ received c.drop_rest.new.card.frames ++ option_to_list reader.held =
+    ap (λ l. l ++ reads.more) (sym untouched.none) ∙ (sym reads.made ∙ (sym dropped.made ∙ ap (λ l. l ++ option_to_list reader.held) (sym dropped.all))) in
     let go : AllGo kept losses lanes after = subst (λ l. AllGo kept losses l after) c.as_mut_slice.ensures.value c.play.ensures.lanes in
     let same = written-whole c.open_lanes.new.lanes.len after lanes c.open_lanes.new.lanes.ok.0 go.many in
     let us = reverse lanes in
@@ -79,11 +95,17 @@ returns-clause-played g c =
     c.requires.plan board c.requires.setting us vs gone (subst (λ workers. AreNew plan workers) (sym opened.theirs) c.requires.workers) opened.kept
     (closed.shelves ∙ ap (λ l. map (λ (lane : Lane _). lane.shelf) (reverse l)) same)
     c.close_lanes.new.desk (closed.board ∙ (ap (λ (d : TheDesk). d.board) c.back.ensures.desk ∙ opened.desk))
-    card.seat.side (closed.nics ∙ (ap (λ (d : TheDesk). d.view.nics) c.back.ensures.desk ∙ ap (λ l. l ++ card.seat.side ∷ []) none))
+    c.drop_rest.new.card.seat.side (closed.nics ∙ (ap (λ (d : TheDesk). d.view.nics) c.back.ensures.desk ∙ ap (λ l. l ++ c.drop_rest.new.card.seat.side ∷ []) none))
     (closed.apps ∙ ap (λ l. map (λ (lane : Lane _). lane.seat.side) (reverse l)) same) closed.served closed.known
-    (record { feed = card.feed; workers = c.close_lanes.new.workers }) (closed.workers ∙ ap (λ l. map (λ (lane : Lane _). lane.worker) (reverse l)) same)
+    (record { feed = c.drop_rest.new.card.feed; workers = c.close_lanes.new.workers }) (closed.workers ∙ ap (λ l. map (λ (lane : Lane _). lane.worker) (reverse l)) same)
     (length-reverse after ∙ (go.many ∙ sym (length-reverse lanes)))
-    c.play.ensures.card.ready (c.play.ensures.card.stands c.args.source.now plan.ports.items plan.split begins)
-    (subst (λ n. n ≤ 16777216) c.records.ensures.count c.records.ensures.most) c.play.ensures.closed
+    goes.ready
+    (all-read left faults c.args.source.now c.play.new.source c.play.new.reader.stage plan.ports.items plan.split (received c.drop_rest.new.card.frames)
+    reads.more reader.held c.drop_rest.new.card.feed c.drop_rest.new.card.seat.side.view (rw (untouched.none, untouched.stage_is) at reads.is_made) made
+    (λ m is. subst (λ messages. MayFollow messages m) (sym dropped.all) (reader.held_fits m is))
+    (ap (λ (f : FeedState). is_over f.stage) dropped.feed ∙ c.play.ensures.card.ready.fits.over c.play.ensures.closed)
+    (goes.stands plan.ports.items plan.split (rw untouched.untaken begins)))
+    (subst (λ n. n ≤ 16777216) c.records.ensures.count c.records.ensures.most)
+    (ap (λ (f : FeedState). f.closed) dropped.feed ∙ c.play.ensures.closed)
     (All-reverse (λ (lane : Lane _). (lane.worker.left ≡ true) × (lane.seat.side.view.left ≡ true)) after
     (lanes-left kept losses lanes after go c.play.ensures.left))
