@@ -16,7 +16,7 @@ use Rattle.zr_kinds.specs.declared.behaviour.Stopped.{Stopped}
 use Rattle.zr_kinds.specs.declared.behaviour.Stopped.TheVariants as stop
 use Rattle.zr_kinds.specs.declared.outcome.AppLine.{AppLine}
 use Rattle.zr_io.specs.Moved.{Rose, Took}
-use Rattle.zr_io.proofs.Moved.{Took-weaker}
+use Rattle.zr_io.proofs.Moved.{Took-then, Took-weaker}
 use Rattle.frames_read.specs.Ending.{Ended, ended_of}
 use Rattle.frames_read.specs.Reading.{ShowsEnding, BreaksOff, TakenEnds, IsEnding, IsReadToEnd}
 use Rattle.frames_read.proofs.Endings.{some-weaker}
@@ -25,10 +25,11 @@ use Rattle.board_face.specs.declared.views.app.AppSide.{AppSide}
 use Rattle.replay_turns.specs.Offered.{WantsRoom}
 use Rattle.replay_turns.specs.declared.plan.Plan.{Plan}
 use Rattle.run_end.specs.Running.{losses_in, losses_or}
-use Rattle.run_end.specs.Ran.{Ran, Told}
+use Rattle.run_end.specs.Ran.{HasReadOn, Ran, Told}
 use Rattle.command_words.specs.Words.{ReplayShown}
 use Rattle.zcrx_cli.specs.Planned.{IsPlanOf}
 use Rattle.zcrx_cli.specs.declared.card.Card.{Card}
+use Rattle.zcrx_cli.proofs.Behind.{ended_of-behind}
 use Rattle.zcrx_cli.proofs.Found.{there, get-there, get-within, get-same_rest}
 use Rattle.run_report.specs.Report.{Reports, answer_of}
 use Rattle.run_report.specs.declared.report.Unreported.{Unreported}
@@ -116,6 +117,18 @@ same-ending Wants = ending_cases (λ end. ((taken all : Ended) (before : List (L
     (inl (λ taken all before ends shows. ends ∙ sym shows)) (inl (λ taken all before ends shows. ends ∙ sym shows))
     (inl (λ taken all before ends shows. ends ∙ sym shows)) (inl (λ taken all before ends shows. ends ∙ sym shows)) (inr (inr refl))
     (inl (λ taken all before ends shows. ends ∙ sym shows)) (inl (λ taken all before ends shows. ends ∙ sym shows))
+
+-- by which endings something may have been read on behind them
+pub record IsApart (end : Option Fault) : Type 0 where
+  pub memory : end ≢ Some Memory
+  pub flows : end ≢ Some TooManyFlows
+
+apart : (end : Option Fault) → IsEnding end → IsApart end ⊎ ((end ≡ Some Memory) ⊎ (end ≡ Some TooManyFlows))
+apart = ending_cases (λ end. IsApart end ⊎ ((end ≡ Some Memory) ⊎ (end ≡ Some TooManyFlows)))
+    (inl (record { memory = λ e. cc; flows = λ e. cc })) (inr (inl refl)) (inl (record { memory = λ e. cc; flows = λ e. cc }))
+    (inl (record { memory = λ e. cc; flows = λ e. cc })) (inl (record { memory = λ e. cc; flows = λ e. cc }))
+    (inl (record { memory = λ e. cc; flows = λ e. cc })) (inl (record { memory = λ e. cc; flows = λ e. cc }))
+    (inl (record { memory = λ e. cc; flows = λ e. cc })) (inr (inr refl)) (inl (record { memory = λ e. cc; flows = λ e. cc }))
 
 broken_off : (ended : Ended) (before : List (List ℕ)) → BreaksOff ended before → IsBrokenOff ended.fault
 broken_off ended before broke = ⊎_elim (λ none. inl (ap (λ e. e.fault) none)) (λ cut. inr (ap (λ e. e.fault) cut)) broke
@@ -207,8 +220,10 @@ module _ (wanting lost : Bool) (end : Option Fault) {answer refusals refusals_no
 -- ---- the parts of what a replay leaves
 
 module _ {S T : Type 0} {left : S → Option (List ℕ)} {failed : S → ℕ} {kept : T → ℕ → Option (List ℕ)} {losses : T → ℕ}
-    {source source_now : S} {shelves shelves_now : List T} {plan : Plan} {outcome : Told} {nic : NicSide} {apps : List AppSide} {answer refusals refusals_now : ℕ}
-    (replayed : Ran left failed kept losses source source_now shelves shelves_now plan outcome nic apps)
+    {source at source_now : S} {shelves shelves_now : List T} {plan : Plan} {outcome : Told} {nic : NicSide} {apps : List AppSide}
+    {answer refusals refusals_now : ℕ}
+    (replayed : Ran left failed kept losses source at shelves shelves_now plan outcome nic apps)
+    (ahead : HasReadOn left failed at source_now outcome.end)
     (is : IsAnswer (status_of outcome) answer refusals refusals_now) where
   abbrev pub lost : Bool
   lost = any_stopped is_write outcome.apps
@@ -229,34 +244,70 @@ module _ {S T : Type 0} {left : S → Option (List ℕ)} {failed : S → ℕ} {k
       (λ eight. inr (inr (inl (number ∙ eight)))) hidden)
       (shown-number outcome.end replayed.ended.kind (ended_of plan.ports.items all) replayed.before shows)) others) causes.cases
 
-  reached-of : IfSome (left source) (λ all. Took (left source) (left source_now) (λ taken. ended_of plan.ports.items taken ≡ ended_of plan.ports.items all))
-      ⊎ ((answer ≡ 1) ⊎ (((answer ≡ 8) ⊎ (answer ≡ 9)) × Rose (failed source) (failed source_now)))
-  reached-of = ⊎_elim
+  -- what was taken until the ending, and what was taken until now
+  ends-at : IfSome (left source) (λ all. Took (left source) (left at) (λ taken. ended_of plan.ports.items taken ≡ ended_of plan.ports.items all))
+      ⊎ ((outcome.end ≡ Some Memory) ⊎ (outcome.end ≡ Some Read))
+  ends-at = ⊎_elim
       (λ same. inl (some-weaker (left source) _ _ replayed.ended.shown (λ all shows.
-      Took-weaker (left source) (left source_now)
+      Took-weaker (left source) (left at)
       (λ taken. TakenEnds (WantsRoom plan.split plan.ports.items) (ended_of plan.ports.items taken) replayed.before outcome.end)
       (λ taken. ended_of plan.ports.items taken ≡ ended_of plan.ports.items all)
       (λ taken ends. same (ended_of plan.ports.items taken) (ended_of plan.ports.items all) replayed.before ends shows) replayed.ended.taken)))
-      (λ hidden. inr (⊎_elim (λ memory. inl (at-memory (any_stopped is_memory outcome.apps) lost outcome.end is replayed.ended.kind memory))
+      (λ hidden. inr hidden)
+      (same-ending (WantsRoom plan.split plan.ports.items) outcome.end replayed.ended.kind)
+
+  still-at : IsApart outcome.end → at ≡ source_now
+  still-at none = ahead.same none.memory none.flows
+
+  -- what was read on behind a flow too many changes nothing of how the reading ended
+  ends-now : outcome.end ≡ Some TooManyFlows
+      → IfSome (left source) (λ all. Took (left source) (left source_now) (λ taken. ended_of plan.ports.items taken ≡ ended_of plan.ports.items all))
+  ends-now flows =
+      let wants = WantsRoom plan.split plan.ports.items in
+      let ended : Ended = record { before = replayed.before; fault = Some TooManyFlows } in
+      some-weaker (left source) _ _ replayed.ended.shown (λ all shows.
+      let all_ends : ended_of plan.ports.items all ≡ ended =
+      subst (λ e. ShowsEnding (ended_of plan.ports.items all) replayed.before e) flows shows in
+      Took-then (left source) (left at) (left source_now)
+      (λ taken. TakenEnds wants (ended_of plan.ports.items taken) replayed.before outcome.end) (λ more. Unit {0})
+      (λ taken. ended_of plan.ports.items taken ≡ ended_of plan.ports.items all)
+      (λ taken more ends any. ended_of-behind plan.ports.items taken more ended refl
+      (subst (λ e. TakenEnds wants (ended_of plan.ports.items taken) replayed.before e) flows ends) ∙ sym all_ends)
+      replayed.ended.taken ahead.taken)
+
+  reached-of : IfSome (left source) (λ all. Took (left source) (left source_now) (λ taken. ended_of plan.ports.items taken ≡ ended_of plan.ports.items all))
+      ⊎ ((answer ≡ 1) ⊎ (((answer ≡ 8) ⊎ (answer ≡ 9)) × Rose (failed source) (failed source_now)))
+  reached-of = ⊎_elim
+      (λ (none : IsApart outcome.end). ⊎_elim
+      (λ ends. inl (subst (λ s. IfSome (left source) (λ all. Took (left source) (left s) (λ taken.
+      ended_of plan.ports.items taken ≡ ended_of plan.ports.items all))) (still-at none) ends))
+      (λ hidden. inr (⊎_elim (λ memory. absurd (none.memory memory))
       (λ failed_read. ⊎_elim (λ one. inl one) (λ others. inr (
         ⊎_elim (λ (nine, why). inr nine) (λ number. inl (number ∙ ap end_number failed_read)) others,
-        replayed.ended.cause failed_read,
-      )) causes.cases) hidden))
-      (same-ending (WantsRoom plan.split plan.ports.items) outcome.end replayed.ended.kind)
+        subst (λ s. Rose (failed source) (failed s)) (still-at none) (replayed.ended.cause failed_read),
+      )) causes.cases) hidden)) ends-at)
+      (λ others. ⊎_elim
+      (λ memory. inr (inl (at-memory (any_stopped is_memory outcome.apps) lost outcome.end is replayed.ended.kind memory)))
+      (λ flows. inl (ends-now flows)) others)
+      (apart outcome.end replayed.ended.kind)
 
   whole-of : answer ≡ 0 → IsReadToEnd (left source) (left source_now)
   unfolding IsNumbered
   whole-of zero = ⊎_elim (λ one. absurd (omega arith)) (λ others. ⊎_elim (λ (nine, why). absurd (omega arith))
-      (λ number. replayed.ended.at_end ((numbered outcome.end replayed.ended.kind).3 (sym number ∙ zero))) others) causes.cases
+      (λ number.
+      let at_end : outcome.end ≡ None = (numbered outcome.end replayed.ended.kind).3 (sym number ∙ zero) in
+      subst (λ s. IsReadToEnd (left source) (left s)) (ahead.same (λ e. cc) (λ e. cc)) (replayed.ended.at_end at_end)) others) causes.cases
 
   read-of : answer ≡ 8 → Rose (failed source) (failed source_now)
       × Took (left source) (left source_now) (λ taken. IsBrokenOff (ended_of plan.ports.items taken).fault)
   unfolding IsNumbered
   read-of eight = ⊎_elim (λ one. absurd (omega arith)) (λ others. ⊎_elim (λ (nine, why). absurd (omega arith))
       (λ number.
-      let by_read : outcome.end ≡ Some Read = (numbered outcome.end replayed.ended.kind).2 (sym number ∙ eight) in (
+      let by_read : outcome.end ≡ Some Read = (numbered outcome.end replayed.ended.kind).2 (sym number ∙ eight) in
+      subst (λ s. Rose (failed source) (failed s) × Took (left source) (left s) (λ taken. IsBrokenOff (ended_of plan.ports.items taken).fault))
+      (ahead.same (λ e. cc) (λ e. cc)) (
         replayed.ended.cause by_read,
-        Took-weaker (left source) (left source_now)
+        Took-weaker (left source) (left at)
             (λ taken. TakenEnds (WantsRoom plan.split plan.ports.items) (ended_of plan.ports.items taken) replayed.before outcome.end)
             (λ taken. IsBrokenOff (ended_of plan.ports.items taken).fault)
             (λ taken ends. broken_off (ended_of plan.ports.items taken) replayed.before
@@ -282,7 +333,12 @@ module _ {S T : Type 0} {left : S → Option (List ℕ)} {failed : S → ℕ} {k
 
   -- ---- what an answer shows by none of its faults
 
-  read_well : answer ≢ 1 → answer ≢ 8 → answer ≢ 9 → failed source_now ≡ failed source
+  settled-of : answer ≢ 1 → answer ≢ 9 → answer ≢ 10 → at ≡ source_now
+  settled-of not_1 not_9 not_10 = ahead.same
+      (λ memory. not_1 (at-memory (any_stopped is_memory outcome.apps) lost outcome.end is replayed.ended.kind memory))
+      (λ flows. ⊎_elim not_1 (λ others. ⊎_elim (λ (nine, why). not_9 nine) (λ number. not_10 (number ∙ ap end_number flows)) others) causes.cases)
+
+  read_well : answer ≢ 1 → answer ≢ 8 → answer ≢ 9 → failed at ≡ failed source
   read_well not_1 not_8 not_9 = replayed.ended.still (λ by_read. ⊎_elim (λ one. not_1 one) (λ others. ⊎_elim (λ (nine, why). not_9 nine)
       (λ number. not_8 (number ∙ ap end_number by_read)) others) causes.cases)
 
@@ -331,6 +387,7 @@ module _ {S T O : Type 0} {left : S → Option (List ℕ)} {failed : S → ℕ} 
       → Replays left failed kept losses sent refusals source source_now shelves shelves_now out out_now card_now told answer
   replays told card_now planned with tells =
       let ran = with.ran in
+      let ahead = with.ahead in
       let is : IsAnswer (status_of outcome) answer (refusals out) (refusals out_now) = is_answer (sent out) (sent out_now) (refusals out)
       (refusals out_now) (status_of outcome) answer _ tells.reported tells.report tells.answered in
       let same : plan.ports.items ≡ told.ports = planned.ports_are in
@@ -342,15 +399,16 @@ module _ {S T O : Type 0} {left : S → Option (List ℕ)} {failed : S → ℕ} 
         reported = tells.reported;
         report = tells.report;
         answered = tells.answered;
-        reached = rw (← same) (reached-of ran is);
-        ending = rw (← same) (some-weaker (left source) _ _ ran.ended.shown (λ all shows. ending-of ran is all shows));
-        kind = kind-of ran is;
-        whole = whole-of ran is;
-        read = rw (← same) (read-of ran is);
-        lost = lost-of ran is;
-        wanting = wanting-of ran is;
-        failing = failing-of ran is;
-        sound_reads = read_well ran is;
-        sound_shelves = kept_well ran is;
+        reached = rw (← same) (reached-of ran ahead is);
+        ending = rw (← same) (some-weaker (left source) _ _ ran.ended.shown (λ all shows. ending-of ran ahead is all shows));
+        kind = kind-of ran ahead is;
+        whole = whole-of ran ahead is;
+        read = rw (← same) (read-of ran ahead is);
+        lost = lost-of ran ahead is;
+        wanting = wanting-of ran ahead is;
+        failing = failing-of ran ahead is;
+        settled = settled-of ran ahead is;
+        sound_reads = read_well ran ahead is;
+        sound_shelves = kept_well ran ahead is;
         sound_sink = told_well (refusals out) (refusals out_now) (status_of outcome) answer tells.reported tells.still tells.answered;
       }

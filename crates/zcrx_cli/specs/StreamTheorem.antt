@@ -13,7 +13,7 @@ use Rattle.zr_kinds.specs.declared.behaviour.Stopped.TheVariants as stop
 use Rattle.zr_kinds.specs.declared.outcome.AppLine.{AppLine}
 use Rattle.replay_turns.specs.declared.plan.Plan.{Plan}
 use Rattle.run_end.specs.Running.{losses_in}
-use Rattle.run_end.specs.Ran.{Ran, LacksMemory, Told}
+use Rattle.run_end.specs.Ran.{HasReadOn, LacksMemory, LacksMemoryBeside, Ran, Told}
 use Rattle.run_report.specs.Report.{report_of, Reports, answer_of}
 use Rattle.run_report.specs.declared.report.Unreported.{Unreported}
 use Rattle.zcrx_cli.specs.Cards.{HasOver, HasSides, IsOfWay}
@@ -40,17 +40,22 @@ text_of outcome =
     report_of outcome.tally outcome.apps outcome.flows outcome.refused outcome.pool (status_of outcome)
 
 -- What a run leaves, by turns or by threads: the streams, what its outcome says, and in the card the board of the run, which accounts for
--- it and may be finished.
+-- it and may be finished. By threads the capture may be read beside the card.
 pub record RanWith {S T : Type 0} (left : S → Option (List ℕ)) (failed : S → ℕ) (kept : T → ℕ → Option (List ℕ)) (losses : T → ℕ)
     (source source_now : S) (shelves shelves_now : List T) (card_now : Card) (turns : Option (List ℕ)) (plan : Plan) (outcome : Told) : Type 0 where
+  -- the source as the ending of the reading left it; by turns it stands there still
+  pub at : S
+  pub ahead : HasReadOn left failed at source_now outcome.end
+  pub still : turns ≢ None → at ≡ source_now
   pub nic : NicSide
   pub apps : List AppSide
-  pub ran : Ran left failed kept losses source source_now shelves shelves_now plan outcome nic apps
+  pub ran : Ran left failed kept losses source at shelves shelves_now plan outcome nic apps
   pub sides : HasSides card_now nic apps
   pub over : HasOver card_now
   pub way : IsOfWay turns card_now
 
--- What a replay leaves of its source, its shelves and its sink, which board is in the card, and what its answer says.
+-- What a replay leaves of its source, its shelves and its sink, which board is in the card, and what its answer says. `ran.at` is the
+-- source as the ending of the reading left it.
 pub record Replays {S T O : Type 0} (left : S → Option (List ℕ)) (failed : S → ℕ) (kept : T → ℕ → Option (List ℕ)) (losses : T → ℕ)
     (sent : O → Option (List ℕ)) (refusals : O → ℕ)
     (source source_now : S) (shelves shelves_now : List T) (out out_now : O) (card_now : Card) (told : ReplayShown) (answer : ℕ) : Type 0 where
@@ -79,8 +84,11 @@ pub record Replays {S T O : Type 0} (left : S → Option (List ℕ)) (failed : S
   pub wanting : (number : ℕ) (app : AppLine) → slice_get outcome.apps number ≡ Some app → app.stopped ≡ stop.Memory → answer ≡ 1
   pub failing : (number : ℕ) (app : AppLine) → slice_get outcome.apps number ≡ Some app → app.stopped ≡ stop.Write
       → (answer ≡ 1) ⊎ (answer ≡ 9)
-  -- No read failed where the answer is none of 1, 8 and 9, and no call of a shelf or of the sink where it is neither 1 nor 9.
-  pub sound_reads : answer ≢ 1 → answer ≢ 8 → answer ≢ 9 → failed source_now ≡ failed source
+  -- Where the answer is none of 1, 9 and 10 nothing was read behind the ending.
+  pub settled : answer ≢ 1 → answer ≢ 9 → answer ≢ 10 → ran.at ≡ source_now
+  -- No read failed before the ending where the answer is none of 1, 8 and 9, and no call of a shelf or of the sink where it is neither
+  -- 1 nor 9.
+  pub sound_reads : answer ≢ 1 → answer ≢ 8 → answer ≢ 9 → failed ran.at ≡ failed source
   pub sound_shelves : answer ≢ 1 → answer ≢ 9 → (app : ℕ) → losses_in losses shelves_now app ≡ losses_in losses shelves app
   pub sound_sink : answer ≢ 1 → answer ≢ 9 → refusals out_now ≡ refusals out
 
@@ -90,6 +98,14 @@ pub record IsUntouched {S T O : Type 0} (source source_now : S) (shelves shelves
   pub shelves_are : shelves_now ≡ shelves
   pub out_is : out_now ≡ out
 
+-- There was no memory for a run by these turns, or for one by threads.
+abbrev pub LacksMemoryBy : {S T : Type 0} → (S → Option (List ℕ)) → (S → ℕ) → (T → ℕ → Option (List ℕ)) → (T → ℕ) → S → S
+    → List T → List T → Option (List ℕ) → Plan → Type 0
+LacksMemoryBy left failed kept losses source source_now shelves shelves_now (Some turns) plan =
+    LacksMemory left failed kept losses source source_now shelves shelves_now plan
+LacksMemoryBy left failed kept losses source source_now shelves shelves_now None plan =
+    LacksMemoryBeside left failed kept losses source source_now shelves shelves_now plan
+
 -- There was no memory: before the first turn, and nothing was touched; or for the outcome behind the last turn.
 pub record Lacks {S T O : Type 0} (left : S → Option (List ℕ)) (failed : S → ℕ) (kept : T → ℕ → Option (List ℕ)) (losses : T → ℕ)
     (source source_now : S) (shelves shelves_now : List T) (out out_now : O) (card_now : Card) (told : ReplayShown) (answer : ℕ) : Type 0 where
@@ -98,7 +114,7 @@ pub record Lacks {S T O : Type 0} (left : S → Option (List ℕ)) (failed : S �
   pub out_is : out_now ≡ out
   pub plan : Plan
   pub planned : IsPlanOf told.ports told.options plan
-  pub lacks : LacksMemory left failed kept losses source source_now shelves shelves_now plan
+  pub lacks : LacksMemoryBy left failed kept losses source source_now shelves shelves_now told.turns plan
 
 -- what a command leaves
 abbrev pub Commands : {S T O : Type 0} → (S → Option (List ℕ)) → (S → ℕ) → (T → ℕ → Option (List ℕ)) → (T → ℕ)

@@ -102,6 +102,7 @@ fn close(card: Card)
 }
 
 fn main(rt: HostRuntime) -> ExitCode {
+    // The system's value serves for threads only where `main` lends it for that, so it comes a second time.
     let status = match start(&rt, &rt) {
         Ok(status) => status,
         Err(fault) => fault.number(),

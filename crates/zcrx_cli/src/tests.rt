@@ -8,6 +8,7 @@ mod making;
 mod plain;
 mod pools;
 mod ports;
+mod reading;
 mod records;
 mod reordered;
 mod rows;

@@ -7,11 +7,11 @@ ghost use Rattle.cap_make.specs.GeneratedCapture.{generated_capture};
 ghost use Rattle.command_words.specs.Options.{AreInRange};
 ghost use Rattle.command_words.specs.Words.{IsPortList, IsReplay, reading_of, replay_shown};
 ghost use Rattle.replay_turns.specs.Plan.{IsPlan};
-ghost use Rattle.run_end.specs.Ran.{LacksMemory, told_of};
+ghost use Rattle.run_end.specs.Ran.{told_of};
 ghost use Rattle.turn_runs.specs.Schedule.{AreTurns};
 ghost use Rattle.zcrx_cli.specs.Cards.{IsClosed};
 ghost use Rattle.zcrx_cli.specs.Planned.{IsPlanOf};
-ghost use Rattle.zcrx_cli.specs.StreamTheorem.{Commands, IsUntouched, Lacks, RanWith, Replays, Tells};
+ghost use Rattle.zcrx_cli.specs.StreamTheorem.{Commands, IsUntouched, Lacks, LacksMemoryBy, RanWith, Replays, Tells};
 
 use crate::card::Card;
 use crate::status::status_of;
@@ -86,8 +86,8 @@ fn play<S: Source + Send, T: Shelf + Send, G: Gate + Sync, R: Threads + Wait + S
     ensures many { vec_len shelves.new ≡ vec_len shelves.old }
     ensures ran { IfOk result (λ outcome. RanWith S.left S.faults T.kept T.faults source.old source.new shelves.old.items shelves.new.items card.new
         (option_map (λ text. text.now) turns.entry) plan.now (told_of outcome)) }
-    ensures lacks { OnErr result (LacksMemory S.left S.faults T.kept T.faults source.old source.new shelves.old.items shelves.new.items plan.now
-        × (card.new ≡ card.old)) }
+    ensures lacks { OnErr result (LacksMemoryBy S.left S.faults T.kept T.faults source.old source.new shelves.old.items shelves.new.items
+        (option_map (λ text. text.now) turns.entry) plan.now × (card.new ≡ card.old)) }
 {
     match turns {
         Some(text) => {

@@ -1,19 +1,11 @@
 //! Sources, shelves and sinks whose calls fail.
-use super::frames::{ACK, FIN, PSH_ACK, SYN, Sent, capture_of, to_9000};
+use super::frames::{ACK, FIN, PSH_ACK, SYN, Sent, capture, capture_of, frames, to_9000, to_9001};
 use super::runs::{Given, Row, Stream, check, faultless, first};
 use std::alloc::Global;
 use std::test::Fail;
 
-/// A segment to the other port.
-const fn to_9001(seq: u32, flags: u8, text: &[u8]) -> Sent<'_> {
-    Sent {
-        dport: 9001,
-        ..to_9000(seq, flags, text)
-    }
-}
-
 /// Application 0 has flow 0, with appends 1, 2 and 4, and flow 2, with append 3. Application 1 has flow 1.
-fn two_ports(alloc: Global) -> Result<Vec<u8>, Fail> {
+pub fn two_ports(alloc: Global) -> Result<Vec<Vec<u8>>, Fail> {
     let other = Sent {
         sport: 40001,
         ..to_9000(7, PSH_ACK, b"other")
@@ -26,7 +18,7 @@ fn two_ports(alloc: Global) -> Result<Vec<u8>, Fail> {
         to_9001(506, PSH_ACK, b"stream"),
         to_9000(1011, ACK | FIN, b"end"),
     ];
-    capture_of(alloc, &sent)
+    frames(alloc, &sent)
 }
 
 /// Two bytes go out at a call that fails, and nothing later does; the flows of the other application are whole. Each call
@@ -34,7 +26,7 @@ fn two_ports(alloc: Global) -> Result<Vec<u8>, Fail> {
 #[test]
 fn a_lost_shelf_keeps_fronts(rt: HostRuntime) -> Result<(), Fail> {
     let alloc = rt.alloc();
-    let bytes = two_ports(alloc)?;
+    let bytes = capture(alloc, &two_ports(alloc)?)?;
     let rows: [(u64, &[u8], &[u8], usize, usize); 4] = [
         (1, b"he", b"", 0, 0),
         (2, b"hellowo", b"", 5, 0),

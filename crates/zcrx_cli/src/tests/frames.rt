@@ -58,6 +58,14 @@ pub const fn to_9000(seq: u32, flags: u8, text: &[u8]) -> Sent<'_> {
     }
 }
 
+/// A segment to the port behind that.
+pub const fn to_9001(seq: u32, flags: u8, text: &[u8]) -> Sent<'_> {
+    Sent {
+        dport: 9001,
+        ..to_9000(seq, flags, text)
+    }
+}
+
 pub fn frame(alloc: Global, sent: &Sent<'_>) -> Result<Vec<u8>, Fail> {
     let total = u16::try_from(sent.text.len())?
         .checked_add(40)

@@ -58,13 +58,14 @@ fn written(app: usize, streams: &[Stream<'_>]) -> usize {
     written
 }
 
-/// The report of a replay that takes all of these frames, without loans and the pool's line: these the plain programs don't
-/// know.
+/// The report of a replay that takes all of these frames and ends by this status, without loans and the pool's line: these the
+/// plain programs don't know.
 fn report(
     alloc: Global,
     seen: &[Seen<'_>],
     flows: &[PlainFlow],
     streams: &[Stream<'_>],
+    status: u8,
 ) -> Result<String, Fail> {
     let Counts {
         tcp,
@@ -95,7 +96,7 @@ fn report(
         )?;
         text.push_str(&line)?;
     }
-    text.push_str("status 0\n")?;
+    text.push_str(&format!(in alloc; "status {status}\n")?)?;
     Ok(text)
 }
 
@@ -131,11 +132,14 @@ fn plain_streams(alloc: Global, seen: &[Seen<'_>], count: usize) -> Result<Vec<V
     Ok(streams)
 }
 
-/// Replays these frames: streams, and the report but for loans and the pool's line, have to be what the plain programs say.
-pub fn check_plain(
+/// Replays a capture that ends by this status behind these frames: streams, and the report but for loans and the pool's line,
+/// have to be what the plain programs say of the frames.
+pub fn check_whole(
     rt: &(impl Abort + AllocGlobal + RandomSource + Threads + Wait + Sync),
     name: &str,
     frames: &[Vec<u8>],
+    given: &Given<'_>,
+    status: u8,
 ) -> Result<(), Fail> {
     let alloc = rt.alloc();
     let seen: Vec<Seen<'_>> = frames.iter().map(|frame| read_frame(frame)).collect(alloc)?;
@@ -151,16 +155,25 @@ pub fn check_plain(
             bytes,
         })?;
     }
-    let report = report(alloc, &seen, &flows, &streams)?;
-    let capture = capture(alloc, frames)?;
+    let report = report(alloc, &seen, &flows, &streams, status)?;
     let given = Given {
         words: &WORDS,
-        ..faultless(&capture)
+        ..*given
     };
     let left = run(rt, &given)?;
     let told = without_loans(alloc, str::from_utf8(&left.sent)?)?;
     assert_eq!(rt; told, report, "{name}");
-    assert_eq!(rt; left.status, 0, "{name}");
+    assert_eq!(rt; left.status, status, "{name}");
     check_shelves(rt, name, &streams, &left.shelves);
     check_free(rt, name, left.free, given.buffers)
+}
+
+/// Replays these frames: streams, and the report but for loans and the pool's line, have to be what the plain programs say.
+pub fn check_plain(
+    rt: &(impl Abort + AllocGlobal + RandomSource + Threads + Wait + Sync),
+    name: &str,
+    frames: &[Vec<u8>],
+) -> Result<(), Fail> {
+    let capture = capture(rt.alloc(), frames)?;
+    check_whole(rt, name, frames, &faultless(&capture), 0)
 }
