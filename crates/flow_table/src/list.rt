@@ -42,7 +42,7 @@ impl Model for FlowList {
     ghost invariant = { λ l. (length l.entries.items ≤ 65535) × HasNewest l.entries.items l.newest };
 }
 
-// The number of the newest of these flows that has the segment's key.
+/// The number of the newest of these flows that has the segment's key.
 fn newest_among(entries: &[FlowEntry], segment: &Segment<'_>) -> Option<u32>
     requires { length entries.now ≤ 65535 }
     ensures { result ≡ option_map (λ (found : Numbered). found.number) (newest (key_of (shown segment.now)) (map entry_shown entries.now)) }

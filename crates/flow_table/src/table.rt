@@ -51,8 +51,8 @@ impl FlowTable {
         })
     }
 
-    /// Steers a segment, whose flow sees it or begins with it. The key is looked up once, however many flows there
-    /// are, and put into the map where it begins one.
+    /// Steers a segment, whose flow sees it or begins with it. The key is looked up once, however many flows there are (where
+    /// they are few, by a walk over them), and put into the map where it begins one.
     ///
     /// `TooManyFlows` decides before any memory is asked for.
     pub fn place(&mut self, segment: &Segment<'_>) -> Result<Steered, FlowFault>
