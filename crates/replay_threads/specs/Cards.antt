@@ -1,16 +1,17 @@
 -- How the card goes on at its seat.
-use Rattle.std.specs.Prelude.{◌≡◌, ℕ, ◌<◌, List, [], ◌∷◌, ◌++◌, length, All, Option, Some, None}
+use Rattle.std.specs.Prelude.{◌≡◌, ◌≢◌, ◌⊎◌, ℕ, ◌<◌, true, List, [], ◌∷◌, ◌++◌, length, All, Option, Some, None}
 use Rattle.zr_kinds.specs.declared.fault.Fault.{Fault}
 use Rattle.board_face.specs.declared.views.nic.NicView.{NicView}
 use Rattle.frames_read.specs.Ending.{ending_at}
 use Rattle.frames_read.specs.Reading.{EndsAt}
+use Rattle.replay_turns.specs.Coming.{is_over}
 use Rattle.replay_turns.specs.Feed.{FeedState, IsReady, FeedKnows}
 use Rattle.replay_turns.specs.Offered.{WantsRoom}
 use Rattle.replay_turns.specs.declared.arrived.Arrived.{Arrived}
 use Rattle.replay_turns.specs.declared.arrived.Arrived.TheVariants as arrived
 use Rattle.replay_turns.specs.declared.intake.Stage.{Stage}
 use Rattle.replay_turns.specs.declared.intake.Stage.TheVariants as stage
-use Rattle.rtrb.specs.Ring.{received, SameConsumer}
+use Rattle.rtrb.specs.Ring.{known_items, received, SameConsumer}
 use Rattle.replay_threads.specs.Carried.{MayFollow, arrived_of}
 use Rattle.replay_threads.specs.declared.carried.Carried.{Carried}
 use Rattle.replay_threads.specs.declared.carried.Carried.TheVariants as carried
@@ -35,6 +36,8 @@ pub record CardTakes (was now : Card) (came : Arrived) : Type 0 where
   pub feed : now.feed ≡ was.feed
   pub ring : SameConsumer was.frames now.frames
   pub came_is : Came (received was.frames) (received now.frames) came
+  -- Nothing came only where a frame is at hand, the reading has ended, or the ring was seen empty.
+  pub cause : came ≡ arrived.Nothing → (was.feed.at_hand ≢ None) ⊎ ((is_over was.feed.stage ≡ true) ⊎ (known_items now.frames ≡ []))
 
 -- the message is a frame of these bytes
 abbrev pub IsFrame : Carried → List ℕ → Type 0

@@ -6,8 +6,6 @@ use crossbeam_utils::Backoff;
 use std::array;
 use std::sync::Wait;
 use std::sync::atomic::{AtomicBool, AtomicU64, Ordering};
-use std::thread::Parker;
-use std::time::Duration;
 
 /// How many looks or turns in a row may come to nothing before a loop ends.
 pub const IDLE: u32 = 100_000;
@@ -20,19 +18,6 @@ const CARD_PATIENCE: u32 = 100;
 
 /// Behind so many an application does, and then finds some notes at once.
 const LANE_PATIENCE: u32 = 10;
-
-/// How long the reading naps where its ring is full, in microseconds: the card takes longer to take what a full ring holds.
-const NAP: u64 = 20;
-
-/// A rest of the reading, whose ring is full. Where the card takes turns it naps soon, and leaves the processor to others.
-pub fn await_places<R: Wait>(rt: &R, card_runs: bool, backoff: &Backoff) {
-    if card_runs && backoff.is_completed() {
-        let nap = Duration::from_micros(NAP);
-        Parker::new().park_timeout(rt, nap);
-    } else {
-        backoff.snooze();
-    }
-}
 
 /// The loops of a run.
 #[derive(Drop)]

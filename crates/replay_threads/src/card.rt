@@ -23,7 +23,7 @@ pub struct Card<'b> {
     pub feed: Feed,
     /// What the reading sends.
     pub frames: Consumer<Carried, Global, InOrder>,
-    /// The vectors of frames that were taken go back to it.
+    /// The vectors of frames that were taken go back to the reading.
     pub spares: Producer<Vec<u8>, Global>,
     /// How many turns it has taken.
     pub turns: u64,
@@ -103,7 +103,8 @@ fn paced_turn<G: Gate, R: Wait>(
     did
 }
 
-/// Turns, until something is done in one. `false` says that nothing was done in many, and that the capture isn't read.
+/// Turns, until something is done in one. `false` says that nothing was done in many, and that the capture isn't read, or that an
+/// application stays behind.
 fn card_turns<G: Gate, R: Wait>(
     rt: &R,
     gate: &G,
@@ -116,6 +117,9 @@ fn card_turns<G: Gate, R: Wait>(
 {
     let backoff = Backoff::new();
     for idle in 0..IDLE {
+        if beside.is_halted() {
+            return false;
+        }
         if paced_turn(rt, gate, beside, pace, card) {
             return true;
         }

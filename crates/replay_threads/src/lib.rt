@@ -1,6 +1,6 @@
 //! Whole runs with threads: the capture is read, the card runs and each application runs side by side, each by a thread of its
-//! own. The roles are at the seats of the board on words, and a ring takes the frames from the reading to the card. Their turns
-//! are those of a run by one thread.
+//! own. The roles are at the seats of the board on words, and a ring takes the frames from the reading to the card. The roles take
+//! the steps of a run by one thread.
 #![tactic(auto)]
 
 mod beside;

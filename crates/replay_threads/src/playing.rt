@@ -83,6 +83,9 @@ fn play_beside<S: Source + Send, T: Shelf + Send, G: Gate + Sync, R: Threads + W
     ensures lanes { AllGo T.kept T.faults lanes.old lanes.new }
 {
     let beside = Beside::new();
+    if card.feed.ended() {
+        beside.stop_reading();
+    }
     join_loops(rt, alloc, gate, &beside, source, reader, card, lanes);
 }
 

@@ -8,9 +8,10 @@ ghost use Rattle.replay_threads.specs.Made.{Makes};
 ghost use Rattle.replay_threads.specs.Reader.{IsOpened, ReaderGoes};
 ghost use Rattle.replay_threads.specs.declared.carried.Carried.{Carried};
 
-use crate::beside::{Beside, IDLE, await_places};
+use crate::beside::{Beside, IDLE};
 use crate::carried::{Carried, InOrder};
 use crate::reader::Reader;
+use crate::sleeping::rest_reading;
 use crossbeam_utils::Backoff;
 use replay_turns::{Arrived, Stage};
 use rtrb::{Consumer, Producer, PushError, RingBuffer};
@@ -150,7 +151,7 @@ fn read_turns<S: Source, R: Wait>(
         if read_turn(reader, source) {
             return true;
         }
-        await_places(rt, beside.card_runs(), &backoff);
+        rest_reading(rt, beside.card_runs(), &backoff);
     }
     beside.card_runs()
 }

@@ -115,10 +115,12 @@ fn play_seated<'b, S: Source + Send, T: Shelf + Send, G: Gate + Sync, R: Threads
     Run { feed, workers }
 }
 
-/// Replays a capture with threads, over the board on words: the card and each application have a thread of their own, where
-/// threads can be made, and take turns at their seats until they are over, or have done nothing for long and none goes on. What
-/// is left then goes round in this thread, for many rounds, and then with threads again, until all have left. Shelf `a` takes the flows to the port of place `a` among the plan's. `random` keys the table of flows, and
-/// `gate` is told of each turn before it is taken.
+/// Replays a capture with threads, over the board on words: the reading, the card and each application have a thread of their
+/// own, where threads can be made. Frames go from the reading to the card through a ring, and the roles take turns at their seats,
+/// until they are over, or have done nothing for long and none goes on. What is left then goes round in this thread, for many
+/// rounds, and then with threads again, until all have left. Shelf `a` takes the flows to the port of place `a` among the
+/// plan's. `random` keys the table of flows, and `gate` is told of each turn of the card and of an application before it is
+/// taken.
 ///
 /// It answers how the run went, and the board with its desk as they stand then.
 pub fn run_threads<S: Source + Send, T: Shelf + Send, G: Gate + Sync, R: Threads + Wait + Sync>(

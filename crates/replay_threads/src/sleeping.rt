@@ -9,6 +9,19 @@ use std::time::Duration;
 /// How long a nap is at most, in microseconds: no longer than rings take to fill.
 const NAP: u64 = 50;
 
+/// How long one of the reading is, whose ring is full: the card takes longer to take what it holds.
+const READING_NAP: u64 = 20;
+
+/// A rest of the reading, whose ring is full. Where the card takes turns it naps soon, and leaves the processor to others.
+pub fn rest_reading<R: Wait>(rt: &R, card_runs: bool, backoff: &Backoff) {
+    if card_runs && backoff.is_completed() {
+        let nap = Duration::from_micros(READING_NAP);
+        Parker::new().park_timeout(rt, nap);
+    } else {
+        backoff.snooze();
+    }
+}
+
 /// A loop that may nap, as it stands to those who have something for it.
 #[derive(Drop)]
 pub struct Sleeper {
@@ -29,7 +42,7 @@ impl Sleeper {
         }
     }
 
-    /// A rest behind so many idle turns: it spins, a little longer each time, and then naps. It says so one turn before, since
+    /// A rest behind so many idle turns: it spins, a little longer each time, and then naps. It says so a turn before, since
     /// something may have come meanwhile.
     pub fn rest<R: Wait>(&self, rt: &R, idle: u32, backoff: &Backoff) {
         if idle < self.patience {
