@@ -59,13 +59,13 @@ pub fn check_report<S: Source + Send>(
     check_report_behind(rt, source, status, report, &NoGate)
 }
 
-/// A SYN from each port there is.
+/// A SYN from each port there is, with the port as its sequence number.
 pub fn syns(alloc: Global) -> Result<Vec<u8>, Fail> {
     let mut bytes = FILE_HEADER.to_vec(alloc)?;
     for sport in 0..=u16::MAX {
         let sent = Sent {
             sport,
-            ..to_9000(999, SYN, b"")
+            ..to_9000(u32::from(sport), SYN, b"")
         };
         bytes.extend_from_slice(&record_of(alloc, &frame(alloc, &sent)?)?)?;
     }
@@ -80,8 +80,9 @@ capture records 65535 tcp 65535 steered 65535 other 0 fragment 0 cut 0 bad 0
 app 0 port 9000 written 0 loans 0 copied 0 stopped no
 "
     )?;
-    for flow in 0..65_535 {
-        let line = format!(in alloc; "flow {flow} port 9000 base 1000 bytes 0 fin no\n")?;
+    for flow in 0..65_535u32 {
+        let base = flow + 1;
+        let line = format!(in alloc; "flow {flow} port 9000 base {base} bytes 0 fin no\n")?;
         report.push_str(&line)?;
     }
     report.push_str("pool fast 0 refill 0 slow 0 empty 0 strays 0\nstatus 10\n")?;

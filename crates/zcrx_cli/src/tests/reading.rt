@@ -6,54 +6,56 @@ use super::frames::{PSH_ACK, SYN, capture, frame, record_of, to_9000, to_9001};
 use super::limits::{check_report_behind, report_of_syns, syns};
 use super::plain::check_whole;
 use super::runs::{Given, Row, Stream, check, faultless, first};
-use replay_threads::Gate;
+use replay_threads::{Gate, NoGate};
 use std::alloc::Global;
-use std::hint::spin_loop;
+use std::ops::Range;
 use std::process::Abort;
 use std::random::RandomSource;
 use std::sync::Wait;
 use std::sync::atomic::{AtomicU64, Ordering};
 use std::test::Fail;
-use std::thread::Threads;
+use std::thread::{Threads, yield_now};
 use zr_io::{Failed, MemSource, Source};
 
-/// How many segments each of two flows has.
-const SEGMENTS: u8 = 100;
-
-/// How many bytes the record of each of them has: its header, the frame's headers and two bytes.
+/// How many bytes the record of a frame with two bytes of payload has.
 const RECORD: usize = 72;
 
 /// More bytes than a call of a source is asked for.
 const ALL: usize = 65_536;
 
-/// The segments of two flows in turn, with two bytes each.
+/// The first byte of each segment. At its position the segment before has another, which comes first.
+const AGAIN: u8 = 255;
+
+/// 100 segments of a flow, and then 100 of another: each flow's bytes depend on the order of its segments.
 fn two_flows(alloc: Global) -> Result<Vec<Vec<u8>>, Fail> {
     let mut frames = Vec::new(alloc);
-    for number in 0..SEGMENTS {
-        let seq = u32::from(number) * 2;
-        frames.push(frame(alloc, &to_9000(seq, PSH_ACK, &[number, 0]))?)?;
-        frames.push(frame(alloc, &to_9001(seq, PSH_ACK, &[number, 1]))?)?;
+    for byte in 0..200u8 {
+        let text = [AGAIN, byte];
+        let sent = match byte {
+            0..100 => to_9000(u32::from(byte), PSH_ACK, &text),
+            _ => to_9001(u32::from(byte), PSH_ACK, &text),
+        };
+        frames.push(frame(alloc, &sent)?)?;
     }
     Ok(frames)
 }
 
-/// The bytes of so many segments of a flow.
-fn stream_of(alloc: Global, flow: u8, segments: u8) -> Result<Vec<u8>, Fail> {
-    let mut bytes = Vec::new(alloc);
-    for number in 0..segments {
-        bytes.push(number)?;
-        bytes.push(flow)?;
+/// The stream of a flow whose segments had these bytes.
+fn stream_of(alloc: Global, bytes: Range<u8>) -> Result<Vec<u8>, Fail> {
+    let mut stream = [AGAIN].to_vec(alloc)?;
+    for byte in bytes {
+        stream.push(byte)?;
     }
-    Ok(bytes)
+    Ok(stream)
 }
 
 /// What 199 records of two flows come to. Each payload takes 64 bytes of a buffer, so they fill three and begin a fourth.
 const ALL_BUT_ONE: &str = "\
 capture records 199 tcp 199 steered 199 other 0 fragment 0 cut 0 bad 0
-app 0 port 9000 written 200 loans 100 copied 0 stopped no
-app 1 port 9001 written 198 loans 99 copied 0 stopped no
-flow 0 port 9000 base 0 bytes 200 fin no
-flow 1 port 9001 base 0 bytes 198 fin no
+app 0 port 9000 written 101 loans 100 copied 0 stopped no
+app 1 port 9001 written 100 loans 99 copied 0 stopped no
+flow 0 port 9000 base 0 bytes 101 fin no
+flow 1 port 9001 base 100 bytes 100 fin no
 pool fast 3 refill 0 slow 1 empty 0 strays 0
 status 6
 ";
@@ -63,8 +65,8 @@ status 6
 fn a_cut_record_is_told_behind_the_others(rt: HostRuntime) -> Result<(), Fail> {
     let alloc = rt.alloc();
     let bytes = capture(alloc, &two_flows(alloc)?)?;
-    let zero = stream_of(alloc, 0, SEGMENTS)?;
-    let one = stream_of(alloc, 1, SEGMENTS - 1)?;
+    let zero = stream_of(alloc, 0..100)?;
+    let one = stream_of(alloc, 100..199)?;
     let other = Stream {
         app: 1,
         flow: 1,
@@ -136,11 +138,11 @@ fn a_failed_read_is_told_behind_the_records_before_it(rt: HostRuntime) -> Result
     Ok(())
 }
 
-/// The record that would begin a flow too many.
+/// The number of the record that would begin a flow too many.
 const LAST: u64 = 65_536;
 
 /// How often the card looks whether the reading has come far enough.
-const LOOKS: u32 = 100_000_000;
+const LOOKS: u32 = 10_000_000;
 
 /// The first call of a source behind so many records: the file header takes two, and each record takes two.
 const fn call_behind(records: u64) -> u64 {
@@ -188,7 +190,7 @@ impl Gate for Ahead<'_> {
             if self.calls.load(Ordering::SeqCst) >= wanted {
                 return;
             }
-            spin_loop();
+            yield_now();
         }
     }
 }
@@ -213,16 +215,22 @@ fn check_ahead(
     Ok(())
 }
 
-/// A SYN from each port there is, and a record more than the ring has places. Calls behind the last of the former fail.
+/// A SYN from each port there is, and so many records more.
+fn syns_and_more(alloc: Global, more: u32) -> Result<Vec<u8>, Fail> {
+    let record = record_of(alloc, &frame(alloc, &to_9000(999, SYN, b""))?)?;
+    let mut bytes = syns(alloc)?;
+    for _ in 0..more {
+        bytes.extend_from_slice(&record)?;
+    }
+    Ok(bytes)
+}
+
+/// The call that fails is the first behind that record, the second, or one further on.
 #[test]
 fn a_failed_read_behind_a_flow_too_many_is_not_told(rt: HostRuntime) -> Result<(), Fail> {
     let alloc = rt.alloc();
     let report = report_of_syns(alloc)?;
-    let record = record_of(alloc, &frame(alloc, &to_9000(999, SYN, b""))?)?;
-    let mut bytes = syns(alloc)?;
-    for _ in 0..65 {
-        bytes.extend_from_slice(&record)?;
-    }
+    let bytes = syns_and_more(alloc, 60)?;
     let first = call_behind(LAST);
     for more in [0, 1, 100] {
         let call = first.saturating_add(more);
@@ -231,17 +239,32 @@ fn a_failed_read_behind_a_flow_too_many_is_not_told(rt: HostRuntime) -> Result<(
     Ok(())
 }
 
-/// So many bytes of a record more, and how many calls more than the first find that it ends there.
+/// The rows are how many bytes of a record more are missing, and how many calls more than the first find that.
 #[test]
 fn a_cut_record_behind_a_flow_too_many_is_not_told(rt: HostRuntime) -> Result<(), Fail> {
     let alloc = rt.alloc();
     let report = report_of_syns(alloc)?;
-    let record = record_of(alloc, &frame(alloc, &to_9000(999, SYN, b""))?)?;
-    for (left, more) in [(0, 0), (8, 1), (20, 2)] {
-        let mut bytes = syns(alloc)?;
-        bytes.extend_from_slice(record.get(..left).ok_or("too short")?)?;
+    let whole = syns_and_more(alloc, 1)?;
+    for (missing, more) in [(70, 0), (62, 1), (50, 2)] {
+        let left = whole.len().saturating_sub(missing);
+        let bytes = whole.get(..left).ok_or("too short")?;
         let end = call_behind(LAST).saturating_add(more);
-        check_ahead(&rt, &bytes, &[], end, &report)?;
+        check_ahead(&rt, bytes, &[], end, &report)?;
     }
+    Ok(())
+}
+
+/// Behind that record at most 64 are sent and one is held: the ring has no more places, and the card takes none of them.
+#[test]
+fn a_flow_too_many_stops_the_reading(rt: HostRuntime) -> Result<(), Fail> {
+    let alloc = rt.alloc();
+    let calls = AtomicU64::new(0);
+    let mut source = Watched {
+        source: MemSource::new(syns_and_more(alloc, 1000)?, ALL, Vec::new(alloc)),
+        calls: &calls,
+    };
+    let report = report_of_syns(alloc)?;
+    check_report_behind(&rt, &mut source, 10, &report, &NoGate)?;
+    assert!(&rt; calls.load(Ordering::SeqCst) < call_behind(LAST + 65));
     Ok(())
 }
