@@ -1,6 +1,6 @@
 ghost use Rattle.std.specs.Prelude.{◌≡◌, ℕ, ◌+◌, ◌^◌, ◌<◌, ◌≤◌, ◌↔◌, Some, IsTrue, IsSome, IsNone, IfSome};
 ghost use Rattle.area_layout.specs.Layout.{IsLayout, IsBufferSize, LiesIn, IsVoid, shape_of, pool_buffers, total, least_size, size_of, begin_of, first_word};
-ghost use Rattle.area_layout.specs.Layout.{off_of, judged};
+ghost use Rattle.area_layout.specs.Layout.{area_words, off_of, judged};
 
 use std::marker::Model;
 use zr_kinds::{Place, Rqe};
@@ -103,6 +103,23 @@ impl Layout {
         self.size
     }
 
+    /// How many bytes all buffers have, reserves included.
+    #[tactic(auto, using(crate::proofs::Words::few_bytes))]
+    pub fn bytes(&self) -> u64
+        ensures value { result ≡ begin_of self.now (total self.now) }
+        ensures within { result ≤ 67633152 }
+    {
+        self.begin_of(self.total())
+    }
+
+    /// How many words of 8 bytes they have.
+    pub fn words(&self) -> u64
+        ensures value { result ≡ area_words self.now }
+        ensures within { result ≤ 8454144 }
+    {
+        self.bytes() / WORD_BYTES
+    }
+
     /// The number of words of 8 bytes that the buffers before this one have.
     pub fn first_word(&self, buffer: u32) -> u64
         requires { buffer < total self.now }
@@ -127,7 +144,7 @@ impl Layout {
         ensures within { IfSome result (λ buffer. buffer < total self.now) }
     {
         let place = e.off % AREA_SPAN;
-        let end = self.begin_of(self.total());
+        let end = self.bytes();
         if e.off / AREA_SPAN != AREA || e.pad != 0 || place >= end {
             return None;
         }

@@ -282,10 +282,11 @@ ArePlaced-more b nic nic' apps apps' p setting more some_bytes within free owns 
     (λ t.
     let none = free t.1 in
     let later = behind t.1 in
+    let ends = subst (λ c. p.offset + p.len ≤ size_of nic.view.setting.layout c) t.1 within in
     record {
       some_bytes = one-none b is_empty ps ps' p (more is_empty) (in-none b is_empty p (not-empty p some_bytes)) sound.some_bytes;
       within = rw setting (let n = size_of nic.view.setting.layout b in one-none b (ends_behind n) ps ps' p (more (ends_behind n))
-          (in-none b (ends_behind n) p (not-behind n p within)) sound.within);
+          (in-none b (ends_behind n) p (not-behind n p ends)) sound.within);
       apart = λ x.
           let one = weight-le (in_buffer b (has_byte x) p) in
           let here = more (has_byte x) in

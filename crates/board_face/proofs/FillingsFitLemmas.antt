@@ -3,6 +3,7 @@ use Rattle.std.proofs.Common.{◌≡◌, ℕ, ◌+◌, ◌<◌, ◌≤◌, Bool,
 use Rattle.std.specs.Prelude.{All, Option}
 use Rattle.std.proofs.lemmas.List.Elements.{All-get_or, All-set, All-push, All-map, All-contains}
 use Rattle.area_layout.specs.Layout.{IsLayout, pool_buffers, size_of}
+use Rattle.area_layout.proofs.Words.{words_apart}
 use Rattle.board_face.specs.Lists.{without}
 use Rattle.board_face.specs.Tokens.{FitsBuffer, filled_by, same_filling}
 use Rattle.board_face.specs.NicEvents.{begun, fresh, took, placed, shut}
@@ -135,7 +136,10 @@ FillingsFit-got_spare nic apps a app buffer here setting layout fit =
 -- at most 256 bytes are filled in from the begin, and no buffer has fewer
 pub few-within : (nic : NicSide) (own : Filling) (n : ℕ) → IsLayout nic.view.setting.layout → IsFit nic own → own.start ≡ 0 → n ≤ 256
     → own.start + n ≤ own.size
-few-within nic own n layout is begin few = let size = is.1 in let least = layout.size.least in omega arith
+few-within nic own n layout is begin few =
+    let size = is.1 in
+    let least = ((words_apart nic.view.setting.layout layout).size own.buffer).least in
+    omega arith
 
 pub FillingsFit-filled : (nic : NicSide) (apps : List AppSide) (a : ℕ) (app : AppSide) (own : Filling) (bytes : List ℕ) → IsApp apps a app
     → HasSpare app.view own → own.start ≡ 0 → length bytes ≤ 256 → IsLayout nic.view.setting.layout → FillingsFit nic apps

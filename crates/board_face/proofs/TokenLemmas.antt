@@ -2,6 +2,7 @@
 use Rattle.std.proofs.Common.{◌≡◌, ℕ, ◌+◌, ◌%◌, ◌^◌, ◌≤◌, zero, suc, arith}
 use Rattle.std.proofs.Math.Nat.{pow-suc}
 use Rattle.area_layout.specs.Layout.{IsLayout, IsBufferSize, size_of}
+use Rattle.area_layout.proofs.Words.{words_apart}
 use Rattle.board_face.specs.Tokens.{FitsBuffer, filled_by}
 use Rattle.board_face.specs.NicEvents.{fresh}
 use Rattle.board_face.specs.declared.views.parts.Filling.{Filling}
@@ -33,9 +34,6 @@ pub whole-size : (size : ℕ) → IsBufferSize size → size % 64 ≡ 0
 whole-size size good = let least = good.least in sixty-fours good.power.0 size good.power.1 (omega arith)
 
 pub FitsBuffer-fresh : (setting : Setting) (buffer : ℕ) → IsLayout setting.layout → FitsBuffer (fresh setting buffer)
-FitsBuffer-fresh setting buffer layout = record {
-  start = omega arith;
-  size = layout.size.most;
-  whole = whole-size (size_of setting.layout buffer) layout.size;
-  aligned = omega arith;
-}
+FitsBuffer-fresh setting buffer layout =
+    let size = (words_apart setting.layout layout).size buffer in
+    record { start = omega arith; size = size.most; whole = whole-size (size_of setting.layout buffer) size; aligned = omega arith }

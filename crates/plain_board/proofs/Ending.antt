@@ -104,7 +104,7 @@ module _ (board : Board) (sound : IsSound board) (over : IsOver board) where
   users-zero : (i : ℕ) → i < length board.arrays.users → get_or board.arrays.users i 0 ≡ 0
   users-zero i there =
       let n = all_buffers board.arrays.layout in
-      let some : 0 < n = let layout = sound.sizes.layout.buffers in omega arith in
+      let some : 0 < n = let reserves = sound.sizes.layout.reserves in omega arith in
       let a = i / n in
       let b = i % n in
       let within : b < n = omega arith in

@@ -4,6 +4,7 @@ use Rattle.std.specs.Prelude.{count_by}
 use Rattle.std.proofs.lemmas.Bool.{cases_lt, lt-ltb}
 use Rattle.zr_kinds.specs.declared.place.Place.{Place}
 use Rattle.area_layout.specs.Layout.{size_of, total as all_buffers}
+use Rattle.area_layout.proofs.Words.{words_apart}
 use Rattle.board_face.specs.Lists.{same_place}
 use Rattle.board_face.specs.Sides.{IsApp, app_at}
 use Rattle.board_face.specs.Counts.{pool_count}
@@ -55,15 +56,21 @@ module _ (board : Board) (a : ℕ) (x : AppSide) (place : Place) (sound : IsSoun
   pub held-count : get_or board.arrays.pool place.buffer 0 ≡ pool_count place.buffer board.nic board.apps
   held-count = sound.counted.pool place.buffer of_area
 
-  sizes-same : size_of board.nic.view.setting.layout place.buffer ≡ board.arrays.layout.size
+  sizes-same : size_of board.nic.view.setting.layout place.buffer ≡ size_of board.arrays.layout place.buffer
   sizes-same = ap (λ s. size_of s.layout place.buffer) sound.set.card
+
+  sizes-most : size_of board.arrays.layout place.buffer ≤ 65536
+  sizes-most = ((words_apart board.arrays.layout sound.sizes.layout).size place.buffer).most
 
   -- the buffer has few holders, as each of them has a byte of it
   pub held-few : get_or board.arrays.pool place.buffer 0 ≤ 65537
-  held-few =
-      let layout = sound.sizes.layout in
-      let most = layout.size.most in
-      omega (arith, held-count, pool_count-few place.buffer board.nic board.apps (sound.shown.places place.buffer) (sound.by_one place.buffer), sizes-same)
+  held-few = omega (
+    arith,
+    held-count,
+    pool_count-few place.buffer board.nic board.apps (sound.shown.places place.buffer) (sound.by_one place.buffer),
+    sizes-same,
+    sizes-most,
+  )
 
   held-in : (b : ℕ) (test : Place → Bool) → weight (in_buffer b test place) ≤ count_by test (places_of b board.nic board.apps)
   held-in b test =
@@ -80,8 +87,6 @@ module _ (board : Board) (a : ℕ) (x : AppSide) (place : Place) (sound : IsSoun
   held-ends =
       let b = place.buffer in
       let n = size_of board.nic.view.setting.layout b in
-      let layout = sound.sizes.layout in
-      let most = layout.size.most in
       ⊎_elim
       (λ behind. absurd (omega (
         arith,
@@ -90,7 +95,7 @@ module _ (board : Board) (a : ℕ) (x : AppSide) (place : Place) (sound : IsSoun
         ap weight (in-own (ends_behind n) place),
         ap weight (lt-ltb n (place.offset + place.len) behind),
       )))
-      (λ inside. omega (arith, sizes-same))
+      (λ inside. omega (arith, sizes-same, sizes-most))
       (cases_lt n (place.offset + place.len))
 
 -- ---- an event of held pieces alone

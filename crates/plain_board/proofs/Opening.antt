@@ -7,7 +7,7 @@ use Rattle.std.proofs.lemmas.List.{length-replicate, get_or-replicate}
 use Rattle.std.proofs.Math.ListN.{get_or-eq_default}
 use Rattle.std.proofs.lemmas.List.Elements.{All-nil, All-replicate}
 use Rattle.circular_buffer.specs.Buffer.{Buffer, buffer}
-use Rattle.area_layout.specs.Layout.{Shape, IsLayout, pool_buffers, total}
+use Rattle.area_layout.specs.Layout.{Shape, IsLayout, pool_buffers, total, begin_of}
 use Rattle.board_face.specs.Opened.{new_nic, new_app}
 use Rattle.board_face.specs.Sides.{IsApp}
 use Rattle.board_face.specs.Holders.{ended_in}
@@ -67,7 +67,7 @@ module _ (layout : Shape) (places : ℕ) (good : IsLayout layout) (some : 1 ≤ 
     sizes = record {
       layout = good;
       places = (some, few);
-      area = length-replicate (total layout * layout.size) 0;
+      area = length-replicate (begin_of layout (total layout)) 0;
       pool = length-replicate (total layout) 0;
       users = length-replicate (layout.reserves * total layout) 0;
       listed = length-replicate (pool_buffers layout) true;

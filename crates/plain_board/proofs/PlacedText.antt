@@ -4,6 +4,7 @@ use Rattle.std.proofs.Common.{inl, inr}
 use Rattle.std.specs.Prelude.{◌⊎◌, ◌==◌, if◌then◌else◌}
 use Rattle.std.proofs.lemmas.List.{length-set}
 use Rattle.area_layout.specs.Layout.{pool_buffers, total, size_of, off_of}
+use Rattle.area_layout.proofs.Words.{words_apart}
 use Rattle.board_face.specs.Tokens.{next_place}
 use Rattle.board_face.specs.NicEvents.{placed}
 use Rattle.board_face.specs.NicCalls.{IsOpen, HasOwn}
@@ -51,7 +52,8 @@ module _ (board : Board) (own : Filling) (bytes : List ℕ) (sound : IsSound boa
   pub is_few : get_or board.arrays.pool own.buffer 0 + 1 < 2 ^ 64
   is_few =
       let few = pool_count-few own.buffer board.nic board.apps (sound.shown.places own.buffer) (sound.by_one own.buffer) in
-      omega (arith, few, ap (λ s. size_of s.layout own.buffer) sound.set.card, sound.sizes.layout.size.most, sound.counted.pool own.buffer inside)
+      let most = ((words_apart board.arrays.layout sound.sizes.layout).size own.buffer).most in
+      omega (arith, few, ap (λ s. size_of s.layout own.buffer) sound.set.card, most, sound.counted.pool own.buffer inside)
 
   more : (b : ℕ) → pool_count b (nic_at board.nic (placed board.nic.view own bytes)) board.apps
       ≡ pool_count b board.nic board.apps + weight (own.buffer == b)

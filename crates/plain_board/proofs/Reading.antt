@@ -2,10 +2,10 @@
 use Rattle.std.proofs.Common.{◌≡◌, ℕ, ◌+◌, ◌<◌, ◌≤◌, List, [], ◌∷◌, length, map, take, drop, set, get_or, refl, ap, sym, ◌∙◌}
 use Rattle.std.proofs.Common.{subst, arith}
 use Rattle.std.proofs.lemmas.List.{length-take, length-take-le, length-drop, get_or-take, get_or-drop, ext_get_or, drop-drop}
-use Rattle.std.proofs.lemmas.Nat.{row_fits}
 use Rattle.zr_kinds.specs.declared.place.Place.{Place}
 use Rattle.zr_kinds.specs.declared.ring.Rqe.{Rqe}
 use Rattle.area_layout.specs.Layout.{total, begin_of, off_of, LiesIn}
+use Rattle.area_layout.proofs.Words.{in_order}
 use Rattle.board_face.specs.Sides.{IsApp, app_at}
 use Rattle.board_face.specs.Texts.{further}
 use Rattle.board_face.specs.Holders.{sent_to}
@@ -88,7 +88,7 @@ module _ (board : Board) (a : ℕ) (x : AppSide) (place : Place) (sound : IsSoun
   -- the bytes lie in the area
   pub bytes-there : (from n : ℕ) → from + n ≤ place.len → at + from + n ≤ length board.arrays.area
   bytes-there from n within =
-      let row = row_fits place.buffer board.arrays.layout.size (total board.arrays.layout) board.arrays.layout.size lies.buffer (omega arith) in
+      let row = (in_order board.arrays.layout sound.sizes.layout).apart place.buffer (total board.arrays.layout) lies.buffer in
       let inside = lies.bytes in
       omega (arith, row, sound.sizes.area)
 

@@ -1,12 +1,12 @@
 -- A spare is filled from its begin: nobody else has its buffer, so all that lies in other buffers stays.
-use Rattle.std.proofs.Common.{◌≡◌, ℕ, ◌+◌, ◌*◌, ◌<◌, ◌≤◌, true, false, List, length, set, get_or, refl, ap, sym, ◌∙◌, arith}
+use Rattle.std.proofs.Common.{◌≡◌, ℕ, ◌+◌, ◌<◌, ◌≤◌, true, false, List, length, set, get_or, refl, ap, sym, ◌∙◌, arith}
 use Rattle.std.proofs.Common.{⊎_elim}
 use Rattle.std.specs.Prelude.{◌≢◌, All}
-use Rattle.std.proofs.Math.Nat.{mul-le-mul_right}
 use Rattle.std.proofs.lemmas.List.{get_or-set_same, get_or-set_other, length-set}
 use Rattle.std.proofs.lemmas.List.Elements.{All-push}
 use Rattle.std.proofs.lemmas.Bool.{cases_lt}
-use Rattle.area_layout.specs.Layout.{LiesIn, size_of, total as all_buffers}
+use Rattle.area_layout.specs.Layout.{LiesIn, size_of, begin_of, total as all_buffers}
+use Rattle.area_layout.proofs.Words.{in_order, words_apart}
 use Rattle.board_face.specs.Sides.{IsApp, app_at}
 use Rattle.board_face.specs.Shown.{AreShown}
 use Rattle.board_face.specs.Tokens.{filled_by, same_filling}
@@ -54,8 +54,8 @@ module _ (board : Board) (a : ℕ) (x : AppSide) (own : Filling) (sound : IsSoun
   same_layout : board.nic.view.setting.layout ≡ board.arrays.layout
   same_layout = ap (λ s. s.layout) sound.set.card
 
-  pub layout-size : own.size ≡ board.arrays.layout.size
-  layout-size = (FillingsFit-spare board.nic board.apps a x own here out sound.filled).1 ∙ ap (λ l. l.size) same_layout
+  pub layout-size : own.size ≡ size_of board.arrays.layout own.buffer
+  layout-size = (FillingsFit-spare board.nic board.apps a x own here out sound.filled).1 ∙ ap (λ l. size_of l own.buffer) same_layout
 
   -- nobody has another spare in its buffer
   spares-one : total (spares_in own.buffer) (set board.apps a (less_spare x own)) ≡ 0
@@ -95,23 +95,19 @@ module _ (board : Board) (a : ℕ) (x : AppSide) (own : Filling) (sound : IsSoun
   -- ---- the bytes
 
   module _ (bytes : List ℕ) (begin : own.start ≡ 0) (few : length bytes ≤ 256) where
-    pub fits-size : length bytes ≤ board.arrays.layout.size
-    fits-size = let layout = sound.sizes.layout.size.least in omega arith
+    pub fits-size : length bytes ≤ size_of board.arrays.layout own.buffer
+    fits-size = let least = ((words_apart board.arrays.layout sound.sizes.layout).size own.buffer).least in omega arith
 
     pub lies-in : LiesIn board.arrays.layout (begin_place own.buffer (length bytes))
     lies-in = record { buffer = spare-there; bytes = let f = fits-size in omega arith }
 
-    room : (own.buffer + 1) * board.arrays.layout.size ≤ length board.arrays.area
-    room = omega (
-      arith,
-      sound.sizes.area,
-      mul-le-mul_right board.arrays.layout.size
-          (let h = spare-there in let less : own.buffer + 1 ≤ all_buffers board.arrays.layout = omega arith in less),
-    )
+    room : begin_of board.arrays.layout own.buffer + size_of board.arrays.layout own.buffer ≤ length board.arrays.area
+    room =
+        omega (arith, sound.sizes.area, (in_order board.arrays.layout sound.sizes.layout).apart own.buffer (all_buffers board.arrays.layout) spare-there)
 
     -- where the bytes are stored
     abbrev pub at : ℕ
-    at = own.buffer * board.arrays.layout.size + 0
+    at = begin_of board.arrays.layout own.buffer + 0
 
     pub fits-area : at + length bytes ≤ length board.arrays.area
     fits-area = let r = room in let f = fits-size in omega arith

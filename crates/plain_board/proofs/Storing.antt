@@ -3,11 +3,11 @@
 use Rattle.std.proofs.Common.{◌≡◌, ℕ, zero, suc, ◌+◌, ◌-◌, ◌<◌, ◌≤◌, List, ◌++◌, length, take, drop, get_or, refl, ap, sym}
 use Rattle.std.proofs.Common.{◌∙◌, arith, ⊎_elim, inl, inr, append_assoc, length-append, length-take, length-drop}
 use Rattle.std.specs.Prelude.{◌⊎◌, nat_lt, if◌then◌else◌}
-use Rattle.std.proofs.lemmas.Nat.{mul-le}
 use Rattle.std.proofs.lemmas.Bool.{cases_lt, lt-ltb, le-ltb}
 use Rattle.std.proofs.lemmas.List.{get_or_append_left, get_or-take, get_or-append_right, get_or-drop}
 use Rattle.zr_kinds.specs.declared.place.Place.{Place}
 use Rattle.area_layout.specs.Layout.{total, size_of, begin_of}
+use Rattle.area_layout.proofs.Words.{in_order}
 use Rattle.board_face.specs.Shown.{IsShown, AreShown}
 use Rattle.board_face.specs.declared.views.nic.NicSide.{NicSide}
 use Rattle.board_face.specs.declared.views.app.AppSide.{AppSide}
@@ -57,8 +57,12 @@ module _ (arrays : Arrays) (b offset : ℕ) (bytes : List ℕ) (sizes : HasSizes
   abbrev spot : ℕ
   spot = begin_of arrays.layout b + offset
 
+  -- a buffer ends before those behind it
+  ends-before : (c d : ℕ) → c < d → begin_of arrays.layout c + size_of arrays.layout c ≤ begin_of arrays.layout d
+  ends-before = (in_order arrays.layout sizes.layout).apart
+
   pub in_area : spot + length bytes ≤ length arrays.area
-  in_area = omega (arith, sizes.area, mul-le (b + 1) arrays.layout.size (total arrays.layout) arrays.layout.size (omega arith) (omega arith))
+  in_area = omega (arith, sizes.area, ends-before b (total arrays.layout) inside)
 
   abbrev pub stored_then : Arrays
   stored_then = record arrays { area = stored arrays.area spot bytes }
@@ -87,12 +91,9 @@ module _ (arrays : Arrays) (b offset : ℕ) (bytes : List ℕ) (sizes : HasSizes
   upto-from : (k c x : ℕ) → k ≤ c → byte_upto k c x ≡ byte_of arrays c x
   upto-from k c x past = ap (λ t. if t then byte_of stored_then c x else byte_of arrays c x) (le-ltb c k past)
 
-  ends-before : (c d : ℕ) → c < d → begin_of arrays.layout c + arrays.layout.size ≤ begin_of arrays.layout d
-  ends-before c d less = omega (arith, mul-le (c + 1) arrays.layout.size d arrays.layout.size (omega arith) (omega arith))
-
   -- past the end of a buffer
   abbrev past_end : ℕ → Place
-  past_end k = record { buffer = k; offset = arrays.layout.size; len = length arrays.area }
+  past_end k = record { buffer = k; offset = size_of arrays.layout k; len = length arrays.area }
 
   StoresAt-next : (k : ℕ) → k < b → StoresAt (byte_upto k) (byte_upto (suc k)) (past_end k)
   StoresAt-next k less c x where_ =
@@ -101,8 +102,9 @@ module _ (arrays : Arrays) (b offset : ℕ) (bytes : List ℕ) (sizes : HasSizes
       (λ from. ⊎_elim
       (λ above. upto-from (suc k) c x (omega arith) ∙ sym (upto-from k c x from))
       (λ at. let same : c ≡ k = omega arith in
+      let begins : begin_of arrays.layout c ≡ begin_of arrays.layout k = ap (begin_of arrays.layout) same in
       let here : byte_of stored_then c x ≡ byte_of arrays c x =
-      kept c x (⊎_elim (λ other. absurd (other same)) (λ there. ⊎_elim (λ before. inl (omega (arith, ends-before c b (omega arith))))
+      kept c x (⊎_elim (λ other. absurd (other same)) (λ there. ⊎_elim (λ before. inl (omega (arith, ends-before k b less)))
       (λ behind. inr (omega (arith, in_area))) there) where_) in
       upto-below (suc k) c x (omega arith) ∙ (here ∙ sym (upto-from k c x from)))
       (cases_lt k c))

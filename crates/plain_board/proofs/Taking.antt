@@ -163,7 +163,7 @@ module _ (board : Board) (buffer : ℕ) (sound : IsSound board) (found : last_it
   TookBuffer-took = record {
     last = last;
     of_pool = rw pools is_spare.of_pool;
-    fresh = ap (λ s. filling buffer 0 s.layout.size) (sym sound.set.card);
+    fresh = ap (λ s. filling buffer 0 (size_of s.layout buffer)) (sym sound.set.card);
     event = refl;
     apart = is_apart;
   }

@@ -5,7 +5,8 @@ use Rattle.std.specs.Prelude.{◌==◌, ◌↔◌, nat_lt, Contains, IsTrue}
 use Rattle.std.proofs.lemmas.Bool.{cases_lt, lt-ltb, ltb-true, eq-eqb}
 use Rattle.std.proofs.lemmas.Bool.Decides.{eqb_tells}
 use Rattle.zr_kinds.specs.declared.place.Place.{Place}
-use Rattle.area_layout.specs.Layout.{total as all_buffers, LiesIn}
+use Rattle.area_layout.specs.Layout.{total as all_buffers, size_of, LiesIn}
+use Rattle.area_layout.proofs.Words.{words_apart}
 use Rattle.board_face.specs.Sides.{IsApp}
 use Rattle.board_face.specs.AppCalls.{HasHeld, HasLoan, HasSpare, IsLive}
 use Rattle.board_face.specs.Counts.{pool_count}
@@ -54,8 +55,8 @@ module _ (board : Board) (a : ℕ) (x : AppSide) (sound : IsSound board) (here :
   pub pool-few : (b : ℕ) → pool_count b board.nic board.apps ≤ 65537
   pool-few b =
       let few = pool_count-few b board.nic board.apps (sound.shown.places b) (sound.by_one b) in
-      let layout = ap (λ s. s.layout.size) sound.set.card in
-      let most = sound.sizes.layout.size.most in
+      let layout = ap (λ s. size_of s.layout b) sound.set.card in
+      let most = ((words_apart board.arrays.layout sound.sizes.layout).size b).most in
       omega (arith, few, layout, most)
 
   -- where the place is one of its buffer's, it lies in the area and has a byte

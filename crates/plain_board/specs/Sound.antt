@@ -3,7 +3,7 @@ use Rattle.std.specs.Prelude.{◌≡◌, ℕ, ◌*◌, ◌<◌, ◌≤◌, false
 use Rattle.std.specs.Prelude.{take, All, slice_index, slice_index_or}
 use Rattle.circular_buffer.specs.Buffer.{Buffer, buffer}
 use Rattle.zr_kinds.specs.declared.ring.Rqe.{Rqe}
-use Rattle.area_layout.specs.Layout.{IsLayout, pool_buffers, total}
+use Rattle.area_layout.specs.Layout.{IsLayout, pool_buffers, total, begin_of}
 use Rattle.board_face.specs.NicEvents.{cache_room}
 use Rattle.board_face.specs.Sides.{IsApp, AreNumbered}
 use Rattle.board_face.specs.Counts.{pool_count, user_count, EndedWereReturned}
@@ -32,7 +32,7 @@ use Rattle.plain_board.specs.Board.{Arrays, Board, setting_of, byte_of}
 pub record HasSizes (arrays : Arrays) : Type 0 where
   pub layout : IsLayout arrays.layout
   pub places : (1 ≤ arrays.places) × (arrays.places ≤ 256)
-  pub area : length arrays.area ≡ total arrays.layout * arrays.layout.size
+  pub area : length arrays.area ≡ begin_of arrays.layout (total arrays.layout)
   pub pool : length arrays.pool ≡ total arrays.layout
   pub users : length arrays.users ≡ arrays.layout.reserves * total arrays.layout
   pub listed : length arrays.listed ≡ pool_buffers arrays.layout

@@ -102,7 +102,7 @@ impl Contents {
         Ok(Contents {
             layout,
             places,
-            area: vec![in alloc; 0; total * layout.size() as usize]?,
+            area: vec![in alloc; 0; layout.bytes() as usize]?,
             pool: vec![in alloc; 0; total]?,
             users: vec![in alloc; 0; count * total]?,
             loans: vec![in alloc; 0; count * total]?,

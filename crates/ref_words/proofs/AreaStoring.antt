@@ -7,6 +7,7 @@ use Rattle.std.proofs.lemmas.List.{length_push}
 use Rattle.std.proofs.lemmas.List.Elements.{All-weaker, All-push, All-map, All-contains}
 use Rattle.zr_kinds.specs.declared.place.Place.{Place}
 use Rattle.area_layout.specs.Layout.{Shape, LiesIn, total}
+use Rattle.area_layout.proofs.Words.{words_apart}
 use Rattle.board_face.specs.AppCalls.{HasSpare}
 use Rattle.board_face.specs.AppEvents.{begin_place, filled, owns_without}
 use Rattle.board_face.specs.Counts.{pool_count}
@@ -118,7 +119,7 @@ module _ (setting : Setting) (words : Words) (nic : NicSide) (apps : List AppSid
         record {
           buffer = ⊎_elim (λ within. omega (arith, within, layouts)) (λ past. absurd (omega (arith, by_one.inside past, held)))
               (cases_lt own.buffer (total nic.view.setting.layout));
-          bytes = let least = rule.layout.size.least in omega arith;
+          bytes = let least = ((words_apart layout rule.layout).size own.buffer).least in omega arith;
         }
 
     -- what was stored of it so far

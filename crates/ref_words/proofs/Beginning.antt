@@ -2,7 +2,8 @@
 use Rattle.std.proofs.Common.{◌≡◌, ℕ, ◌+◌, ◌^◌, ◌<◌, ◌≤◌, false, List, [], refl, ap, sym, arith}
 use Rattle.std.specs.Prelude.{◌==◌, Some, None}
 use Rattle.std.proofs.lemmas.List.Elements.{All-contains}
-use Rattle.area_layout.specs.Layout.{total, pool_buffers}
+use Rattle.area_layout.specs.Layout.{total, pool_buffers, size_of}
+use Rattle.area_layout.proofs.Words.{words_apart}
 use Rattle.board_face.specs.NicCalls.{HasOwn}
 use Rattle.board_face.specs.Tokens.{next_place}
 use Rattle.board_face.specs.Counts.{pool_count, user_count}
@@ -35,8 +36,8 @@ holders-few setting words nic apps b rule there =
     omega (
       arith,
       rule.pool b there,
-      rule.layout.size.most,
-      ap (λ s. s.layout.size) rule.sides.set.card,
+      ((words_apart setting.layout rule.layout).size b).most,
+      ap (λ s. size_of s.layout b) rule.sides.set.card,
       pool_count-few b nic apps (rule.sides.placed b) (rule.sides.by_one b),
     )
 

@@ -59,7 +59,7 @@ SidesRule-card setting nic now apps rule step = record {
       (λ app r. record { ended = rw (step.dealt, step.entry) r.ended; returning = rw (step.dealt, step.entry) r.returning }) apps (rule.returned b);
   reserves = λ a app here.
       let theirs : app.view.setting ≡ setting = subst (λ y. y.view.setting ≡ setting) here.is (rule.set.others a app here.there) in
-      let pools : app.view.setting.layout.buffers ≡ nic.view.setting.layout.buffers = ap (λ s. s.layout.buffers) (theirs ∙ sym rule.set.card) in
+      let pools : pool_buffers app.view.setting.layout ≡ pool_buffers nic.view.setting.layout = ap (λ s. pool_buffers s.layout) (theirs ∙ sym rule.set.card) in
       record { unheld = λ free. step.unheld (reserve_of app.view) (omega (arith, pools)) ((rule.reserves a app here).unheld free) };
   few = rule.few;
   honoured = rw step.dealt rule.honoured;

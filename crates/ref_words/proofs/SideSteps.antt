@@ -95,7 +95,7 @@ module _ (setting : Setting) (nic : NicSide) (apps : List AppSide) (a : ℕ) (ap
           number = is.number;
         } in
         let theirs : x.view.setting ≡ setting = subst (λ y. y.view.setting ≡ setting) was.is (rule.set.others k x was.there) in
-        let pools : x.view.setting.layout.buffers ≡ app.view.setting.layout.buffers = ap (λ s. s.layout.buffers) (theirs ∙ sym own-setting) in
+        let pools : pool_buffers x.view.setting.layout ≡ pool_buffers app.view.setting.layout = ap (λ s. pool_buffers s.layout) (theirs ∙ sym own-setting) in
         record {
           unheld = λ free. step.unheld (reserve_of x.view) (omega (arith, pools)) (λ e. ne (omega (
             arith,

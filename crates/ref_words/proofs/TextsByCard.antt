@@ -3,7 +3,7 @@ use Rattle.std.proofs.Common.{◌≡◌, ℕ, ◌+◌, ◌<◌, ◌≤◌, Bool,
 use Rattle.std.specs.Prelude.{◌==◌, IfSome}
 use Rattle.std.proofs.lemmas.List.Elements.{All-weaker, All-contains}
 use Rattle.zr_kinds.specs.declared.ring.Rqe.{Rqe}
-use Rattle.area_layout.specs.Layout.{Shape, pool_buffers}
+use Rattle.area_layout.specs.Layout.{Shape, pool_buffers, size_of}
 use Rattle.board_face.specs.Holders.{ended_in, lowered_in_hand}
 use Rattle.board_face.specs.Shown.{AppIsShown}
 use Rattle.board_face.specs.NicCalls.{HasOwn}
@@ -71,8 +71,8 @@ module _ (setting : Setting) (area : List ℕ) (nic : NicSide) (apps : List AppS
       let fits = FillingsFit-own nic apps own out was.fit in
       let of_pool = All-contains (λ (o : Filling). o.buffer < pool_buffers nic.view.setting.layout) nic.view.owns own was.fit.of_pool out in
       let layouts : nic.view.setting.layout ≡ setting.layout = ap (λ (s : Setting). s.layout) was.set.card in
-      let size : own.size ≡ setting.layout.size = fits.1 ∙ ap (λ (l : Shape). l.size) layouts in
-      let few : own.buffer < setting.layout.buffers = subst (λ (l : Shape). own.buffer < l.buffers) layouts of_pool in
+      let size : own.size ≡ size_of setting.layout own.buffer = fits.1 ∙ ap (λ (l : Shape). size_of l own.buffer) layouts in
+      let few : own.buffer < pool_buffers setting.layout = subst (λ (l : Shape). own.buffer < pool_buffers l) layouts of_pool in
       let aligned = fits.0.aligned in
       AreTexts-moved setting area nic _ apps sides (record { pieces = refl; sents = refl; ends = λ c app. omega arith })
       (record {

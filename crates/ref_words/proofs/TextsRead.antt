@@ -9,7 +9,7 @@ use Rattle.std.proofs.lemmas.Option.{IfSome_then}
 use Rattle.std.proofs.Math.Seq.{take-add}
 use Rattle.std.proofs.lemmas.List.Elements.{All-push, All-pop}
 use Rattle.zr_kinds.specs.declared.place.Place.{Place}
-use Rattle.area_layout.specs.Layout.{LiesIn}
+use Rattle.area_layout.specs.Layout.{LiesIn, size_of}
 use Rattle.board_face.specs.AppCalls.{HasLoan, ShowsCopy}
 use Rattle.board_face.specs.AppEvents.{has_read, loan_origin, reads_with}
 use Rattle.board_face.specs.Holders.{sent_to}
@@ -172,7 +172,7 @@ module _ (setting : Setting) (words : Words) (nic : NicSide) (apps : List AppSid
       let small : i < more = omega (arith, less, got-many) in
       let there = lies.bytes in
       let x : ℕ = place.offset + (from + length so_far + i) in
-      let inside : nat_lt x setting.layout.size ≡ true = lt-ltb x setting.layout.size (omega arith) in
+      let inside : nat_lt x (size_of setting.layout place.buffer) ≡ true = lt-ltb x (size_of setting.layout place.buffer) (omega arith) in
       let same : area_word setting.layout place.buffer x ≡ area_word setting.layout place.buffer at = omega arith in
       let byte : x % 8 ≡ at % 8 + i = omega arith in
       let is : byte_in setting.layout words.area place.buffer x ≡ get_or (word_bytes word) (at % 8 + i) 0 =

@@ -9,7 +9,7 @@ use Rattle.std.proofs.lemmas.List.{get_or-set_other, get_or-set_same, get_or_app
 use Rattle.std.proofs.lemmas.List.Elements.{All-head, All-tail, All-map, All-contains}
 use Rattle.std.proofs.Math.Seq.{get_or-append_seam}
 use Rattle.zr_kinds.specs.declared.place.Place.{Place}
-use Rattle.area_layout.specs.Layout.{Shape, IsLayout, area_words}
+use Rattle.area_layout.specs.Layout.{Shape, IsLayout, size_of, area_words}
 use Rattle.board_face.specs.Lists.{without}
 use Rattle.board_face.specs.Tokens.{same_filling}
 use Rattle.board_face.specs.AppEvents.{begin_place}
@@ -47,7 +47,7 @@ module _ (layout : Shape) (area : List ℕ) (good : IsLayout layout) (many : len
   at making k = area_word layout making.place.buffer (making.place.offset + 8 * k)
 
   -- a text in another buffer
-  pub other-stands : (making : Making) (b o n : ℕ) → making.place.buffer ≢ b → o < layout.size → IsInMaking layout area making
+  pub other-stands : (making : Making) (b o n : ℕ) → making.place.buffer ≢ b → o < size_of layout b → IsInMaking layout area making
       → IsInMaking layout (set area (area_word layout b o) n) making
   other-stands making b o n other inside is = record {
     lies = is.lies;
@@ -56,7 +56,7 @@ module _ (layout : Shape) (area : List ℕ) (good : IsLayout layout) (many : len
     stand = λ k less.
         let small = is.lies.bytes in
         let more = is.more in
-        let there : making.place.offset + 8 * k < layout.size = omega arith in
+        let there : making.place.offset + 8 * k < size_of layout making.place.buffer = omega arith in
         get_or-set_other area (area_word layout b o) (at making k) n 0 (λ e. other (same-word layout good b o making.place.buffer _ inside there e).0)
         ∙ is.stand k less;
   }
@@ -65,7 +65,7 @@ module _ (layout : Shape) (area : List ℕ) (good : IsLayout layout) (many : len
     abbrev next : ℕ
     next = at making (length making.words)
 
-    inside : making.place.offset + 8 * length making.words < layout.size
+    inside : making.place.offset + 8 * length making.words < size_of layout making.place.buffer
     inside = let small = is.lies.bytes in let more = is.more in omega arith
 
     stays-there : (k : ℕ) → k < length making.words → get_or (set area next n) (at making k) 0 ≡ get_or making.words k 0
@@ -73,7 +73,7 @@ module _ (layout : Shape) (area : List ℕ) (good : IsLayout layout) (many : len
         let small = is.lies.bytes in
         let more = is.more in
         let aligned = is.aligned in
-        let there : making.place.offset + 8 * k < layout.size = omega arith in
+        let there : making.place.offset + 8 * k < size_of layout making.place.buffer = omega arith in
         get_or-set_other area next (at making k) n 0 (λ e.
         let same = (same-word layout good making.place.buffer (making.place.offset + 8 * length making.words) making.place.buffer _ inside there e).1 in
         omega (arith, same))
@@ -191,7 +191,7 @@ module _ (setting : Setting) (area : List ℕ) (nic : NicSide) (apps : List AppS
   listed k d small = IsApp-at apps k d sides.set.numbers small
 
   -- a word of a buffer that this application isn't filling
-  HasTexts-other : (b o n : ℕ) (app : AppSide) → o < layout.size
+  HasTexts-other : (b o n : ℕ) (app : AppSide) → o < size_of layout b
       → ((making : Making) → app.inside.making ≡ Some making → IsOfSpare app making → making.place.buffer ≢ b) → HasTexts layout area nic app
       → HasTexts layout (set area (area_word layout b o) n) nic app
   HasTexts-other b o n app inside other has = record {
@@ -216,7 +216,7 @@ module _ (setting : Setting) (area : List ℕ) (nic : NicSide) (apps : List AppS
     abbrev area' : List ℕ
     area' = set area (area_word layout making.place.buffer o) n
 
-    room : o < layout.size
+    room : o < size_of layout making.place.buffer
     room = let small = made-is.lies.bytes in let more = made-is.more in omega arith
 
     pub texts-piece : AreTexts layout area' nic apps
@@ -257,7 +257,7 @@ module _ (setting : Setting) (area : List ℕ) (nic : NicSide) (apps : List AppS
     at-begin : making.place.offset ≡ 0
     at-begin = ap (λ (q : Place). q.offset) place
 
-    roomy : so < layout.size
+    roomy : so < size_of layout making.place.buffer
     roomy = let small = is.lies.bytes in let more = is.more in omega arith
 
     mine-has : HasTexts layout area nic app

@@ -10,8 +10,6 @@ use area_layout::Layout;
 use std::marker::Model;
 use word_rings::{NOTE_WORDS, REFILL_WORDS};
 
-const WORD_BYTES: usize = 8;
-
 /// How many pool buffers a word of the free list tells of.
 const WORD_BITS: usize = 64;
 
@@ -53,7 +51,7 @@ impl WordMap {
         let users = 2 * (1 + apps) + total;
         let free = users + apps * total;
         let area = free + (buffers + WORD_BITS - 1) / WORD_BITS;
-        let notes = area + total * layout.size() as usize / WORD_BYTES;
+        let notes = area + layout.words() as usize;
         let refills = notes + apps * (places as usize * NOTE_WORDS);
         let end = refills + apps * (places as usize * REFILL_WORDS);
         WordMap {

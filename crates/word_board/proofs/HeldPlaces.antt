@@ -3,6 +3,7 @@ use Rattle.std.proofs.Common.{ℕ, ◌+◌, ◌^◌, ◌<◌, List, ap, arith}
 use Rattle.std.specs.Prelude.{◌==◌}
 use Rattle.zr_kinds.specs.declared.place.Place.{Place}
 use Rattle.area_layout.specs.Layout.{total as all_buffers, size_of}
+use Rattle.area_layout.proofs.Words.{words_apart}
 use Rattle.board_face.specs.AppCalls.{HasHeld}
 use Rattle.board_face.specs.Sides.{IsApp}
 use Rattle.board_face.specs.declared.views.parts.Setting.{Setting}
@@ -23,4 +24,4 @@ held-ends setting words nic apps a app p rule here out within =
     (λ past. absurd (omega (arith, ap (λ s. all_buffers s.layout) card, past, within)))
     (omega (arith, helds-at app.view.helds p (λ q. q.buffer == p.buffer) out, ap weight (eqb_same p.buffer)))
     (λ test. omega (arith, helds-at app.view.helds p (in_buffer p.buffer test) out)) in
-    omega (arith, lies.0.bytes, ap (λ s. size_of s.layout p.buffer) card, rule.refs.layout.size.most)
+    omega (arith, lies.0.bytes, ap (λ s. size_of s.layout p.buffer) card, ((words_apart setting.layout rule.refs.layout).size p.buffer).most)

@@ -8,6 +8,7 @@ use Rattle.std.proofs.lemmas.List.Quantifiers.{all_pairs_push}
 use Rattle.std.proofs.lemmas.Bool.{false≢true}
 use Rattle.zr_kinds.specs.declared.place.Place.{Place}
 use Rattle.area_layout.specs.Layout.{IsLayout, LiesIn, pool_buffers, total, size_of}
+use Rattle.area_layout.proofs.Words.{words_apart}
 use Rattle.board_face.specs.Sides.{app_at}
 use Rattle.board_face.specs.NicEvents.{fresh}
 use Rattle.board_face.specs.Lists.{same_place}
@@ -223,7 +224,7 @@ module _ (setting : Setting) (app : AppSide) (number note entry : ℕ) (raw : Op
         helds = kept.lies.helds;
         loans = kept.lies.loans;
         spares = All-push (SpareLies setting) app.view.owns given kept.lies.spares
-            (given-within, ap (λ s. size_of s.layout buffer) kept.set, let least = sound.size.least in omega (arith, ap (λ s. size_of s.layout buffer) kept.set));
+            (given-within, ap (λ s. size_of s.layout buffer) kept.set, let least = ((words_apart setting.layout sound).size buffer).least in omega (arith, ap (λ s. size_of s.layout buffer) kept.set));
         texts = All-push TextIsShort app.view.owns given kept.lies.texts (omega arith);
         apart = all_pairs_push AreApartBuffers app.view.owns given kept.lies.apart apart.spares;
       };
