@@ -1,14 +1,17 @@
 -- Once every free word was swept, each pool buffer is cached, was taken by the card, or is lost to a spare.
 use Rattle.std.proofs.Common.{◌≡◌, ℕ, zero, suc, ◌+◌, ◌<◌, ◌≤◌, Bool, true, false, List, [], ◌∷◌, length, refl, ap, arith, ⊎_elim}
-use Rattle.std.specs.Prelude.{not, ◌&&◌, ◌||◌, ◌/◌, nat_eq}
+use Rattle.std.specs.Prelude.{not, ◌&&◌, ◌||◌, ◌/◌, nat_eq, count_by}
 use Rattle.std.specs.List.{list_any}
 use Rattle.area_layout.specs.Layout.{pool_buffers}
 use Rattle.board_face.specs.Lists.{count_below}
 use Rattle.board_face.specs.NicEvents.{word_bits}
-use Rattle.board_face.specs.NicCalls.{free_words_of, is_lost, lost_of}
+use Rattle.board_face.specs.NicCalls.{HasSweptAll, is_lost, lost_of}
+use Rattle.board_face.specs.Used.{used_buffers, UnusedAreCached}
 use Rattle.board_face.specs.declared.views.nic.NicView.{NicView}
+use Rattle.board_face.proofs.DealtLemmas.{count-first}
 use Rattle.board_face.proofs.Tallies.{weight, weight-le}
 use Rattle.board_face.proofs.ListLemmas.{not-eqb}
+use Rattle.std.proofs.lemmas.Bool.{cases_Bool, not-true}
 use Rattle.std.proofs.lemmas.Bool.Decides.{eqb_tells}
 
 -- ---- how many numbers below n stand in a list
@@ -43,6 +46,30 @@ below-list : (xs : List ℕ) (n : ℕ) → count_below (λ b. list_any (nat_eq b
 below-list [] n = omega (arith, below-none n)
 below-list (x ∷ xs) n = omega (arith, below-or (λ b. nat_eq b x) (λ b. list_any (nat_eq b) xs) n, below-one x n, below-list xs n)
 
+-- ---- what stands in a list is counted there, and nothing else
+
+or-none : (c d : Bool) → (c || d) ≡ false → (c ≡ false) × (d ≡ false)
+or-none true d e = absurd (let no : ⊥ = cc in no)
+or-none false d e = (refl, e)
+
+pub none-counted : (b : ℕ) (xs : List ℕ) → list_any (nat_eq b) xs ≡ false → count_by (nat_eq b) xs ≡ 0
+none-counted b [] none = refl
+none-counted b (x ∷ xs) none =
+    let both = or-none (nat_eq b x) (list_any (nat_eq b) xs) none in
+    omega (arith, count-first (nat_eq b) x xs, ap weight both.0, none-counted b xs both.1)
+
+some-case : (c d : Bool) (n : ℕ) → (d ≡ true → 1 ≤ n) → (c || d) ≡ true → 1 ≤ weight c + n
+some-case true d n rest any = omega arith
+some-case false d n rest any = omega (arith, rest any)
+
+pub some-counted : (b : ℕ) (xs : List ℕ) → list_any (nat_eq b) xs ≡ true → 1 ≤ count_by (nat_eq b) xs
+some-counted b [] any = absurd (let no : ⊥ = cc in no)
+some-counted b (x ∷ xs) any = omega (
+  arith,
+  count-first (nat_eq b) x xs,
+  some-case (nat_eq b x) (list_any (nat_eq b) xs) (count_by (nat_eq b) xs) (some-counted b xs) any,
+)
+
 -- ---- buffers
 
 some-of-three : (c d : Bool) → 1 ≤ weight (not c && not d) + (weight c + weight d)
@@ -50,8 +77,7 @@ some-of-three true d = omega arith
 some-of-three false true = omega arith
 some-of-three false false = omega arith
 
-each-somewhere : (v : NicView) → ((w : ℕ) → w < free_words_of v.setting → list_any (nat_eq w) v.swept ≡ true) → (n : ℕ)
-    → n ≤ pool_buffers v.setting.layout
+each-somewhere : (v : NicView) → HasSweptAll v → (n : ℕ) → n ≤ pool_buffers v.setting.layout
     → n ≤ count_below (is_lost v) n + (count_below (λ b. list_any (nat_eq b) v.cache) n + count_below (λ b. list_any (nat_eq b) v.used) n)
 each-somewhere v swept zero within = omega arith
 each-somewhere v swept (suc n) within =
@@ -63,8 +89,7 @@ each-somewhere v swept (suc n) within =
 
 -- Where every word of the free list was swept, the pool's buffers are at most as many as those that are cached, the
 -- takes so far, and those that are lost to spares.
-pub buffers-accounted : (v : NicView) → ((w : ℕ) → w < free_words_of v.setting → list_any (nat_eq w) v.swept ≡ true)
-    → pool_buffers v.setting.layout ≤ lost_of v + (length v.cache + length v.used)
+pub buffers-accounted : (v : NicView) → HasSweptAll v → pool_buffers v.setting.layout ≤ lost_of v + (length v.cache + length v.used)
 buffers-accounted v swept =
     let n = pool_buffers v.setting.layout in
     omega (arith, each-somewhere v swept n (omega arith), below-list v.cache n, below-list v.used n)
@@ -88,3 +113,32 @@ lost-few v picks each = omega (
   below-fewer (is_lost v) (λ b. list_any (nat_eq b) picks) (pool_buffers v.setting.layout) each,
   below-list picks (pool_buffers v.setting.layout),
 )
+
+-- Where each word was swept, what was never used is cached.
+pub unused_are_cached : UnusedAreCached
+unused_are_cached listed nic apps kept swept = record {
+  cached = is_cached;
+  few = omega (
+    arith,
+    below-fewer (λ b. not (list_any (nat_eq b) used)) (λ b. list_any (nat_eq b) cache) (pool_buffers nic.view.setting.layout)
+        (λ b within unused. is_cached b within (not-true (list_any (nat_eq b) used) unused)),
+    below-list cache (pool_buffers nic.view.setting.layout),
+  );
+}
+  where
+    used : List ℕ
+    used = used_buffers nic apps
+
+    cache : List ℕ
+    cache = nic.view.cache
+
+    is_cached : (b : ℕ) → b < pool_buffers nic.view.setting.layout → list_any (nat_eq b) used ≡ false → list_any (nat_eq b) cache ≡ true
+    is_cached b within unused = ⊎_elim
+        (λ there. there)
+        (λ none. absurd (omega (
+          arith,
+          kept.swept b within (some-counted (b / word_bits) nic.view.swept (swept (b / word_bits) (omega arith))),
+          none-counted b cache none,
+          none-counted b used unused,
+        )))
+        (cases_Bool (list_any (nat_eq b) cache))

@@ -25,6 +25,10 @@ apps_of setting = setting.layout.reserves
 abbrev pub free_words_of : Setting → ℕ
 free_words_of setting = (pool_buffers setting.layout + 63) / 64
 
+-- each word of the free list was swept
+abbrev pub HasSweptAll : NicView → Type 0
+HasSweptAll v = (word : ℕ) → word < free_words_of v.setting → list_any (nat_eq word) v.swept ≡ true
+
 -- it has not ended
 abbrev pub IsOpen : NicView → Type 0
 IsOpen v = v.ended ≡ false

@@ -1,7 +1,9 @@
 -- Used buffers: a pool buffer is used once the card has taken it or an application has picked it as a spare.
-use Rattle.std.specs.Prelude.{ℕ, ◌+◌, ◌/◌, ◌<◌, ◌≤◌, Bool, if◌then◌else◌, List, ◌++◌, length, map, nat_eq, count_by}
-use Rattle.std.specs.List.{flat_map}
+use Rattle.std.specs.Prelude.{◌≡◌, false, true, ℕ, ◌+◌, ◌/◌, ◌<◌, ◌≤◌, Bool, not, if◌then◌else◌, List, ◌++◌, length, map, nat_eq, count_by}
+use Rattle.std.specs.List.{flat_map, list_any}
 use Rattle.area_layout.specs.Layout.{pool_buffers}
+use Rattle.board_face.specs.Lists.{count_below}
+use Rattle.board_face.specs.NicCalls.{HasSweptAll}
 use Rattle.board_face.specs.NicEvents.{word_bits}
 use Rattle.board_face.specs.Texts.{unsplit_bytes}
 use Rattle.board_face.specs.declared.views.nic.NicSide.{NicSide}
@@ -21,6 +23,21 @@ pub record AreKept (listed : ℕ → Bool) (nic : NicSide) (apps : List AppSide)
       → 1 ≤ (if listed b then 1 else 0) + count_by (nat_eq b) nic.view.cache + count_by (nat_eq b) (used_buffers nic apps)
   pub swept : (b : ℕ) → b < pool_buffers nic.view.setting.layout → 1 ≤ count_by (nat_eq (b / word_bits)) nic.view.swept
       → 1 ≤ count_by (nat_eq b) nic.view.cache + count_by (nat_eq b) (used_buffers nic apps)
+
+-- how many pool buffers were never used
+abbrev pub never_used : NicSide → List AppSide → ℕ
+never_used nic apps = count_below (λ b. not (list_any (nat_eq b) (used_buffers nic apps))) (pool_buffers nic.view.setting.layout)
+
+-- Each of those is cached, so they are no more than the cached ones.
+pub record HasUnusedCached (nic : NicSide) (apps : List AppSide) : Type 0 where
+  pub cached : (b : ℕ) → b < pool_buffers nic.view.setting.layout → list_any (nat_eq b) (used_buffers nic apps) ≡ false
+      → list_any (nat_eq b) nic.view.cache ≡ true
+  pub few : never_used nic apps ≤ length nic.view.cache
+
+-- It is so once each word of the free list was swept.
+abbrev pub UnusedAreCached : Type 0
+UnusedAreCached =
+    (listed : ℕ → Bool) (nic : NicSide) (apps : List AppSide) → AreKept listed nic apps → HasSweptAll nic.view → HasUnusedCached nic apps
 
 -- An application has picked, and was given, at most as many buffers as the unsplit notes that it has taken have bytes.
 pub record HasFewPicks (app : AppSide) : Type 0 where

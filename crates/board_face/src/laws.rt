@@ -11,5 +11,6 @@ pub use app::{
 };
 pub use card::{
     card_keeps, honour_law, place_law, send_law, shut_law, stray_law, sweep_law, take_law,
+    unused_are_cached,
 };
 pub use steps::{app_steps, card_steps};

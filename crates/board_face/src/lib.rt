@@ -17,7 +17,7 @@ pub use app_face::AppFace;
 pub use laws::{
     app_keeps, app_steps, card_keeps, card_steps, cut_law, fill_law, give_law, honour_law,
     lend_law, lend_own_law, place_law, poll_law, release_law, scrub_law, send_law, shut_law,
-    spare_law, stray_law, sweep_law, take_law,
+    spare_law, stray_law, sweep_law, take_law, unused_are_cached,
 };
 pub use nic_face::NicFace;
 pub use tokens::{Held, Loan, Own, Piece};

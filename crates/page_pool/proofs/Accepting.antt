@@ -23,7 +23,7 @@ use Rattle.page_pool.specs.Packing.{needed}
 use Rattle.page_pool.specs.Offer.{payload_of, packed, needed_for, short_note, Flushes, LooksFor, not_needed, Accepts, Refuses, Offers, KeepsRest}
 use Rattle.page_pool.specs.Placing.{PlacesSplit, LacksRoom, KeepsShort}
 use Rattle.page_pool.proofs.FramesShown.{whole_shows}
-use Rattle.page_pool.proofs.Offering.{nothing_placed, none_not, LooksFor-keeps}
+use Rattle.page_pool.proofs.Offering.{nothing_placed, none_not, LooksFor-keeps, looked-out}
 
 -- ---- whose note is next
 
@@ -151,10 +151,13 @@ Refuses-split was pool now old flushed new o cached need all long lacks =
     let stats : pool.stats ≡ was.stats = ap (λ (p : PoolState). p.stats) all.pool in
     let used : new.used ≡ old.used = ap (λ (v : NicView). v.used) keeps.view ∙ ap (λ (v : NicView). v.used) flush in
     let sent : new.sent ≡ all_notes was old = ap (λ (v : NicView). v.sent) keeps.view ∙ ap (λ (v : NicView). v.sent) flush in
+    let told = looked-out _ _ _ _ flushed new _ refl lacks.search in
     record {
       cached_is = lacks.cached_is;
       need_is = rw long (rw (setting, current) at lacks.need_is);
       too_few = lacks.too_few;
+      swept = told.swept;
+      within = omega (arith, told.all, lacks.cached_is);
       flushed = flushed;
       flush = all.flush;
       search = rw (current, stats) at lacks.search;

@@ -7,6 +7,7 @@ use Rattle.std.proofs.Math.Seq.{take-length}
 use Rattle.std.proofs.lemmas.List.Elements.{All-nil}
 use Rattle.zr_kinds.specs.declared.outcome.PoolStats.{PoolStats}
 use Rattle.area_layout.specs.Layout.{IsLayout, least_size}
+use Rattle.area_layout.proofs.Words.{in_order}
 use Rattle.board_face.specs.Looks.{NicLooksStay, same_nic_look}
 use Rattle.board_face.specs.NicCalls.{apps_of}
 use Rattle.board_face.specs.NicEvents.{placed, holder_look}
@@ -22,7 +23,7 @@ use Rattle.page_pool.specs.declared.offer.Offer.{Offer}
 use Rattle.page_pool.specs.Frames.{offered, ShowRest}
 use Rattle.page_pool.specs.Packing.{buffers_for, fits, needed}
 use Rattle.page_pool.specs.Pool.{PoolState, PoolStands, HasNonePending, piece_notes}
-use Rattle.page_pool.specs.Searching.{SearchEnd, empty, Searches}
+use Rattle.page_pool.specs.Searching.{SearchEnd, empty, AreToldOf, EndsBy, Searches}
 use Rattle.page_pool.specs.Offer.{payload_of, split_notes, packed, packed_into, last_of, ClosesCurrent, LooksFor, not_needed, searched}
 use Rattle.page_pool.specs.Placing.{PiecesStand, part_of, fresh_places, FreshParts, FillsCurrent, PlacesSplit, LacksRoom}
 use Rattle.page_pool.proofs.FramesShown.{one_shows, fresh_shows}
@@ -56,6 +57,14 @@ pub LooksFor-keeps : (need : ℕ) (current : Option Filling) (was now : PoolStat
 LooksFor-keeps need current was now old new _ (not_needed none stats same) = rw same (record { view = refl; looks = NicLooksStay-same old old refl })
 LooksFor-keeps need current was now old new _ (searched begin how some closes searches) =
     Keeps-trans old begin new (ClosesCurrent-keeps current old begin closes) (Searches-keeps need was now begin new how searches)
+
+-- where it found too few, all buffers are told of
+pub looked-out : (need : ℕ) (current : Option Filling) (was now : PoolStats) (old new : NicView) (how : Option SearchEnd) → how ≡ Some empty
+    → LooksFor need current was now old new how → AreToldOf new
+looked-out need current was now old new _ is (not_needed none stats same) = absurd (cc)
+looked-out need current was now old new _ is (searched begin how some closes searches) =
+    let same : how ≡ empty = cc in
+    (subst (λ end. EndsBy end need begin new searches.more searches.freed searches.words) same searches.ends).3
 
 -- ---- a payload that is split
 
@@ -148,7 +157,7 @@ needed_is need size current old begin o closes is =
 pub some_needed : (need size : ℕ) (current : Option Filling) (begin : NicView) (o : Offer) → IsNeed need size current begin o
     → IsLayout begin.setting.layout → 0 < length (payload_of o) → 0 < need
 some_needed need size current begin o is layout some =
-    let least = layout.size.least in
+    let least = (in_order begin.setting.layout layout).some.least in
     let one = still_needed size 0 (length (payload_of o)) (omega (arith, is.size_is, least)) (omega (arith, some)) in
     rw is.need_is one
 
@@ -197,7 +206,7 @@ PlacesSplit-fresh was stats old begin found new o how need size buffers current 
     let setting : found.setting ≡ old.setting = ap (λ (v : NicView). v.setting) all.keeps.view in
     let used : found.used ≡ old.used = ap (λ (v : NicView). v.used) all.keeps.view in
     let begin_setting : begin.setting ≡ old.setting = ap (λ (v : NicView). v.setting) (ClosesCurrent-keeps was.current old begin closes).view in
-    let least = (rw begin_setting at layout).size.least in
+    let least = (in_order old.setting.layout (rw begin_setting at layout)).some.least in
     let need_is = needed_is need size was.current old begin o closes is in
     let places = parts_places was.current (least_size old.setting.layout) [] buffers len in
     let many_there : length buffers ≡ buffers_for (least_size old.setting.layout) len = rw setting at many in

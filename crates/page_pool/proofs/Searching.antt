@@ -2,20 +2,25 @@
 use Rattle.std.proofs.Common.{◌≡◌, ℕ, zero, suc, ◌+◌, ◌-◌, ◌<◌, ◌≤◌, ◌^◌, ◌⊎◌, inl, inr, List, [], ◌∷◌, ◌++◌}
 use Rattle.std.proofs.Common.{length, append_assoc, length-append, refl, sym, ◌∙◌, ap, arith, below_more, ⊎_elim, min, Bool, true, false}
 use Rattle.std.specs.Prelude.{◌≢◌}
-use Rattle.std.specs.List.{range_with_len}
-use Rattle.std.proofs.lemmas.Bool.{true≢false, cases_lt}
+use Rattle.std.specs.Prelude.{◌||◌, nat_eq}
+use Rattle.std.specs.List.{list_any, range_with_len}
+use Rattle.std.proofs.lemmas.Bool.{true≢false, cases_lt, cases_Bool, eq-eqb}
+use Rattle.std.proofs.Math.Bool.{or-true}
 use Rattle.std.proofs.lemmas.List.{append-nil}
+use Rattle.std.proofs.lemmas.List.Folds.{list_any-append}
 use Rattle.zr_kinds.specs.declared.outcome.PoolStats.{PoolStats}
+use Rattle.area_layout.specs.Layout.{pool_buffers}
 use Rattle.board_face.specs.Looks.{NicRose, same_nic_look, NicLooksStay}
 use Rattle.board_face.specs.NicEvents.{swept}
-use Rattle.board_face.specs.NicCalls.{apps_of, free_words_of, SweptWord}
+use Rattle.board_face.specs.NicCalls.{apps_of, free_words_of, HasSweptAll, lost_of, sent_unsplit_bytes, SweptWord}
 use Rattle.board_face.specs.declared.views.nic.Dealt.{Dealt}
 use Rattle.board_face.specs.declared.views.nic.NicLook.TheVariants.{RingEmpty, Swept}
 use Rattle.board_face.specs.declared.views.nic.NicView.{NicView}
+use Rattle.board_face.proofs.LostLemmas.{buffers-accounted}
 use Rattle.board_face.proofs.LookLemmas.{NicLooksStay-same, NicLooksStay-trans, NicRose-later, NicRose-before, times-more}
 use Rattle.page_pool.specs.Dealing.{DealsWith, IsRaised}
 use Rattle.page_pool.specs.Gathering.{DrainsRing, Gathers, HasAtMost, RefillsFirst, SweepsFirst}
-use Rattle.page_pool.specs.Searching.{SearchEnd, fast, refill, slow, empty, enough, AreRingsDone, AreSwept, Searches}
+use Rattle.page_pool.specs.Searching.{SearchEnd, fast, refill, slow, empty, enough, AreRingsDone, AreSwept, AreToldOf, Searches}
 use Rattle.page_pool.proofs.Entries.{CountsStrays-none, CachesFreed-none, CachesFreed-trans}
 use Rattle.page_pool.proofs.Rings.{CountsStrays-more, AreInTurn-none, AreInTurn-ring, entries_of-own, entries_of-append}
 
@@ -95,7 +100,14 @@ RefillsFirst-ring was now next old v w most app n first ring =
     }
 
 pub SweepsFirst-none : (v : NicView) (most : ℕ) → SweepsFirst v v most 0
-SweepsFirst-none v most = record { count = 0; gathers = Gathers-none v; none_freed = refl; until = inl refl; some = inr refl }
+SweepsFirst-none v most = record {
+  count = 0;
+  gathers = Gathers-none v;
+  none_freed = refl;
+  until = inl refl;
+  some = inr refl;
+  lost = λ some. absurd (omega (arith, some));
+}
 
 -- a word was passed over, since enough are cached
 pub SweepsFirst-passed : (old v : NicView) (most word : ℕ) → SweepsFirst old v most word → most ≤ length v.cache → SweepsFirst old v most (word + 1)
@@ -105,11 +117,12 @@ SweepsFirst-passed old v most word first cached = record {
   none_freed = first.none_freed;
   until = inr cached;
   some = first.some;
+  lost = first.lost;
 }
 
 pub SweepsFirst-word : (old v w : NicView) (most word count : ℕ) → SweepsFirst old v most word → length v.cache < most → SweptWord v w word count
-    → SweepsFirst old w most (word + 1)
-SweepsFirst-word old v w most word count first room one =
+    → lost_of w ≤ sent_unsplit_bytes w → SweepsFirst old w most (word + 1)
+SweepsFirst-word old v w most word count first room one lost =
     let e : w ≡ swept v word one.found = one.event in
     let at : first.count ≡ word = ⊎_elim (λ same. same) (λ full. absurd (omega (arith, full, room))) first.until in
     let cache : length w.cache ≡ length v.cache + length one.found = ap (λ (u : NicView). length u.cache) e ∙ length-append v.cache one.found in
@@ -128,6 +141,7 @@ SweepsFirst-word old v w most word count first room one =
       none_freed = rw e (omega (arith, first.none_freed));
       until = inl (omega (arith, at));
       some = inl (omega arith);
+      lost = λ some. lost;
     }
 
 -- ---- how a search ends
@@ -226,6 +240,36 @@ Searches-slow need was mid now old v w small few refills few_still sweeps held i
       counts = rw (is, e) (raised_one was.slow _ refl, refills.strays.strays, refl);
     }
 
+-- ---- once all words were swept
+
+any-right : (test : ℕ → Bool) (xs ys : List ℕ) → list_any test ys ≡ true → list_any test (xs ++ ys) ≡ true
+any-right test xs ys there = list_any-append test xs ys ∙ ap (λ c. list_any test xs || c) there ∙ or-true (list_any test xs)
+
+any-range : (w a n : ℕ) → a ≤ w → w < a + n → list_any (nat_eq w) (range_with_len a n) ≡ true
+any-range w a zero from to = absurd (omega (arith, from, to))
+any-range w a (suc n) from to = ⊎_elim
+    (λ (is : nat_eq w a ≡ true). rw is refl)
+    (λ (not_so : nat_eq w a ≡ false). rw not_so (any-range w (a + 1) n (omega (arith, from, above not_so)) (omega (arith, to))))
+    (cases_Bool (nat_eq w a))
+  where
+    above : nat_eq w a ≡ false → a < w
+    above not_so = ⊎_elim
+        (λ (less : a < w). less)
+        (λ (most : w ≤ a). let same : w ≡ a = omega (arith, from, most) in absurd (true≢false (sym (eq-eqb w a same) ∙ not_so)))
+        (cases_lt a w)
+
+told-of : (old w : NicView) (n : ℕ) → w.swept ≡ old.swept ++ range_with_len 0 n → n ≡ free_words_of w.setting
+    → (0 < n → lost_of w ≤ sent_unsplit_bytes w) → AreToldOf w
+told-of old w n swept all lost = record { swept = each; all = told n all lost }
+  where
+    each : HasSweptAll w
+    each u less = rw swept (any-right (nat_eq u) old.swept (range_with_len 0 n) (any-range u 0 n (omega arith) (omega (arith, less, all))))
+
+    told : (m : ℕ) → m ≡ free_words_of w.setting → (0 < m → lost_of w ≤ sent_unsplit_bytes w)
+        → pool_buffers w.setting.layout ≤ length w.cache + length w.used + sent_unsplit_bytes w
+    told zero none lost = omega (arith, none)
+    told (suc m) some lost = omega (arith, buffers-accounted w each, lost (omega arith))
+
 pub Searches-empty : (need : ℕ) (was mid now : PoolStats) (old v w : NicView) → need ≤ 64 → RefillsFirst was mid old v 64 (apps_of old.setting)
     → length v.cache < need
     → SweepsFirst v w 64 (free_words_of v.setting) → length w.cache < need → now ≡ record mid { empty = min (mid.empty + 1) (2 ^ 64 - 1) }
@@ -243,7 +287,15 @@ Searches-empty need was mid now old v w small refills few_still sweeps none is =
       swept = both.rose;
       looks = both.looks;
       seen = omega (arith, refills.caches.seen, sweeps.none_freed);
-      ends = (none, both.rings, ⊎_elim (λ full. absurd (omega (arith, full, none, small))) (λ all. all) (words_or_enough old v w setting sweeps both.rose));
+      ends = (
+        none,
+        both.rings,
+        ⊎_elim (λ full. absurd (omega (arith, full, none, small))) (λ all. all) (words_or_enough old v w setting sweeps both.rose),
+        told-of v w sweeps.count (ap (λ (u : NicView). u.swept) sweeps.gathers.view)
+            (⊎_elim (λ all. all ∙ ap free_words_of (sym (ap (λ (u : NicView). u.setting) sweeps.gathers.view)))
+            (λ full. absurd (omega (arith, full, none, small))) sweeps.until)
+            sweeps.lost,
+      );
       counts = rw (is, e) (raised_one was.empty _ refl, refills.strays.strays, refl);
     }
 

@@ -1,13 +1,13 @@
 -- What becomes of a frame that is offered.
-use Rattle.std.specs.Prelude.{◌≡◌, ◌≢◌, ℕ, ◌+◌, ◌-◌, ◌<◌, nat_le, true, false, if◌then◌else◌, List, [], ◌∷◌, ◌++◌}
+use Rattle.std.specs.Prelude.{◌≡◌, ◌≢◌, ℕ, ◌+◌, ◌-◌, ◌<◌, ◌≤◌, nat_le, true, false, if◌then◌else◌, List, [], ◌∷◌, ◌++◌}
 use Rattle.std.specs.Prelude.{length, map, take, drop, slice_index, Option, Some, None}
 use Rattle.zr_kinds.specs.declared.place.Note.{Note}
 use Rattle.zr_kinds.specs.declared.place.Place.{Place}
 use Rattle.zr_kinds.specs.declared.outcome.PoolStats.{PoolStats}
-use Rattle.area_layout.specs.Layout.{least_size, size_of}
+use Rattle.area_layout.specs.Layout.{pool_buffers, least_size, size_of}
 use Rattle.board_face.specs.Looks.{NicRose, NicLooksStay}
 use Rattle.board_face.specs.NicEvents.{fresh}
-use Rattle.board_face.specs.NicCalls.{Closed}
+use Rattle.board_face.specs.NicCalls.{Closed, HasSweptAll, sent_unsplit_bytes}
 use Rattle.board_face.specs.Tokens.{filled_by}
 use Rattle.board_face.specs.declared.views.parts.Setting.{Setting}
 use Rattle.board_face.specs.declared.views.parts.Filling.{Filling}
@@ -165,6 +165,11 @@ pub record Refuses (was now : PoolState) (old new : NicView) (o : Offer) (cached
   pub cached_is : length new.cache ≡ cached
   pub need_is : needed_for was old o ≡ need
   pub too_few : cached < need
+  -- Each word of the free list was swept, so the pool buffers that nobody ever used are among the cached ones
+  -- (`unused_are_cached`).
+  pub swept : HasSweptAll new
+  -- All other buffers the card has taken, or they may be spares, one for each byte of an unsplit note.
+  pub within : pool_buffers new.setting.layout ≤ cached + length new.used + sent_unsplit_bytes new
   pub flushed : NicView
   pub flush : Flushes was old flushed
   pub search : LooksFor need was.current was.stats now.stats flushed new (Some empty)

@@ -3,7 +3,8 @@ use Rattle.std.specs.Prelude.{◌≡◌, ℕ, ◌+◌, ◌<◌, ◌≤◌, ◌�
 use Rattle.std.specs.List.{range_with_len}
 use Rattle.zr_kinds.specs.declared.outcome.PoolStats.{PoolStats}
 use Rattle.board_face.specs.Looks.{NicRose, NicLooksStay}
-use Rattle.board_face.specs.NicCalls.{apps_of, free_words_of}
+use Rattle.area_layout.specs.Layout.{pool_buffers}
+use Rattle.board_face.specs.NicCalls.{apps_of, free_words_of, HasSweptAll, sent_unsplit_bytes}
 use Rattle.board_face.specs.declared.views.nic.Dealt.{Dealt}
 use Rattle.board_face.specs.declared.views.nic.NicLook.TheVariants.{Swept}
 use Rattle.board_face.specs.declared.views.nic.NicView.{NicView}
@@ -40,6 +41,12 @@ AreRingsDone more old new = (a : ℕ) → a < apps_of old.setting → IsRingDone
 abbrev pub AreSwept : NicView → NicView → Type 0
 AreSwept old new = (word : ℕ) → word < free_words_of old.setting → NicRose (Swept word) old new
 
+-- Each word of the free list was swept. So all buffers of the pool are told of: those that are cached, those that the card has
+-- taken, each as often as it did, and those that may be spares, one for each byte of an unsplit note.
+pub record AreToldOf (v : NicView) : Type 0 where
+  pub swept : HasSweptAll v
+  pub all : pool_buffers v.setting.layout ≤ length v.cache + length v.used + sent_unsplit_bytes v
+
 -- What a search for `need` buffers did from this view on, by where it ended: the entries that it dealt with, how many pool
 -- buffers came to be free by them, and how many words it swept.
 abbrev pub EndsBy : SearchEnd → ℕ → NicView → NicView → List Dealt → ℕ → ℕ → Type 0
@@ -50,7 +57,8 @@ EndsBy refill need begin end more freed words =
 EndsBy slow need begin end more freed words =
     (length begin.cache + freed < need) × (need ≤ length end.cache) × (0 < words) × AreRingsDone more begin end
     × ((enough ≤ length end.cache) ⊎ AreSwept begin end)
-EndsBy empty need begin end more freed words = (length end.cache < need) × AreRingsDone more begin end × AreSwept begin end
+EndsBy empty need begin end more freed words =
+    (length end.cache < need) × AreRingsDone more begin end × AreSwept begin end × AreToldOf end
 
 -- A search for `need` buffers, from this view to that one: entries were dealt with, application by application from 0, of
 -- each ring as many as it has places at most, and words of the free list were swept, from 0. Else nothing happened but

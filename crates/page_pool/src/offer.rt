@@ -122,7 +122,7 @@ pub(crate) fn place_in_current<F: NicFace>(
     }
 }
 
-/// ClosesCurrent the current buffer, if there is one.
+/// Closes the current buffer, if there is one.
 pub(crate) fn close_current<F: NicFace>(face: &mut F, current: &mut Option<Own>)
     requires open { IsOpen (F.seen face.old) }
     requires out { (F.seen face.old).owns ≡ option_to_list current.old }

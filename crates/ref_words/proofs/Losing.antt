@@ -1,7 +1,7 @@
 -- Buffers of swept words that are neither cached nor were taken were picked as spares, of which each is for a byte of an unsplit note.
 use Rattle.std.proofs.Common.{◌≡◌, ⊎_elim, ℕ, suc, ◌+◌, ◌/◌, ◌<◌, ◌≤◌, Bool, true, false, cond, List, [], ◌∷◌, length, map}
 use Rattle.std.proofs.Common.{get_or, refl, ap, arith}
-use Rattle.std.specs.Prelude.{not, ◌&&◌, ◌||◌, ◌==◌, nat_eq, count_by, if◌then◌else◌, filter, sum_by, All}
+use Rattle.std.specs.Prelude.{not, ◌&&◌, ◌==◌, nat_eq, if◌then◌else◌, filter, sum_by, All}
 use Rattle.std.specs.List.{list_any}
 use Rattle.std.proofs.lemmas.List.Sums.{sum_by-cons, sum_by-take-le}
 use Rattle.std.proofs.lemmas.List.Elements.{All-contains}
@@ -22,33 +22,12 @@ use Rattle.board_face.specs.declared.views.app.TakenNote.{TakenNote}
 use Rattle.board_face.specs.declared.views.app.AppSide.{AppSide}
 use Rattle.board_face.proofs.ListLemmas.{not-eqb}
 use Rattle.board_face.proofs.SideLemmas.{IsApp-at}
-use Rattle.board_face.proofs.LostLemmas.{lost-few}
-use Rattle.board_face.proofs.Tallies.{weight, total, total-le, total-agree, length-flat}
+use Rattle.board_face.proofs.LostLemmas.{lost-few, none-counted, some-counted}
+use Rattle.board_face.proofs.Tallies.{total, total-le, total-agree, length-flat}
 use Rattle.ref_words.specs.Sides.{IsTakenInOrder}
-use Rattle.ref_words.proofs.Found.{count-cons}
 use Rattle.ref_words.proofs.Frees.{count-append}
 
 -- ---- what is lost was picked
-
-or-none : (c d : Bool) → (c || d) ≡ false → (c ≡ false) × (d ≡ false)
-or-none true d e = absurd (let no : ⊥ = cc in no)
-or-none false d e = (refl, e)
-
--- what stands in a list is counted there, and nothing else
-none-counted : (b : ℕ) (xs : List ℕ) → list_any (nat_eq b) xs ≡ false → count_by (nat_eq b) xs ≡ 0
-none-counted b [] none = refl
-none-counted b (x ∷ xs) none =
-    let both = or-none (b == x) (list_any (nat_eq b) xs) none in
-    omega (arith, count-cons b x xs, ap weight both.0, none-counted b xs both.1)
-
-some-case : (c d : Bool) (n : ℕ) → (d ≡ true → 1 ≤ n) → (c || d) ≡ true → 1 ≤ weight c + n
-some-case true d n rest any = omega arith
-some-case false d n rest any = omega (arith, rest any)
-
-some-counted : (b : ℕ) (xs : List ℕ) → list_any (nat_eq b) xs ≡ true → 1 ≤ count_by (nat_eq b) xs
-some-counted b [] any = absurd (let no : ⊥ = cc in no)
-some-counted b (x ∷ xs) any =
-    omega (arith, count-cons b x xs, some-case (b == x) (list_any (nat_eq b) xs) (count_by (nat_eq b) xs) (some-counted b xs) any)
 
 -- the three parts of a buffer that is lost
 lost-parts : (s c u : Bool) → (s && not c && not u) ≡ true → (s ≡ true) × (c ≡ false) × (u ≡ false)

@@ -1,6 +1,6 @@
 -- A turn keeps what holds between turns.
 use Rattle.std.proofs.Common.{◌≡◌, ◌≢◌, ◌⊎◌, inl, inr, ℕ, List, [], ◌∷◌, ◌++◌, Bool, true, false, Option, Some, None, Ok, Err, refl, sym, ap}
-use Rattle.std.proofs.Common.{subst, ◌∙◌, ⊎_elim}
+use Rattle.std.proofs.Common.{subst, ◌∙◌, ⊎_elim, option_to_list}
 use Rattle.std.specs.Prelude.{MatchBool}
 use Rattle.std.proofs.lemmas.Bool.{true≢false}
 use Rattle.flow_table.specs.Flows.{Flow, flows_of}
@@ -29,8 +29,11 @@ use Rattle.replay_turns.specs.Turns.{ReadsOne, OnlyReads, MayArrive, Receives, S
 use Rattle.replay_turns.specs.Turns.{FeedSteps, FeedTurns, HasLooked}
 use Rattle.replay_turns.specs.Parts.{feed_of}
 use Rattle.replay_turns.specs.Counts.{AreCounted}
-use Rattle.replay_turns.proofs.OffersRise.{offers-rise, offers-more}
-use Rattle.replay_turns.proofs.Settling.{settled-read, settled-accepted, settled-refused}
+use Rattle.replay_turns.specs.Need.{AreNeeded}
+use Rattle.replay_turns.proofs.OffersRise.{RiseFrom, offers-rise, offers-more}
+use Rattle.replay_turns.proofs.Needing.{AreUnused, unused-trans, sends-unused, drains-unused, closes-unused, needed-read, needed-accepted}
+use Rattle.replay_turns.proofs.Needing.{needed-refused, needed-same, keeps-setting}
+use Rattle.replay_turns.proofs.Settling.{hand-last, next-last, settled-read, settled-accepted, settled-refused}
 use Rattle.replay_turns.proofs.Counting.{AreInType, counted-read, counted-same, counted-drained, counted-accepted, counted-refused, closes-dealt}
 
 known_is : (k : KnownFlows) (known_ports : List ℕ) (flows : List Flow) → k.ports ≡ known_ports → k.flows ≡ flows
@@ -60,26 +63,31 @@ module _ (ports : List ℕ) (split : ℕ) where
       → now.ports ≡ was.ports → now.tally ≡ was.tally → now.flows ≡ was.flows → now.pool.split ≡ was.pool.split
       → AreSettled split (offers_of (steered_in ports frames)) now.refused now.at_hand (all_notes now.pool new)
       → AreCounted split (offers_of (steered_in ports frames)) now.refused now.at_hand new.dealt now.pool.stats
+      → AreNeeded new.setting.layout split (offers_of (steered_in ports frames)) now.refused now.at_hand (all_notes now.pool new) new.used
       → FeedKnows ports split frames now new
-  settles-feed frames was now old new stands same_ports same_tally same_flows same_split settled counted = record {
+  settles-feed frames was now old new stands same_ports same_tally same_flows same_split settled counted needed = record {
     ports_are = same_ports ∙ stands.ports_are;
     split_is = same_split ∙ stands.split_is;
     tally_is = same_tally ∙ stands.tally_is;
     flows_are = same_flows ∙ stands.flows_are;
     settled = settled;
     counted = counted;
+    needed = needed;
   }
 
   same-settled : (frames : List (List ℕ)) (was now : FeedState) (old new : NicView)
       → FeedKnows ports split frames was old
       → now ≡ record was { pool = now.pool } → now.pool.split ≡ was.pool.split → all_notes now.pool new ≡ all_notes was.pool old
+      → AreUnused old new
       → AreCounted split (offers_of (steered_in ports frames)) was.refused was.at_hand new.dealt now.pool.stats
       → FeedKnows ports split frames now new
-  same-settled frames was now old new stands same split_same notes counted =
+  same-settled frames was now old new stands same split_same notes unused counted =
       settles-feed frames was now old new stands (ap (λ (f : FeedState). f.ports) same)
       (ap (λ (f : FeedState). f.tally) same) (ap (λ (f : FeedState). f.flows) same) split_same
       (rw (ap (λ (f : FeedState). f.refused) same, ap (λ (f : FeedState). f.at_hand) same, notes) stands.settled)
       (rw (ap (λ (f : FeedState). f.refused) same, ap (λ (f : FeedState). f.at_hand) same) counted)
+      (rw (ap (λ (f : FeedState). f.refused) same, ap (λ (f : FeedState). f.at_hand) same)
+      (needed-same split (offers_of (steered_in ports frames)) was.refused was.at_hand was.pool now.pool old new notes unused stands.needed))
 
   -- notes were sent, and the rings drained
   drained-counted : (frames : List (List ℕ)) (was now : FeedState) (pool : PoolState) (old mid new : NicView) (count : ℕ)
@@ -104,7 +112,13 @@ module _ (ports : List ℕ) (split : ℕ) where
       (rw (ap (λ (f : FeedState). f.refused) same, ap (λ (f : FeedState). f.at_hand) same)
       (counted-accepted split (offers_of (steered_in ports frames)) was.refused was.pool now.pool old new o stands.split_is fits
       (rw here at stands.counted) accepts))
+      (rw (ap (λ (f : FeedState). f.refused) same, ap (λ (f : FeedState). f.at_hand) same, keeps-setting was.pool now.pool old new o Accepted accepts)
+      (needed-accepted old.setting.layout split (offers_of (steered_in ports frames)) was.refused was.pool now.pool old new o stands.split_is refl
+      (rw here at stands.needed) accepts))
   settled-by frames was now old new o (NoRoom cached need) fits here (refuses, same) stands =
+      let settled : AreSettled split (offers_of (steered_in ports frames)) was.refused (Some (offered o)) (all_notes was.pool old) =
+      rw here at stands.settled in
+      let last = hand-last split (offers_of (steered_in ports frames)) was.refused (offered o) (all_notes was.pool old) (offers-rise ports frames) settled in
       settles-feed frames was now old new stands (ap (λ (f : FeedState). f.ports) same)
       (ap (λ (f : FeedState). f.tally) same) (ap (λ (f : FeedState). f.flows) same) (ap (λ (p : PoolState). p.split) refuses.pool)
       (rw (ap (λ (f : FeedState). f.refused) same, ap (λ (f : FeedState). f.at_hand) same)
@@ -113,12 +127,20 @@ module _ (ports : List ℕ) (split : ℕ) where
       (rw (ap (λ (f : FeedState). f.refused) same, ap (λ (f : FeedState). f.at_hand) same)
       (counted-refused split (offers_of (steered_in ports frames)) was.refused was.pool now.pool old new o stands.split_is fits
       (rw here at stands.counted) cached need refuses))
+      (rw (
+        ap (λ (f : FeedState). f.refused) same,
+        ap (λ (f : FeedState). f.at_hand) same,
+        keeps-setting was.pool now.pool old new o (NoRoom cached need) refuses,
+      )
+      (needed-refused old.setting.layout split (offers_of (steered_in ports frames)) was.refused was.pool now.pool old new o stands.split_is refl
+      (rw here at stands.needed) cached need settled.settled settled.awaits last.0 last.1 refuses))
   settled-by frames was now old new o Busy fits here (pool, mid, count, puts_off, drained, same) stands =
       let pool_is : now.pool ≡ record pool { stats = now.pool.stats } = ap (λ (f : FeedState). f.pool) same in
       same-settled frames was now old new stands
       (same ∙ sym (ap (λ p. record was { pool = p }) pool_is))
       (ap (λ (p : PoolState). p.split) pool_is ∙ ap (λ (p : PoolState). p.split) puts_off.sends.pool)
       (drained-notes pool now.pool mid new count drained pool_is ∙ puts_off.sends.notes)
+      (unused-trans old mid new (sends-unused was.pool pool old mid puts_off.sends) (drains-unused pool now.pool mid new count drained))
       (drained-counted frames was now pool old mid new count fits puts_off.sends drained stands.counted)
 
   pub played : (frames : List (List ℕ)) (was now : FeedState) (old new : NicView) → AreInType now.pool.stats → Plays was now old new
@@ -127,6 +149,7 @@ module _ (ports : List ℕ) (split : ℕ) where
       let pool_is : now.pool ≡ record was.pool { stats = now.pool.stats } = ap (λ (f : FeedState). f.pool) same in
       same-settled frames was now old new stands (same ∙ sym (ap (λ p. record was { pool = p }) pool_is))
       (ap (λ (p : PoolState). p.split) pool_is) (drained-notes was.pool now.pool old new count drained pool_is)
+      (drains-unused was.pool now.pool old new count drained)
       (counted-drained split (offers_of (steered_in ports frames)) was.refused was.at_hand was.pool.stats now.pool.stats old new count fits drained
       stands.counted)
   played frames was now old new fits (offers on o here by) stands =
@@ -142,11 +165,15 @@ module _ (ports : List ℕ) (split : ℕ) where
       (counted-same split (offers_of (steered_in ports frames)) was.refused was.at_hand was.pool.stats now.pool.stats old.dealt new.dealt
       (ap (λ (p : PoolState). p.stats) pool_is ∙ ap (λ (p : PoolState). p.stats) sends.pool)
       (closes-dealt pool.current mid new closes ∙ ap (λ (v : NicView). v.dealt) sends.view) stands.counted))
+      (rw (ap (λ (f : FeedState). f.refused) same, ap (λ (f : FeedState). f.at_hand) same)
+      (needed-same split (offers_of (steered_in ports frames)) was.refused was.at_hand was.pool now.pool old new notes
+      (unused-trans old mid new (sends-unused was.pool pool old mid sends) (closes-unused pool.current mid new closes)) stands.needed))
   played frames was now old new fits (finishes on none over (pool, mid, sends, inr (waits, (count, drained, same)))) stands =
       let pool_is : now.pool ≡ record pool { stats = now.pool.stats } = ap (λ (f : FeedState). f.pool) same in
       same-settled frames was now old new stands (same ∙ sym (ap (λ p. record was { pool = p }) pool_is))
       (ap (λ (p : PoolState). p.split) pool_is ∙ ap (λ (p : PoolState). p.split) sends.pool)
       (drained-notes pool now.pool mid new count drained pool_is ∙ sends.notes)
+      (unused-trans old mid new (sends-unused was.pool pool old mid sends) (drains-unused pool now.pool mid new count drained))
       (drained-counted frames was now pool old mid new count fits sends drained stands.counted)
   played frames was now old new fits (rests on none goes same still) stands = rw (same, still) stands
 
@@ -159,6 +186,7 @@ module _ (ports : List ℕ) (split : ℕ) where
       (same ∙ sym (ap (λ p. record was { pool = p }) pool_is))
       (ap (λ (p : PoolState). p.split) pool_is ∙ ap (λ (p : PoolState). p.split) sends.pool)
       (drained-notes pool now.pool mid new count drained pool_is ∙ sends.notes)
+      (unused-trans old mid new (sends-unused was.pool pool old mid sends) (drains-unused pool now.pool mid new count drained))
       (drained-counted frames was now pool old mid new count fits sends drained stands.counted)
 
 -- ---- the stage stays
@@ -210,6 +238,7 @@ module _ (ports : List ℕ) (split : ℕ) (frames : List (List ℕ)) (was : Inta
         flows_are = ap (λ k. k.flows) known.known;
         settled = rw (refused, hand) (rw none at knows.settled);
         counted = rw (refused, hand) (rw none at knows.counted);
+        needed = rw (refused, hand) (rw none at knows.needed);
       }
 
   one-more : (now : Intake) (frame : List ℕ) → was.hand ≡ None → now.refused.items ≡ was.refused.items → now.table.ports ≡ was.table.ports
@@ -224,6 +253,14 @@ module _ (ports : List ℕ) (split : ℕ) (frames : List (List ℕ)) (was : Inta
         (settled-read split (offers_of (steered_in ports frames)) was.refused.items _ (all_notes pool old) (rw none at knows.settled));
     counted = rw (offers-more ports frames frame, refused, hand)
         (counted-read split (offers_of (steered_in ports frames)) was.refused.items _ old.dealt pool.stats (rw none at knows.counted));
+    needed = rw (offers-more ports frames frame, refused, hand)
+        (needed-read old.setting.layout split (offers_of (steered_in ports frames)) was.refused.items (offer_next ports frames frame) (all_notes pool old)
+        old.used
+        (λ o is. next-last split (offers_of (steered_in ports frames)) was.refused.items o (all_notes pool old)
+        (subst (λ next. RiseFrom 1 (offers_of (steered_in ports frames) ++ option_to_list next)) is
+        (subst (RiseFrom 1) (offers-more ports frames frame) (offers-rise ports (frames ++ frame ∷ []))))
+        (rw none at knows.settled))
+        (rw none at knows.needed));
   }
 
   pub received : (now : Intake) (came : Arrived) → pool.split ≡ was.split → now.refused.items ≡ was.refused.items → now.table.ports ≡ was.table.ports

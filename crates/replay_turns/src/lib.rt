@@ -1,4 +1,4 @@
-//! Turns: what the card does in one, over any source and any board, and how a run of them goes.
+//! What the card does in one turn, over any source and any board, and what the turns of a run come to.
 #![tactic(auto)]
 
 mod arrived;

@@ -1,5 +1,5 @@
 -- The lines of the applications, by their places.
-use Rattle.std.proofs.Common.{◌≡◌, ℕ, zero, suc, ◌<◌, List, [], ◌∷◌, length, map, Option, Some, refl, sym, ap, subst, ◌∙◌, arith}
+use Rattle.std.proofs.Common.{◌≡◌, ℕ, zero, suc, ◌<◌, List, [], ◌∷◌, length, map, Option, None, Some, refl, sym, ap, subst, ◌∙◌, arith}
 use Rattle.std.specs.List.{slice_get}
 use Rattle.zr_kinds.specs.declared.outcome.AppLine.{AppLine}
 use Rattle.run_end.specs.Ran.{There, line_of, lines_of}
@@ -17,6 +17,11 @@ one-value e = cc
 -- it is there, and so holds of it
 pub is-there : {A : Type 0} (o : Option A) (x : A) (P : A → Type 0) → o ≡ Some x → P x → There o P
 is-there {A = A} o x P is holds = subst (λ (p : Option A). There p P) (sym is) holds
+
+-- what is there, and holds
+pub found-there : {A : Type 0} (o : Option A) (P : A → Type 0) → There o P → (value : A) × (o ≡ Some value) × P value
+found-there None P is = absurd is
+found-there (Some value) P is = (value, refl, is)
 
 pub line-at : (ports : List ℕ) (workers : List Worker) (a port : ℕ) (w : Worker) → slice_get ports a ≡ Some port → slice_get workers a ≡ Some w
     → slice_get (lines_of ports workers) a ≡ Some (line_of port w)

@@ -37,6 +37,8 @@ use Rattle.replay_turns.specs.declared.plan.Plan.{Plan}
 use Rattle.replay_turns.proofs.Bridge.{give_streams}
 use Rattle.run_end.specs.Laws.{RunsAreTold, RunsEndWell}
 use Rattle.replay_turns.specs.Counts.{AreCounted, is_long, long_in, searches_in}
+use Rattle.replay_turns.specs.Need.{AreNeeded, RefusesByNeed}
+use Rattle.replay_turns.proofs.Needing.{refuses-by-need}
 use Rattle.run_end.specs.Ran.{There, IsLineOf, IsStreamed, IsTorn, HasFailed, IsAppLine, all_loans, line_of, lines_of, AreCounts, Ran, Told, told_of}
 use Rattle.run_end.specs.Running.{RolesFit, Running, AreOver, losses_in}
 use Rattle.run_end.specs.declared.run.Run.{Run}
@@ -120,6 +122,13 @@ module _ {S T : Type 0} (left : S → Option (List ℕ)) (faults : S → ℕ) (k
       (sym tells.refused)
       (subst (λ (stats : PoolStats). AreCounted plan.split (offers_of (steered_in plan.ports.items runs.frames)) run.feed.refused None
       nic.view.dealt stats) (sym tells.pool) pool)
+
+  by-need : RefusesByNeed plan (offers_of (steered_in plan.ports.items runs.frames)) told_is.refused
+  by-need =
+      let needed : AreNeeded nic.view.setting.layout plan.split (offers_of (steered_in plan.ports.items runs.frames)) run.feed.refused None _ _ =
+      rw (fits.ready.fits.none over.card) at runs.feed.knows.needed in
+      subst (RefusesByNeed plan (offers_of (steered_in plan.ports.items runs.frames))) (sym tells.refused)
+      (refuses-by-need plan nic.view.setting _ run.feed.refused _ _ runs.setting needed)
 
   searched : searches_in told_is.pool ≤ long_in plan.split (offers_of (steered_in plan.ports.items runs.frames))
   searched = omega (arith, counted.searches)
@@ -257,6 +266,7 @@ module _ {S T : Type 0} (left : S → Option (List ℕ)) (faults : S → ℕ) (k
         (comes-over _ left faults source source_now plan.ports.items run.feed.stage runs.frames (fits.ready.fits.over over.card) runs.feed.comes);
     tally = tells.tally ∙ runs.feed.knows.tally_is;
     refused = refused-are;
+    need = by-need;
     searches = searched;
     empty = found-none;
     strays = strays-few;

@@ -19,3 +19,4 @@ pub mod Telling
 pub mod Workers
 pub mod NewWorkers
 pub mod ReadOn
+pub mod WholeStreams

@@ -32,6 +32,7 @@ use Rattle.app_worker.specs.Shelves.{AreOfOneLoan}
 use Rattle.app_worker.specs.State.{Quits, loan_entries}
 use Rattle.replay_turns.specs.Account.{AccountsFor, kept_in}
 use Rattle.replay_turns.specs.Counts.{long_in, searches_in}
+use Rattle.replay_turns.specs.Need.{RefusesByNeed}
 use Rattle.replay_turns.specs.Offered.{AreRefused, WantsRoom, offers_of}
 use Rattle.replay_turns.specs.Outcomes.{IsOutcomeOf}
 use Rattle.replay_turns.specs.declared.outcome.Outcome.{Outcome}
@@ -156,6 +157,8 @@ pub record Ran {S T : Type 0} (left : S → Option (List ℕ)) (faults : S → �
   pub tally : told.tally ≡ tally_of plan.ports.items before
   -- the frames that were refused: in order, each a steered one with a payload longer than `split`
   pub refused : AreRefused plan.split (offers_of (steered_in plan.ports.items before)) told.refused
+  -- each only where its need, with that of the frames before it that weren't, is above the number of buffers
+  pub need : RefusesByNeed plan (offers_of (steered_in plan.ports.items before)) told.refused
   -- the searches for fresh buffers: no more than payloads longer than `split`, and as many found too few as frames were refused
   pub searches : searches_in told.pool ≤ long_in plan.split (offers_of (steered_in plan.ports.items before))
   pub empty : told.pool.empty ≡ length told.refused
@@ -185,6 +188,14 @@ pub record Ran {S T : Type 0} (left : S → Option (List ℕ)) (faults : S → �
   -- All is over at the board, and it accounts for the run.
   pub over : HaveEnded nic apps
   pub accounts : AccountsFor kept shelves shelves_now plan before told.refused nic apps told.apps told.pool.strays
+
+-- Each flow's shelf gained the whole stream that the copying receiver gives for it over these frames, the refused ones left out,
+-- unless its application wrote as many bytes as it was to.
+abbrev pub HaveWholeStreams : {T : Type 0} → (T → ℕ → Option (List ℕ)) → List T → List T → List ℕ → Option ℕ → List (List ℕ) → Told → Type 0
+HaveWholeStreams kept shelves shelves_now ports quit frames told =
+    (number : ℕ) (flow : Flow) → slice_get (flows_of (steered_in ports frames)) number ≡ Some flow → There (slice_get told.apps flow.app) (λ app.
+    quit ≢ Some app.written → Gained (kept_in kept shelves flow.app number) (kept_in kept shelves_now flow.app number)
+    (λ bytes. bytes ≡ stream_of (steered_in ports frames) told.refused number))
 
 -- Nothing was read, and no shelf touched.
 pub record IsUntouched {S T : Type 0} (source source_now : S) (shelves shelves_now : List T) : Type 0 where

@@ -17,25 +17,29 @@ use Rattle.zr_kinds.specs.declared.behaviour.Stopped.TheVariants as stop
 use Rattle.zr_kinds.specs.declared.outcome.AppLine.{AppLine}
 use Rattle.zr_io.specs.Moved.{Rose, Took}
 use Rattle.zr_io.proofs.Moved.{Took-then, Took-weaker}
-use Rattle.frames_read.specs.Ending.{Ended, ended_of}
+use Rattle.frames_read.specs.Ending.{Ended, ended_of, steered_in}
 use Rattle.frames_read.specs.Reading.{ShowsEnding, BreaksOff, TakenEnds, IsEnding, IsReadToEnd}
 use Rattle.frames_read.proofs.Endings.{some-weaker}
 use Rattle.board_face.specs.declared.views.nic.NicSide.{NicSide}
 use Rattle.board_face.specs.declared.views.app.AppSide.{AppSide}
-use Rattle.replay_turns.specs.Offered.{WantsRoom}
+use Rattle.replay_turns.specs.Need.{buffers_of, need_in}
+use Rattle.replay_turns.specs.Offered.{offers_of, WantsRoom}
 use Rattle.replay_turns.specs.declared.plan.Plan.{Plan}
 use Rattle.run_end.specs.Running.{losses_in, losses_or}
-use Rattle.run_end.specs.Ran.{HasReadOn, Ran, Told}
+use Rattle.run_end.specs.Ran.{HasReadOn, HaveWholeStreams, Ran, Told}
+use Rattle.run_end.proofs.WholeStreams.{whole-streams}
 use Rattle.command_words.specs.Words.{ReplayShown}
 use Rattle.zcrx_cli.specs.Planned.{IsPlanOf}
 use Rattle.zcrx_cli.specs.declared.card.Card.{Card}
 use Rattle.zcrx_cli.proofs.Behind.{ended_of-behind}
-use Rattle.zcrx_cli.proofs.Found.{there, get-there, get-within, get-same_rest}
+use Rattle.run_end.proofs.AppLines.{found-there, there}
+use Rattle.run_end.proofs.Places.{get-within}
+use Rattle.zcrx_cli.proofs.Found.{get-same_rest}
 use Rattle.run_report.specs.Report.{Reports, answer_of}
 use Rattle.run_report.specs.declared.report.Unreported.{Unreported}
 use Rattle.run_report.specs.declared.report.Unreported.TheVariants as unreported
 use Rattle.zcrx_cli.specs.Status.{is_memory, is_write, any_stopped, end_number, status_from, status_of}
-use Rattle.zcrx_cli.specs.StreamTheorem.{IsStatusOf, IsStatus, IsBrokenOff, RanWith, Replays, Tells}
+use Rattle.zcrx_cli.specs.StreamTheorem.{HasLost, IsStatusOf, IsStatus, IsBrokenOff, RanWith, Replays, Tells}
 
 -- ---- the ways in which a reading ends
 
@@ -315,17 +319,18 @@ module _ {S T : Type 0} {left : S → Option (List ℕ)} {failed : S → ℕ} {k
             (ended_of plan.ports.items taken) replayed.before e) by_read ends)) replayed.ended.taken,
       )) others) causes.cases
 
-  shelf-failed : lost ≡ true → (app : ℕ) × Rose (losses_in losses shelves app) (losses_in losses shelves_now app)
+  shelf-failed : lost ≡ true → HasLost losses shelves shelves_now (length plan.ports.items)
   shelf-failed some =
       let stands : Stands outcome.apps = any-write outcome.apps some in
       let within : stands.number < length outcome.apps = get-within outcome.apps stands.number stands.app stands.at in
       let many = replayed.many_apps in
-      let (port, port_is) = get-there plan.ports.items stands.number (omega (arith, within, many)) in
-      let (app, app_is, line) = there (slice_get outcome.apps stands.number) _ (replayed.app stands.number port port_is) in
+      let own : stands.number < length plan.ports.items = omega (arith, within, many) in
+      let (port, port_is) = there plan.ports.items stands.number own in
+      let (app, app_is, line) = found-there (slice_get outcome.apps stands.number) _ (replayed.app stands.number port port_is) in
       let same : app ≡ stands.app = (let at = stands.at in cc) in
-      (stands.number, line.cause (ap (λ a. a.stopped) same ∙ stands.why))
+      (stands.number, own, line.cause (ap (λ a. a.stopped) same ∙ stands.why))
 
-  lost-of : answer ≡ 9 → ((app : ℕ) × Rose (losses_in losses shelves app) (losses_in losses shelves_now app)) ⊎ Rose refusals refusals_now
+  lost-of : answer ≡ 9 → HasLost losses shelves shelves_now (length plan.ports.items) ⊎ Rose refusals refusals_now
   unfolding IsNumbered
   lost-of nine = ⊎_elim (λ one. absurd (omega arith)) (λ others. ⊎_elim
       (λ (at_nine, why). ⊎_elim (λ shelf. inl (shelf-failed shelf)) (λ sink. inr sink) why)
@@ -363,12 +368,53 @@ module _ {S T : Type 0} {left : S → Option (List ℕ)} {failed : S → ℕ} {k
   kept_well : answer ≢ 1 → answer ≢ 9 → (app : ℕ) → losses_in losses shelves_now app ≡ losses_in losses shelves app
   kept_well not_1 not_9 app = ⊎_elim
       (λ (within : app < length plan.ports.items).
-      let (port, port_is) = get-there plan.ports.items app within in
-      let (line, line_is, was) = there (slice_get outcome.apps app) _ (replayed.app app port port_is) in
+      let (port, port_is) = there plan.ports.items app within in
+      let (line, line_is, was) = found-there (slice_get outcome.apps app) _ (replayed.app app port port_is) in
       was.still (λ write. ⊎_elim not_1 not_9 (failing-of app line line_is write)))
       (λ (past : length plan.ports.items ≤ app). ap (λ s. losses_or (option_map losses s))
       (get-same_rest (length plan.ports.items) shelves shelves_now app replayed.beyond past))
       (cases_lt app (length plan.ports.items))
+
+  -- ---- completeness
+
+  complete-of : (all : List ℕ) → left source ≡ Some all → (ended_of plan.ports.items all).fault ≡ None → ¬ Rose (failed source) (failed source_now)
+      → ¬ HasLost losses shelves shelves_now (length plan.ports.items) → ¬ Rose refusals refusals_now → (answer ≡ 0) ⊎ (answer ≡ 1)
+  complete-of all told_all none reads kept_all sink =
+      let shows : ShowsEnding (ended_of plan.ports.items all) replayed.before outcome.end = rw told_all at replayed.ended.shown in
+      let said : IsStatusOf answer None = subst (IsStatusOf answer) none (ending-of all shows) in
+      ⊎_elim (λ zero. inl zero) (λ others. ⊎_elim (λ one. inr one) (λ more. ⊎_elim
+      (λ eight. absurd (reads (read-of eight).0))
+      (λ nine. absurd (⊎_elim kept_all sink (lost-of nine))) more) others) said
+
+  all_read-of : answer ≡ 0 → (all : List ℕ) → left source ≡ Some all
+      → ended_of plan.ports.items all ≡ record { before = replayed.before; fault = None }
+  unfolding IsNumbered
+  all_read-of zero all told_all = ⊎_elim (λ one. absurd (omega arith)) (λ others. ⊎_elim (λ (nine, why). absurd (omega arith))
+      (λ number.
+      let at_end : outcome.end ≡ None = (numbered outcome.end replayed.ended.kind).3 (sym number ∙ zero) in
+      let shows : ShowsEnding (ended_of plan.ports.items all) replayed.before outcome.end = rw told_all at replayed.ended.shown in
+      subst (λ e. ShowsEnding (ended_of plan.ports.items all) replayed.before e) at_end shows) others) causes.cases
+
+  going-of : answer ≡ 0 → (number : ℕ) (app : AppLine) → slice_get outcome.apps number ≡ Some app → (app.stopped ≡ stop.No) ⊎ (app.stopped ≡ stop.Quit)
+  going-of zero number app at = by_cause app.stopped refl
+    where
+      by_cause : (stopped : Stopped) → app.stopped ≡ stopped → (app.stopped ≡ stop.No) ⊎ (app.stopped ≡ stop.Quit)
+      by_cause stop.No is = inl is
+      by_cause stop.Quit is = inr is
+      by_cause stop.Write is = ⊎_elim (λ one. absurd (omega (arith, one, zero))) (λ nine. absurd (omega (arith, nine, zero))) (failing-of number app at is)
+      by_cause stop.Memory is = let one = wanting-of number app at is in absurd (omega (arith, one, zero))
+
+  enough-of : answer ≡ 0 → (all : List ℕ) → left source ≡ Some all
+      → need_in plan (offers_of (steered_in plan.ports.items (ended_of plan.ports.items all).before)) ≤ buffers_of plan → outcome.refused ≡ []
+  enough-of zero all told_all fits = replayed.need.enough
+      (subst (λ (e : Ended). need_in plan (offers_of (steered_in plan.ports.items e.before)) ≤ buffers_of plan) (all_read-of zero all told_all) fits)
+
+  streams-of : answer ≡ 0 → (all : List ℕ) → left source ≡ Some all
+      → HaveWholeStreams kept shelves shelves_now plan.ports.items plan.how.quit (ended_of plan.ports.items all).before outcome
+  streams-of zero all told_all =
+      subst (λ (e : Ended). HaveWholeStreams kept shelves shelves_now plan.ports.items plan.how.quit e.before outcome)
+      (sym (all_read-of zero all told_all))
+      (whole-streams left failed kept losses source at shelves shelves_now plan outcome nic apps replayed (going-of zero))
 
 -- the report went out whole
 told_well : (refusals refusals_now said answer : ℕ) (reported : Result (Unit {0}) Unreported) → OnOk reported (refusals_now ≡ refusals)
@@ -404,9 +450,14 @@ module _ {S T O : Type 0} {left : S → Option (List ℕ)} {failed : S → ℕ} 
         kind = kind-of ran ahead is;
         whole = whole-of ran ahead is;
         read = rw (← same) (read-of ran ahead is);
-        lost = lost-of ran ahead is;
+        lost = rw (← same) (lost-of ran ahead is);
         wanting = wanting-of ran ahead is;
         failing = failing-of ran ahead is;
+        complete = rw (← same) (complete-of ran ahead is);
+        all_read = rw (← same) (all_read-of ran ahead is);
+        going = going-of ran ahead is;
+        enough = rw (← same) (enough-of ran ahead is);
+        streams = rw (← same, ← planned.how) (streams-of ran ahead is);
         settled = settled-of ran ahead is;
         sound_reads = read_well ran ahead is;
         sound_shelves = kept_well ran ahead is;

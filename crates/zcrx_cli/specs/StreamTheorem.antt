@@ -1,5 +1,5 @@
 -- What a replay leaves: the streams on their shelves, the report, the status, and the board of the run.
-use Rattle.std.specs.Prelude.{◌≡◌, ◌≢◌, ℕ, List, [], ◌∷◌, ◌==◌, true, Option, Some, None, Result, IfSome, OnOk, ◌⊎◌}
+use Rattle.std.specs.Prelude.{◌≡◌, ◌≢◌, ℕ, ◌<◌, ◌≤◌, List, [], ◌∷◌, length, ◌==◌, true, Option, Some, None, Result, IfSome, OnOk, ◌⊎◌}
 use Rattle.std.specs.List.{list_any, slice_get}
 use Rattle.zr_kinds.specs.declared.fault.Fault.{Fault}
 use Rattle.zr_kinds.specs.declared.fault.Fault.TheVariants.{Cut}
@@ -7,13 +7,15 @@ use Rattle.zr_io.specs.Moved.{Rose, Took}
 use Rattle.board_face.specs.declared.views.nic.NicSide.{NicSide}
 use Rattle.board_face.specs.declared.views.app.AppSide.{AppSide}
 use Rattle.command_words.specs.Words.{ReplayShown, Shown, replay, make}
-use Rattle.frames_read.specs.Ending.{ended_of}
+use Rattle.frames_read.specs.Ending.{ended_of, steered_in}
 use Rattle.frames_read.specs.Reading.{IsReadToEnd}
 use Rattle.zr_kinds.specs.declared.behaviour.Stopped.TheVariants as stop
 use Rattle.zr_kinds.specs.declared.outcome.AppLine.{AppLine}
 use Rattle.replay_turns.specs.declared.plan.Plan.{Plan}
+use Rattle.replay_turns.specs.Need.{buffers_of, need_in}
+use Rattle.replay_turns.specs.Offered.{offers_of}
 use Rattle.run_end.specs.Running.{losses_in}
-use Rattle.run_end.specs.Ran.{HasReadOn, LacksMemory, LacksMemoryBeside, Ran, Told}
+use Rattle.run_end.specs.Ran.{HasReadOn, HaveWholeStreams, LacksMemory, LacksMemoryBeside, Ran, Told}
 use Rattle.run_report.specs.Report.{report_of, Reports, answer_of}
 use Rattle.run_report.specs.declared.report.Unreported.{Unreported}
 use Rattle.zcrx_cli.specs.Cards.{HasOver, HasSides, IsOfWay}
@@ -54,6 +56,11 @@ pub record RanWith {S T : Type 0} (left : S → Option (List ℕ)) (failed : S �
   pub over : HasOver card_now
   pub way : IsOfWay turns card_now
 
+-- a call of the shelf of one of these applications failed
+abbrev pub HasLost : {T : Type 0} → (T → ℕ) → List T → List T → ℕ → Type 0
+HasLost losses shelves shelves_now apps =
+    (app : ℕ) × (app < apps) × Rose (losses_in losses shelves app) (losses_in losses shelves_now app)
+
 -- What a replay leaves of its source, its shelves and its sink, which board is in the card, and what its answer says. `ran.at` is the
 -- source as the ending of the reading left it.
 pub record Replays {S T O : Type 0} (left : S → Option (List ℕ)) (failed : S → ℕ) (kept : T → ℕ → Option (List ℕ)) (losses : T → ℕ)
@@ -79,11 +86,25 @@ pub record Replays {S T O : Type 0} (left : S → Option (List ℕ)) (failed : S
   pub read : answer ≡ 8 → Rose (failed source) (failed source_now)
       × Took (left source) (left source_now) (λ taken. IsBrokenOff (ended_of told.ports taken).fault)
   -- 9 comes only where an application's shelf failed, or the sink.
-  pub lost : answer ≡ 9 → ((app : ℕ) × Rose (losses_in losses shelves app) (losses_in losses shelves_now app)) ⊎ Rose (refusals out) (refusals out_now)
+  pub lost : answer ≡ 9 → HasLost losses shelves shelves_now (length told.ports) ⊎ Rose (refusals out) (refusals out_now)
   -- Where memory stopped an application it is 1, and where its shelf did it is 1 or 9.
   pub wanting : (number : ℕ) (app : AppLine) → slice_get outcome.apps number ≡ Some app → app.stopped ≡ stop.Memory → answer ≡ 1
   pub failing : (number : ℕ) (app : AppLine) → slice_get outcome.apps number ≡ Some app → app.stopped ≡ stop.Write
       → (answer ≡ 1) ⊎ (answer ≡ 9)
+  -- Completeness: where all the bytes end without a fault, and no read and no call of a shelf or of the sink failed, it is 0 or 1.
+  pub complete : (all : List ℕ) → left source ≡ Some all → (ended_of told.ports all).fault ≡ None → ¬ Rose (failed source) (failed source_now)
+      → ¬ HasLost losses shelves shelves_now (length told.ports) → ¬ Rose (refusals out) (refusals out_now) → (answer ≡ 0) ⊎ (answer ≡ 1)
+  -- With 0 the frames are those of all the bytes, no application was stopped but to quit, and with as many buffers as these frames
+  -- need none was refused.
+  pub all_read : answer ≡ 0 → (all : List ℕ) → left source ≡ Some all → ended_of told.ports all ≡ record { before = ran.ran.before; fault = None }
+  pub going : answer ≡ 0 → (number : ℕ) (app : AppLine) → slice_get outcome.apps number ≡ Some app → (app.stopped ≡ stop.No) ⊎ (app.stopped ≡ stop.Quit)
+  pub enough : answer ≡ 0 → (all : List ℕ) → left source ≡ Some all
+      → need_in plan (offers_of (steered_in told.ports (ended_of told.ports all).before)) ≤ buffers_of plan → outcome.refused ≡ []
+  -- And each flow's shelf gained the whole stream that a copying receiver gives for it over those frames, the refused ones left out,
+  -- unless its application wrote as many bytes as it was to. So where none is refused it is a function of capture and ports alone,
+  -- whatever the turns or the threads did.
+  pub streams : answer ≡ 0 → (all : List ℕ) → left source ≡ Some all
+      → HaveWholeStreams kept shelves shelves_now told.ports told.options.how.quit (ended_of told.ports all).before outcome
   -- Where the answer is none of 1, 9 and 10 nothing was read behind the ending.
   pub settled : answer ≢ 1 → answer ≢ 9 → answer ≢ 10 → ran.at ≡ source_now
   -- No read failed before the ending where the answer is none of 1, 8 and 9, and no call of a shelf or of the sink where it is neither

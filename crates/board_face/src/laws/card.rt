@@ -1,3 +1,4 @@
+ghost use Rattle.board_face.specs.Used.{UnusedAreCached};
 ghost use Rattle.board_face.specs.Laws.{TakeLaw, SweepLaw, PlaceLaw, SendLaw, ShutLaw, HonourLaw, StrayLaw, CardKeeps};
 
 /// `take`: its buffer has one holder more, and leaves the cache.
@@ -39,4 +40,10 @@ pub fn stray_law()
 /// Looks, an application that was seen to have left, and the card's end: all counts and free places stand.
 pub fn card_keeps()
     ensures { CardKeeps }
+{}
+
+/// On any board: once the card has swept each word of the free list, the pool buffers that nobody ever used are cached. So
+/// a search that ends there finds too few only where fewer than it needs were never used.
+pub fn unused_are_cached()
+    ensures { UnusedAreCached }
 {}

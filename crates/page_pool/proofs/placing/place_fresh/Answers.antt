@@ -1,4 +1,5 @@
 use Rattle.std.proofs.Common.{◌≡◌, ◌<◌, ◌+◌, length, take, drop, arith, refl, sym, length-take, length-drop}
+use Rattle.area_layout.proofs.Words.{in_order}
 use Rattle.page_pool.proofs.PlacedParts.{FreshSoFar-none, FreshSoFar-next, FreshSoFar-last}
 use Rattle.page_pool.proofs.placing.place_fresh.Goals as goal
 
@@ -15,7 +16,7 @@ pub returns-then-at-total-clause-places : goal.returns-then-at-total-clause-plac
 returns-then-at-total-clause-places g c =
     let inv = c.loop-at.invariant in
     let n_is = c.min-len.ensures in
-    let least = c.size-size.ensures.sound.size.least in
+    let least = (in_order _ c.size-size.ensures.sound).some.least in
     let some : 0 < c.size-size.result = omega (arith, c.size-size.ensures.value, least) in
     let size : length (take c.min-len.result (drop c.loop-at.at c.args.offer.now.payload.now))
     ≡ c.min-len.result = simp (length-take, length-drop) (grind (arith, n_is)) in

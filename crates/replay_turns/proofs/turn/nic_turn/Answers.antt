@@ -1,5 +1,5 @@
 -- One record is read where one is wanted, and then a step is taken.
-use Rattle.std.proofs.Common.{◌≡◌, ◌<◌, true, false, ⊎_elim, sym, subst, ap, ◌∙◌, arith}
+use Rattle.std.proofs.Common.{◌<◌, ⊎_elim, sym, subst, ap, ◌∙◌, arith}
 use Rattle.std.specs.Prelude.{MatchBool}
 use Rattle.std.proofs.lemmas.Bool.{true≢false}
 use Rattle.zr_kinds.specs.declared.outcome.Tally.{Tally}
