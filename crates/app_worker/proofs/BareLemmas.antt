@@ -1,11 +1,11 @@
 -- Turns of an application that has nothing out.
-use Rattle.std.proofs.Common.{◌≡◌, ℕ, ◌<◌, true, false, List, [], ◌∷◌, ◌++◌, Option, length, take, refl, sym, ap, ◌∙◌}
+use Rattle.std.proofs.Common.{◌≡◌, ℕ, ◌<◌, Bool, true, false, List, [], ◌∷◌, ◌++◌, Option, length, take, refl, sym, ap, subst, ◌∙◌}
 use Rattle.std.proofs.Common.{arith, inl, inr}
 use Rattle.zr_kinds.specs.declared.behaviour.Stopped.TheVariants as stop
 use Rattle.zr_kinds.specs.declared.place.Place.{Place}
 use Rattle.zr_kinds.specs.declared.place.Note.{Note}
 use Rattle.board_face.specs.AppCalls.{AppOnlySaw, TookNote, TookLinear, ToldEnd}
-use Rattle.board_face.specs.AppEvents.{released, told_end, fell_quiet, scrubbed, left_board}
+use Rattle.board_face.specs.AppEvents.{released, told_end, app_saw}
 use Rattle.board_face.specs.Lists.{same_place}
 use Rattle.board_face.proofs.ListLemmas.{same_place-refl}
 use Rattle.board_face.specs.declared.views.app.AppLook.TheVariants.{NotQuiet, CardEnded, NoNote as no_note}
@@ -13,17 +13,23 @@ use Rattle.board_face.specs.declared.views.app.Origin.TheVariants.{Note as of_no
 use Rattle.board_face.specs.declared.views.app.HeldPiece.{HeldPiece}
 use Rattle.board_face.specs.declared.views.app.TakenNote.{TakenNote}
 use Rattle.board_face.specs.declared.views.app.AppView.{AppView}
-use Rattle.app_worker.specs.declared.turn.Turn.TheVariants.{Did, Idle, Finished}
+use Rattle.app_worker.specs.declared.turn.Turn.{Turn}
+use Rattle.app_worker.specs.declared.turn.Turn.TheVariants.{Did, Idle, Finished, Failed}
+use Rattle.zr_kinds.specs.declared.fault.Fault.TheVariants as fault
 use Rattle.app_worker.specs.declared.turn.Why.TheVariants.{NoNote, NotQuiet as not_quiet}
 use Rattle.app_worker.specs.Core.{total}
-use Rattle.app_worker.specs.State.{State, Common, Bare, held_len, app_steps, one_if}
-use Rattle.app_worker.specs.Turns.{Because, Turns}
-use Rattle.app_worker.proofs.Moving.{looks-more, same-leaked, reaps-same}
+use Rattle.app_worker.specs.State.{State, Common, Working, Bare, held_len, lent_bytes, app_steps, one_if}
+use Rattle.app_worker.specs.Stages.{Leaves, ScrubsOnce}
+use Rattle.board_face.specs.Looks.{AppLooksStay}
+use Rattle.std.specs.Prelude.{MatchBool}
+use Rattle.app_worker.specs.Turns.{Answers, Because, Turns, LooksForOne, ScrubsIfQuiet, look_of, turn_after}
+use Rattle.app_worker.proofs.Moving.{looks-more, same-leaked, reaps-same, rose-before, rose-after}
 use Rattle.app_worker.proofs.Seeing.{goes-none, goes-saw, common-saw}
 use Rattle.app_worker.proofs.Noting.{TookView, common-noted, steps-noted, moves-noted, ends-kept, shelves-kept, fronts-kept}
-use Rattle.app_worker.proofs.TurnLemmas.{stands-bare, as-before, idle-for}
+use Rattle.app_worker.proofs.TurnLemmas.{stands-bare, as-before, idle-for, bare-over, bare-flushes, after-busy, after-none}
+use Rattle.app_worker.proofs.Through.{goes-then}
 use Rattle.app_worker.proofs.Written.{front-same}
-use Rattle.app_worker.proofs.Closing.{IsOut, bare-saw, turns-finished}
+use Rattle.app_worker.proofs.Closing.{IsOut, bare-saw, turns-finished, scrubbed_state, scrubbed_view, bare-scrubbed, common-scrubbed, goes-scrubbed}
 
 module _ (st : State) (old : AppView) (bare : Bare st old) (is_bare : st.bare ≡ true) (common : Common st old) (reaped : st.posted.entries ≡ []) where
   -- ---- a note
@@ -48,6 +54,7 @@ module _ (st : State) (old : AppView) (bare : Bare st old) (is_bare : st.bare �
           index = bare.index;
           whole = λ going. absurd (over going);
           appended = λ going. absurd (over going);
+          within_lent = omega (arith, bare.within_lent, ap lent_bytes took.view);
           known = λ going. absurd (over going);
         })
         (common-noted st old new t took st.notes st.active st.index st.flows refl
@@ -120,7 +127,7 @@ module _ (st : State) (old : AppView) (bare : Bare st old) (is_bare : st.bare �
     polled = λ live. absurd (bare-live live);
     cause = λ other is. absurd (other is);
     rests = λ _. rw saw.event (record { state = refl; view = refl; kept_is = refl });
-    looks = λ _ _. inr (inl refl);
+    looks = λ _ _. inr (inl saw.rose);
   }
     where
       bare-live : st.bare ≡ false → ⊥
@@ -143,14 +150,14 @@ module _ (st : State) (old : AppView) (bare : Bare st old) (is_bare : st.bare �
     rests = λ _. record { state = refl; view = refl; kept_is = refl };
   }
 
-  pub bare-finished : (new : AppView) (kept : ℕ → Option (List ℕ)) (f : ℕ) → old.left ≡ false → st.ended ≡ true
-      → new ≡ left_board (scrubbed (fell_quiet old))
-      → Turns st st old new kept kept f f Finished
-  bare-finished new kept f here ended is = turns-finished st st old old new kept kept f f (out-at-once kept here ended) is
+  pub bare-finished : (new : AppView) (kept : ℕ → Option (List ℕ)) (f : ℕ) (done : Bool) → old.left ≡ false → st.ended ≡ true
+      → Leaves st.scrubbed done old new true
+      → Turns st (record st { scrubbed = done }) old new kept kept f f Finished
+  bare-finished new kept f done here ended leaves = turns-finished st st old old new kept kept f f done (out-at-once kept here ended) leaves
 
-  pub bare-not-quiet : (new : AppView) (kept : ℕ → Option (List ℕ)) (f : ℕ) → st.ended ≡ true → AppOnlySaw NotQuiet old new
-      → Turns st st old new kept kept f f (Idle not_quiet)
-  bare-not-quiet new kept f ended saw = record {
+  pub bare-not-quiet : (new : AppView) (kept : ℕ → Option (List ℕ)) (f : ℕ) (done : Bool) → st.ended ≡ true → Leaves st.scrubbed done old new false
+      → Turns st (record st { scrubbed = done }) old new kept kept f f (Idle not_quiet)
+  bare-not-quiet new kept f done ended leaves = subst (λ b. Turns st (record st { scrubbed = b }) old new kept kept f f (Idle not_quiet)) (sym leaves.0) (record {
     stands = rw saw.event (stands-bare st _ (bare-saw st old NotQuiet bare) (common-saw st old NotQuiet common) reaped is_bare);
     goes = rw saw.event (goes-saw st old NotQuiet kept);
     answer = (as-before st old new NotQuiet saw, saw.rose);
@@ -163,8 +170,11 @@ module _ (st : State) (old : AppView) (bare : Bare st old) (is_bare : st.bare �
     cause = λ other is. absurd (other is);
     rests = λ _. rw saw.event (record { state = refl; view = refl; kept_is = refl });
     looks = λ _ more. absurd (let over = ended in cc);
-  }
+  })
     where
+      saw : AppOnlySaw NotQuiet old new
+      saw = leaves.1
+
       bare-live : st.bare ≡ false → ⊥
       bare-live live = absurd (cc)
 
@@ -188,6 +198,7 @@ module _ (st : State) (old : AppView) (bare : Bare st old) (is_bare : st.bare �
         index = bare.index;
         whole = λ going. (refl, (bare.whole going).1);
         appended = bare.appended;
+        within_lent = bare.within_lent;
         known = bare.known;
       };
       is_bare = is_bare;
@@ -195,7 +206,7 @@ module _ (st : State) (old : AppView) (bare : Bare st old) (is_bare : st.bare �
       common = record {
         app = common.app;
         ended = refl;
-        counted = common.counted;
+        scrubbed = common.scrubbed;
         owns = common.owns;
         copied = common.copied;
         origins = common.origins;
@@ -246,3 +257,120 @@ module _ (st : State) (old : AppView) (bare : Bare st old) (is_bare : st.bare �
     where
       not_yet : one_if old.ended ≡ 0
       not_yet = ap one_if (common.ended ∙ more)
+
+-- ---- a turn that then asks whether its refill slots are quiet
+
+module _ (a c : State) (u w : AppView) (kept : ℕ → Option (List ℕ)) (f : ℕ) (turn : Turn) (is_bare : a.bare ≡ true)
+    (turns : Turns a c u w kept kept f f turn) where
+  bare-then : c.bare ≡ true
+  bare-then = ap (λ (s : State). s.bare) (turns.rests is_bare).state ∙ is_bare
+
+  bare-is : Bare c w
+  bare-is = subst (λ b. MatchBool b (Bare c w) (Working c w)) bare-then turns.stands.mode
+
+  not-live : {X : Type 0} → a.bare ≡ false → X
+  not-live live = absurd (cc)
+
+  -- its loans and spares are all gone
+  pub then-loans : w.loans ≡ []
+  then-loans = bare-is.loans
+
+  pub then-known : w.scrubbed ≡ c.scrubbed
+  then-known = turns.stands.common.scrubbed
+
+  -- one was in use
+  answers-saw : (t : Turn) → Answers a c u w f f t → Answers a c u (app_saw w NotQuiet) f f t
+  answers-saw Did answer = omega (arith, answer)
+  answers-saw (Idle why) answer = (
+    record { state = answer.0.state; view = ap (λ (v : AppView). app_saw v NotQuiet) answer.0.view },
+    rose-before (look_of why) u w (app_saw w NotQuiet) answer.1 (looks-more w (app_saw w NotQuiet) NotQuiet refl),
+  )
+  answers-saw Finished answer = answer
+  answers-saw (Failed fault.Memory) answer = answer
+  answers-saw (Failed fault.Write) answer = answer
+  answers-saw (Failed other) answer = absurd answer
+
+  pub then-saw : (x : AppView) → AppOnlySaw NotQuiet w x → Turns a c u x kept kept f f turn
+  then-saw x saw = rw saw.event (record {
+    stands = stands-bare c (app_saw w NotQuiet) (bare-saw c w NotQuiet bare-is) (common-saw c w NotQuiet turns.stands.common) turns.stands.reaped bare-then;
+    goes = goes-then a c c u w (app_saw w NotQuiet) kept kept kept turns.goes (goes-saw c w NotQuiet kept);
+    answer = answers-saw turn turns.answer;
+    few = turns.few;
+    idle = turns.idle;
+    left_over = bare-over c u _ bare-then;
+    flushes = bare-flushes a c u _ bare-then;
+    here = turns.here;
+    polled = λ live. not-live live;
+    cause = turns.cause;
+    rests = λ bare. (let r = turns.rests bare in record {
+      state = r.state;
+      view = ap (λ (v : AppView). app_saw v NotQuiet) r.view;
+      kept_is = r.kept_is;
+    });
+    looks = λ bare more. looks-later (turns.looks bare more);
+  })
+    where
+      looks-later : LooksForOne c u w → LooksForOne c u (app_saw w NotQuiet)
+      looks-later (inl one) = inl one
+      looks-later (inr (inl none)) = inr (inl (rose-before no_note u w (app_saw w NotQuiet) none (looks-more w (app_saw w NotQuiet) NotQuiet refl)))
+      looks-later (inr (inr over)) = inr (inr over)
+
+  -- each was free
+  answers-scrubbed : (quiet : Bool) → c.scrubbed ≡ false → (t : Turn) → Answers a c u w f f t
+      → Answers a (scrubbed_state c) u (scrubbed_view w quiet w.left) f f (turn_after true t)
+  answers-scrubbed quiet not_yet Did answer = omega (arith, turns.goes.moves.steps, ap one_if not_yet)
+  answers-scrubbed quiet not_yet (Idle why) answer = omega (arith, turns.goes.moves.steps, ap one_if not_yet)
+  answers-scrubbed quiet not_yet Finished answer = answer
+  answers-scrubbed quiet not_yet (Failed fault.Memory) answer = answer
+  answers-scrubbed quiet not_yet (Failed fault.Write) answer = answer
+  answers-scrubbed quiet not_yet (Failed other) answer = absurd answer
+
+  pub then-scrubbed : (x : AppView) (done : Bool) → c.scrubbed ≡ false → ScrubsOnce c.scrubbed done w x true
+      → Turns a (record c { scrubbed = done }) u x kept kept f f (turn_after true turn)
+  then-scrubbed x done not_yet scrubs =
+      let quiet : Bool = scrubs.1.0 in
+      rw (scrubs.0, scrubs.1.1) (record {
+        stands = stands-bare (scrubbed_state c) (scrubbed_view w quiet w.left) (bare-scrubbed c w quiet w.left bare-is)
+            (common-scrubbed c w quiet w.left turns.stands.common) turns.stands.reaped bare-then;
+        goes = goes-then a c (scrubbed_state c) u w (scrubbed_view w quiet w.left) kept kept kept turns.goes
+            (goes-scrubbed c w quiet w.left kept (omega arith));
+        answer = answers-scrubbed quiet not_yet turn turns.answer;
+        few = turns.few;
+        idle = λ why e. absurd (after-busy turn why e);
+        left_over = bare-over (scrubbed_state c) u _ bare-then;
+        flushes = bare-flushes a (scrubbed_state c) u _ bare-then;
+        here = λ other. turns.here (λ e. other (ap (turn_after true) e));
+        polled = λ live. not-live live;
+        cause = turns.cause;
+        rests = λ bare. (let r = turns.rests bare in record {
+          state = ap scrubbed_state r.state;
+          view = ap (λ (v : AppView). scrubbed_view v quiet v.left) r.view;
+          kept_is = r.kept_is;
+        });
+        looks = λ bare more. looks-later (turns.looks bare more);
+      })
+    where
+      looks-later : LooksForOne c u w → LooksForOne (scrubbed_state c) u (scrubbed_view w scrubs.1.0 w.left)
+      looks-later (inl one) = inl one
+      looks-later (inr (inl none)) = inr (inl (record { rose = none.rose }))
+      looks-later (inr (inr over)) = inr (inr over)
+
+  pub then-done : (x : AppView) (done did : Bool) → c.scrubbed ≡ false → ScrubsOnce c.scrubbed done w x did
+      → Turns a (record c { scrubbed = done }) u x kept kept f f (turn_after did turn)
+  then-done x done true not_yet scrubs = then-scrubbed x done not_yet scrubs
+  then-done x done false not_yet scrubs =
+      subst (λ b. Turns a (record c { scrubbed = b }) u x kept kept f f (turn_after false turn)) (sym scrubs.0)
+      (subst (Turns a c u x kept kept f f) (sym (after-none turn)) (then-saw x scrubs.1))
+
+-- ---- whether it scrubs
+
+pub scrubs-left : (u w x : AppView) (was now done : Bool) → AppLooksStay u w → w.quiet ≡ u.quiet → Leaves was now w x done → ScrubsIfQuiet u x
+scrubs-left u w x was now true stay same leaves not_yet = inl (ap (λ (v : AppView). v.scrubbed) leaves.1.1)
+scrubs-left u w x was now false stay same leaves not_yet =
+    inr (rose-after NotQuiet u w x stay leaves.1.rose, ap (λ (v : AppView). v.quiet) leaves.1.event ∙ same)
+
+pub scrubs-done : (u w x : AppView) (was now done : Bool) → AppLooksStay u w → w.quiet ≡ u.quiet → ScrubsOnce was now w x done
+    → ScrubsIfQuiet u x
+scrubs-done u w x was now true stay same scrubs not_yet = inl (ap (λ (v : AppView). v.scrubbed) scrubs.1.1)
+scrubs-done u w x was now false stay same scrubs not_yet =
+    inr (rose-after NotQuiet u w x stay scrubs.1.rose, ap (λ (v : AppView). v.quiet) scrubs.1.event ∙ same)

@@ -1,5 +1,5 @@
 -- The end of an application.
-use Rattle.std.proofs.Common.{◌≡◌, ◌≢◌, ℕ, ◌+◌, ◌<◌, ◌≤◌, ◌-◌, min, true, false, List, [], ◌∷◌, ◌++◌, Option}
+use Rattle.std.proofs.Common.{◌≡◌, ◌≢◌, ℕ, ◌+◌, ◌<◌, ◌≤◌, ◌-◌, min, Bool, true, false, List, [], ◌∷◌, ◌++◌, Option}
 use Rattle.std.proofs.Common.{None, length, drop, refl}
 use Rattle.std.proofs.Common.{sym, ap, subst}
 use Rattle.std.proofs.Common.{◌∙◌, arith, inl, inr, ⊎_elim}
@@ -8,8 +8,7 @@ use Rattle.std.proofs.lemmas.Bool.{cases_lt, ne_eqb}
 use Rattle.std.specs.Prelude.{◌==◌, if◌then◌else◌}
 use Rattle.zr_kinds.specs.CopyingReceiver.{nothing_placed, next_missing, values_from}
 use Rattle.tcp_reorder.proofs.Holding.{next_missing-held}
-use Rattle.board_face.specs.AppCalls.{AppOnlySaw}
-use Rattle.board_face.specs.AppEvents.{app_saw, fell_quiet, scrubbed, left_board, reserve_of}
+use Rattle.board_face.specs.AppEvents.{app_saw, reserve_of}
 use Rattle.board_face.specs.declared.views.app.AppLook.{AppLook}
 use Rattle.board_face.specs.declared.views.app.AppLook.TheVariants.{NotQuiet}
 use Rattle.board_face.specs.declared.views.app.LentPiece.{LentPiece}
@@ -21,10 +20,10 @@ use Rattle.zr_kinds.specs.declared.ring.Completion.{Completion}
 use Rattle.app_worker.specs.declared.turn.Turn.TheVariants.{Did, Finished}
 use Rattle.app_worker.specs.Core.{total, Each, own_notes, received_notes, placed_of, marks_of_waiting, lent_piece, over_read, read_out, FlowStands}
 use Rattle.app_worker.specs.Entries.{lies_in}
-use Rattle.app_worker.specs.State.{State, IsAtRest, Working, Common, Bare, lent_len, returned_aside, loan_entries, app_steps}
+use Rattle.app_worker.specs.State.{State, IsAtRest, Working, Common, Bare, lent_len, returned_aside, loan_entries, app_steps, one_if}
 use Rattle.app_worker.specs.Moves.{Goes}
 use Rattle.app_worker.specs.Letting.{FlowFacts, facts_of, LetGo}
-use Rattle.app_worker.specs.Stages.{Through}
+use Rattle.app_worker.specs.Stages.{Through, Leaves}
 use Rattle.zr_kinds.specs.declared.behaviour.Stopped.TheVariants as stop
 use Rattle.app_worker.specs.Turns.{Rests, Turns}
 use Rattle.app_worker.proofs.Placing.{values-length}
@@ -157,6 +156,7 @@ closed-bare b c v w works ended few reaped due common gone =
         works.appended,
         total-facts (λ x. x.bytes) b.flows c.flows gone.facts,
       );
+      within_lent = gone.within_lent;
       known = λ going n nothing. ap (own_notes n) gone.taken
           ∙ works.stands.known n (sym (total-facts (λ x. if x.number == n then 1 else 0) b.flows c.flows gone.facts) ∙ nothing);
     }
@@ -178,11 +178,21 @@ bare-saw st v look bare = record {
   index = bare.index;
   whole = bare.whole;
   appended = bare.appended;
+  within_lent = bare.within_lent;
   known = bare.known;
 }
 
-bare-gone : (st : State) (v : AppView) → Bare st v → Bare st (left_board (scrubbed (fell_quiet v)))
-bare-gone st v bare = record {
+-- ---- it has scrubbed, and perhaps left
+
+abbrev pub scrubbed_state : State → State
+scrubbed_state st = record st { scrubbed = true }
+
+-- scrubbed now, or before
+abbrev pub scrubbed_view : AppView → Bool → Bool → AppView
+scrubbed_view v quiet left = record v { scrubbed = true; quiet = quiet; left = left }
+
+pub bare-scrubbed : (st : State) (v : AppView) (quiet left : Bool) → Bare st v → Bare (scrubbed_state st) (scrubbed_view v quiet left)
+bare-scrubbed st v quiet left bare = record {
   helds = bare.helds;
   loans = bare.loans;
   due = bare.due;
@@ -196,14 +206,15 @@ bare-gone st v bare = record {
   index = bare.index;
   whole = bare.whole;
   appended = bare.appended;
+  within_lent = bare.within_lent;
   known = bare.known;
 }
 
-common-gone : (st : State) (v : AppView) → Common st v → Common st (left_board (scrubbed (fell_quiet v)))
-common-gone st v common = record {
+pub common-scrubbed : (st : State) (v : AppView) (quiet left : Bool) → Common st v → Common (scrubbed_state st) (scrubbed_view v quiet left)
+common-scrubbed st v quiet left common = record {
   app = common.app;
   ended = common.ended;
-  counted = λ here. absurd (cc);
+  scrubbed = refl;
   owns = common.owns;
   copied = common.copied;
   origins = common.origins;
@@ -226,19 +237,21 @@ common-gone st v common = record {
   bound = common.bound;
 }
 
-goes-gone : (st : State) (v : AppView) (kept : ℕ → Option (List ℕ)) → Goes st st v (left_board (scrubbed (fell_quiet v))) kept kept
-goes-gone st v kept = record {
+-- it comes no less far by that
+pub goes-scrubbed : (st : State) (v : AppView) (quiet left : Bool) (kept : ℕ → Option (List ℕ)) → one_if v.left ≤ one_if left
+    → Goes st (scrubbed_state st) v (scrubbed_view v quiet left) kept kept
+goes-scrubbed st v quiet left kept stays = record {
   moves = record {
     same = (refl, refl, refl, omega arith);
     how = (refl, refl);
     places = refl;
-    steps = omega (arith, one-most v.left);
-    looks = looks-same v (left_board (scrubbed (fell_quiet v))) refl;
+    steps = omega (arith, stays, one-most st.scrubbed);
+    looks = looks-same v (scrubbed_view v quiet left) refl;
     keeps = λ n r before live. (let k = before live in record { lent = k.lent; kept = k.kept });
     stays = λ _. refl;
-    leaked = same-leaked st st refl refl;
+    leaked = same-leaked st (scrubbed_state st) refl refl;
     abandons = λ f. omega arith;
-    reaps = reaps-same st st v (left_board (scrubbed (fell_quiet v))) refl refl refl refl refl;
+    reaps = reaps-same st (scrubbed_state st) v (scrubbed_view v quiet left) refl refl refl refl refl;
     bytes = λ n. omega arith;
   };
   shelved = λ _ begin shelved. record { flows = shelved.flows; others = shelved.others };
@@ -259,47 +272,54 @@ pub record IsOut (a c : State) (u w : AppView) (k m : ℕ → Option (List ℕ))
   pub same : c.stopped ≡ a.stopped
   pub rests : a.bare ≡ true → Rests a c u w k m
 
-pub turns-finished : (a c : State) (u w x : AppView) (k m : ℕ → Option (List ℕ)) (f f2 : ℕ) → IsOut a c u w k m
-    → x ≡ left_board (scrubbed (fell_quiet w)) → Turns a c u x k m f f2 Finished
-turns-finished a c u w x k m f f2 out is = rw is (record {
-  stands = stands-bare c (left_board (scrubbed (fell_quiet w))) (bare-gone c w out.bare) (common-gone c w out.common) out.reaped out.is_bare;
-  goes = goes-then a c c u w (left_board (scrubbed (fell_quiet w))) k m m out.goes (goes-gone c w m);
-  answer = (out.here, refl, out.is_bare);
-  few = inl out.taken;
-  idle = λ why e. absurd (cc);
-  left_over = bare-over c u _ out.is_bare;
-  flushes = bare-flushes a c u _ out.is_bare;
-  here = λ other. absurd (other refl);
-  polled = no-poll a c u (left_board (scrubbed (fell_quiet w))) out.taken;
-  cause = λ other is. absurd (other (sym out.same ∙ is));
-  rests = λ bare. (let r = out.rests bare in record {
-    state = r.state;
-    view = ap (λ (v : AppView). left_board (scrubbed (fell_quiet v))) r.view;
-    kept_is = r.kept_is;
-  });
-  looks = λ _ _. inr (inr out.ended);
-})
+pub turns-finished : (a c : State) (u w x : AppView) (k m : ℕ → Option (List ℕ)) (f f2 : ℕ) (done : Bool) → IsOut a c u w k m
+    → Leaves c.scrubbed done w x true → Turns a (record c { scrubbed = done }) u x k m f f2 Finished
+turns-finished a c u w x k m f f2 done out leaves =
+    let (now, (quiet, is)) = leaves in
+    rw (now, is) (record {
+      stands = stands-bare (scrubbed_state c) (scrubbed_view w quiet true) (bare-scrubbed c w quiet true out.bare)
+          (common-scrubbed c w quiet true out.common) out.reaped out.is_bare;
+      goes = goes-then a c (scrubbed_state c) u w (scrubbed_view w quiet true) k m m out.goes
+          (goes-scrubbed c w quiet true m (omega (arith, one-most w.left)));
+      answer = (out.here, refl, out.is_bare);
+      few = inl out.taken;
+      idle = λ why e. absurd (cc);
+      left_over = bare-over (scrubbed_state c) u _ out.is_bare;
+      flushes = bare-flushes a (scrubbed_state c) u _ out.is_bare;
+      here = λ other. absurd (other refl);
+      polled = no-poll a (scrubbed_state c) u (scrubbed_view w quiet true) out.taken;
+      cause = λ other is. absurd (other (sym out.same ∙ is));
+      rests = λ bare. (let r = out.rests bare in record {
+        state = ap scrubbed_state r.state;
+        view = ap (λ (v : AppView). scrubbed_view v quiet true) r.view;
+        kept_is = r.kept_is;
+      });
+      looks = λ _ _. inr (inr out.ended);
+    })
 
-pub turns-not-quiet : (a c : State) (u w x : AppView) (k m : ℕ → Option (List ℕ)) (f f2 : ℕ) → IsOut a c u w k m → app_steps a u < app_steps c w
-    → AppOnlySaw NotQuiet w x → Turns a c u x k m f f2 Did
-turns-not-quiet a c u w x k m f f2 out steps saw = rw saw.event (record {
-  stands = stands-bare c (app_saw w NotQuiet) (bare-saw c w NotQuiet out.bare) (common-saw c w NotQuiet out.common) out.reaped out.is_bare;
-  goes = goes-then a c c u w (app_saw w NotQuiet) k m m out.goes (goes-saw c w NotQuiet m);
-  answer = omega (arith, steps);
-  few = inl out.taken;
-  idle = λ why e. absurd (cc);
-  left_over = bare-over c u _ out.is_bare;
-  flushes = bare-flushes a c u _ out.is_bare;
-  here = λ _. out.left;
-  polled = no-poll a c u (app_saw w NotQuiet) out.taken;
-  cause = λ other is. absurd (other (sym out.same ∙ is));
-  rests = λ bare. (let r = out.rests bare in record {
-    state = r.state;
-    view = ap (λ (v : AppView). app_saw v NotQuiet) r.view;
-    kept_is = r.kept_is;
-  });
-  looks = λ _ _. inr (inr out.ended);
-})
+pub turns-not-quiet : (a c : State) (u w x : AppView) (k m : ℕ → Option (List ℕ)) (f f2 : ℕ) (done : Bool) → IsOut a c u w k m
+    → app_steps a u < app_steps c w
+    → Leaves c.scrubbed done w x false → Turns a (record c { scrubbed = done }) u x k m f f2 Did
+turns-not-quiet a c u w x k m f f2 done out steps leaves =
+    let (same, saw) = leaves in
+    rw (same, saw.event) (record {
+      stands = stands-bare c (app_saw w NotQuiet) (bare-saw c w NotQuiet out.bare) (common-saw c w NotQuiet out.common) out.reaped out.is_bare;
+      goes = goes-then a c c u w (app_saw w NotQuiet) k m m out.goes (goes-saw c w NotQuiet m);
+      answer = omega (arith, steps);
+      few = inl out.taken;
+      idle = λ why e. absurd (cc);
+      left_over = bare-over c u _ out.is_bare;
+      flushes = bare-flushes a c u _ out.is_bare;
+      here = λ _. out.left;
+      polled = no-poll a c u (app_saw w NotQuiet) out.taken;
+      cause = λ other is. absurd (other (sym out.same ∙ is));
+      rests = λ bare. (let r = out.rests bare in record {
+        state = r.state;
+        view = ap (λ (v : AppView). app_saw v NotQuiet) r.view;
+        kept_is = r.kept_is;
+      });
+      looks = λ _ _. inr (inr out.ended);
+    })
 
 -- by way of reading all
 pub out-of : (a b c : State) (u v w : AppView) (k m : ℕ → Option (List ℕ)) → a.ended ≡ true → a.stopped ≡ stop.No

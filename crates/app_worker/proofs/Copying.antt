@@ -41,6 +41,7 @@ use Rattle.app_worker.specs.declared.stack.Delivery.TheVariants.{Did, NoneInOrde
 use Rattle.app_worker.specs.declared.stack.Waiting.{Waiting}
 use Rattle.app_worker.specs.declared.stack.Waiting.TheVariants.{InArea, Copied}
 use Rattle.area_layout.specs.Layout.{IsLayout, LiesIn, total as buffers_of}
+use Rattle.area_layout.proofs.Words.{words_apart}
 use Rattle.board_face.specs.OwnBuffers.{IsOwnBuffer}
 use Rattle.app_worker.specs.Core.{is_copy, total, IsIn, held_piece, LieApart, has_at, is_odd, lent_piece, origin_in, IsInArea, IsShort, short_len}
 use Rattle.app_worker.specs.Core.{short_bytes, marks_of_waiting}
@@ -244,7 +245,7 @@ pub own-lies : (v : AppView) (b len : ℕ) → IsOwnBuffer v b → reserve_of v 
     → LiesIn v.setting.layout (begin_place b len)
 own-lies v b len own reserve sound few = record {
   buffer = ⊎_elim (λ (pool : b < pool_buffers v.setting.layout). omega (arith, pool)) (λ (is : b ≡ reserve_of v). omega (arith, is, reserve)) own;
-  bytes = omega (arith, few, sound.size.least);
+  bytes = omega (arith, few, ((words_apart v.setting.layout sound).size b).least);
 }
 
 -- the completion behind the others

@@ -1,12 +1,14 @@
 -- What the counts of an application say at its end.
-use Rattle.std.proofs.Common.{◌≡◌, ◌≤◌, true, List, [], ◌∷◌, length, ap, arith}
+use Rattle.std.proofs.Common.{◌≡◌, ◌≤◌, true, List, [], ◌∷◌, length, map, ap, arith}
 use Rattle.zr_kinds.specs.declared.behaviour.Stopped.TheVariants as stop
+use Rattle.board_face.specs.Texts.{unsplit_bytes}
 use Rattle.board_face.specs.declared.views.app.Origin.{Origin}
 use Rattle.board_face.specs.declared.views.app.Origin.TheVariants.{Note as of_note, Copied as of_copy}
 use Rattle.board_face.specs.declared.views.app.LentPiece.{LentPiece}
 use Rattle.board_face.specs.declared.views.app.AppView.{AppView}
 use Rattle.app_worker.specs.Core.{total, is_copy, one_copy}
-use Rattle.app_worker.specs.State.{State, Working, Bare, AppStands}
+use Rattle.app_worker.specs.State.{State, Working, Bare, AppStands, lent_bytes, lent_len}
+use Rattle.app_worker.proofs.Copying.{unsplit-is}
 use Rattle.app_worker.proofs.StreamLemmas.{by-mode}
 use Rattle.app_worker.proofs.Accounts.{few-loans}
 
@@ -22,6 +24,16 @@ loans-few st v stands is going = by-mode st.bare (Bare st v) (Working st v) (st.
       few-loans v.setting.layout v.returned stands.common.sound,
     ))
     (λ not _. absurd (cc))
+
+-- no more bytes were appended than were lent
+pub written-within : (st : State) (v : AppView) → AppStands st v → st.written ≤ lent_bytes v
+written-within st v stands = by-mode st.bare (Bare st v) (Working st v) (st.written ≤ lent_bytes v) stands.mode
+    (λ _ bare. omega (arith, stands.common.written, bare.within_lent))
+    (λ _ works. omega (arith, stands.common.written, works.appended, works.stands.tokens.loans lent_len))
+
+-- and no more than bytes came in the notes that were taken
+pub copies-within : (st : State) (v : AppView) → AppStands st v → st.copied ≤ unsplit_bytes (map (λ t. t.note) v.taken)
+copies-within st v stands = omega (arith, stands.common.copied, stands.common.spares, unsplit-is v.taken)
 
 -- at most as many loans were copies as were lent
 pub copies-few : (st : State) (v : AppView) → AppStands st v → st.copied ≤ st.loans

@@ -16,7 +16,7 @@ use Rattle.app_worker.specs.Core.{total, many, Each, over_due, over_read, read_o
 use Rattle.app_worker.specs.Core.{AreReadAt, most_at_once, is_copy, IsIn}
 use Rattle.app_worker.proofs.Indexing.{by-place}
 use Rattle.app_worker.specs.State.{State, IsIndex, place_in, Common, FlowEnds, capped, held_len, taken_len, unsplit_len, due_one, app_steps, one_if, read_of}
-use Rattle.app_worker.specs.State.{loan_entries}
+use Rattle.app_worker.specs.State.{lent_len, loan_entries}
 use Rattle.app_worker.specs.Shelves.{kept_loans, IsShelved, AreShelved, AreOfOneLoan, ReadsFront, IsFrontShelved, AreFronts}
 use Rattle.std.proofs.Math.Nat.{mul-le-mul_left}
 use Rattle.std.proofs.Common.{◌*◌, ◌-◌}
@@ -302,10 +302,11 @@ gone-all was now old v1 v2 v3 new reaped not_yet pushed torn common first second
           (each-facts (FlowEnds old.taken) (FlowEnds old.taken) (ends-facts old.taken) was.flows now facts torn.flows);
       distinct = λ n. omega (arith, total-facts (λ x. if x.number == n then 1 else 0) was.flows now facts, torn.distinct n);
       index = index-facts was.index was.flows now facts torn.index;
+      within_lent = omega (arith, back lent_len, ap (total lent_len) no_loan, total-facts (λ x. x.bytes) was.flows now facts, torn.within_lent);
       common = record {
         app = ap (λ (v : AppView). v.app) view ∙ common.app;
         ended = ended ∙ common.ended;
-        counted = λ here. scrubbed ∙ common.counted (sym left ∙ here);
+        scrubbed = scrubbed ∙ common.scrubbed;
         owns = ap (λ (v : AppView). v.owns) view ∙ common.owns;
         copied = common.copied ∙ ap capped (sym (ap (λ (v : AppView). v.spares) view));
         origins = origins-more old new more behind taken common.origins (gone-origins old.taken more (was.unread ++ was.posted.entries) (read_of was)

@@ -17,7 +17,7 @@ use Rattle.app_worker.specs.Marks.{Mark}
 use Rattle.app_worker.specs.Core.{total, Each, LieApart, Stands, FlowStands, many, over_kept, short_bytes, held_piece, IsOfNote, marks_of_waiting}
 use Rattle.app_worker.specs.Core.{received_note, own_notes}
 use Rattle.app_worker.proofs.Moving.{aside-same}
-use Rattle.app_worker.specs.State.{State, read_of, TellsOf, LiesOutside, IsAtRest, RestBut, IsIndex, Working, Common, FlowEnds, held_len, unsplit_len, lent_len}
+use Rattle.app_worker.specs.State.{State, read_of, TellsOf, LiesOutside, IsAtRest, RestBut, IsIndex, Working, Common, FlowEnds, held_len, unsplit_len, lent_bytes, lent_len}
 use Rattle.board_face.specs.declared.views.app.HeldPiece.{HeldPiece}
 use Rattle.std.specs.Prelude.{slice_get}
 use Rattle.app_worker.specs.Steps.{OnlyHelds, whole_piece}
@@ -55,6 +55,7 @@ torn-of st v works = record {
   given = works.given;
   lent = works.stands.lent;
   due_lent = works.stands.due_lent;
+  within_lent = omega (arith, works.appended, works.stands.tokens.loans lent_len);
 }
 
 -- ---- a note
@@ -79,6 +80,9 @@ module _ (was : State) (old new : AppView) (t : TakenNote) (works : Working was 
   gives-taken = subst (Gives new) (sym (ap (λ (v : AppView). v.returned) view)) (gives-same old new old.returned
       (ap (λ (v : AppView). v.written) view) (ap (λ (v : AppView). v.setting) view) works.given)
 
+  within-taken : total (λ f. f.bytes) was.flows ≤ lent_bytes new
+  within-taken = omega (arith, works.appended, works.stands.tokens.loans lent_len, ap lent_bytes view)
+
   -- nothing of it is kept
   pub none-taken : ((f : HeldPiece → ℕ) → total f new.helds ≡ total f old.helds) → TookNone was was old new
   none-taken helds = record {
@@ -91,6 +95,7 @@ module _ (was : State) (old new : AppView) (t : TakenNote) (works : Working was 
       given = gives-taken;
       lent = lent-taken;
       due_lent = due-taken;
+      within_lent = within-taken;
     };
     common = common-noted was old new t view-in was.notes was.active was.index was.flows refl
         (record { kept = omega (arith, helds held_len); short = omega arith }) common;
@@ -136,6 +141,7 @@ module _ (was : State) (old new : AppView) (t : TakenNote) (works : Working was 
             given = gives-taken;
             lent = lent-taken;
             due_lent = due-taken;
+            within_lent = omega (arith, bytes-in, within-taken);
           };
           common = common-noted was old new t view-in notes i index now bytes-in few-in common;
           moves = moves-noted was old new t view-in notes i index now (grow-noted was.flows t.note own (λ x. set flows i x) q base put-in);

@@ -208,7 +208,7 @@ module _ (was : State) (i : ℕ) (own : FlowQueue) (p : Completion × Lending) (
       record {
         app = ap (λ (v : AppView). v.app) only.view ∙ common.app;
         ended = ap (λ (v : AppView). v.ended) only.view ∙ common.ended;
-        counted = λ here. scrubbed ∙ common.counted (sym left ∙ here);
+        scrubbed = scrubbed ∙ common.scrubbed;
         owns = ap (λ (v : AppView). v.owns) only.view ∙ common.owns;
         copied = common.copied ∙ ap capped (sym (ap (λ (v : AppView). v.spares) only.view));
         origins = origins-same old new same_returned same_taken common.origins;
@@ -501,6 +501,16 @@ module _ (was : State) (i : ℕ) (own : FlowQueue) (p : Completion × Lending) (
         given = gives-read;
         lent = subst (λ ts. Each (λ (q : Completion × Lending). q.1.note < length ts) (ps ++ was.posted.entries)) (sym same_taken) stood.lent.1;
         due_lent = subst (λ ts. Each (λ (l : Lending). l.note < length ts) (p.1 ∷ was.leaked.items)) (sym same_taken) (stood.lent.0, stood.due_lent);
+        within_lent = omega (
+          arith,
+          most,
+          sum-read bytes,
+          works.appended,
+          ap (λ d. total loan_len (read_out d was.leaked.items)) due,
+          stood.tokens.loans lent_len,
+          ap (total lent_len) same_returned,
+          ap (λ (v : AppView). total lent_len v.loans) only.view,
+        );
       }
 
   pub oldest-failed : (bytes written most faults faults_now : ℕ) (kept kept_now : ℕ → Option (List ℕ)) → own.bytes ≤ bytes

@@ -109,6 +109,7 @@ bare-of-gone was st old v other gone = record {
   index = gone.index;
   whole = λ none. absurd (other none);
   appended = λ none. absurd (other none);
+  within_lent = gone.within_lent;
   known = λ none. absurd (other none);
 }
 
@@ -134,6 +135,7 @@ bare-stopped st v cause other was old gone = record {
   index = gone.index;
   whole = λ none. absurd (other none);
   appended = λ none. absurd (other none);
+  within_lent = gone.within_lent;
   known = λ none. absurd (other none);
 }
 
@@ -147,7 +149,7 @@ pub common-stopped : (st : State) (v : AppView) (cause : Stopped) → st.stopped
 common-stopped st v cause none other common = record {
   app = common.app;
   ended = common.ended;
-  counted = common.counted;
+  scrubbed = common.scrubbed;
   owns = common.owns;
   copied = common.copied;
   origins = common.origins;

@@ -6,7 +6,7 @@ use Rattle.board_face.specs.declared.views.app.AppView.{AppView}
 use Rattle.app_worker.specs.declared.stack.FlowQueue.{FlowQueue}
 use Rattle.app_worker.specs.Entries.{Gives}
 use Rattle.app_worker.specs.Core.{total, LieApart, Each, many}
-use Rattle.app_worker.specs.State.{IsIndex, State, Common, FlowEnds, app_steps, loan_entries}
+use Rattle.app_worker.specs.State.{IsIndex, State, Common, FlowEnds, app_steps, lent_bytes, loan_entries}
 use Rattle.app_worker.specs.Shelves.{AreFronts}
 use Rattle.app_worker.specs.Moves.{Moves}
 use Rattle.app_worker.specs.Whole.{KeepsShelves}
@@ -47,6 +47,7 @@ pub record LetGo (was now : State) (old new : AppView) : Type 0 where
   pub ends : Each (FlowEnds new.taken) now.flows
   pub distinct : (number : ℕ) → many number now.flows ≤ 1
   pub index : IsIndex now.index now.flows
+  pub within_lent : total (λ f. f.bytes) now.flows ≤ lent_bytes new
   pub common : Common now new
   pub moves : Moves was now old new
   pub steps : app_steps was old < app_steps now new

@@ -4,7 +4,7 @@ use Rattle.zr_kinds.specs.declared.behaviour.Stopped.TheVariants as stop
 use Rattle.zr_io.specs.Moved.{Rose}
 use Rattle.board_face.specs.AppCalls.{AppOnlySaw}
 use Rattle.board_face.specs.Looks.{AppRose}
-use Rattle.board_face.specs.AppEvents.{fell_quiet, scrubbed, left_board, reserve_of}
+use Rattle.board_face.specs.AppEvents.{reserve_of}
 use Rattle.board_face.specs.declared.views.app.AppLook.TheVariants.{RawOnItsWay, RefillInUse, NotQuiet}
 use Rattle.board_face.specs.declared.views.app.AppView.{AppView}
 use Rattle.app_worker.specs.declared.stack.Delivery.{Delivery}
@@ -116,7 +116,12 @@ LendsAll was now old new kept kept_now faults faults_now lending_failed = WriteS
 
 -- ---- leaving
 
--- each refill slot was free, so the counts were scrubbed and the application left; or one was in use
-abbrev pub Leaves : AppView → AppView → Bool → Type 0
-Leaves old new true = new ≡ left_board (scrubbed (fell_quiet old))
-Leaves old new false = AppOnlySaw NotQuiet old new
+-- The user counts are scrubbed: they were before, or each refill slot was seen free. Or one was in use. A flag keeps which.
+abbrev pub ScrubsOnce : Bool → Bool → AppView → AppView → Bool → Type 0
+ScrubsOnce was now old new true = (now ≡ true) × ((quiet : Bool) × (new ≡ record old { scrubbed = true; quiet = quiet }))
+ScrubsOnce was now old new false = (now ≡ was) × AppOnlySaw NotQuiet old new
+
+-- they are, and the application left; or a refill slot was in use
+abbrev pub Leaves : Bool → Bool → AppView → AppView → Bool → Type 0
+Leaves was now old new true = (now ≡ true) × ((quiet : Bool) × (new ≡ record old { scrubbed = true; quiet = quiet; left = true }))
+Leaves was now old new false = (now ≡ was) × AppOnlySaw NotQuiet old new

@@ -53,6 +53,8 @@ pub record State : Type 0 where
   pub ended : Bool
   -- it has no piece and no loan any more
   pub bare : Bool
+  -- its user counts were scrubbed
+  pub scrubbed : Bool
   -- how many loans were of bytes that had to be copied
   pub copied : ℕ
   -- all that is unread is to be read, since a loan in the reserve was posted
@@ -96,6 +98,10 @@ returned_aside v = total (λ l. if l.place.buffer == reserve_of v then 0 else 1)
 -- how many bytes these have
 abbrev pub lent_len : LentPiece → ℕ
 lent_len l = l.place.len
+
+-- how many bytes it was lent
+abbrev pub lent_bytes : AppView → ℕ
+lent_bytes v = total lent_len v.loans + total lent_len v.returned
 
 abbrev pub loan_len : Lending → ℕ
 loan_len l = l.loan.len
@@ -171,6 +177,8 @@ pub record Bare (st : State) (v : AppView) : Type 0 where
   pub whole : st.stopped ≡ No → (st.ended ≡ true) × Each (λ f. f.bytes ≡ next_missing (placed_of f v.taken)) st.flows
   -- each loan that it had was then appended whole
   pub appended : st.stopped ≡ No → total lent_len v.returned ≡ total (λ f. f.bytes) st.flows
+  -- and never more than was lent
+  pub within_lent : total (λ f. f.bytes) st.flows ≤ lent_bytes v
   pub known : st.stopped ≡ No → (number : ℕ) → many number st.flows ≡ 0 → own_notes number v.taken ≡ []
 
 -- ---- always
@@ -202,7 +210,7 @@ wanted_of (Some bytes) written len = min len (bytes - written)
 pub record Common (st : State) (v : AppView) : Type 0 where
   pub app : v.app ≡ st.app
   pub ended : v.ended ≡ st.ended
-  pub counted : v.left ≡ false → v.scrubbed ≡ false
+  pub scrubbed : v.scrubbed ≡ st.scrubbed
   pub owns : v.owns ≡ []
   pub copied : st.copied ≡ capped v.spares
   -- each loan that it doesn't have any more was one of a note, and each spare was lent
@@ -226,7 +234,7 @@ pub record Common (st : State) (v : AppView) : Type 0 where
   -- each loan that it doesn't have any more had a byte
   pub sound : odd_loans v.setting.layout v.returned ≡ 0
   -- each of these is the same as the entry of the loan that was given back last before it, and one is dropped only where a
-  -- loan in its buffer was out
+  -- loan in its buffer was out then, which still is or went later
   pub blocks : AreBlocks st.how.stray (WasLive v) v.written st.stray.entry st.stray.left
   pub names : 0 < st.stray.left → judged v.setting.layout st.stray.entry ≡ Some st.stray.buffer
   -- each loan was of a byte that was taken, and is of one that it doesn't keep any more
@@ -251,8 +259,8 @@ due_one (Some l) = 1
 
 abbrev pub app_steps : State → AppView → ℕ
 app_steps st v = length v.taken + length v.loans + 4 * length v.returned + due_one st.due + 2 * length st.leaked.items + one_if v.ended
-    + one_if st.bare + one_if v.left + (st.how.stray * length v.returned - st.stray.left)
+    + one_if st.bare + one_if st.scrubbed + one_if v.left + (st.how.stray * length v.returned - st.stray.left)
 
 -- it goes no further than the notes that were taken, their bytes, and the entries that may follow each, let it
 abbrev pub furthest : ℕ → AppView → ℕ
-furthest stray v = length v.taken + 4 * total taken_len v.taken + stray * total taken_len v.taken + 4
+furthest stray v = length v.taken + 4 * total taken_len v.taken + stray * total taken_len v.taken + 5

@@ -14,7 +14,7 @@ use Rattle.app_worker.specs.declared.turn.Turn.TheVariants.{Did, Idle, Finished,
 use Rattle.app_worker.specs.declared.turn.Why.{Why}
 use Rattle.app_worker.specs.declared.turn.Why.TheVariants.{NoNote, RefillFull, Unsettled, ReserveHeld, NotQuiet}
 use Rattle.app_worker.specs.Core.{Each}
-use Rattle.app_worker.specs.State.{State, IsAtRest, Working, AppStands, app_steps}
+use Rattle.app_worker.specs.State.{State, IsAtRest, Working, Common, Bare, AppStands, app_steps}
 use Rattle.app_worker.specs.Moves.{Moves, Goes}
 use Rattle.app_worker.specs.Flushing.{Flushes}
 use Rattle.app_worker.specs.Whole.{HasNext, HasCopyNext, IsDue}
@@ -96,12 +96,16 @@ abbrev pub TakesFew : AppView → AppView → Type 0
 TakesFew old new = (new.taken ≡ old.taken) ⊎ TakesOne old new
 
 -- It looked for a note: one was taken, or none had come, or none comes any more.
-abbrev pub LooksForOne : State → AppView → AppView → Turn → Type 0
-LooksForOne now old new result = TakesOne old new ⊎ ((result ≡ Idle NoNote) ⊎ (now.ended ≡ true))
+abbrev pub LooksForOne : State → AppView → AppView → Type 0
+LooksForOne now old new = TakesOne old new ⊎ (AppRose no_note old new ⊎ (now.ended ≡ true))
 
--- It has nothing out: it lends, reads, writes and appends nothing, and gives up at once what a note brings.
+-- Its user counts are scrubbed; or a refill slot was seen in use, and at no look was each seen free.
+abbrev pub ScrubsIfQuiet : AppView → AppView → Type 0
+ScrubsIfQuiet old new = old.scrubbed ≡ false → (new.scrubbed ≡ true) ⊎ (AppRose not_quiet old new × (new.quiet ≡ old.quiet))
+
+-- It has nothing out: it lends, reads, writes and appends nothing, and gives up at once what a note brings. It scrubs, and leaves.
 pub record Rests (was now : State) (old new : AppView) (kept kept_now : ℕ → Option (List ℕ)) : Type 0 where
-  pub state : now ≡ record was { ended = now.ended }
+  pub state : now ≡ record was { ended = now.ended; scrubbed = now.scrubbed }
   pub view : new ≡ record old {
     left = new.left;
     quiet = new.quiet;
@@ -129,10 +133,10 @@ pub record Turns (was now : State) (old new : AppView) (kept kept_now : ℕ → 
   pub polled : was.bare ≡ false → new.taken ≢ old.taken → Polled was now old new
   -- the shelf stops it only where that failed
   pub cause : was.stopped ≢ stop.Write → now.stopped ≡ stop.Write → Rose faults faults_now
-  -- once it is stopped, it only takes notes
+  -- once it is stopped, it only takes notes, scrubs and leaves
   pub rests : was.bare ≡ true → Rests was now old new kept kept_now
   -- one in each turn, until it was told that none comes any more
-  pub looks : was.bare ≡ true → was.ended ≡ false → LooksForOne now old new result
+  pub looks : was.bare ≡ true → was.ended ≡ false → LooksForOne now old new
 
 -- the turn, once something was done before: then it isn't idle
 abbrev pub turn_after : Bool → Turn → Turn
@@ -140,3 +144,10 @@ turn_after did (Idle why) = if did then Did else Idle why
 turn_after did Did = Did
 turn_after did Finished = Finished
 turn_after did (Failed fault) = Failed fault
+
+-- ---- one that has nothing out
+
+-- A look for a note, of which all that it brings is given up at once, makes this turn.
+abbrev pub Passes : AppView → AppView → Turn → Type 0
+Passes old new turn = (st : State) (kept : ℕ → Option (List ℕ)) (faults : ℕ) → Bare st old → st.bare ≡ true → Common st old
+    → st.posted.entries ≡ [] → st.ended ≡ false → Turns st st old new kept kept faults faults turn

@@ -25,8 +25,8 @@ use Rattle.app_worker.specs.declared.straying.Gave.TheVariants.{Nothing as nothi
 use Rattle.app_worker.specs.declared.turning.Taken.{Taken}
 use Rattle.app_worker.specs.declared.turning.Taken.TheVariants.{Did as took, NoNote, Ended, Memory}
 use Rattle.app_worker.specs.Entries.{Gives as GivesAll}
-use Rattle.app_worker.specs.Core.{HasTokens, Each, many, AreReadAt, placed_of}
-use Rattle.app_worker.specs.State.{IsIndex, State, read_of, IsAtRest, Working, Common, FlowEnds, app_steps}
+use Rattle.app_worker.specs.Core.{total, HasTokens, Each, many, AreReadAt, placed_of}
+use Rattle.app_worker.specs.State.{IsIndex, State, read_of, IsAtRest, Working, Common, FlowEnds, app_steps, lent_bytes}
 use Rattle.app_worker.specs.Shelves.{AreShelved, AreFronts}
 use Rattle.app_worker.specs.Steps.{IsNext, SawNoSpare}
 use Rattle.app_worker.specs.Moves.{Moves, Goes}
@@ -145,6 +145,7 @@ pub record Torn (st : State) (v : AppView) : Type 0 where
   pub given : GivesAll v v.returned
   pub lent : Each (λ p. p.1.note < length v.taken) (st.unread ++ st.posted.entries)
   pub due_lent : Each (λ l. l.note < length v.taken) (read_of st)
+  pub within_lent : total (λ f. f.bytes) st.flows ≤ lent_bytes v
 
 -- The oldest loan was appended up to the byte at which the application quits, and is due.
 pub record ReadQuit (was now : State) (old new : AppView) (kept kept_now : ℕ → Option (List ℕ)) : Type 0 where

@@ -6,7 +6,7 @@ ghost use Rattle.board_face.specs.AppEvents.{app_gist};
 ghost use Rattle.board_face.specs.declared.views.app.AppLook.TheVariants.{RawOnItsWay, NoSpare, NotQuiet};
 ghost use Rattle.app_worker.specs.State.{Working, Common};
 ghost use Rattle.app_worker.specs.StateOf.{state_of};
-ghost use Rattle.app_worker.specs.Stages.{kept_of, ReadsTo, LentSome, LendsAll, Leaves};
+ghost use Rattle.app_worker.specs.Stages.{kept_of, ReadsTo, LentSome, LendsAll, ScrubsOnce, Leaves};
 
 use crate::letting::let_go;
 use crate::stack::{Delivery, Stack};
@@ -172,22 +172,41 @@ pub fn lend_all<F: AppFace, T: Shelf>(face: &mut F, st: &mut Stack, shelf: &mut 
     }
 }
 
-/// Scrubs and leaves, if each refill slot is free: whether it left.
-pub fn leave<F: AppFace>(face: &mut F) -> bool
+/// Scrubs, unless that was done before, if each refill slot is free: whether it is done.
+pub fn scrub<F: AppFace>(face: &mut F, scrubbed: &mut bool) -> bool
+    requires here { IsHere (F.seen face.old) }
+    requires loans { (F.seen face.old).loans ≡ [] }
+    requires known { (F.seen face.old).scrubbed ≡ scrubbed.old }
+    ensures scrubs { ScrubsOnce scrubbed.old scrubbed.new (F.seen face.old) (F.seen face.new) result }
+    ensures told { result ≡ false → F.tells NotQuiet (app_gist (F.seen face.new)) (F.beside face.new) }
+    ensures beside { F.beside face.new ≡ F.beside face.old }
+{
+    if *scrubbed {
+        return true;
+    }
+    if !face.quiet() {
+        return false;
+    }
+    face.scrub();
+    *scrubbed = true;
+    true
+}
+
+/// Scrubs, and leaves if that is done: whether it left.
+pub fn leave<F: AppFace>(face: &mut F, scrubbed: &mut bool) -> bool
     requires here { IsHere (F.seen face.old) }
     requires helds { (F.seen face.old).helds ≡ [] }
     requires loans { (F.seen face.old).loans ≡ [] }
     requires owns { (F.seen face.old).owns ≡ [] }
     requires ended { (F.seen face.old).ended ≡ true }
-    requires counted { (F.seen face.old).scrubbed ≡ false }
-    ensures leaves { Leaves (F.seen face.old) (F.seen face.new) result }
+    requires known { (F.seen face.old).scrubbed ≡ scrubbed.old }
+    ensures leaves { Leaves scrubbed.old scrubbed.new (F.seen face.old) (F.seen face.new) result }
     ensures told { result ≡ false → F.tells NotQuiet (app_gist (F.seen face.new)) (F.beside face.new) }
     ensures beside { F.beside face.new ≡ F.beside face.old }
 {
-    if !face.quiet() {
+    if !scrub(face, scrubbed) {
         return false;
     }
-    face.scrub();
     face.leave();
     true
 }

@@ -1,7 +1,8 @@
 //! What an application keeps between its turns, and its turn.
-ghost use Rattle.std.specs.Prelude.{◌≡◌, ◌≢◌, false, true, ℕ, ◌+◌, ◌<◌, ◌≤◌, List, length, Option, IfOk};
+ghost use Rattle.std.specs.Prelude.{◌≡◌, ◌≢◌, false, true, ℕ, ◌+◌, ◌<◌, ◌≤◌, List, length, map, Option, IfOk};
 ghost use Rattle.board_face.specs.AppCalls.{IsHere};
 ghost use Rattle.board_face.specs.AppEvents.{app_gist};
+ghost use Rattle.board_face.specs.Texts.{unsplit_bytes};
 ghost use Rattle.board_face.specs.declared.views.app.AppView.{AppView};
 ghost use Rattle.app_worker.specs.declared.turn.Why.{Why};
 ghost use Rattle.app_worker.specs.declared.turn.Turn.TheVariants.{Idle, Failed, Finished};
@@ -10,10 +11,10 @@ ghost use Rattle.zr_kinds.specs.declared.behaviour.Stopped.TheVariants.{No};
 ghost use Rattle.app_worker.specs.Marks.{AreWholeFrames};
 ghost use Rattle.app_worker.specs.Shelves.{AreShelved, AreFronts};
 ghost use Rattle.app_worker.specs.Streams.{HasFronts, HasAll, HasCounted};
-ghost use Rattle.app_worker.specs.State.{AppStands, app_steps, furthest, bytes_of};
+ghost use Rattle.app_worker.specs.State.{AppStands, app_steps, furthest, bytes_of, lent_bytes};
 ghost use Rattle.app_worker.specs.Kept.{new_state, IsFresh, flow_bytes};
 ghost use Rattle.app_worker.specs.Moves.{reads_of, reserve_loans};
-ghost use Rattle.app_worker.specs.Turns.{Turns, look_of};
+ghost use Rattle.app_worker.specs.Turns.{ScrubsIfQuiet, Turns, look_of};
 
 use crate::reading::CHUNK;
 use crate::stack::{Stack, Stray};
@@ -89,6 +90,7 @@ impl AppState {
             stopped: if at_once { Stopped::Quit } else { Stopped::No },
             ended: false,
             bare: at_once,
+            scrubbed: false,
             copied: 0,
             flush: false,
             chunk,
@@ -148,7 +150,8 @@ impl AppState {
 /// The first `leak` loans that would be given back are kept to the end, those in the reserve aside. Each other is followed
 /// by up to `stray` raw entries with its `off` and `len`: one is dropped where a loan in its buffer is out, and what a slot
 /// in use keeps back comes first in the next turn. Once `quit` bytes are written, the last piece cut there, the
-/// application stops: it gives all up that it has, and from then on only takes notes.
+/// application stops: it gives all up that it has, and from then on takes notes and gives their pieces up. It scrubs as soon as
+/// it sees each refill slot free, also beside a card that goes on.
 pub fn app_turn<F: AppFace, T: Shelf>(
     alloc: Global,
     face: &mut F,
@@ -185,8 +188,14 @@ pub fn app_turn<F: AppFace, T: Shelf>(
         → reads_of st.old (F.seen face.old) < reads_of st.new (F.seen face.new) → st.new.how.hold ≤ length st.new.unread }
     // At most as many loans were copies as were lent.
     ensures copies { st.new.copied ≤ st.new.loans }
+    // Each copy is for a byte that came in a note.
+    ensures copied { st.new.copied ≤ unsplit_bytes (map (λ t. t.note) (F.seen face.new).taken) }
+    // It never counts more bytes as written than it was lent, whatever stops it.
+    ensures lent { st.new.written ≤ lent_bytes (F.seen face.new) }
     // One that came to its end without being stopped has written at least as many bytes as loans.
     ensures counts { st.new.bare ≡ true → st.new.stopped ≡ No → st.new.loans ≤ st.new.written }
+    // One that was stopped and hadn't scrubbed has, or it saw a refill slot in use.
+    ensures scrubs { st.old.stopped ≢ No → ScrubsIfQuiet (F.seen face.old) (F.seen face.new) }
     // What it saw is so, on a board for one thread.
     ensures told { (why : Why) → result ≡ Idle why → F.tells (look_of why) (app_gist (F.seen face.new)) (F.beside face.new) }
     ensures later { T.faults shelf.old ≤ T.faults shelf.new }

@@ -1,18 +1,19 @@
 //! One turn of an application.
-ghost use Rattle.std.specs.Prelude.{◌≡◌, ◌≢◌, false, true, ℕ, ◌+◌, ◌≤◌, [], List, Option, None, length, if◌then◌else◌};
-ghost use Rattle.board_face.specs.AppCalls.{IsHere};
+ghost use Rattle.std.specs.Prelude.{◌≡◌, ◌≢◌, false, true, ℕ, ◌+◌, ◌≤◌, [], List, Option, Some, None, MatchOption, length, if◌then◌else◌};
+ghost use Rattle.board_face.specs.AppCalls.{IsHere, ToldEnd};
 ghost use Rattle.board_face.specs.AppEvents.{app_gist};
 ghost use Rattle.app_worker.specs.declared.turn.Why.{Why};
-ghost use Rattle.app_worker.specs.declared.turn.Turn.TheVariants.{Did, Idle, Failed};
+ghost use Rattle.app_worker.specs.declared.turn.Turn.{Turn};
+ghost use Rattle.app_worker.specs.declared.turn.Turn.TheVariants.{Did, Idle, Failed, Finished};
 ghost use Rattle.zr_kinds.specs.declared.fault.Fault.TheVariants.{Write};
 ghost use Rattle.app_worker.specs.Core.{Each};
 ghost use Rattle.app_worker.specs.State.{Working, Common, Bare, AppStands, IsAtRest};
 ghost use Rattle.app_worker.specs.StateOf.{state_of};
-ghost use Rattle.app_worker.specs.Turns.{Turns, look_of, turn_after};
+ghost use Rattle.app_worker.specs.Turns.{Passes, ScrubsIfQuiet, Turns, look_of, turn_after};
 
 use crate::letting::let_go;
 use crate::stack::Stack;
-use crate::stages::{Drained, Lent, drain, leave, lend_all};
+use crate::stages::{Drained, Lent, drain, leave, lend_all, scrub};
 use crate::straying::{Gave, give_back};
 use crate::turn::{Turn, Why};
 use crate::turning::{Taken, take_note};
@@ -31,7 +32,31 @@ fn after(did: bool, turn: Turn) -> Turn
     }
 }
 
-/// A turn of an application that has no piece and no loan any more.
+/// An application that has no piece and no loan any more looks for a note, and gives up at once what it brings: what that is
+/// as a turn, or `None` where no note comes any more.
+fn pass_note<F: AppFace>(face: &mut F) -> Option<Turn>
+    requires here { IsHere (F.seen face.old) }
+    requires helds { (F.seen face.old).helds ≡ [] }
+    ensures passes { MatchOption result (ToldEnd (F.seen face.old) (F.seen face.new)) (λ turn. Passes (F.seen face.old) (F.seen face.new) turn) }
+    ensures busy { (turn : Turn) → result ≡ Some turn → turn ≢ Finished }
+    ensures unasked { (F.seen face.new).quiet ≡ (F.seen face.old).quiet }
+    ensures told { (why : Why) → result ≡ Some (Idle why) → F.tells (look_of why) (app_gist (F.seen face.new)) (F.beside face.new) }
+    ensures beside { F.beside face.new ≡ F.beside face.old }
+{
+    let mut linear = [0; 256];
+    match face.poll(&mut linear) {
+        Polled::Note(_, held) => {
+            face.release(held);
+            Some(Turn::Did)
+        }
+        Polled::Linear(_) => Some(Turn::Did),
+        Polled::Empty => Some(Turn::Idle(Why::NoNote)),
+        Polled::Ended => None,
+    }
+}
+
+/// A turn of an application that has no piece and no loan any more. It scrubs as soon as each refill slot is free, also while
+/// notes still come.
 fn bare_turn<F: AppFace>(face: &mut F, st: &mut Stack) -> Turn
     requires here { IsHere (F.seen face.old) }
     requires bare { Bare (state_of st.old) (F.seen face.old) }
@@ -40,33 +65,30 @@ fn bare_turn<F: AppFace>(face: &mut F, st: &mut Stack) -> Turn
     requires reaped { st.old.posted.entries ≡ [] }
     ensures turns { (kept : ℕ → Option (List ℕ)) (faults : ℕ)
         → Turns (state_of st.old) (state_of st.new) (F.seen face.old) (F.seen face.new) kept kept faults faults result }
+    ensures scrubs { ScrubsIfQuiet (F.seen face.old) (F.seen face.new) }
     ensures told { (why : Why) → result ≡ Idle why → F.tells (look_of why) (app_gist (F.seen face.new)) (F.beside face.new) }
     ensures beside { F.beside face.new ≡ F.beside face.old }
 {
     if st.ended {
-        return if leave(face) {
+        return if leave(face, &mut st.scrubbed) {
             Turn::Finished
         } else {
             Turn::Idle(Why::NotQuiet)
         };
     }
-    let mut linear = [0; 256];
-    match face.poll(&mut linear) {
-        Polled::Note(_, held) => {
-            face.release(held);
+    let Some(turn) = pass_note(face) else {
+        st.ended = true;
+        return if leave(face, &mut st.scrubbed) {
+            Turn::Finished
+        } else {
             Turn::Did
-        }
-        Polled::Linear(_) => Turn::Did,
-        Polled::Empty => Turn::Idle(Why::NoNote),
-        Polled::Ended => {
-            st.ended = true;
-            if leave(face) {
-                Turn::Finished
-            } else {
-                Turn::Did
-            }
-        }
+        };
+    };
+    if st.scrubbed {
+        return turn;
     }
+    let did = scrub(face, &mut st.scrubbed);
+    after(did, turn)
 }
 
 /// Reads all that is unread, gives all up and leaves.
@@ -93,7 +115,7 @@ fn close<F: AppFace, T: Shelf>(face: &mut F, st: &mut Stack, shelf: &mut T) -> T
         _ => {}
     }
     let_go(face, st);
-    if leave(face) {
+    if leave(face, &mut st.scrubbed) {
         Turn::Finished
     } else {
         Turn::Did
@@ -206,6 +228,7 @@ pub fn turn<F: AppFace, T: Shelf>(
     requires stands { AppStands (state_of st.old) (F.seen face.old) }
     ensures turns { Turns (state_of st.old) (state_of st.new) (F.seen face.old) (F.seen face.new) (T.kept shelf.old) (T.kept shelf.new) (T.faults shelf.old)
         (T.faults shelf.new) result }
+    ensures scrubs { st.old.bare ≡ true → ScrubsIfQuiet (F.seen face.old) (F.seen face.new) }
     ensures told { (why : Why) → result ≡ Idle why → F.tells (look_of why) (app_gist (F.seen face.new)) (F.beside face.new) }
     ensures later { T.faults shelf.old ≤ T.faults shelf.new }
     ensures still { result ≢ Failed Write → T.faults shelf.new ≡ T.faults shelf.old }

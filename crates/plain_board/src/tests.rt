@@ -11,7 +11,8 @@ use area_layout::Layout;
 use board_face::{Entry, NicFace};
 use face_callers::{Pending, Served, flush, serve};
 use face_table::{
-    Answer, AppHand, Call, CardHand, Row, app_call, card_call, exchange, rows, void_entries,
+    Answer, AppHand, Call, CardHand, Row, app_call, card_call, exchange, rows, scrubs_early,
+    void_entries,
 };
 use std::alloc::Global;
 use std::collections::VecDeque;
@@ -59,20 +60,38 @@ fn one_call(
     }
 }
 
+/// Makes the calls of these rows, and compares their answers.
+fn play(
+    rt: &impl Abort,
+    board: PlainBoard,
+    card: &mut CardHand,
+    app: &mut AppHand,
+    table: &[Row],
+) -> PlainBoard
+    requires card { IsCardHand board.nic.view card.old }
+    requires app { IsAppHand (side_of board 0).view app.old }
+    ensures card { IsCardHand result.nic.view card.new }
+    ensures app { IsAppHand (side_of result 0).view app.new }
+{
+    let mut board = board;
+    for row in table {
+        let (then, answer) = one_call(board, card, app, row.call);
+        board = then;
+        assert_eq!(rt; answer, row.answer, "{row:?}");
+    }
+    board
+}
+
 /// Runs a table on a board that was just opened, for one application, and answers the buffers that are free at its end.
 fn free_after(rt: &impl Abort, alloc: Global, table: &[Row], places: u32) -> Result<Vec<u32>, Fail>
     requires some { 1 ≤ places }
     requires few { places ≤ 256 }
 {
     let layout = Layout::new(2, 1, 1024).ok_or("no layout")?;
-    let mut board = PlainBoard::open(alloc, layout, 1, places)?;
+    let board = PlainBoard::open(alloc, layout, 1, places)?;
     let mut card = CardHand::new();
     let mut app = AppHand::new();
-    for row in table {
-        let (then, answer) = one_call(board, &mut card, &mut app, row.call);
-        board = then;
-        assert_eq!(rt; answer, row.answer, "{row:?}");
-    }
+    let board = play(rt, board, &mut card, &mut app, table);
     let nic = board.nic();
     if nic.apps() != 1 || !card.ended() || !app.left() {
         return Err(Fail::from("not all have ended"));
@@ -95,6 +114,49 @@ fn table_runs(rt: HostRuntime) -> Result<(), Fail> {
 fn payload_comes_back(rt: HostRuntime) -> Result<(), Fail> {
     let free = free_after(&rt, rt.alloc(), exchange(), 4)?;
     assert_eq!(rt; free.as_slice(), [1, 0].as_slice());
+    Ok(())
+}
+
+/// An application scrubs beside a card that goes on: what it owed in the buffer goes, and the buffer is the card's still.
+#[test]
+fn scrubs_beside_the_card(rt: HostRuntime) -> Result<(), Fail> {
+    let free = free_after(&rt, rt.alloc(), scrubs_early(), 4)?;
+    assert_eq!(rt; free.as_slice(), [1, 0].as_slice());
+    Ok(())
+}
+
+/// Of the two loans that were abandoned in the buffer that the card fills, the scrub takes both user references and as many from
+/// the pool count. The buffer isn't listed then, nor when it is shut: then it is cached.
+#[test]
+fn scrub_takes_what_is_owed(rt: HostRuntime) -> Result<(), Fail> {
+    let layout = Layout::new(2, 1, 1024).ok_or("no layout")?;
+    let mut board = PlainBoard::open(rt.alloc(), layout, 1, 4)?;
+    let mut card = CardHand::new();
+    let mut app = AppHand::new();
+    let mut table = scrubs_early();
+    // How many rows, and then the user count and the pool count of that buffer, and how many buffers are cached.
+    for (count, users, pool, cached) in [(14, 2, 3, 1), (1, 0, 1, 1), (9, 0, 1, 1), (1, 0, 0, 2)] {
+        let (rows, rest) = table.split_at_checked(count).ok_or("too few rows")?;
+        board = play(&rt, board, &mut card, &mut app, rows);
+        table = rest;
+        let contents = &board.board;
+        assert_eq!(&rt;
+            contents.users.as_slice(),
+            [users, 0, 0].as_slice(),
+            "{rows:?}"
+        );
+        assert_eq!(&rt;
+            contents.pool.as_slice(),
+            [pool, 0, 0].as_slice(),
+            "{rows:?}"
+        );
+        assert_eq!(&rt;
+            contents.listed.as_slice(),
+            [false, false].as_slice(),
+            "{rows:?}"
+        );
+        assert_eq!(&rt; contents.cache.len(), cached, "{rows:?}");
+    }
     Ok(())
 }
 

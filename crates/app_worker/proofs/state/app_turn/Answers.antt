@@ -7,7 +7,7 @@ use Rattle.app_worker.specs.declared.turn.Turn.TheVariants.{Finished}
 use Rattle.app_worker.proofs.StreamLemmas.{stands-fronts, stands-failed, stands-all, stands-within}
 use Rattle.app_worker.proofs.TurnLemmas.{turns-keep}
 use Rattle.app_worker.proofs.FlowBytes.{stands-counted}
-use Rattle.app_worker.proofs.Counts.{copies-few, loans-few}
+use Rattle.app_worker.proofs.Counts.{copies-few, copies-within, loans-few, written-within}
 use Rattle.app_worker.proofs.state.app_turn.Goals as goal
 
 pub returns-clause-fronts : goal.returns-clause-fronts
@@ -37,6 +37,12 @@ returns-clause-within g c = stands-within (state_of c.turn.new.st) (g.F.AppFace.
 
 pub returns-clause-copies : goal.returns-clause-copies
 returns-clause-copies g c = copies-few (state_of c.turn.new.st) (g.F.AppFace.seen c.turn.new.face) c.turn.ensures.turns.stands
+
+pub returns-clause-copied : goal.returns-clause-copied
+returns-clause-copied g c = copies-within (state_of c.turn.new.st) (g.F.AppFace.seen c.turn.new.face) c.turn.ensures.turns.stands
+
+pub returns-clause-lent : goal.returns-clause-lent
+returns-clause-lent g c = written-within (state_of c.turn.new.st) (g.F.AppFace.seen c.turn.new.face) c.turn.ensures.turns.stands
 
 pub returns-clause-counts : goal.returns-clause-counts
 returns-clause-counts g c = loans-few (state_of c.turn.new.st) (g.F.AppFace.seen c.turn.new.face) c.turn.ensures.turns.stands

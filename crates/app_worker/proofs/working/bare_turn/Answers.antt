@@ -1,48 +1,75 @@
-use Rattle.std.proofs.Common.{rules, true}
+use Rattle.std.proofs.Common.{true, None, sym, subst, ◌∙◌}
+use Rattle.board_face.specs.declared.views.app.AppView.{AppView}
 use Rattle.app_worker.specs.State.{State}
 use Rattle.app_worker.specs.StateOf.{state_of}
-use Rattle.app_worker.proofs.BareLemmas.{bare-note, bare-linear, bare-empty, bare-finished, bare-not-quiet, out-ended}
+use Rattle.app_worker.specs.Turns.{Turns}
+use Rattle.app_worker.proofs.BareLemmas.{bare-finished, bare-not-quiet, out-ended, then-loans, then-done, scrubs-done}
 use Rattle.app_worker.proofs.Closing.{turns-finished, turns-not-quiet}
 use Rattle.app_worker.proofs.working.bare_turn.Goals as goal
-
-pub returns-in-Note-clause-turns : goal.returns-in-Note-clause-turns
-returns-in-Note-clause-turns g c = λ kept faults. bare-note (state_of c.args.st.now)
-    (g.F.AppFace.seen c.args.face.now) c.requires.bare c.requires.is_bare c.requires.common c.requires.reaped
-    (g.F.AppFace.seen c.poll.new.self) (g.F.AppFace.seen c.release.new.self) c.in-Note.field-0 c.in-Note.held kept faults
-    (search rules) c.in-Note.ensures.view c.release.ensures.view
-
-pub returns-in-Linear-clause-turns : goal.returns-in-Linear-clause-turns
-returns-in-Linear-clause-turns g c = λ kept faults. bare-linear (state_of c.args.st.now)
-    (g.F.AppFace.seen c.args.face.now) c.requires.bare c.requires.is_bare c.requires.common c.requires.reaped
-    (g.F.AppFace.seen c.poll.new.self) c.poll.new.linear c.in-Linear.field-0 kept faults (search rules) c.in-Linear.ensures.view
 
 pub returns-then-leave-clause-turns : goal.returns-then-leave-clause-turns
 returns-then-leave-clause-turns g c = λ kept faults. bare-finished (state_of c.args.st.now)
     (g.F.AppFace.seen c.args.face.now) c.requires.bare c.requires.is_bare c.requires.common c.requires.reaped
-    (g.F.AppFace.seen c.leave.new.face) kept faults c.requires.here (search rules) c.if-leave.ensures.leaves
+    (g.F.AppFace.seen c.leave.new.face) kept faults c.leave.new.scrubbed c.requires.here c.if-st.true c.if-leave.ensures.leaves
 
 pub returns-else-leave-clause-turns : goal.returns-else-leave-clause-turns
 returns-else-leave-clause-turns g c = λ kept faults. bare-not-quiet (state_of c.args.st.now)
     (g.F.AppFace.seen c.args.face.now) c.requires.bare c.requires.is_bare c.requires.common c.requires.reaped
-    (g.F.AppFace.seen c.leave.new.face) kept faults (search rules) c.if-leave.ensures.leaves
-
-pub returns-in-Empty-clause-turns : goal.returns-in-Empty-clause-turns
-returns-in-Empty-clause-turns g c = λ kept faults. bare-empty (state_of c.args.st.now)
-    (g.F.AppFace.seen c.args.face.now) c.requires.bare c.requires.is_bare c.requires.common c.requires.reaped
-    (g.F.AppFace.seen c.poll.new.self) kept faults c.in-Empty.ensures.view
+    (g.F.AppFace.seen c.leave.new.face) kept faults c.leave.new.scrubbed c.if-st.true c.if-leave.ensures.leaves
 
 pub returns-then-leave-2-clause-turns : goal.returns-then-leave-2-clause-turns
 returns-then-leave-2-clause-turns g c = λ kept faults.
     let st : State = state_of c.args.st.now in
-    turns-finished st (record st { ended = true }) (g.F.AppFace.seen c.args.face.now) (g.F.AppFace.seen c.poll.new.self)
-    (g.F.AppFace.seen c.leave-in-Ended.new.face) kept kept faults faults
+    turns-finished st (record st { ended = true }) (g.F.AppFace.seen c.args.face.now) (g.F.AppFace.seen c.pass_note.new.face)
+    (g.F.AppFace.seen c.leave-in_default.new.face) kept kept faults faults c.leave-in_default.new.scrubbed
     (out-ended st (g.F.AppFace.seen c.args.face.now) c.requires.bare c.requires.is_bare c.requires.common c.requires.reaped
-    (g.F.AppFace.seen c.poll.new.self) kept c.requires.here (search rules) c.in-Ended.ensures.view).0 c.if-leave-2.ensures.leaves
+    (g.F.AppFace.seen c.pass_note.new.face) kept c.requires.here c.if-st.false c.in_default.ensures.passes).0 c.if-leave-2.ensures.leaves
 
 pub returns-else-leave-2-clause-turns : goal.returns-else-leave-2-clause-turns
 returns-else-leave-2-clause-turns g c = λ kept faults.
     let st : State = state_of c.args.st.now in
     let out = out-ended st (g.F.AppFace.seen c.args.face.now) c.requires.bare c.requires.is_bare c.requires.common c.requires.reaped
-    (g.F.AppFace.seen c.poll.new.self) kept c.requires.here (search rules) c.in-Ended.ensures.view in
-    turns-not-quiet st (record st { ended = true }) (g.F.AppFace.seen c.args.face.now) (g.F.AppFace.seen c.poll.new.self)
-    (g.F.AppFace.seen c.leave-in-Ended.new.face) kept kept faults faults out.0 out.1 c.if-leave-2.ensures.leaves
+    (g.F.AppFace.seen c.pass_note.new.face) kept c.requires.here c.if-st.false c.in_default.ensures.passes in
+    turns-not-quiet st (record st { ended = true }) (g.F.AppFace.seen c.args.face.now) (g.F.AppFace.seen c.pass_note.new.face)
+    (g.F.AppFace.seen c.leave-in_default.new.face) kept kept faults faults c.leave-in_default.new.scrubbed out.0 out.1 c.if-leave-2.ensures.leaves
+
+pub returns-then-st-2-clause-turns : goal.returns-then-st-2-clause-turns
+returns-then-st-2-clause-turns g c = λ kept faults. c.in-Some.ensures.passes (state_of c.args.st.now) kept faults c.requires.bare
+    c.requires.is_bare c.requires.common c.requires.reaped c.if-st.false
+
+pub scrub-did-requires-clause-here : goal.scrub-did-requires-clause-here
+scrub-did-requires-clause-here g c =
+    let turns = c.in-Some.ensures.passes (state_of c.args.st.now) (λ _. None) 0 c.requires.bare
+    c.requires.is_bare c.requires.common c.requires.reaped c.if-st.false in
+    turns.here (c.pass_note.ensures.busy c.in-Some.turn c.in-Some.is) ∙ c.requires.here
+
+pub scrub-did-requires-clause-loans : goal.scrub-did-requires-clause-loans
+scrub-did-requires-clause-loans g c =
+    let turns = c.in-Some.ensures.passes (state_of c.args.st.now) (λ _. None) 0 c.requires.bare
+    c.requires.is_bare c.requires.common c.requires.reaped c.if-st.false in
+    then-loans (state_of c.args.st.now) (state_of c.args.st.now) (g.F.AppFace.seen c.args.face.now) (g.F.AppFace.seen c.pass_note.new.face)
+    (λ _. None) 0 c.in-Some.turn c.requires.is_bare turns
+
+pub scrub-did-requires-clause-known : goal.scrub-did-requires-clause-known
+scrub-did-requires-clause-known g c =
+    let turns = c.in-Some.ensures.passes (state_of c.args.st.now) (λ _. None) 0 c.requires.bare
+    c.requires.is_bare c.requires.common c.requires.reaped c.if-st.false in
+    turns.stands.common.scrubbed
+
+pub returns-clause-turns : goal.returns-clause-turns
+returns-clause-turns g c = λ kept faults.
+    let st : State = state_of c.args.st.now in
+    let u : AppView = g.F.AppFace.seen c.args.face.now in
+    let turns = c.in-Some.ensures.passes (state_of c.args.st.now) kept faults c.requires.bare
+    c.requires.is_bare c.requires.common c.requires.reaped c.if-st.false in
+    subst (Turns st (record st { scrubbed = c.scrub-did.new.scrubbed }) u (g.F.AppFace.seen c.scrub-did.new.face) kept kept faults faults)
+    (sym c.after.ensures)
+    (then-done st st u (g.F.AppFace.seen c.pass_note.new.face) kept faults c.in-Some.turn c.requires.is_bare turns
+    (g.F.AppFace.seen c.scrub-did.new.face) c.scrub-did.new.scrubbed c.scrub-did.result c.if-st-2.false c.scrub-did.ensures.scrubs)
+
+pub returns-clause-scrubs : goal.returns-clause-scrubs
+returns-clause-scrubs g c =
+    let turns = c.in-Some.ensures.passes (state_of c.args.st.now) (λ _. None) 0 c.requires.bare
+    c.requires.is_bare c.requires.common c.requires.reaped c.if-st.false in
+    scrubs-done (g.F.AppFace.seen c.args.face.now) (g.F.AppFace.seen c.pass_note.new.face) (g.F.AppFace.seen c.scrub-did.new.face)
+    c.args.st.now.scrubbed c.scrub-did.new.scrubbed c.scrub-did.result turns.goes.moves.looks c.pass_note.ensures.unasked c.scrub-did.ensures.scrubs

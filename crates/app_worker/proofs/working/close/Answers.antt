@@ -1,4 +1,4 @@
-use Rattle.std.proofs.Common.{rules, ℕ, List, Option, arith}
+use Rattle.std.proofs.Common.{ℕ, List, Option, arith}
 use Rattle.board_face.specs.declared.views.app.AppView.{AppView}
 use Rattle.app_worker.specs.State.{State}
 use Rattle.app_worker.specs.StateOf.{state_of}
@@ -44,9 +44,9 @@ returns-then-leave-clause-turns g c =
     let then = drained 0 a b u v k m f f2 c.drain.result c.in_default.not-InUse c.in_default.not-Quit c.in_default.not-Failed c.requires.due c.requires.pushed
     c.requires.working c.requires.common
     c.requires.reaped c.drain.ensures.reads in
-    turns-finished a e u w (g.F.AppFace.seen c.leave.new.face) k m f f2
+    turns-finished a e u w (g.F.AppFace.seen c.leave.new.face) k m f f2 c.leave.new.scrubbed
     (out-of a b e u v w k m c.requires.ended c.requires.working.going c.requires.working.live c.requires.here then.0 then.2 then.1 c.let_go.ensures.done)
-    (search rules)
+    c.if-leave.ensures.leaves
 
 pub returns-else-leave-clause-turns : goal.returns-else-leave-clause-turns
 returns-else-leave-clause-turns g c =
@@ -63,9 +63,9 @@ returns-else-leave-clause-turns g c =
     let then = drained 0 a b u v k m f f2 c.drain.result c.in_default.not-InUse c.in_default.not-Quit c.in_default.not-Failed c.requires.due c.requires.pushed
     c.requires.working c.requires.common
     c.requires.reaped c.drain.ensures.reads in
-    turns-not-quiet a e u w (g.F.AppFace.seen c.leave.new.face) k m f f2
+    turns-not-quiet a e u w (g.F.AppFace.seen c.leave.new.face) k m f f2 c.leave.new.scrubbed
     (out-of a b e u v w k m c.requires.ended c.requires.working.going c.requires.working.live c.requires.here then.0 then.2 then.1 c.let_go.ensures.done)
-    (omega (arith, then.0.goes.moves.steps, c.let_go.ensures.done.steps)) (search rules)
+    (omega (arith, then.0.goes.moves.steps, c.let_go.ensures.done.steps)) c.if-leave.ensures.leaves
 
 pub returns-in-InUse-clause-turns : goal.returns-in-InUse-clause-turns
 returns-in-InUse-clause-turns g c =

@@ -2,7 +2,7 @@
 use Rattle.face_table.specs.CardHand.{IsCardHand}
 use Rattle.face_table.specs.AppHand.{IsAppHand}
 use Rattle.plain_board.specs.Board.{side_of}
-use Rattle.plain_board.proofs.tests.free_after.Given as goal
+use Rattle.plain_board.proofs.tests.play.Given as goal
 
 abbrev pub invariant-loop-row : goal.invariant-loop-row
 invariant-loop-row g l = record {

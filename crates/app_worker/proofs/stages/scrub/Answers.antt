@@ -1,0 +1,10 @@
+-- What was scrubbed before is.
+use Rattle.std.proofs.Common.{true, ap, ◌∙◌, ◌≡◌}
+use Rattle.board_face.specs.declared.views.app.AppView.{AppView}
+use Rattle.app_worker.proofs.stages.scrub.Goals as goal
+
+pub returns-then-scrubbed-clause-scrubs : goal.returns-then-scrubbed-clause-scrubs
+returns-then-scrubbed-clause-scrubs g c =
+    let v : AppView = g.F.AppFace.seen c.args.face.now in
+    let is : v.scrubbed ≡ true = c.requires.known ∙ c.if-scrubbed.true in
+    (c.if-scrubbed.true, (v.quiet, ap (λ b. record v { scrubbed = b }) is))
