@@ -2,6 +2,7 @@ ghost use Rattle.std.specs.Prelude.{◌≡◌, ◌≤◌};
 ghost use Rattle.face_table.specs.CardHand.{IsCardHand};
 ghost use Rattle.face_table.specs.AppHand.{IsAppHand};
 
+mod entries;
 mod texts;
 mod threads;
 
@@ -9,7 +10,7 @@ use area_layout::Layout;
 use board_face::{Entry, NicFace};
 use face_callers::{Pending, Served, flush, serve};
 use face_table::{
-    Answer, AppHand, Call, CardHand, Row, app_call, card_call, exchange, rows, void_entries,
+    Answer, AppHand, Call, CardHand, Row, app_call, card_call, exchange, rows, scrubs_early,
 };
 use std::alloc::Global;
 use std::collections::VecDeque;
@@ -109,10 +110,10 @@ fn payload_comes_back(rt: HostRuntime) -> Result<(), Fail> {
     Ok(())
 }
 
-/// Entries that name no buffer are strays, and no more.
+/// An application scrubs beside a card that goes on: what it owed in the buffer goes, and the buffer is the card's still.
 #[test]
-fn void_entries_are_strays(rt: HostRuntime) -> Result<(), Fail> {
-    let free = free_after(&rt, rt.alloc(), void_entries(), 4)?;
+fn scrubs_beside_the_card(rt: HostRuntime) -> Result<(), Fail> {
+    let free = free_after(&rt, rt.alloc(), scrubs_early(), 4)?;
     assert_eq!(rt; free.as_slice(), [1, 0].as_slice());
     Ok(())
 }

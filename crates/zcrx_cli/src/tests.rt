@@ -1,8 +1,10 @@
 //! Replays over memory.
 
 mod drawn;
+mod enough;
 mod faults;
 mod frames;
+mod leaving;
 mod limits;
 mod making;
 mod plain;

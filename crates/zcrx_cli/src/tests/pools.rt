@@ -13,7 +13,7 @@ use std::thread::Threads;
 const LONG: usize = 65_536;
 
 /// So many bytes of a stream, from a position on: byte `i` of the stream is `i` modulo 251.
-fn bytes_from(alloc: Global, position: usize, count: usize) -> Result<Vec<u8>, Fail> {
+pub fn bytes_from(alloc: Global, position: usize, count: usize) -> Result<Vec<u8>, Fail> {
     let mut bytes = Vec::with_capacity(alloc, count)?;
     for place in 0..count {
         bytes.push(u8::try_from(position.saturating_add(place) % 251)?)?;
@@ -324,7 +324,7 @@ fn applications_leak_and_quit(rt: HostRuntime) -> Result<(), Fail> {
     check_leak_and_quit(&rt, &NoGate)
 }
 
-/// A shelf, the source and the sink fail at their first call.
+/// A shelf, the source and the sink fail at their first call, and a shelf at its second, in a flow whose bytes waited.
 #[test]
 fn a_flow_meets_each_fault(rt: HostRuntime) -> Result<(), Fail> {
     let alloc = rt.alloc();
@@ -335,7 +335,13 @@ fn a_flow_meets_each_fault(rt: HostRuntime) -> Result<(), Fail> {
     ];
     let bytes = capture_of(alloc, &sent)?;
     let sound = faultless(&bytes);
-    let rows: [(Given<'_>, u8, &[u8], &str); 3] = [
+    let reordered = [
+        to_9000(4294967293, SYN, b""),
+        to_9000(0, PSH_ACK, b"cd"),
+        to_9000(4294967294, PSH_ACK, b"ab"),
+    ];
+    let waited = capture_of(alloc, &reordered)?;
+    let rows: [(Given<'_>, u8, &[u8], &str); 4] = [
         (
             Given {
                 shelf_fails: &[(1, 2)],
@@ -373,6 +379,21 @@ status 8
             9,
             b"hello",
             "",
+        ),
+        (
+            Given {
+                shelf_fails: &[(2, 1)],
+                ..faultless(&waited)
+            },
+            9,
+            b"abc",
+            "\
+capture records 3 tcp 3 steered 3 other 0 fragment 0 cut 0 bad 0
+app 0 port 9000 written 2 loans 2 copied 0 stopped write
+flow 0 port 9000 base 4294967294 bytes 2 fin no
+pool fast 0 refill 0 slow 1 empty 0 strays 0
+status 9
+",
         ),
     ];
     for (given, status, stream, report) in rows {

@@ -65,6 +65,22 @@ app 0 port 9000 written 0 loans 0 copied 0 stopped no
 pool fast 0 refill 0 slow 0 empty 0 strays 0
 ";
 
+/// The report up to its status where the SYN alone was read.
+const BEGUN: &str = "\
+capture records 1 tcp 1 steered 1 other 0 fragment 0 cut 0 bad 0
+app 0 port 9000 written 0 loans 0 copied 0 stopped no
+flow 0 port 9000 base 1001 bytes 0 fin no
+pool fast 0 refill 0 slow 0 empty 0 strays 0
+";
+
+/// The report up to its status where all but the FIN was read.
+const UNFINISHED: &str = "\
+capture records 2 tcp 2 steered 2 other 0 fragment 0 cut 0 bad 0
+app 0 port 9000 written 5 loans 1 copied 0 stopped no
+flow 0 port 9000 base 1001 bytes 5 fin no
+pool fast 0 refill 0 slow 1 empty 0 strays 0
+";
+
 /// The report of one segment `hello` alone.
 const HELLO_ALONE: &str = "\
 capture records 1 tcp 1 steered 1 other 0 fragment 0 cut 0 bad 0
@@ -248,39 +264,96 @@ fn a_stream_ends_at_a_gap(rt: HostRuntime) -> Result<(), Fail> {
     check_order(&rt, "a gap", &sent, 1000, 1, b"ab")
 }
 
+/// A capture, the report up to its status, the status and the stream.
+fn check_reading(
+    rt: &(impl Abort + AllocGlobal + RandomSource + Threads + Wait + Sync),
+    name: &str,
+    bytes: &[u8],
+    lines: &str,
+    status: u8,
+    stream: &[u8],
+) -> Result<(), Fail> {
+    let report = format!(in rt.alloc(); "{lines}status {status}\n")?;
+    let row = Row {
+        name,
+        given: faultless(bytes),
+        status,
+        streams: &[first(stream)],
+        report: &report,
+    };
+    check(rt, &row)?;
+    Ok(())
+}
+
 /// Streams and report hold what was read before the fault.
 #[test]
 fn records_end_by_their_faults(rt: HostRuntime) -> Result<(), Fail> {
-    let alloc = rt.alloc();
-    let whole = greeting(alloc)?;
-    let mut long = greeting(alloc)?;
-    long.extend_from_slice(&[0, 0, 0, 0, 0, 0, 0, 0, 1, 0, 4, 0, 1, 0, 4, 0])?;
-    let mut cut_header = greeting(alloc)?;
-    cut_header.extend_from_slice(&[0; 15])?;
-    let (all_but_one, _) = whole
-        .split_at_checked(whole.len().saturating_sub(1))
-        .ok_or("no bytes")?;
-    let cut = "\
-capture records 2 tcp 2 steered 2 other 0 fragment 0 cut 0 bad 0
-app 0 port 9000 written 5 loans 1 copied 0 stopped no
-flow 0 port 9000 base 1001 bytes 5 fin no
-pool fast 0 refill 0 slow 1 empty 0 strays 0
-";
-    let rows: [(&str, &[u8], u8, &str); 3] = [
-        ("a byte less", all_but_one, 6, cut),
-        ("a record of 262,145 bytes", &long, 7, GREETED),
-        ("15 bytes more", &cut_header, 6, GREETED),
+    let rows: [(&str, &[u8], u8); 3] = [
+        (
+            "a record of 262,145 bytes",
+            &[0, 0, 0, 0, 0, 0, 0, 0, 1, 0, 4, 0, 1, 0, 4, 0],
+            7,
+        ),
+        (
+            "a record of 4,294,967,295 bytes",
+            &[
+                0, 0, 0, 0, 0, 0, 0, 0, 255, 255, 255, 255, 255, 255, 255, 255,
+            ],
+            7,
+        ),
+        ("15 bytes more", &[0; 15], 6),
     ];
-    for (name, bytes, status, lines) in rows {
-        let report = format!(in alloc; "{lines}status {status}\n")?;
-        let row = Row {
-            name,
-            given: faultless(bytes),
-            status,
-            streams: &[first(b"hello")],
-            report: &report,
+    for (name, behind, status) in rows {
+        let mut bytes = greeting(rt.alloc())?;
+        bytes.extend_from_slice(behind)?;
+        check_reading(&rt, name, &bytes, GREETED, status, b"hello")?;
+    }
+    Ok(())
+}
+
+/// Each front of a capture of 239 bytes is cut, but where it ends at the end of the file header or of a record.
+#[test]
+fn each_front_of_a_capture_is_replayed(rt: HostRuntime) -> Result<(), Fail> {
+    let alloc = rt.alloc();
+    let bytes = greeting(alloc)?;
+    assert_eq!(&rt; bytes.len(), 239);
+    for count in 0..=bytes.len() {
+        let front = bytes.get(..count).ok_or("too short")?;
+        let (lines, stream): (&str, &[u8]) = match count {
+            0..94 => (NOTHING, b""),
+            94..169 => (BEGUN, b""),
+            169..239 => (UNFINISHED, b"hello"),
+            _ => (GREETED, b"hello"),
         };
-        check(&rt, &row)?;
+        let status = match count {
+            24 | 94 | 169 | 239 => 0,
+            _ => 6,
+        };
+        let name = format!(in alloc; "{count} bytes")?;
+        check_reading(&rt, &name, front, lines, status, stream)?;
+    }
+    Ok(())
+}
+
+/// Each byte of a file header set to 255 in turn. The magic, the major version and the low half of the link type are looked at.
+#[test]
+fn each_byte_of_a_file_header_is_told(rt: HostRuntime) -> Result<(), Fail> {
+    let alloc = rt.alloc();
+    for place in 0..FILE_HEADER.len() {
+        let mut bytes = greeting(alloc)?;
+        *bytes.get_mut(place).ok_or("too short")? = 255;
+        let status = match place {
+            0..4 => 3,
+            4 | 5 => 4,
+            20 | 21 => 5,
+            _ => 0,
+        };
+        let (lines, stream): (&str, &[u8]) = match status {
+            0 => (GREETED, b"hello"),
+            _ => (NOTHING, b""),
+        };
+        let name = format!(in alloc; "byte {place}")?;
+        check_reading(&rt, &name, &bytes, lines, status, stream)?;
     }
     Ok(())
 }

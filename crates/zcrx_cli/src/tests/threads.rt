@@ -5,8 +5,12 @@ use super::runs::{Given, Left, Stream, check_free, check_shelves, faultless, run
 use replay_threads::Gate;
 use std::alloc::Global;
 use std::hint::spin_loop;
+use std::process::Abort;
+use std::random::RandomSource;
+use std::sync::Wait;
 use std::sync::atomic::{AtomicU64, Ordering};
 use std::test::Fail;
+use std::thread::Threads;
 
 /// How often an application looks whether the other has come.
 const LOOKS: u32 = 100_000_000;
@@ -61,14 +65,14 @@ fn applications_have_threads_of_their_own(rt: HostRuntime) -> Result<(), Fail> {
 
 /// Holds one role up before turns that are drawn.
 #[derive(Drop)]
-struct Delay {
+pub struct Delay {
     who: u32,
     seed: u32,
 }
 
 impl Delay {
     /// Of this run, the card or one of so many applications.
-    fn of_run(run: u32, apps: u8) -> Delay {
+    pub fn of_run(run: u32, apps: u8) -> Delay {
         let roles = u32::from(apps) + 1;
         Delay {
             who: run % roles,
@@ -116,6 +120,46 @@ fn without_searches(alloc: Global, report: &str) -> Result<String, Fail> {
     Ok(text)
 }
 
+/// Replays four flows, held up in so many ways: each stream has so many bytes, and the report but for its searches is this.
+fn check_four(
+    rt: &(impl Abort + AllocGlobal + RandomSource + Threads + Wait + Sync),
+    words: &[&str],
+    runs: u32,
+    count: usize,
+    report: &str,
+) -> Result<(), Fail> {
+    let alloc = rt.alloc();
+    let made = make(rt, &made_by(&["make", "7", "2000"]), 0)?;
+    let bytes = [
+        bytes_of(alloc, 0, count)?,
+        bytes_of(alloc, 1, count)?,
+        bytes_of(alloc, 2, count)?,
+        bytes_of(alloc, 3, count)?,
+    ];
+    let mut streams = Vec::new(alloc);
+    for (app, bytes) in bytes.iter().enumerate() {
+        let flow = u32::try_from(app)?;
+        streams.push(Stream { app, flow, bytes })?;
+    }
+    let given = Given {
+        words,
+        buffers: 2000,
+        most: 65_536,
+        stream_room: LONG,
+        ..faultless(&made)
+    };
+    for number in 0..runs {
+        let left = run_behind(rt, &given, &Delay::of_run(number, 4))?;
+        assert_eq!(rt; left.status, 0, "run {number}");
+        let told = without_searches(alloc, str::from_utf8(&left.sent)?)?;
+        assert_eq!(rt; told.as_str(), report, "run {number}");
+        let Left { free, shelves, .. } = left;
+        check_shelves(rt, "four flows", &streams, &shelves);
+        check_free(rt, "four flows", free, given.buffers)?;
+    }
+    Ok(())
+}
+
 /// What four flows of 500 pieces come to with as many buffers as pieces.
 const FOUR_FLOWS: &str = "\
 capture records 2000 tcp 2000 steered 2000 other 0 fragment 0 cut 0 bad 0
@@ -131,48 +175,51 @@ pool empty 0 strays 0
 status 0
 ";
 
-/// The words of a replay of four flows with 2,000 buffers.
-const WORDS: [&str; 7] = [
-    "replay",
-    "--buffers",
-    "2000",
-    "9000",
-    "9001",
-    "9002",
-    "9003",
-];
-
 /// Four applications with threads of their own have the same streams and counts whoever is held up.
 #[test]
 fn four_flows_go_alike_whoever_is_held_up(rt: HostRuntime) -> Result<(), Fail> {
-    let alloc = rt.alloc();
-    let made = make(&rt, &made_by(&["make", "7", "2000"]), 0)?;
-    let bytes = [
-        bytes_of(alloc, 0, LONG)?,
-        bytes_of(alloc, 1, LONG)?,
-        bytes_of(alloc, 2, LONG)?,
-        bytes_of(alloc, 3, LONG)?,
+    let words = [
+        "replay",
+        "--buffers",
+        "2000",
+        "9000",
+        "9001",
+        "9002",
+        "9003",
     ];
-    let mut streams = Vec::new(alloc);
-    for (app, bytes) in bytes.iter().enumerate() {
-        let flow = u32::try_from(app)?;
-        streams.push(Stream { app, flow, bytes })?;
-    }
-    let given = Given {
-        words: &WORDS,
-        buffers: 2000,
-        most: 65_536,
-        stream_room: LONG,
-        ..faultless(&made)
-    };
-    for number in 0..RUNS {
-        let left = run_behind(&rt, &given, &Delay::of_run(number, 4))?;
-        assert_eq!(&rt; left.status, 0, "run {number}");
-        let told = without_searches(alloc, str::from_utf8(&left.sent)?)?;
-        assert_eq!(&rt; told.as_str(), FOUR_FLOWS, "run {number}");
-        let Left { free, shelves, .. } = left;
-        check_shelves(&rt, "four flows", &streams, &shelves);
-        check_free(&rt, "four flows", free, given.buffers)?;
-    }
-    Ok(())
+    check_four(&rt, &words, RUNS, LONG, FOUR_FLOWS)
+}
+
+/// The same where each application keeps three loans and quits at 100,000 bytes: with its hundredth piece, whatever the order.
+const FOUR_LEFT_EARLY: &str = "\
+capture records 2000 tcp 2000 steered 2000 other 0 fragment 0 cut 0 bad 0
+app 0 port 9000 written 100000 loans 100 copied 0 stopped quit
+app 1 port 9001 written 100000 loans 100 copied 0 stopped quit
+app 2 port 9002 written 100000 loans 100 copied 0 stopped quit
+app 3 port 9003 written 100000 loans 100 copied 0 stopped quit
+flow 0 port 9000 base 4294960000 bytes 100000 fin no
+flow 1 port 9001 base 4294960000 bytes 100000 fin no
+flow 2 port 9002 base 4294960000 bytes 100000 fin no
+flow 3 port 9003 base 4294960000 bytes 100000 fin no
+pool empty 0 strays 0
+status 0
+";
+
+/// Four applications that quit scrub beside a card that goes on, take the rest of their notes, and leave every buffer free.
+#[test]
+fn four_applications_leave_early(rt: HostRuntime) -> Result<(), Fail> {
+    let words = [
+        "replay",
+        "--buffers",
+        "2000",
+        "--leak",
+        "3",
+        "--quit",
+        "100000",
+        "9000",
+        "9001",
+        "9002",
+        "9003",
+    ];
+    check_four(&rt, &words, RUNS / 4, 100_000, FOUR_LEFT_EARLY)
 }
