@@ -1,0 +1,339 @@
+#!/usr/bin/env python3
+"""Compares what the documents, the manual page and the code all say, and finds what a document names that isn't there.
+
+usage: tools/check_documents.py
+
+It prints a line for each thing that is wrong, and the status is 1 then, else 0. It looks at README.md, docs/ and
+bench/RESULTS.md:
+
+- the options of `replay`, with their ranges and defaults: docs/USE.md, docs/zcrx.1, and options.rt of command_words;
+- the statuses: docs/USE.md, docs/zcrx.1, fault.rt of zr_kinds, and the list of them in the top call's theorem;
+- the lines of the report: docs/USE.md, docs/zcrx.1, and run_report; each report that is shown has them, and README's is the
+  demo capture's;
+- what a crate stands on: docs/MAP.md, and crates.txt;
+- each relative link, with its heading, each file or script that is named, and each name in code font that looks like one of
+  the code: it stands somewhere under crates/, outside comments;
+- README.md has at most 130 lines.
+"""
+
+import pathlib
+import re
+import sys
+
+TOP = pathlib.Path(__file__).resolve().parent.parent
+DOCUMENTS = [TOP / "README.md", *sorted((TOP / "docs").glob("*.md")), TOP / "bench" / "RESULTS.md"]
+MOST_LINES = 130
+
+# Words in code font that name nothing under crates/: commands, and the goal that stands as an example.
+COMMANDS = set("rt tcpdump dumpcap editcap tcpflow callgrind malloc ulimit returns-in-Err-clause-turn".split())
+# Options of other programs, and those that there aren't.
+OTHER_OPTIONS = set("--help --version --name".split())
+# Files that a run makes, or that the text gives a name.
+MADE_FILES = set("made.pcap flow-N.bin proofs/PATH/OF/FUNCTION/Answers.antt".split())
+# The libraries that the crates stand on have no file here.
+OUTSIDE = set("std core alloc".split())
+
+wrong = []
+
+
+def say(where, what):
+    wrong.append(f"{where}: {what}")
+
+
+def read(path):
+    return (TOP / path).read_text(encoding="utf-8")
+
+
+def compare(what, stated):
+    """`stated` says of each place what stands there: all must be the same."""
+    (first, wanted), *others = stated.items()
+    for place, found in others:
+        if found == wanted:
+            continue
+        if isinstance(found, dict) and isinstance(wanted, dict):
+            for key in sorted(set(found) | set(wanted), key=str):
+                if found.get(key) != wanted.get(key):
+                    say(place, f"{what} {key}: {found.get(key)}, but {first} has {wanted.get(key)}")
+        else:
+            say(place, f"{what}: {found}, but {first} has {wanted}")
+
+
+def number(text):
+    return int(re.sub(r"[_,]", "", text))
+
+
+def rows(text, heading):
+    """The cells of the first table behind a heading."""
+    behind = text.split(f"\n## {heading}\n", 1)[1]
+    table = re.search(r"(?m)^\|.*\n\|[-|]+\n((?:\|.*\n)+)", behind)
+    return [[cell.strip() for cell in line.strip("|").split("|")] for line in table.group(1).splitlines()]
+
+
+def plain(page):
+    """The manual page's text, without its marks of fonts."""
+    page = re.sub(r"\\f[BIRP]", "", page)
+    return page.replace("\\-", "-").replace("\\~", " ")
+
+
+def section(page, name):
+    return page.split(f".SH {name}\n", 1)[1].split("\n.SH ", 1)[0]
+
+
+def entries(page, name):
+    """The head and the text of each entry of a section."""
+    for entry in section(page, name).split(".TP\n")[1:]:
+        head, _, text = entry.partition("\n")
+        yield re.sub(r"^\.[BIR]+ ", "", head), text
+
+
+# ---- options
+
+def options_of_code():
+    code = read("crates/command_words/src/options.rt")
+    names = re.search(r"NAMES: \[&str; \d+\] = \[(.*?)\]", code, re.S).group(1)
+    names = re.findall(r'"(\w+)"', names)
+    numbers = {
+        const: (number(least), number(most), number(default))
+        for const, default, least, most in re.findall(
+            r"const (\w+): Number = Number \{\s*default: ([\d_]+),\s*least: ([\d_]+),\s*most: ([\d_]+),", code
+        )
+    }
+    options = {name: numbers[const] for const, name in re.findall(r'(\w+)\.read\(said\.get_str\("(\w+)"\)\)', code)}
+    options["size"] = numbers["SIZE"]
+    options["quit"] = "any number"
+    options["turns"] = (1, number(re.search(r"MOST_TURNS: usize = ([\d_]+)", code).group(1)), None)
+    most_bytes = number(re.search(r"MOST_BYTES: u64 = ([\d_]+)", code).group(1))
+    return {name: options.get(name) for name in names}, most_bytes
+
+
+def range_of(text, default):
+    if "any number" in text:
+        return "any number"
+    least, most = re.search(r"([\d,]+) to ([\d,]+)", text).groups()
+    return number(least), number(most), number(default) if re.fullmatch(r"[\d,]+", default or "") else None
+
+
+def check_options(page):
+    wanted, most_bytes = options_of_code()
+    use = {row[0].strip("`-"): range_of(row[1], row[2]) for row in rows(read("docs/USE.md"), "Words")}
+    manual = {}
+    for head, text in entries(page, "OPTIONS"):
+        default = re.search(r"\(([\d,]+)\)", text)
+        manual[head.split()[0].strip("-")] = range_of(text, default and default.group(1))
+    compare("option", {"options.rt": wanted, "docs/USE.md": use, "docs/zcrx.1": manual})
+    for place, text in (("docs/USE.md", read("docs/USE.md")), ("docs/zcrx.1", page)):
+        if not re.search(rf"\b{most_bytes}\b", text.replace(",", "")):
+            say(place, f"no limit of {most_bytes} bytes for all buffers")
+    return set(wanted)
+
+
+# ---- statuses
+
+def check_statuses(page):
+    code = {n: name for name, n in re.findall(r"Fault::(\w+) => (\d+)", read("crates/zr_kinds/src/fault.rt"))}
+    table = {row[0]: row[1].strip("`") for row in rows(read("docs/USE.md"), "Statuses") if row[0] != "0"}
+    compare("status", {"fault.rt": code, "docs/USE.md": table})
+
+    # A meaning is told in other words on the page, but with the same numbers.
+    def numbers_in(text):
+        return sorted(re.findall(r"\d+", text.replace(",", "")))
+
+    use = {row[0]: numbers_in(row[2]) for row in rows(read("docs/USE.md"), "Statuses")}
+    manual = {head: numbers_in(text.split("\n.PP", 1)[0]) for head, text in entries(page, "EXIT STATUS")}
+    compare("the numbers of status", {"docs/USE.md": use, "docs/zcrx.1": manual})
+
+    theorem = read("crates/zcrx_cli/specs/StreamTheorem.antt")
+    listed = re.search(r"IsStatus status = list_any \(λ n\. n == status\) \(([^[]*)\[\]", theorem).group(1)
+    usage = next(n for n, name in code.items() if name == "Usage")
+    compare("statuses of a replay", {
+        "fault.rt": sorted([0, *(int(n) for n in code if n != usage)]),
+        "StreamTheorem.antt": sorted(map(int, re.findall(r"\d+", listed))),
+    })
+
+
+# ---- the report
+
+def shape(line):
+    """The words of a line, with `_` where a value stands."""
+    return re.sub(r"\{\w*\}|\b[A-Z]\b", "_", line.replace("\\n", "")).split()
+
+
+def lines_of_code():
+    """The lines that run_report writes, and in which order the kinds of lines stand."""
+    code = read("crates/run_report/src/lines.rt") + read("crates/run_report/src/report.rt")
+    written = []
+    order = []
+    for body in re.findall(r"fn fmt<.*?\n    \}\n", code, re.S):
+        texts = re.findall(r"write(?:ln)?!\((.*?)\)[?;\n]", body, re.S)
+        line = "".join(re.findall(r'"((?:[^"\\]|\\.)*)"', "".join(texts)))
+        parts = re.match(r"(?:\{\w+\}){2,}", line)
+        if parts:
+            line = line[parts.end():]
+            order = [name.rstrip("s") for name in re.findall(r"\w+", parts.group(0))] + [line.split()[0]]
+        if line:
+            written.append(shape(line))
+    return written, order
+
+
+def check_report(page):
+    use = read("docs/USE.md").split("\n## The report\n", 1)[1]
+    forms = [line for line in re.search(r"(?:^    .*\n)+", use, re.M).group(0).splitlines()]
+    use_lines = [shape(line) for line in forms]
+    manual = [shape(re.sub(r"^\.\w+ ", "", head)) for head, _ in entries(page, "REPORT")]
+    for place, line in enumerate(use_lines):
+        if manual[place:place + 1] != [line]:
+            say("docs/zcrx.1", f"line {place + 1} of the report isn't '{' '.join(line)}'")
+    code, order = lines_of_code()
+    compare("order of the lines", {"report.rt": order, "docs/USE.md": [line[0] for line in use_lines]})
+    for line in use_lines:
+        if line not in code:
+            say("docs/USE.md", f"run_report writes no line '{' '.join(line)}'")
+    # Each report that is shown.
+    kinds = {line[0]: re.compile(r" ".join(r"\w+" if word == "_" else word for word in line)) for line in use_lines}
+    for document in DOCUMENTS:
+        for shown in re.findall(r"(?m)^    ((?:capture records|app \d|flow \d|refused \d|pool fast|status \d).*)$", document.read_text()):
+            if not kinds[shown.split()[0]].fullmatch(shown) and shape(shown) not in use_lines:
+                say(document.relative_to(TOP), f"a report has no line '{shown}'")
+    report = "".join(f"    {line}\n" for line in read("demo-data/hello.report").splitlines())
+    if report not in read("README.md"):
+        say("README.md", "the report isn't demo-data/hello.report")
+
+
+# ---- the crates
+
+def crates():
+    lines = [line for line in read("crates.txt").splitlines() if line and not line.startswith("#")]
+    return {name: below.split() for name, below in (line.split(":") for line in lines)}
+
+
+def check_crates():
+    wanted = crates()
+    found = {}
+    name = None
+    text = read("docs/MAP.md").split("\n## The crates\n", 1)[1]
+    for line in text.split("\n\n"):
+        if line.startswith("### "):
+            name = line[4:]
+        for crate, below in re.findall(r"(?:`(\w+)`\s+s|S)tands\s+on:([^.]*)\.", line):
+            found[crate or name] = sorted(re.findall(r"`(\w+)`", below))
+    compare("crate", {"crates.txt": {crate: sorted(below) for crate, below in wanted.items()}, "docs/MAP.md": found})
+    stands_on = set()
+    waiting = ["zcrx_cli"]
+    while waiting:
+        crate = waiting.pop()
+        if crate in wanted and crate not in stands_on:
+            stands_on.add(crate)
+            waiting += wanted[crate]
+    if f"the {len(stands_on)} crates that the program stands on" not in " ".join(read("README.md").split()):
+        say("README.md", f"the program stands on {len(stands_on)} crates")
+
+
+# ---- links, files and names
+
+def prose(text):
+    """A document without its blocks of code."""
+    return re.sub(r"(?<=\n\n)(?:    .*\n)+", "", text)
+
+
+def anchors(path):
+    heads = re.findall(r"(?m)^#+ (.*)$", path.read_text(encoding="utf-8"))
+    return {re.sub(r"[^\w\- ]", "", head.lower()).replace(" ", "-") for head in heads}
+
+
+def check_links(document, text):
+    for target in re.findall(r"\]\(([^)]+)\)", text):
+        if re.match(r"\w+:", target):
+            continue
+        path, _, anchor = target.partition("#")
+        file = (document.parent / path).resolve() if path else document
+        if not file.exists():
+            say(document.relative_to(TOP), f"no file {target}")
+        elif anchor and anchor not in anchors(file):
+            say(document.relative_to(TOP), f"no heading {target}")
+
+
+def words_of_code():
+    """The names that the code under crates/ has outside comments, and those of its files."""
+    names = set()
+    files = {path.name for path in (TOP / "crates").glob("*/*")}
+    for folder in ("src", "specs", "proofs", "must-fail"):
+        for path in (TOP / "crates").glob(f"*/{folder}/**/*"):
+            files.add(path.name)
+            names.add(path.stem)
+            if path.suffix in (".rt", ".antt"):
+                comment = r"(?m)//.*$" if path.suffix == ".rt" else r"(?m)^\s*-- .*$"
+                text = re.sub(comment, "", path.read_text(encoding="utf-8"))
+                names.update(re.findall(r"[A-Za-z_]\w*(?:-\w+)*", text))
+    return names, files
+
+
+# What looks like a file: a folder before it, or an ending.
+FILE = re.compile(r"[\w.*/+-]+/[\w.*+-]*|[\w+-]+\.(?:rt|antt|py|sh|md|pcap|report|edit|bin|txt|1)")
+NAME = re.compile(r"[A-Za-z_][\w]*(?:-[\w]+)*")
+
+
+def check_file(document, span, files):
+    if span in MADE_FILES or span.startswith(("/", "crates/*/", "crates/zcrx_cli/out")) or "networking/" in span:
+        return
+    if "/" in span:
+        folders = [TOP, document.parent, TOP / "crates", *(TOP / "crates").glob("*")]
+        if not any(list(folder.glob(span.rstrip("/"))) for folder in folders):
+            say(document.relative_to(TOP), f"no file {span}")
+    elif span not in files and not any((TOP / folder / span).exists() for folder in (".", "docs", "tools", "demo-data")):
+        say(document.relative_to(TOP), f"no file {span}")
+
+
+def check_span(document, span, names, files, options):
+    where = document.relative_to(TOP)
+    for option in re.findall(r"(?:^|(?<=\s))--[A-Za-z]+", span):
+        if option[2:] not in options and option not in OTHER_OPTIONS:
+            say(where, f"no option {option}")
+    if FILE.fullmatch(span):
+        check_file(document, span, files)
+        return
+    # A path of names, or a call: `Own::new`, `told.ports`, `place(&mut own, ..)`.
+    path = re.match(r"[A-Za-z_][\w-]*(?:(?:::|\.)[A-Za-z_][\w-]*)*", span)
+    if not path or path.end() != len(span) and span[path.end()] != "(":
+        return
+    if path.group(0).split("::")[0] in OUTSIDE:
+        return
+    for name in re.split(r"::|\.", path.group(0)):
+        if NAME.fullmatch(name) and name not in names:
+            say(where, f"no {name} under crates/")
+
+
+def check_names(options):
+    names, files = words_of_code()
+    names |= files | COMMANDS | set(crates())
+    names.update(below for all_below in crates().values() for below in all_below)
+    for document in DOCUMENTS:
+        text = document.read_text(encoding="utf-8")
+        check_links(document, text)
+        for span in re.findall(r"`([^`\n]+)`", prose(text)):
+            check_span(document, span, names, files, options)
+        for script in re.findall(r"\b(?:tools|bench|docs|demo-data)/[\w./-]*\w", text):
+            if not (TOP / script).exists():
+                say(document.relative_to(TOP), f"no file {script}")
+    outside = [TOP / "Makefile", *TOP.glob("tools/*.*"), *TOP.glob("bench/*.sh"), *TOP.glob("crates/*/src/**/*.rt"), *TOP.glob("crates/*/specs/*.antt")]
+    for path in outside:
+        for named in re.findall(r"\bdocs/[\w.]*\w", path.read_text(encoding="utf-8")):
+            if not (TOP / named).exists():
+                say(path.relative_to(TOP), f"no file {named}")
+
+
+def main():
+    page = plain(read("docs/zcrx.1"))
+    options = check_options(page)
+    check_statuses(page)
+    check_report(page)
+    check_crates()
+    check_names(options)
+    lines = len(read("README.md").splitlines())
+    if lines > MOST_LINES:
+        say("README.md", f"{lines} lines, more than {MOST_LINES}")
+    print("\n".join(dict.fromkeys(wrong)) if wrong else "documents: nothing wrong")
+    return 1 if wrong else 0
+
+
+if __name__ == "__main__":
+    sys.exit(main())
