@@ -1,7 +1,7 @@
 #!/usr/bin/env bash
 # Proves the crates that the program stands on and builds it as crates/zcrx_cli/out/zcrx_cli. A crate is proved once those
-# below it are, as many side by side as there are processors and 4 GiB of memory for each. A line for each crate says which
-# it is, what it is about, and how many seconds it took.
+# below it are, as many side by side as there are processors and 4 GiB of memory for each; of two that stand on one crate the
+# toolchain lets the second wait. A line for each crate says which it is, what it is about, and how many seconds it took.
 #
 # usage: tools/prove_program.sh
 #
