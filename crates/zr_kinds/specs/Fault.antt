@@ -2,7 +2,7 @@
 use Rattle.std.specs.Prelude.{ℕ}
 use Rattle.zr_kinds.specs.declared.fault.Fault.{Fault}
 use Rattle.zr_kinds.specs.declared.fault.Fault.TheVariants.{Memory, Usage, NotPcap, Version, LinkType, Cut, LongRecord, Read, Write, TooManyFlows}
-use Rattle.zr_kinds.specs.declared.fault.Fault.TheVariants.{TooManyFrames}
+use Rattle.zr_kinds.specs.declared.fault.Fault.TheVariants.{TooManyFrames, BadBlock, BadRun}
 
 abbrev pub number_of : Fault → ℕ
 number_of Memory = 1
@@ -16,3 +16,5 @@ number_of Read = 8
 number_of Write = 9
 number_of TooManyFlows = 10
 number_of TooManyFrames = 11
+number_of BadBlock = 13
+number_of BadRun = 14

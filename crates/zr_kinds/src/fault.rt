@@ -2,7 +2,7 @@ ghost use Rattle.std.specs.Prelude.{◌≡◌};
 ghost use Rattle.zr_kinds.specs.Fault.{number_of};
 
 /// What went wrong in a command. Each fault has a number, which is the status that the program ends with; 0 stands
-/// for no fault.
+/// for no fault, and 12 for none any more.
 #[derive(Clone, Copy, Debug, PartialEq, Eq)]
 pub enum Fault {
     /// Want of memory.
@@ -27,6 +27,10 @@ pub enum Fault {
     TooManyFlows,
     /// A record more than a replay can number.
     TooManyFrames,
+    /// A block of a pcapng capture is out of form.
+    BadBlock,
+    /// The lines of a run record aren't those of a legal run.
+    BadRun,
 }
 
 impl Fault {
@@ -46,6 +50,8 @@ impl Fault {
             Fault::Write => 9,
             Fault::TooManyFlows => 10,
             Fault::TooManyFrames => 11,
+            Fault::BadBlock => 13,
+            Fault::BadRun => 14,
         }
     }
 }

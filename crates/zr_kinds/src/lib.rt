@@ -11,7 +11,7 @@ mod ring;
 
 pub use behaviour::{Behaviour, Stopped};
 pub use fault::Fault;
-pub use outcome::{AppLine, Ended, FlowLine, PoolStats, Tally};
+pub use outcome::{AppLine, Ended, FlowEnd, FlowLine, PoolStats, Tally};
 pub use place::{Note, Place};
 pub use receiver::{lead_is_signed_distance, next_missing_is_least, receiver_looks_at_no_value};
 pub use ring::{Completion, Rqe};

@@ -19,6 +19,19 @@ pub struct Tally {
     pub bad: u32,
 }
 
+/// How a flow ended, by the FIN and RST of its segments (RFC 9293, 3.6 and 3.5.2) and by the bytes that its stream had.
+#[derive(Clone, Copy, Debug, PartialEq, Eq)]
+pub enum FlowEnd {
+    /// No segment had FIN or RST.
+    Going,
+    /// The stream reached the FIN.
+    Whole,
+    /// Bytes before the FIN are missing.
+    Short,
+    /// A segment had RST.
+    Reset,
+}
+
 /// What a replay did for one flow.
 #[derive(Clone, Copy, Debug, PartialEq, Eq)]
 pub struct FlowLine {
@@ -28,8 +41,10 @@ pub struct FlowLine {
     pub base: u32,
     /// How many bytes the appends that went well took.
     pub bytes: u64,
-    /// Whether a segment had FIN.
+    /// Whether a segment had FIN before one had RST.
     pub fin: bool,
+    /// How it ended.
+    pub end: FlowEnd,
 }
 
 /// What one application of a replay did.

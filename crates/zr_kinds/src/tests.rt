@@ -1,6 +1,6 @@
 use super::Fault;
 
-/// The statuses that users see: 1 to 11, each once.
+/// The statuses that users see: 1 to 11, 13 and 14, each once.
 #[test]
 fn faults_have_their_numbers(rt: HostRuntime) {
     let rows = [
@@ -15,6 +15,8 @@ fn faults_have_their_numbers(rt: HostRuntime) {
         (Fault::Write, 9),
         (Fault::TooManyFlows, 10),
         (Fault::TooManyFrames, 11),
+        (Fault::BadBlock, 13),
+        (Fault::BadRun, 14),
     ];
     for (fault, number) in rows {
         assert_eq!(rt; fault.number(), number, "{fault:?}");
