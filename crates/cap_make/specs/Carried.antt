@@ -1,7 +1,8 @@
 -- What the frames of a generated capture carry, as a reader of frames sees them.
-use Rattle.std.specs.Prelude.{ℕ, zero, suc, ◌+◌, ◌%◌, ◌^◌, false, List, [], ◌∷◌, ◌++◌}
+use Rattle.std.specs.Prelude.{ℕ, zero, suc, ◌+◌, ◌%◌, ◌^◌, List, [], ◌∷◌, ◌++◌}
 use Rattle.frame_headers.specs.FrameClass.{TcpSegment}
 use Rattle.frame_headers.specs.declared.segment.Addr.TheVariants.{V4}
+use Rattle.flow_table.specs.CountedPart.{not_closed}
 use Rattle.flow_table.specs.Flows.{Flow}
 use Rattle.cap_make.specs.declared.piece.Piece.{Piece}
 use Rattle.cap_make.specs.GeneratedCapture.{base, drawn, frame_of, payload_of, piece_of}
@@ -34,7 +35,7 @@ flow_with f = record {
   key = record { src = V4 (10 ∷ 0 ∷ 0 ∷ 1 ∷ []); dst = V4 (10 ∷ 0 ∷ 0 ∷ 2 ∷ []); sport = 40000 + f; dport = 9000 + f };
   app = f;
   base = base;
-  fin = false;
+  close = not_closed;
 }
 
 abbrev pub four_flows : List Flow

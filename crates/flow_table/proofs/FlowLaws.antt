@@ -1,6 +1,6 @@
 -- What becomes of the flows as one more segment is steered.
 use Rattle.std.proofs.Common.{◌≡◌, ℕ, zero, suc, ◌+◌, ◌<◌, ◌≤◌, List, [], ◌∷◌, ◌++◌, length, Option, Some, None, Bool, true}
-use Rattle.std.proofs.Common.{false, refl, sym, ap, subst, ◌∙◌, arith, if◌then◌else◌, ◌==◌, ◌&&◌, ◌||◌, option_to_list, ⊎_elim}
+use Rattle.std.proofs.Common.{false, refl, sym, ap, subst, ◌∙◌, arith, if◌then◌else◌, ◌==◌, ◌&&◌, option_to_list, ⊎_elim}
 use Rattle.std.proofs.Common.{◌≢◌, ◌⊎◌, inl, inr, length-append}
 use Rattle.std.specs.List.{slice_get}
 use Rattle.std.proofs.lemmas.Bool.{cases_lt, eqb-true}
@@ -55,11 +55,18 @@ length-flows_with flows steered = by (number_of_flow flows steered) (number_of_f
 
 -- ---- the flow of the segment, and the others
 
-with_segment-here : (flows : List Flow) (number : ℕ) (steered : Steered) (own : Flow) → slice_get flows number ≡ Some own
+pub with_segment-here : (flows : List Flow) (number : ℕ) (steered : Steered) (own : Flow) → slice_get flows number ≡ Some own
     → slice_get (with_segment flows number steered) number ≡ Some (seen_by own steered.segment)
 with_segment-here [] number steered own is = absurd (cc)
 with_segment-here (flow ∷ flows) zero steered own is = (let same : flow ≡ own = cc in rw same refl)
 with_segment-here (flow ∷ flows) (suc number) steered own is = with_segment-here flows number steered own is
+
+pub with_segment-next : (flows : List Flow) (number : ℕ) (steered : Steered) → number ≡ length flows
+    → slice_get (with_segment flows number steered) number ≡ Some (new_flow steered)
+with_segment-next [] zero steered is = refl
+with_segment-next [] (suc number) steered is = absurd (omega arith)
+with_segment-next (flow ∷ flows) zero steered is = absurd (omega arith)
+with_segment-next (flow ∷ flows) (suc number) steered is = with_segment-next flows number steered (omega arith)
 
 with_segment-other : (flows : List Flow) (number f : ℕ) (steered : Steered) → number < length flows → f ≢ number
     → slice_get (with_segment flows number steered) f ≡ slice_get flows f
@@ -105,22 +112,17 @@ module _ (flows : List Flow) (steered : Steered) where
 
 -- ---- a flow stays what it is
 
--- the same flow, which may have seen a FIN since
+-- the same flow, which may have been closed since
 pub record IsLater (before after : Flow) : Type 0 where
   pub key_is : after.key ≡ before.key
   pub app_is : after.app ≡ before.app
   pub base_is : after.base ≡ before.base
-  pub fin_stays : before.fin ≡ true → after.fin ≡ true
-
-or_stays : (a b : Bool) → a ≡ true → (a || b) ≡ true
-or_stays true b is = refl
-or_stays false b is = cc
 
 seen_later : (flow : Flow) (segment : TcpSegment) → IsLater flow (seen_by flow segment)
-seen_later flow segment = record { key_is = refl; app_is = refl; base_is = refl; fin_stays = or_stays flow.fin _ }
+seen_later flow segment = record { key_is = refl; app_is = refl; base_is = refl }
 
 same_later : (flow : Flow) → IsLater flow flow
-same_later flow = record { key_is = refl; app_is = refl; base_is = refl; fin_stays = λ is. is }
+same_later flow = record { key_is = refl; app_is = refl; base_is = refl }
 
 with_segment-keeps : (flows : List Flow) (n : ℕ) (steered : Steered) (i : ℕ) (flow : Flow) → slice_get flows i ≡ Some flow → (later : Flow)
     × (slice_get (with_segment flows n steered) i ≡ Some later) × IsLater flow later

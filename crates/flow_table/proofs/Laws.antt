@@ -5,6 +5,7 @@ use Rattle.std.specs.List.{list_any}
 use Rattle.frame_headers.specs.FrameClass.{TcpSegment}
 use Rattle.zr_kinds.specs.CopyingReceiver.{Placed, received}
 use Rattle.flow_table.specs.Steered.{Steered, steer, steered_from, first_byte}
+use Rattle.flow_table.specs.CountedPart.{FlowClose, closed_by, counted_part}
 use Rattle.flow_table.specs.Flows.{Flow, number_of_flow, flows_with, flows_after, of_flow_after}
 use Rattle.flow_table.specs.Stream.{received_all}
 
@@ -30,10 +31,18 @@ of_flow_after-append n flows (x ∷ xs) ys =
     ap (λ others. here ++ others) (of_flow_after-append n after xs ys)
     ∙ sym (append_assoc here (of_flow_after n after xs) (of_flow_after n (flows_after after xs) ys))
 
-pub received_all-append : (base : ℕ) (left_out : List ℕ) (placed : Placed ℕ) (xs ys : List Steered)
-    → received_all base left_out placed (xs ++ ys) ≡ received_all base left_out (received_all base left_out placed xs) ys
-received_all-append base left_out placed [] ys = refl
-received_all-append base left_out placed (x ∷ xs) ys =
-    received_all-append base left_out
-    (if list_any (λ number. number == x.record_number) left_out then placed else received base placed (first_byte x.segment) x.segment.payload)
+-- how a flow is closed behind segments of it
+abbrev pub closed_after : FlowClose → List Steered → FlowClose
+closed_after close [] = close
+closed_after close (steered ∷ others) = closed_after (closed_by close steered.segment) others
+
+pub received_all-append : (base : ℕ) (left_out : List ℕ) (close : FlowClose) (placed : Placed ℕ) (xs ys : List Steered)
+    → received_all base left_out close placed (xs ++ ys) ≡ received_all base left_out (closed_after close xs)
+    (received_all base left_out close placed xs) ys
+received_all-append base left_out close placed [] ys = refl
+received_all-append base left_out close placed (x ∷ xs) ys =
+    let after : FlowClose = closed_by close x.segment in
+    received_all-append base left_out after
+    (if list_any (λ number. number == x.record_number) left_out then
+    placed else received base placed (first_byte x.segment) (counted_part after x.segment))
     xs ys

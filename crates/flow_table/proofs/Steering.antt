@@ -1,5 +1,5 @@
 -- What a table of flows says of a segment, whichever record it comes in.
-use Rattle.std.proofs.Common.{◌≡◌, ℕ, ◌≢◌, ◌+◌, ◌↔◌, List, length, Some, Bool, true, false, not, sym, ap, subst, ◌∙◌, option_map}
+use Rattle.std.proofs.Common.{◌≡◌, ℕ, ◌≢◌, ◌+◌, ◌↔◌, List, length, Some, Bool, true, false, not, sym, ap, subst, ◌∙◌, option_map, Option, refl}
 use Rattle.std.specs.Prelude.{IsTrue}
 use Rattle.std.proofs.lemmas.Bool.{true≢false}
 use Rattle.std.proofs.Math.Bool.{not-not}
@@ -7,9 +7,10 @@ use Rattle.std.proofs.Common.{if◌then◌else◌, ◌==◌, Result, Ok, Err}
 use Rattle.std.specs.List.{slice_get}
 use Rattle.frame_headers.specs.FrameClass.{TcpSegment}
 use Rattle.flow_table.specs.Steered.{app_of, has_fin, first_byte}
+use Rattle.flow_table.specs.CountedPart.{counted_len}
 use Rattle.flow_table.specs.Flows.{Flow, key_of, newest, number_among, number_of_flow, with_segment, flows_with}
 use Rattle.flow_table.specs.KnownFlows.{KnownFlows}
-use Rattle.flow_table.specs.Placing.{steered_to, number_for, IsPlaced}
+use Rattle.flow_table.specs.Placing.{steered_to, number_for, counted_at, counted_for, IsPlaced}
 
 module _ (known : KnownFlows) (ports : List ℕ) (flows : List Flow) (segment : TcpSegment) (app : ℕ)
     (view : record { ports = ports; flows = flows } ≡ known) (place : Some app ≡ app_of ports segment.dport) where
@@ -49,32 +50,47 @@ module _ (known : KnownFlows) (ports : List ℕ) (flows : List Flow) (segment : 
   pub few-among : length known.flows ≢ 65535 → length flows ≢ 65535
   few-among few = subst (λ (k : KnownFlows). length k.flows ≢ 65535) (sym view) few
 
-  placed_in : (after : List Flow) (number base seq : ℕ) (fin : Bool) (flow : Flow)
+  placed_in : (after : List Flow) (number base seq len : ℕ) (fin : Bool) (flow : Flow)
       → number ≡ number_among (length flows) segment (newest (key_of segment) flows)
       → ((k : ℕ) → after ≡ with_segment flows number (steered_to app segment k))
       → length after ≡ length flows + (if number == length flows then 1 else 0)
-      → slice_get after number ≡ Some flow → flow.base ≡ base → seq ≡ first_byte segment → fin ≡ has_fin segment
-      → IsPlaced (record { ports = ports; flows = flows }) (record { ports = ports; flows = after }) segment number app base seq fin
+      → slice_get after number ≡ Some flow → flow.base ≡ base → seq ≡ first_byte segment → len ≡ counted_len flow.close segment
+      → fin ≡ has_fin segment
+      → IsPlaced (record { ports = ports; flows = flows }) (record { ports = ports; flows = after }) segment number app base seq len fin
   unfolding number_of_flow flows_with
-  placed_in after number base seq fin flow number_is after_is count at base_is seq_is fin_is = record {
+  placed_in after number base seq len fin flow number_is after_is count at base_is seq_is len_is fin_is = record {
     app_is = sym place;
     flow_is = λ record_number. number_is;
     flows_are = λ record_number. after_is record_number ∙ ap (λ n. with_segment flows n (steered_to app segment record_number)) number_is;
     base_is = ap (option_map (λ (f : Flow). f.base)) at ∙ ap Some base_is;
     seq_is = seq_is;
+    len_is = ap (option_map (λ (f : Flow). counted_len f.close segment)) at ∙ ap Some (sym len_is);
     fin_is = fin_is;
     count_is = count;
   }
 
-  pub is_placed : (after : List Flow) (number base seq : ℕ) (fin : Bool) (flow : Flow)
+  pub is_placed : (after : List Flow) (number base seq len : ℕ) (fin : Bool) (flow : Flow)
       → number ≡ number_among (length flows) segment (newest (key_of segment) flows)
       → ((k : ℕ) → after ≡ with_segment flows number (steered_to app segment k))
       → length after ≡ length flows + (if number == length flows then 1 else 0)
-      → slice_get after number ≡ Some flow → flow.base ≡ base → seq ≡ first_byte segment → fin ≡ has_fin segment
-      → IsPlaced known (record { ports = ports; flows = after }) segment number app base seq fin
-  is_placed after number base seq fin flow number_is after_is count at base_is seq_is fin_is =
-      subst (λ (k : KnownFlows). IsPlaced k (record { ports = ports; flows = after }) segment number app base seq fin) view
-      (placed_in after number base seq fin flow number_is after_is count at base_is seq_is fin_is)
+      → slice_get after number ≡ Some flow → flow.base ≡ base → seq ≡ first_byte segment → len ≡ counted_len flow.close segment
+      → fin ≡ has_fin segment
+      → IsPlaced known (record { ports = ports; flows = after }) segment number app base seq len fin
+  is_placed after number base seq len fin flow number_is after_is count at base_is seq_is len_is fin_is =
+      subst (λ (k : KnownFlows). IsPlaced k (record { ports = ports; flows = after }) segment number app base seq len fin) view
+      (placed_in after number base seq len fin flow number_is after_is count at base_is seq_is len_is fin_is)
+
+  -- what would count of the segment
+  pub counted-for : (len : ℕ)
+      → ((k number : ℕ) → number ≡ number_among (length flows) segment (newest (key_of segment) flows)
+      → counted_at (with_segment flows number (steered_to app segment k)) number segment ≡ Some len)
+      → (record_number : ℕ) → counted_for known segment record_number ≡ Some len
+  unfolding number_of_flow flows_with
+  counted-for len counted record_number =
+      subst (λ (k : KnownFlows). counted_for k segment record_number ≡ Some len) view
+      (let here : Option ℕ = counted_at (flows_with flows (steered_to app segment record_number))
+      (number_of_flow flows (steered_to app segment record_number)) segment in
+      rw (sym place) (counted record_number _ refl))
 
 -- ---- an answer that is turned round
 

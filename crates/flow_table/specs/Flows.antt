@@ -1,12 +1,13 @@
 -- Flows: they are numbered from 0 in the order of their first steered segment, and known by the IP version, both
 -- addresses and both ports. A SYN whose first byte isn't at the base of the newest flow of its key begins a new flow.
-use Rattle.std.specs.Prelude.{ℕ, zero, suc, List, [], ◌∷◌, ◌++◌, length, ◌==◌, if◌then◌else◌, Bool, false, ◌&&◌, ◌||◌, not}
+use Rattle.std.specs.Prelude.{ℕ, zero, suc, List, [], ◌∷◌, ◌++◌, length, ◌==◌, if◌then◌else◌, Bool, false, ◌&&◌, not}
 use Rattle.std.specs.Prelude.{Option, Some, None}
 use Rattle.std.specs.Str.{bytes_eq}
 use Rattle.frame_headers.specs.FrameClass.{TcpSegment}
 use Rattle.frame_headers.specs.declared.segment.Addr.{Addr}
 use Rattle.frame_headers.specs.declared.segment.Addr.TheVariants.{V4, V6}
-use Rattle.flow_table.specs.Steered.{Steered, has_fin, has_syn, first_byte}
+use Rattle.flow_table.specs.Steered.{Steered, has_syn, first_byte}
+use Rattle.flow_table.specs.CountedPart.{FlowClose, not_closed, closed_by}
 
 -- what knows a flow; an address has its version
 pub record FlowKey : Type 0 where
@@ -19,7 +20,7 @@ pub record Flow : Type 0 where
   pub key : FlowKey
   pub app : ℕ
   pub base : ℕ
-  pub fin : Bool
+  pub close : FlowClose
 
 abbrev pub key_of : TcpSegment → FlowKey
 key_of segment = record { src = segment.src; dst = segment.dst; sport = segment.sport; dport = segment.dport }
@@ -63,10 +64,15 @@ unfoldable pub number_of_flow : List Flow → Steered → ℕ
 number_of_flow flows steered = number_among (length flows) steered.segment (newest (key_of steered.segment) flows)
 
 abbrev pub new_flow : Steered → Flow
-new_flow steered = record { key = key_of steered.segment; app = steered.app; base = first_byte steered.segment; fin = has_fin steered.segment }
+new_flow steered = record {
+  key = key_of steered.segment;
+  app = steered.app;
+  base = first_byte steered.segment;
+  close = closed_by not_closed steered.segment;
+}
 
 abbrev pub seen_by : Flow → TcpSegment → Flow
-seen_by flow segment = record { key = flow.key; app = flow.app; base = flow.base; fin = flow.fin || has_fin segment }
+seen_by flow segment = record { key = flow.key; app = flow.app; base = flow.base; close = closed_by flow.close segment }
 
 -- the flows, with this one of them having seen the segment; at the number behind the last a new flow begins
 abbrev pub with_segment : List Flow → ℕ → Steered → List Flow

@@ -1,4 +1,5 @@
 pub mod Steered
+pub mod CountedPart
 pub mod Flows
 pub mod Stream
 pub mod Plain

@@ -4,6 +4,7 @@ use Rattle.frame_headers.specs.Seen.{shown}
 use Rattle.zr_kinds.specs.CopyingReceiver.{Placed}
 use Rattle.flow_table.specs.Steered.{Steered}
 use Rattle.flow_table.specs.Flows.{Flow, Numbered}
+use Rattle.flow_table.specs.Kept.{close_shown}
 use Rattle.flow_table.specs.declared.plain.steered.SteeredSegment.{SteeredSegment}
 use Rattle.flow_table.specs.declared.plain.flows.PlainFlow.{PlainFlow}
 use Rattle.flow_table.specs.declared.plain.placed.PlacedByte.{PlacedByte}
@@ -13,7 +14,7 @@ abbrev pub steered_shown : SteeredSegment → Steered
 steered_shown s = record { record_number = s.record_number; app = s.app; segment = shown s.segment }
 
 abbrev pub flow_shown : PlainFlow → Flow
-flow_shown f = record { key = record { src = f.src; dst = f.dst; sport = f.sport; dport = f.dport }; app = f.app; base = f.base; fin = f.fin }
+flow_shown f = record { key = record { src = f.src; dst = f.dst; sport = f.sport; dport = f.dport }; app = f.app; base = f.base; close = close_shown f.close }
 
 -- a flow with its number
 abbrev pub found_shown : ℕ × PlainFlow → Numbered

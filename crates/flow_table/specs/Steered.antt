@@ -16,6 +16,9 @@ has_fin segment = segment.flags % 2 == 1
 abbrev pub has_syn : TcpSegment → Bool
 has_syn segment = segment.flags / 2 % 2 == 1
 
+abbrev pub has_rst : TcpSegment → Bool
+has_rst segment = segment.flags / 4 % 2 == 1
+
 -- the sequence number of the first payload byte: SYN takes one (RFC 9293, 3.4)
 abbrev pub first_byte : TcpSegment → ℕ
 first_byte segment = (segment.seq + (if has_syn segment then 1 else 0)) % 2 ^ 32

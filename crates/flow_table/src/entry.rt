@@ -6,7 +6,8 @@ ghost use Rattle.flow_table.specs.Flows.{key_of, same_key, begins_anew, new_flow
 ghost use Rattle.flow_table.specs.Placing.{steered_to};
 ghost use Rattle.flow_table.specs.Kept.{key_shown, entry_shown};
 
-use crate::segment::{first_byte, has_fin, has_syn};
+use crate::close::Close;
+use crate::segment::{first_byte, has_syn};
 use frame_headers::{Addr, Segment};
 
 /// What knows a flow: the IP version, both addresses and both ports.
@@ -39,19 +40,20 @@ pub(crate) struct FlowEntry {
     pub app: u32,
     /// The sequence number of its first byte.
     pub base: u32,
-    /// Whether a segment had FIN.
-    pub fin: bool,
+    pub close: Close,
 }
 
 impl FlowEntry {
     pub(crate) fn begin(app: u32, segment: &Segment<'_>) -> FlowEntry
         ensures { (record_number : ℕ) → entry_shown result ≡ new_flow (steered_to app (shown segment.now) record_number) }
     {
+        let mut close = Close::none();
+        close.see(segment);
         FlowEntry {
             key: Key::of(segment),
             app,
             base: first_byte(segment),
-            fin: has_fin(segment),
+            close,
         }
     }
 
@@ -75,6 +77,6 @@ impl FlowEntry {
     pub(crate) fn see(&mut self, segment: &Segment<'_>)
         ensures { entry_shown self.new ≡ seen_by (entry_shown self.old) (shown segment.now) }
     {
-        self.fin = self.fin || has_fin(segment);
+        self.close.see(segment);
     }
 }

@@ -1,12 +1,13 @@
 //! The flows so far, found by their keys.
 
 ghost use Rattle.std.specs.Prelude.{◌≡◌, ◌≢◌, ℕ, ◌+◌, ◌<◌, ◌≤◌, ◌↔◌, [], ◌∷◌, ◌++◌, ◌==◌, if◌then◌else◌};
-ghost use Rattle.std.specs.Prelude.{length, map, Some, slice_get, option_map, Ok, Err, IfOk, OnOk, OnErr, IsTrue};
+ghost use Rattle.std.specs.Prelude.{length, map, Some, None, IfSome, slice_get, option_map, Ok, Err, IfOk, OnOk, OnErr, IsTrue};
 ghost use Rattle.frame_headers.specs.Seen.{shown};
-ghost use Rattle.flow_table.specs.Flows.{Numbered, key_of, newest, number_among, with_segment};
-ghost use Rattle.flow_table.specs.Placing.{steered_to};
-ghost use Rattle.flow_table.specs.Kept.{entry_shown};
+ghost use Rattle.flow_table.specs.Flows.{Flow, Numbered, key_of, newest, number_among, with_segment};
+ghost use Rattle.flow_table.specs.Placing.{steered_to, counted_at};
+ghost use Rattle.flow_table.specs.Kept.{entry_shown, close_shown};
 
+use crate::close::Close;
 use crate::entry::{FlowEntry, Key};
 use crate::placed::FlowFault;
 use frame_headers::Segment;
@@ -116,12 +117,38 @@ impl FlowList {
         self.number_of_flow(segment) == count && count != MOST_FLOWS
     }
 
-    /// Whether the segment would begin a flow too many.
-    pub(crate) fn is_too_many(&self, segment: &Segment<'_>) -> bool
-        ensures { IsTrue result ↔
-            (number_among (length self.now) (shown segment.now) (newest (key_of (shown segment.now)) self.now) ≡ 65535) }
+    // How the flow of this number would be closed, had it seen the segment or begun with it.
+    fn close_behind(&self, number: u32, segment: &Segment<'_>) -> Close
+        requires { number ≤ length self.now }
+        ensures { (app record_number : ℕ)
+            → option_map (λ (f : Flow). f.close) (slice_get (with_segment self.now number (steered_to app (shown segment.now) record_number)) number)
+            ≡ Some (close_shown result) }
     {
-        self.number_of_flow(segment) == MOST_FLOWS
+        if number < self.count() {
+            let mut entry = self.at(number);
+            entry.see(segment);
+            entry.close
+        } else {
+            FlowEntry::begin(0, segment).close
+        }
+    }
+
+    /// How many bytes of the segment would count. `None` where it would begin a flow too many.
+    pub(crate) fn counted(&self, segment: &Segment<'_>) -> Option<usize>
+        ensures few { IfSome result
+            (λ len. number_among (length self.now) (shown segment.now) (newest (key_of (shown segment.now)) self.now) ≢ 65535) }
+        ensures counted { IfSome result
+            (λ len. (app record_number number : ℕ) → number ≡ number_among (length self.now) (shown segment.now) (newest (key_of (shown segment.now)) self.now)
+            → counted_at (with_segment self.now number (steered_to app (shown segment.now) record_number)) number (shown segment.now) ≡ Some len) }
+        ensures most { IfSome result (λ len. len ≤ length (shown segment.now).payload) }
+        ensures too_many { result ≡ None
+            → number_among (length self.now) (shown segment.now) (newest (key_of (shown segment.now)) self.now) ≡ 65535 }
+    {
+        let number = self.number_of_flow(segment);
+        if number == MOST_FLOWS {
+            return None;
+        }
+        Some(self.close_behind(number, segment).counted(segment))
     }
 
     // The flow of this number sees the segment.

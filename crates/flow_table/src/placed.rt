@@ -15,6 +15,9 @@ pub enum Steered {
         base: u32,
         /// The sequence number of the segment's first payload byte: SYN takes one (RFC 9293, 3.4).
         seq: u32,
+        /// How many bytes of its payload count, from the first on: none at or past the number of the flow's FIN, and none from
+        /// the flow's RST on (RFC 9293, 3.6 and 3.5.3).
+        len: u32,
         /// Whether the segment has FIN.
         fin: bool,
     },
@@ -40,6 +43,8 @@ pub struct FlowInfo {
     pub app: u32,
     /// The sequence number of its first byte.
     pub base: u32,
-    /// Whether a segment of it had FIN.
-    pub fin: bool,
+    /// The sequence number behind its last byte, once a FIN set it.
+    pub fin: Option<u32>,
+    /// Whether a segment of it had RST.
+    pub reset: bool,
 }

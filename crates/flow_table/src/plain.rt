@@ -5,6 +5,7 @@ ghost use Rattle.std.specs.Prelude.{◌≡◌, ◌<◌, ◌^◌, length, map, If
 ghost use Rattle.frame_headers.specs.Seen.{segment_seen};
 ghost use Rattle.zr_kinds.specs.CopyingReceiver.{nothing_placed};
 ghost use Rattle.flow_table.specs.Steered.{steered_of};
+ghost use Rattle.flow_table.specs.CountedPart.{not_closed};
 ghost use Rattle.flow_table.specs.Flows.{flows_of};
 ghost use Rattle.flow_table.specs.Stream.{received_all, stream_of};
 ghost use Rattle.flow_table.specs.Plain.{steered_shown, flow_shown, placed_shown};
@@ -13,6 +14,7 @@ mod flows;
 mod placed;
 mod steered;
 
+use crate::close::Close;
 use crate::segment::first_byte;
 pub use flows::PlainFlow;
 use frame_headers::Seen;
@@ -20,19 +22,23 @@ use placed::PlainPlaced;
 use std::alloc::{AllocError, Global};
 use steered::SteeredSegment;
 
-// What stands after the segments were received, but those that are left out.
+// What stands after what counts of the segments was received, but those that are left out.
 fn receive_all(
     alloc: Global,
     base: u32,
     left_out: &[u32],
     steered: &[SteeredSegment<'_>],
 ) -> Result<PlainPlaced, AllocError>
-    ensures { IfOk result (λ placed. placed_shown placed ≡ received_all base left_out.now nothing_placed (map steered_shown steered.now)) }
+    ensures { IfOk result (λ placed. placed_shown placed ≡ received_all base left_out.now not_closed nothing_placed (map steered_shown steered.now)) }
 {
+    let mut close = Close::none();
     let mut placed = PlainPlaced::new(alloc);
     for one in steered {
+        let segment = &one.segment;
+        close.see(segment);
         if !left_out.contains(&one.record_number) {
-            placed.receive(base, first_byte(&one.segment), one.segment.payload)?;
+            let counted = &segment.payload[..close.counted(segment)];
+            placed.receive(base, first_byte(segment), counted)?;
         }
     }
     Ok(placed)

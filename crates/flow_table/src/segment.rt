@@ -2,7 +2,7 @@
 
 ghost use Rattle.std.specs.Prelude.{◌≡◌, ◌<◌, length, IfSome};
 ghost use Rattle.frame_headers.specs.Seen.{shown};
-ghost use Rattle.flow_table.specs.Steered.{app_of, has_fin, has_syn, first_byte};
+ghost use Rattle.flow_table.specs.Steered.{app_of, has_fin, has_syn, has_rst, first_byte};
 
 use frame_headers::Segment;
 
@@ -10,6 +10,8 @@ use frame_headers::Segment;
 const FIN: u8 = 1;
 
 const SYN: u8 = 2;
+
+const RST: u8 = 4;
 
 pub(crate) fn has_fin(segment: &Segment<'_>) -> bool
     ensures { result ≡ has_fin (shown segment.now) }
@@ -22,6 +24,13 @@ pub(crate) fn has_syn(segment: &Segment<'_>) -> bool
     ensures { result ≡ has_syn (shown segment.now) }
 {
     segment.flags & SYN != 0
+}
+
+#[tactic(auto, using(crate::proofs::Flags::rst_by_mask))]
+pub(crate) fn has_rst(segment: &Segment<'_>) -> bool
+    ensures { result ≡ has_rst (shown segment.now) }
+{
+    segment.flags & RST != 0
 }
 
 /// The sequence number of the first payload byte: SYN takes one (RFC 9293, 3.4).

@@ -1,11 +1,11 @@
 //! The table of flows.
 
 ghost use Rattle.std.specs.Prelude.{◌≡◌, ◌≢◌, ℕ, ◌<◌, ◌≤◌, ◌↔◌, [], length, Ok, Err, Some, None, slice_get, option_map, nat_eq};
-ghost use Rattle.std.specs.Prelude.{IfOk, OnErr, IsTrue, ◌⊎◌, false};
+ghost use Rattle.std.specs.Prelude.{IfOk, IfSome, OnErr, IsTrue, ◌⊎◌};
 ghost use Rattle.std.specs.List.{IsDistinct};
 ghost use Rattle.frame_headers.specs.Seen.{shown};
 ghost use Rattle.flow_table.specs.Steered.{app_of};
-ghost use Rattle.flow_table.specs.Placing.{number_for, Places, info_of};
+ghost use Rattle.flow_table.specs.Placing.{number_for, counted_for, Places, info_of};
 
 use crate::entry::FlowEntry;
 use crate::list::FlowList;
@@ -56,6 +56,7 @@ impl FlowTable {
     ///
     /// `TooManyFlows` decides before any memory is asked for.
     pub fn place(&mut self, segment: &Segment<'_>) -> Result<Steered, FlowFault>
+        requires size { length (shown segment.now).payload ≤ 65515 }
         ensures placed { IfOk result (Places self.old self.new (shown segment.now)) }
         ensures elsewhere { (result ≡ Ok Steered.Elsewhere) ↔ (app_of self.old.ports segment.now.dport ≡ None) }
         ensures too_many { (record_number : ℕ)
@@ -71,11 +72,13 @@ impl FlowTable {
         };
         let app = app as u32;
         let flow = self.flows.see(app, segment)?;
+        let entry = self.flows.at(flow);
         Ok(Steered::Flow {
             flow,
             app,
-            base: self.flows.at(flow).base,
+            base: entry.base,
             seq: first_byte(segment),
+            len: entry.close.counted(segment) as u32,
             fin: has_fin(segment),
         })
     }
@@ -92,18 +95,19 @@ impl FlowTable {
         }
     }
 
-    /// Whether a segment is steered and belongs to a flow, or begins one that isn't one too many. So `place` refuses it for
-    /// want of memory alone. The key is looked up.
-    pub fn admits(&self, segment: &Segment<'_>) -> bool
-        ensures steered { IsTrue result → app_of self.now.ports segment.now.dport ≢ None }
-        ensures few { (record_number : ℕ) → IsTrue result → number_for self.now (shown segment.now) record_number ≢ Some 65535 }
-        ensures refuses { (record_number : ℕ) → result ≡ false
+    /// How many bytes of a segment would count, where it is steered and belongs to a flow, or begins one that isn't one too many:
+    /// `place` refuses it for want of memory alone. The key is looked up.
+    pub fn admits(&self, segment: &Segment<'_>) -> Option<u32>
+        requires size { length (shown segment.now).payload ≤ 65515 }
+        ensures steered { IfSome result (λ len. app_of self.now.ports segment.now.dport ≢ None) }
+        ensures few { IfSome result (λ len. (record_number : ℕ) → number_for self.now (shown segment.now) record_number ≢ Some 65535) }
+        ensures counted { IfSome result (λ len. (record_number : ℕ) → counted_for self.now (shown segment.now) record_number ≡ Some len) }
+        ensures refuses { (record_number : ℕ) → result ≡ None
             → (app_of self.now.ports segment.now.dport ≡ None) ⊎ (number_for self.now (shown segment.now) record_number ≡ Some 65535) }
     {
-        match app_of(&self.ports, segment.dport) {
-            Some(_) => !self.flows.is_too_many(segment),
-            None => false,
-        }
+        app_of(&self.ports, segment.dport)?;
+        let len = self.flows.counted(segment)?;
+        Some(len as u32)
     }
 
     /// How many flows there are. Their numbers are those below it.
@@ -119,7 +123,17 @@ impl FlowTable {
         requires { flow < length self.now.flows }
         ensures { option_map info_of (slice_get self.now.flows flow) ≡ Some result }
     {
-        let FlowEntry { app, base, fin, .. } = self.flows.at(flow);
-        FlowInfo { app, base, fin }
+        let FlowEntry {
+            app,
+            base,
+            close,
+            ..
+        } = self.flows.at(flow);
+        FlowInfo {
+            app,
+            base,
+            fin: close.fin,
+            reset: close.reset,
+        }
     }
 }

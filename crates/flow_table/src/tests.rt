@@ -1,4 +1,7 @@
-use super::plain::{plain_flows, plain_stream};
+ghost use Rattle.std.specs.Prelude.{◌≡◌, []};
+ghost use Rattle.frame_headers.specs.Seen.{shown};
+
+use super::plain::{PlainFlow, plain_flows, plain_stream};
 use super::{FlowFault, FlowInfo, FlowTable, Steered};
 use frame_headers::{Addr, Seen, Segment, read_frame};
 use std::alloc::Global;
@@ -16,6 +19,8 @@ const HEADERS: [u8; 54] = [
 const FIN: u8 = 1;
 
 const SYN: u8 = 2;
+
+const RST: u8 = 4;
 
 const ACK: u8 = 16;
 
@@ -151,17 +156,23 @@ fn flows_are_told(rt: HostRuntime) -> Result<(), Fail> {
     assert!(rt; seen.len() < 100);
     let flows = plain_flows(rt.alloc(), &[443, 80], &seen)?;
     assert_eq!(rt; flows.len(), 1);
-    assert_eq!(rt;
-        (flows[0].app, flows[0].base, flows[0].fin),
-        (1, 1000, true)
-    );
+    let PlainFlow {
+        app,
+        base,
+        close,
+        ..
+    } = flows[0];
+    assert_eq!(rt; (app, base), (1, 1000));
+    assert_eq!(rt; (close.fin, close.reset), (Some(1002), false));
     Ok(())
 }
 
 const HOST: Addr = Addr::V4([10, 0, 0, 1]);
 
-/// From a host's port to port 80 of 10.0.0.2.
-const fn from(src: Addr, sport: u16, seq: u32, flags: u8) -> Segment<'static> {
+/// From a host's port to port 80 of 10.0.0.2, with no payload.
+const fn from(src: Addr, sport: u16, seq: u32, flags: u8) -> Segment<'static>
+    ensures { (shown result).payload ≡ [] }
+{
     Segment {
         src,
         dst: Addr::V4([10, 0, 0, 2]),
@@ -173,13 +184,14 @@ const fn from(src: Addr, sport: u16, seq: u32, flags: u8) -> Segment<'static> {
     }
 }
 
-/// What is said of a segment without FIN to port 80, the second of the ports.
+/// What is said of a segment without payload and without FIN to port 80, the second of the ports.
 const fn in_flow(flow: u32, base: u32, seq: u32) -> Steered {
     Steered::Flow {
         flow,
         app: 1,
         base,
         seq,
+        len: 0,
         fin: false,
     }
 }
@@ -204,6 +216,7 @@ fn each_base_is_a_flow(rt: HostRuntime) -> Result<(), Fail> {
         (from(HOST, 4000, 1003, ACK), false, in_flow(2, 1000, 1003)),
     ];
     for (segment, begins, want) in &rows {
+        assert!(rt; segment.payload.is_empty());
         assert_eq!(rt; table.begins(segment), *begins);
         assert_eq!(rt; table.place(segment)?, *want);
     }
@@ -226,13 +239,15 @@ fn flows_have_lines(rt: HostRuntime) -> Result<(), Fail> {
     let first = FlowInfo {
         app: 1,
         base: 7,
-        fin: false,
+        fin: None,
+        reset: false,
     };
     assert_eq!(rt; table.line(0), first);
     let second = FlowInfo {
         app: 1,
         base: 8,
-        fin: true,
+        fin: Some(8),
+        reset: false,
     };
     assert_eq!(rt; table.line(1), second);
     Ok(())
@@ -251,4 +266,182 @@ fn flows_come_to_an_end(rt: HostRuntime) -> Result<(), Fail> {
     assert_eq!(rt; table.count(), 65535);
     assert_eq!(rt; table.place(&from(HOST, 9, 8, ACK))?, in_flow(9, 7, 8));
     Ok(())
+}
+
+/// A segment from port 4000 of the host to port 80, and how many bytes of it count.
+#[derive(Clone, Copy)]
+struct Counted {
+    seq: u32,
+    flags: u8,
+    text: &'static [u8],
+    len: u32,
+}
+
+const fn row(seq: u32, flags: u8, text: &'static [u8], len: u32) -> Counted {
+    Counted {
+        seq,
+        flags,
+        text,
+        len,
+    }
+}
+
+/// Places segments of one flow. `admits` says before what `place` says of how much counts. Answers the flow's line.
+fn place_all(rt: &impl Abort, mut table: FlowTable, rows: &[Counted]) -> Result<FlowInfo, Fail> {
+    for row in rows {
+        let segment = Segment {
+            payload: row.text,
+            ..from(HOST, 4000, row.seq, row.flags)
+        };
+        assert!(rt; segment.payload.len() < 100);
+        assert_eq!(rt; table.admits(&segment), Some(row.len));
+        let Steered::Flow { flow, len, fin, .. } = table.place(&segment)? else {
+            return Err(Fail::new("steered"));
+        };
+        assert_eq!(rt; (flow, len, fin), (0, row.len, row.flags & FIN != 0));
+    }
+    assert_eq!(rt; table.count(), 1);
+    Ok(table.line(0))
+}
+
+/// Both sides close: data, FIN, and the acknowledgement of the other side's FIN. A segment sent again counts, and a byte past the
+/// FIN doesn't.
+#[test]
+fn a_full_close(rt: HostRuntime) -> Result<(), Fail> {
+    let rows = [
+        row(999, SYN, b"", 0),
+        row(1000, ACK, b"", 0),
+        row(1000, ACK, b"GET /", 5),
+        row(1005, ACK | FIN, b" done", 5),
+        row(1011, ACK, b"", 0),
+        row(1003, ACK, b" / done", 7),
+        row(1003, ACK, b" / done.", 7),
+        row(1010, ACK, b".", 0),
+    ];
+    let FlowInfo { fin, reset, .. } = place_all(&rt, table(&rt)?, &rows)?;
+    assert_eq!(rt; (fin, reset), (Some(1010), false));
+    Ok(())
+}
+
+/// A FIN without payload comes before what stands in front of it; then this side only acknowledges, and its FIN comes again. A
+/// second number doesn't take the place of the first.
+#[test]
+fn a_half_close(rt: HostRuntime) -> Result<(), Fail> {
+    let rows = [
+        row(999, SYN, b"", 0),
+        row(1004, ACK | FIN, b"", 0),
+        row(1002, ACK, b"cd", 2),
+        row(1000, ACK, b"ab", 2),
+        row(1005, ACK, b"", 0),
+        row(1005, ACK, b"", 0),
+        row(1004, ACK | FIN, b"", 0),
+        row(1004, ACK | FIN, b"xy", 0),
+        row(1000, ACK, b"abcdxy", 4),
+    ];
+    let FlowInfo { fin, reset, .. } = place_all(&rt, table(&rt)?, &rows)?;
+    assert_eq!(rt; (fin, reset), (Some(1004), false));
+    let all = [
+        to_80(999, SYN, b""),
+        to_80(1004, ACK | FIN, b""),
+        to_80(1002, ACK, b"cdxy"),
+        to_80(1000, ACK, b"ab"),
+    ];
+    expect_stream(&rt, rt.alloc(), &all, &[], 0, b"abcd")
+}
+
+/// From an RST on nothing counts, also of the segment that has it, and no FIN sets a number.
+#[test]
+fn an_rst_in_the_middle(rt: HostRuntime) -> Result<(), Fail> {
+    let rows = [
+        row(999, SYN, b"", 0),
+        row(1000, ACK, b"ab", 2),
+        row(1002, RST, b"x", 0),
+        row(1002, ACK, b"cd", 0),
+        row(1004, ACK | FIN, b"e", 0),
+    ];
+    let FlowInfo { fin, reset, .. } = place_all(&rt, table(&rt)?, &rows)?;
+    assert_eq!(rt; (fin, reset), (None, true));
+    let rows = [row(1000, RST | FIN, b"ab", 0)];
+    let FlowInfo { fin, reset, .. } = place_all(&rt, table(&rt)?, &rows)?;
+    assert_eq!(rt; (fin, reset), (None, true));
+    let rows = [
+        row(1000, ACK | FIN, b"ab", 2),
+        row(1000, ACK, b"ab", 2),
+        row(1003, ACK | RST, b"", 0),
+        row(1000, ACK, b"ab", 0),
+    ];
+    let FlowInfo { fin, reset, .. } = place_all(&rt, table(&rt)?, &rows)?;
+    assert_eq!(rt; (fin, reset), (Some(1002), true));
+    Ok(())
+}
+
+/// The FIN's number lies behind the wrap of the sequence numbers, and what comes late in front of it.
+#[test]
+fn a_fin_behind_the_wrap(rt: HostRuntime) -> Result<(), Fail> {
+    let rows = [
+        row(4294967289, SYN, b"", 0),
+        row(2, ACK | FIN, b"ij", 2),
+        row(4294967294, ACK, b"efghijxyz", 6),
+        row(4294967290, ACK, b"abcd", 4),
+        row(4, ACK, b"xyz", 0),
+        row(2147483652, ACK, b"xyz", 0),
+        row(2147483653, ACK, b"xyz", 3),
+    ];
+    let FlowInfo { fin, reset, .. } = place_all(&rt, table(&rt)?, &rows)?;
+    assert_eq!(rt; (fin, reset), (Some(4), false));
+    let all = [
+        to_80(4294967289, SYN, b""),
+        to_80(2, ACK | FIN, b"ij"),
+        to_80(4294967294, ACK, b"efghijxyz"),
+        to_80(4294967290, ACK, b"abcd"),
+    ];
+    expect_stream(&rt, rt.alloc(), &all, &[], 0, b"abcdefghij")
+}
+
+/// The pair of ports is used again behind an RST: the other flow has its own close. A segment that is left out closes its flow.
+#[test]
+fn a_pair_of_ports_used_again(rt: HostRuntime) -> Result<(), Fail> {
+    let all = [
+        to_80(1000, SYN, b""),
+        to_80(1001, ACK, b"ab"),
+        to_80(1003, RST, b"x"),
+        to_80(1003, ACK, b"cd"),
+        to_80(5000, SYN, b""),
+        to_80(5001, ACK | FIN, b"ef"),
+        to_80(5003, ACK, b"gh"),
+    ];
+    expect_stream(&rt, rt.alloc(), &all, &[], 0, b"ab")?;
+    expect_stream(&rt, rt.alloc(), &all, &[], 1, b"ef")?;
+    expect_stream(&rt, rt.alloc(), &all, &[3], 0, b"ab")?;
+    expect_stream(&rt, rt.alloc(), &all, &[6], 1, b"")
+}
+
+/// The FIN's number isn't reached: the stream ends at the gap.
+#[test]
+fn a_fin_behind_a_gap(rt: HostRuntime) -> Result<(), Fail> {
+    let rows = [row(1000, SYN, b"", 0), row(1003, ACK | FIN, b"cd", 2)];
+    let FlowInfo { base, fin, .. } = place_all(&rt, table(&rt)?, &rows)?;
+    assert_eq!(rt; (base, fin), (1001, Some(1005)));
+    let all = [to_80(1000, SYN, b""), to_80(1003, ACK | FIN, b"cd")];
+    expect_stream(&rt, rt.alloc(), &all, &[], 0, b"")
+}
+
+/// Behind a FIN with payload nothing counts, and of a segment that reaches past its number what comes before.
+#[test]
+fn nothing_counts_behind_a_fin(rt: HostRuntime) -> Result<(), Fail> {
+    let rows = [
+        row(1000, SYN, b"", 0),
+        row(1001, ACK | FIN, b"ab", 2),
+        row(1003, ACK, b"cd", 0),
+        row(1001, ACK, b"abX", 2),
+    ];
+    let FlowInfo { base, fin, .. } = place_all(&rt, table(&rt)?, &rows)?;
+    assert_eq!(rt; (base, fin), (1001, Some(1003)));
+    let all = [
+        to_80(1000, SYN, b""),
+        to_80(1001, ACK | FIN, b"ab"),
+        to_80(1003, ACK, b"cd"),
+        to_80(1001, ACK, b"abX"),
+    ];
+    expect_stream(&rt, rt.alloc(), &all, &[], 0, b"ab")
 }

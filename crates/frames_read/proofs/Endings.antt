@@ -6,7 +6,7 @@ use Rattle.std.specs.Io.KnownBytes.{Keeps, IsAtEnd}
 use Rattle.std.proofs.lemmas.Bool.{cond_both}
 use Rattle.zr_kinds.specs.declared.fault.Fault.{Fault}
 use Rattle.zr_kinds.specs.declared.fault.Fault.TheVariants.{Memory, Usage, NotPcap, Version, LinkType, Cut, LongRecord, Read, Write, TooManyFlows}
-use Rattle.zr_kinds.specs.declared.fault.Fault.TheVariants.{TooManyFrames}
+use Rattle.zr_kinds.specs.declared.fault.Fault.TheVariants.{TooManyFrames, BadBlock, BadRun}
 use Rattle.zr_io.specs.Moved.{Rose, Took}
 use Rattle.zr_io.proofs.Moved.{Took-nothing, Took-then, Took-weaker, Rose-earlier}
 use Rattle.pcap_reader.specs.declared.order.ByteOrder.{ByteOrder}
@@ -85,6 +85,8 @@ frame_cases P flows frames Cut is = absurd is
 frame_cases P flows frames LongRecord is = absurd is
 frame_cases P flows frames Read is = absurd is
 frame_cases P flows frames Write is = absurd is
+frame_cases P flows frames BadBlock is = absurd is
+frame_cases P flows frames BadRun is = absurd is
 
 -- ---- which faults a record shows
 
@@ -100,6 +102,8 @@ record_cases P memory cut long_record read LinkType is = absurd is
 record_cases P memory cut long_record read Write is = absurd is
 record_cases P memory cut long_record read TooManyFlows is = absurd is
 record_cases P memory cut long_record read TooManyFrames is = absurd is
+record_cases P memory cut long_record read BadBlock is = absurd is
+record_cases P memory cut long_record read BadRun is = absurd is
 
 kind-fault : (fault : Fault) → IsRecordFault fault → IsEnding (Some fault)
 kind-fault = record_cases (λ fault. IsEnding (Some fault)) tt tt tt tt
@@ -260,6 +264,8 @@ opening_cases P not_pcap version link_type cut read LongRecord is = absurd is
 opening_cases P not_pcap version link_type cut read Write is = absurd is
 opening_cases P not_pcap version link_type cut read TooManyFlows is = absurd is
 opening_cases P not_pcap version link_type cut read TooManyFrames is = absurd is
+opening_cases P not_pcap version link_type cut read BadBlock is = absurd is
+opening_cases P not_pcap version link_type cut read BadRun is = absurd is
 
 opening-ends : (ports : List ℕ) (bytes : List ℕ) → Leads (ended_of ports bytes) [] (records_of bytes)
 unfolding ended_of
@@ -337,3 +343,5 @@ module _ (Wants : List (List ℕ) → List ℕ → Type 0) {order : ByteOrder} {
       by_fault Write is = at Write is
       by_fault TooManyFlows is = at TooManyFlows is
       by_fault TooManyFrames is = at TooManyFrames is
+      by_fault BadBlock is = at BadBlock is
+      by_fault BadRun is = at BadRun is

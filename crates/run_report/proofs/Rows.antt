@@ -2,17 +2,18 @@
 use Rattle.std.proofs.Common.{◌≡◌, [], ◌∷◌, ◌++◌, true, codes, refl}
 use Rattle.std.specs.Fmt.{digits}
 use Rattle.zr_kinds.specs.declared.behaviour.Stopped.TheVariants.{No}
+use Rattle.zr_kinds.specs.declared.outcome.FlowEnd.TheVariants.{Whole}
 use Rattle.run_report.specs.Report.{report_of, capture_line, app_line, flow_line, pool_line}
 
 -- three records, one application, one flow, no refused frame
 one_flow :
     report_of record { records = 3; tcp = 3; steered = 3; other = 0; fragment = 0; cut = 0; bad = 0 }
     (record { port = 9000; written = 5; loans = 1; copied = 0; stopped = No } ∷ [])
-    (record { port = 9000; base = 1001; bytes = 5; fin = true } ∷ []) []
+    (record { port = 9000; base = 1001; bytes = 5; fin = true; end = Whole } ∷ []) []
     record { fast = 0; refill = 0; slow = 1; empty = 0; strays = 0 }
     0
     ≡ codes "capture records 3 tcp 3 steered 3 other 0 fragment 0 cut 0 bad 0" ++ 10 ∷ codes "app 0 port 9000 written 5 loans 1 copied 0 stopped no"
-    ++ 10 ∷ codes "flow 0 port 9000 base 1001 bytes 5 fin yes" ++ 10 ∷ codes "pool fast 0 refill 0 slow 1 empty 0 strays 0" ++ 10 ∷ codes "status 0"
+    ++ 10 ∷ codes "flow 0 port 9000 base 1001 bytes 5 fin yes end whole" ++ 10 ∷ codes "pool fast 0 refill 0 slow 1 empty 0 strays 0" ++ 10 ∷ codes "status 0"
     ++ 10 ∷ []
 unfolding capture_line app_line flow_line pool_line digits
 one_flow = refl

@@ -7,6 +7,8 @@ use Rattle.zr_kinds.specs.declared.behaviour.Stopped.{Stopped}
 use Rattle.zr_kinds.specs.declared.behaviour.Stopped.TheVariants as stopped
 use Rattle.zr_kinds.specs.declared.outcome.Tally.{Tally}
 use Rattle.zr_kinds.specs.declared.outcome.AppLine.{AppLine}
+use Rattle.zr_kinds.specs.declared.outcome.FlowEnd.{FlowEnd}
+use Rattle.zr_kinds.specs.declared.outcome.FlowEnd.TheVariants.{Going, Whole, Short, Reset}
 use Rattle.zr_kinds.specs.declared.outcome.FlowLine.{FlowLine}
 use Rattle.zr_kinds.specs.declared.outcome.PoolStats.{PoolStats}
 use Rattle.zr_io.specs.Moved.{Rose, Gained}
@@ -23,6 +25,13 @@ stopped_word stopped.Memory = codes "memory"
 abbrev pub yes_or_no : Bool → List ℕ
 yes_or_no true = codes "yes"
 yes_or_no false = codes "no"
+
+-- how a flow ended
+abbrev pub end_word : FlowEnd → List ℕ
+end_word Going = codes "open"
+end_word Whole = codes "whole"
+end_word Short = codes "short"
+end_word Reset = codes "reset"
 
 -- the records by the class of their frames
 unfoldable pub capture_line : Tally → List ℕ
@@ -41,7 +50,7 @@ app_line number app =
 unfoldable pub flow_line : ℕ → FlowLine → List ℕ
 flow_line number flow =
     codes "flow " ++ decimal number ++ codes " port " ++ decimal flow.port ++ codes " base " ++ decimal flow.base ++ codes " bytes " ++ decimal flow.bytes
-    ++ codes " fin " ++ yes_or_no flow.fin ++ 10 ∷ []
+    ++ codes " fin " ++ yes_or_no flow.fin ++ codes " end " ++ end_word flow.end ++ 10 ∷ []
 
 -- the frame with this number was refused
 abbrev pub refused_line : ℕ → List ℕ

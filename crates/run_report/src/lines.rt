@@ -1,10 +1,10 @@
 //! The lines of a report.
 ghost use Rattle.std.specs.Prelude.{◌≡◌, Some};
 ghost use Rattle.std.specs.List.{flat_map};
-ghost use Rattle.run_report.specs.Report.{app_line, capture_line, flow_line, numbered, pool_line, refused_line, stopped_word, yes_or_no};
+ghost use Rattle.run_report.specs.Report.{app_line, capture_line, end_word, flow_line, numbered, pool_line, refused_line, stopped_word, yes_or_no};
 
 use std::fmt;
-use zr_kinds::{AppLine, FlowLine, PoolStats, Stopped, Tally};
+use zr_kinds::{AppLine, FlowEnd, FlowLine, PoolStats, Stopped, Tally};
 
 /// How many records there were, in all and of each class.
 #[derive(Clone, Copy)]
@@ -70,12 +70,12 @@ impl fmt::Display for NumberedFlow<'_> {
             base,
             bytes,
             fin,
+            end,
         } = *self.flow;
         let fin = if fin { "yes" } else { "no" };
-        writeln!(
-            f,
-            "flow {number} port {port} base {base} bytes {bytes} fin {fin}"
-        )
+        let end = end_name(end);
+        write!(f, "flow {number} port {port} base {base} bytes {bytes}")?;
+        writeln!(f, " fin {fin} end {end}")
     }
 }
 
@@ -169,5 +169,17 @@ fn stopped_name(stopped: Stopped) -> &'static str
         Stopped::Quit => "quit",
         Stopped::Write => "write",
         Stopped::Memory => "memory",
+    }
+}
+
+/// How a report calls the end of a flow.
+fn end_name(end: FlowEnd) -> &'static str
+    ensures { result.now ≡ end_word end }
+{
+    match end {
+        FlowEnd::Going => "open",
+        FlowEnd::Whole => "whole",
+        FlowEnd::Short => "short",
+        FlowEnd::Reset => "reset",
     }
 }

@@ -2,7 +2,7 @@ use crate::{Report, Unreported, answer, write_report};
 use std::alloc::Global;
 use std::test::*;
 use zr_io::MemSink;
-use zr_kinds::{AppLine, FlowLine, PoolStats, Stopped, Tally};
+use zr_kinds::{AppLine, FlowEnd, FlowLine, PoolStats, Stopped, Tally};
 
 /// More bytes than any report here has.
 const ROOM: usize = 1000;
@@ -30,6 +30,7 @@ const FLOW: FlowLine = FlowLine {
     base: 1001,
     bytes: 5,
     fin: true,
+    end: FlowEnd::Whole,
 };
 
 const POOL: PoolStats = PoolStats {
@@ -65,7 +66,7 @@ fn one_application_and_one_flow(rt: HostRuntime) -> Result<(), Fail> {
     let text = b"\
 capture records 3 tcp 3 steered 3 other 0 fragment 0 cut 0 bad 0
 app 0 port 9000 written 5 loans 1 copied 0 stopped no
-flow 0 port 9000 base 1001 bytes 5 fin yes
+flow 0 port 9000 base 1001 bytes 5 fin yes end whole
 pool fast 0 refill 0 slow 1 empty 0 strays 0
 status 0
 ";
@@ -110,8 +111,16 @@ fn lines_are_numbered_from_0(rt: HostRuntime) -> Result<(), Fail> {
                 base: 4_294_967_295,
                 bytes: 0,
                 fin: false,
+                end: FlowEnd::Going,
             },
-            FLOW,
+            FlowLine {
+                end: FlowEnd::Short,
+                ..FLOW
+            },
+            FlowLine {
+                end: FlowEnd::Reset,
+                ..FLOW
+            },
         ],
         refused: &[2, 16, 4_294_967_295],
         pool: &PoolStats {
@@ -129,9 +138,10 @@ capture records 4294967295 tcp 6 steered 5 other 4 fragment 3 cut 2 bad 10
 app 0 port 65535 written 18446744073709551615 loans 12 copied 11 stopped quit
 app 1 port 9000 written 5 loans 1 copied 0 stopped write
 app 2 port 9000 written 5 loans 1 copied 0 stopped memory
-flow 0 port 9000 base 1001 bytes 5 fin yes
-flow 1 port 1 base 4294967295 bytes 0 fin no
-flow 2 port 9000 base 1001 bytes 5 fin yes
+flow 0 port 9000 base 1001 bytes 5 fin yes end whole
+flow 1 port 1 base 4294967295 bytes 0 fin no end open
+flow 2 port 9000 base 1001 bytes 5 fin yes end short
+flow 3 port 9000 base 1001 bytes 5 fin yes end reset
 refused 2
 refused 16
 refused 4294967295

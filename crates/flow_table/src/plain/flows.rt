@@ -4,7 +4,8 @@ ghost use Rattle.flow_table.specs.Flows.{key_of, same_addr, same_key, newest, be
 ghost use Rattle.flow_table.specs.Plain.{steered_shown, flow_shown, found_shown};
 
 use super::steered::SteeredSegment;
-use crate::segment::{first_byte, has_fin, has_syn};
+use crate::close::Close;
+use crate::segment::{first_byte, has_syn};
 use frame_headers::{Addr, Segment};
 use std::alloc::{AllocError, Global};
 
@@ -19,8 +20,7 @@ pub struct PlainFlow {
     pub app: usize,
     /// The sequence number of its first byte.
     pub base: u32,
-    /// Whether a segment had FIN.
-    pub fin: bool,
+    pub close: Close,
 }
 
 fn same_addr(one: &Addr, other: &Addr) -> bool
@@ -38,6 +38,8 @@ impl PlainFlow {
         ensures { flow_shown result ≡ new_flow (steered_shown steered.now) }
     {
         let segment = &steered.segment;
+        let mut close = Close::none();
+        close.see(segment);
         PlainFlow {
             src: segment.src,
             dst: segment.dst,
@@ -45,7 +47,7 @@ impl PlainFlow {
             dport: segment.dport,
             app: steered.app,
             base: first_byte(segment),
-            fin: has_fin(segment),
+            close,
         }
     }
 
@@ -67,10 +69,9 @@ impl PlainFlow {
     fn seen_by(&self, segment: &Segment<'_>) -> Self
         ensures { flow_shown result ≡ seen_by (flow_shown self.now) (shown segment.now) }
     {
-        PlainFlow {
-            fin: self.fin || has_fin(segment),
-            ..*self
-        }
+        let mut flow = *self;
+        flow.close.see(segment);
+        flow
     }
 }
 

@@ -7,8 +7,8 @@ use Rattle.flow_table.specs.declared.placed.FlowFault.TheVariants.{TooManyFlows,
 use Rattle.flow_table.proofs.Steering.{too_many-for, begins-for, is_placed, handed_on, told_by, no_fault}
 use Rattle.flow_table.proofs.table.FlowTable.place.Goals as goal
 
-pub at-requires : goal.at-requires
-at-requires c = c.in_ok-flow.ensures.count.0
+pub at-entry-requires : goal.at-entry-requires
+at-entry-requires c = c.in_ok-flow.ensures.count.0
 
 pub returns-in_err-flow-clause-too_many : goal.returns-in_err-flow-clause-too_many
 returns-in_err-flow-clause-too_many c =
@@ -32,8 +32,9 @@ returns-clause-placed c =
     let told = c.in_ok-flow.ensures in
     is_placed c.args.self.now c.self.inside.ports.items c.self.inside.flows segment c.in-Some.app c.self.view_is
     (c.in-Some.ensures.place ∙ ap (λ ports. app_of ports segment.dport) c.deref.ensures.value)
-    c.see.new.self c.in_ok-flow.flow c.at.result.base c.first_byte.result c.has_fin.result
-    (entry_shown c.at.result) told.number told.flows told.count.1 c.at.ensures refl c.first_byte.ensures c.has_fin.ensures
+    c.see.new.self c.in_ok-flow.flow c.at-entry.result.base c.first_byte.result c.counted.result c.has_fin.result
+    (entry_shown c.at-entry.result) told.number told.flows told.count.1 c.at-entry.ensures refl c.first_byte.ensures c.counted.ensures.counted
+    c.has_fin.ensures
 
 pub returns-clause-too_many : goal.returns-clause-too_many
 returns-clause-too_many c =

@@ -1,7 +1,8 @@
-use Rattle.std.proofs.Common.{append_assoc, rules}
+use Rattle.std.proofs.Common.{append_assoc, arith}
+use Rattle.std.proofs.lemmas.Grind.{common_steps}
 use Rattle.run_report.specs.Report.{flow_line}
 use Rattle.run_report.proofs.lines.NumberedFlowDisplay.fmt.Goals as goal
 
 pub returns-clause-writes : goal.returns-clause-writes
 unfolding flow_line
-returns-clause-writes g c = simp append_assoc (search rules)
+returns-clause-writes g c = simp append_assoc (grind (arith, common_steps))
