@@ -2,7 +2,6 @@ pub mod Stored
 pub mod Entries
 pub mod Packed
 pub mod PlacedParts
-pub mod Playing
 pub mod Rings
 pub mod Searching
 pub mod Sending

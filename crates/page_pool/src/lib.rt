@@ -17,8 +17,4 @@ pub use flush::nic_flush;
 pub use laws::{accepted_are_shown, offer_is_shown, packing_is_short, packing_is_whole};
 pub use offer::{Offer, Verdict, nic_offer};
 pub use pool::{Pending, Pool, Short};
-
-#[cfg(test)]
-mod offer_tests;
-#[cfg(test)]
-mod tests;
+pub use search::find_fresh;

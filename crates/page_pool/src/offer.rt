@@ -10,7 +10,7 @@ ghost use Rattle.page_pool.specs.Placing.{FillsCurrent, LeavesCurrent, PlacesSpl
 
 use crate::pieces::PendingPieces;
 use crate::placing::{place_fresh, place_part};
-use crate::search::search;
+use crate::search::find_fresh;
 use crate::{Pool, Short, nic_flush};
 use board_face::{NicFace, Own};
 use zr_kinds::{Note, Place};
@@ -158,7 +158,7 @@ pub(crate) fn place_split<F: NicFace>(
     }
     close_current(face, &mut pool.current);
     let needed = (offer.payload.len() as u32).div_ceil(face.size());
-    if !search(face, &mut pool.stats, needed) {
+    if !find_fresh(face, &mut pool.stats, needed) {
         return Err(Shortage {
             cached: face.cached(),
             needed,

@@ -36,7 +36,7 @@ pub(crate) fn sweep<F: NicFace>(face: &mut F)
 
 /// Looks for so many fresh buffers: in the cache, then in the refill rings, then on the free list. It answers whether so
 /// many are cached, and counts the search where it ended.
-pub(crate) fn search<F: NicFace>(face: &mut F, stats: &mut PoolStats, needed: u32) -> bool
+pub fn find_fresh<F: NicFace>(face: &mut F, stats: &mut PoolStats, needed: u32) -> bool
     requires few { needed ≤ 64 }
     ensures searches { MatchBool result
         ((how : SearchEnd) × (how ≢ empty) × Searches needed stats.old stats.new (F.seen face.old) (F.seen face.new) how)

@@ -8,17 +8,17 @@ returns-then-place_in_current-clause-answer g c =
     rw same (PlacesSplit-current _ _ _ _ _ _ (rw same at c.requires.stands)
     (rw same at c.requires.none) c.requires.app c.requires.some c.requires.most c.if-place_in_current.ensures.answer)
 
-pub returns-then-not-search-clause-answer : goal.returns-then-not-search-clause-answer
-returns-then-not-search-clause-answer g c =
+pub returns-then-not-find_fresh-clause-answer : goal.returns-then-not-find_fresh-clause-answer
+returns-then-not-find_fresh-clause-answer g c =
     let same = sym c.pool.view_is in
     let leaves = c.if-place_in_current.ensures.answer in
     let closes = rw (leaves.current, leaves.view) at c.close_current.ensures.closes in
     let value = c.cached.ensures.value in
-    let few = c.if-not-search.ensures.enough in
+    let few = c.if-not-find_fresh.ensures.enough in
     rw (same, c.close_current.ensures.none, leaves.pieces_are)
     (LacksRoom-empty _ _ _ _ _ _ _ _ _ (rw same at c.requires.stands) (rw same at c.requires.none)
     (record { too_long = leaves.too_long; size_is = c.size.ensures.value; need_is = c.div_ceil-needed.ensures })
-    closes c.close_current.ensures.out c.if-not-search.ensures.searches (sym value) (omega (arith, value, few)))
+    closes c.close_current.ensures.out c.if-not-find_fresh.ensures.searches (sym value) (omega (arith, value, few)))
 
 pub place_fresh-pool-inside-requires-clause-out : goal.place_fresh-pool-inside-requires-clause-out
 place_fresh-pool-inside-requires-clause-out g c =
@@ -26,7 +26,7 @@ place_fresh-pool-inside-requires-clause-out g c =
     let leaves = c.if-place_in_current.ensures.answer in
     let closes = rw (leaves.current, leaves.view) at c.close_current.ensures.closes in
     let all = looked _ _ _ _ _ _ _ (rw same at c.requires.stands)
-    (rw same at c.requires.none) closes c.close_current.ensures.out c.if-not-search.ensures.searches.2 in
+    (rw same at c.requires.none) closes c.close_current.ensures.out c.if-not-find_fresh.ensures.searches.2 in
     (all.owns, all.pieces, leaves.pieces_are)
 
 pub returns-clause-answer : goal.returns-clause-answer
@@ -34,7 +34,7 @@ returns-clause-answer g c =
     let same = sym c.pool.view_is in
     let leaves = c.if-place_in_current.ensures.answer in
     let closes = rw (leaves.current, leaves.view) at c.close_current.ensures.closes in
-    let found = c.if-not-search.ensures.searches in
+    let found = c.if-not-find_fresh.ensures.searches in
     let placed = c.place_fresh-pool-inside.ensures.places in
     let is : IsNeed c.div_ceil-needed.result c.size.result c.pool.inside.current _ c.args.offer.now =
     record { too_long = leaves.too_long; size_is = c.size.ensures.value; need_is = c.div_ceil-needed.ensures } in

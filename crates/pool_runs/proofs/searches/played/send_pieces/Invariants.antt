@@ -1,6 +1,6 @@
 use Rattle.std.proofs.Common.{◌≡◌, ◌<◌, [], ◌∷◌}
 use Rattle.board_face.specs.NicCalls.{IsOpen, apps_of}
-use Rattle.page_pool.proofs.tests.played.send_pieces.Given as goal
+use Rattle.pool_runs.proofs.searches.played.send_pieces.Given as goal
 
 abbrev pub invariant-loop : goal.invariant-loop
 invariant-loop g l = record {

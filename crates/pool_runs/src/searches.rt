@@ -4,16 +4,16 @@ ghost use Rattle.board_face.specs.AppCalls.{IsHere};
 mod lists;
 mod played;
 
-use crate::{Pool, Short, nic_close, nic_drain, nic_flush};
 use area_layout::Layout;
 use board_face::{AppFace, NicFace, Polled};
 use lists::Lists;
+use page_pool::{Offer, Pool, Verdict, nic_close, nic_drain, nic_flush, nic_offer};
 use plain_board::PlainBoard;
 use played::Played;
 use std::alloc::Global;
 use std::process::Abort;
 use std::test::*;
-use zr_kinds::{Note, Place, PoolStats};
+use zr_kinds::PoolStats;
 
 const NONE: PoolStats = PoolStats {
     fast: 0,
@@ -148,30 +148,22 @@ fn drain_counts_strays(rt: HostRuntime) -> Result<(), Fail> {
 fn pending_note_waits_for_a_slot(rt: HostRuntime) -> Result<(), Fail> {
     let layout = Layout::new(2, 1, 1024).ok_or("no layout")?;
     let mut nic = PlainBoard::open(rt.alloc(), layout, 1, 1)?.nic();
-    let note = Note {
+    let mut pool = Pool::new(64);
+    let first = Offer {
+        app: 0,
         frame: 1,
         flow: 0,
         base: 1,
         seq: 1,
-        at: 0,
-        total: 5,
-        place: Place {
-            buffer: 0,
-            offset: 0,
-            len: 5,
-        },
-        split: false,
         fin: false,
+        payload: b"first",
     };
-    assert!(rt; nic.send_linear(0, note, b"first"));
-    let mut bytes = [0; 256];
-    bytes[..5].copy_from_slice(b"later");
-    let mut pool = Pool::new(64);
-    pool.short = Some(Short {
-        app: 0,
-        note,
-        bytes,
-    });
+    assert_eq!(rt; nic_offer(&mut nic, &mut pool, &first), Verdict::Accepted);
+    let later = Offer {
+        payload: b"later",
+        ..first
+    };
+    assert_eq!(rt; nic_offer(&mut nic, &mut pool, &later), Verdict::Accepted);
     assert!(rt; !nic_flush(&mut nic, &mut pool));
     assert_eq!(rt; pool.pending(), 1);
     nic.sound();

@@ -1,6 +1,6 @@
 use Rattle.std.proofs.Common.{refl}
-use Rattle.page_pool.proofs.Playing.{new_apps-idle}
-use Rattle.page_pool.proofs.tests.played.Played.open.Goals as goal
+use Rattle.pool_runs.proofs.Playing.{new_apps-idle}
+use Rattle.pool_runs.proofs.searches.played.Played.open.Goals as goal
 
 pub invariant_of-result : goal.invariant_of-result
 invariant_of-result c = rw c.in_ok-open.ensures (record {

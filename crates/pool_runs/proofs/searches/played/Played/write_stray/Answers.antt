@@ -1,7 +1,7 @@
 use Rattle.std.proofs.Common.{rules, ◌≡◌}
 use Rattle.plain_board.specs.Board.{others_of}
-use Rattle.page_pool.proofs.Playing.{IsPlayed, IsPlayed-app}
-use Rattle.page_pool.proofs.tests.played.Played.write_stray.Goals as goal
+use Rattle.pool_runs.proofs.Playing.{IsPlayed, IsPlayed-app}
+use Rattle.pool_runs.proofs.searches.played.Played.write_stray.Goals as goal
 
 pub invariant_of-result : goal.invariant_of-result
 invariant_of-result c =

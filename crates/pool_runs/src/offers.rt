@@ -6,9 +6,9 @@ ghost use Rattle.face_callers.specs.Reader.{HasNothing};
 ghost use Rattle.plain_board.specs.Board.{side_of};
 ghost use Rattle.page_pool.specs.Pool.{PoolStands};
 
-use crate::{Offer, Pool, Verdict, nic_drain, nic_flush, nic_offer};
 use area_layout::Layout;
 use board_face::{AppFace, NicFace, Polled};
+use page_pool::{Offer, Pool, Verdict, nic_drain, nic_flush, nic_offer};
 use plain_board::PlainBoard;
 use std::alloc::Global;
 use std::process::Abort;

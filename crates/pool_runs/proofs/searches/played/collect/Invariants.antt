@@ -1,6 +1,6 @@
 use Rattle.std.proofs.Common.{◌≡◌}
 use Rattle.board_face.specs.NicCalls.{IsOpen, free_words_of}
-use Rattle.page_pool.proofs.tests.played.collect.Given as goal
+use Rattle.pool_runs.proofs.searches.played.collect.Given as goal
 
 abbrev pub invariant-loop-word : goal.invariant-loop-word
 invariant-loop-word g l = record {

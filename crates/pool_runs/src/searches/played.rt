@@ -4,10 +4,9 @@ ghost use Rattle.board_face.specs.NicCalls.{IsOpen, HasNoToken, apps_of};
 ghost use Rattle.face_callers.specs.Reader.{HasNothing};
 ghost use Rattle.plain_board.specs.Board.{side_of};
 
-use crate::search::search;
-use crate::{Pool, nic_drain};
 use area_layout::Layout;
 use board_face::{AppFace, NicFace, Own, Polled};
+use page_pool::{Pool, find_fresh, nic_drain};
 use plain_board::PlainBoard;
 use std::alloc::{AllocError, Global};
 use std::test::*;
@@ -88,7 +87,7 @@ impl Played {
         requires { needed ≤ 64 }
     {
         let mut nic = self.board.nic();
-        let found = search(&mut nic, stats, needed);
+        let found = find_fresh(&mut nic, stats, needed);
         let cached = nic.cached();
         (Played { board: nic.back() }, found, cached)
     }

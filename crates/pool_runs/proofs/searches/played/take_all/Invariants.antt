@@ -1,6 +1,6 @@
 use Rattle.std.proofs.Common.{◌≡◌}
 use Rattle.board_face.specs.NicCalls.{IsOpen}
-use Rattle.page_pool.proofs.tests.played.take_all.Given as goal
+use Rattle.pool_runs.proofs.searches.played.take_all.Given as goal
 
 abbrev pub invariant-loop : goal.invariant-loop
 invariant-loop g l = record {

@@ -9,7 +9,7 @@ use Rattle.board_face.specs.declared.views.parts.Setting.{Setting}
 use Rattle.board_face.specs.declared.views.app.AppView.{AppView}
 use Rattle.face_callers.specs.Reader.{HasNothing}
 use Rattle.board_face.specs.Blank.{blank_app}
-use Rattle.plain_parts.specs.Opened.{new_apps}
+use Rattle.board_parts.specs.Opened.{new_apps}
 use Rattle.board_face.specs.Sides.{side_in}
 use Rattle.plain_board.specs.Board.{Board, side_of, others_of}
 

@@ -1,7 +1,7 @@
 use Rattle.std.proofs.Common.{arith}
 use Rattle.page_pool.specs.Searching.{fast, refill, slow}
 use Rattle.page_pool.proofs.Searching.{Searches-fast, Searches-refill, Searches-slow, Searches-empty, fast_not, refill_not, slow_not}
-use Rattle.page_pool.proofs.search.search.Goals as goal
+use Rattle.page_pool.proofs.search.find_fresh.Goals as goal
 
 pub returns-then-cached-needed-clause-searches : goal.returns-then-cached-needed-clause-searches
 returns-then-cached-needed-clause-searches g c =
