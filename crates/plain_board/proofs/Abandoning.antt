@@ -13,7 +13,7 @@ use Rattle.board_face.proofs.IsFilledByOneLemmas.{IsFilledByOne-abandoned}
 use Rattle.board_face.proofs.OwnBufferLemmas.{AppLiesInOwn-abandoned}
 use Rattle.board_face.proofs.FillingsFitLemmas.{FillingsFit-same}
 use Rattle.board_face.proofs.AreShownLemmas.{AreShown-abandoned}
-use Rattle.plain_parts.specs.Counts.{user_at}
+use Rattle.board_parts.specs.Counts.{user_at}
 use Rattle.plain_board.specs.Board.{Arrays, Board, byte_of}
 use Rattle.plain_board.specs.Returns.{loans_out}
 use Rattle.plain_board.specs.Sound.{IsSound}

@@ -23,7 +23,7 @@ use Rattle.board_face.proofs.AppLemmas.{pool_count-app, user_count-app}
 use Rattle.board_face.proofs.Parts.{app_count, user_part, count-tally}
 use Rattle.board_face.proofs.OwnBufferLemmas.{LieInOwn-app, LieInOwn-side}
 use Rattle.board_face.proofs.Tallies.{weight, tally, tally-flat, total-set}
-use Rattle.plain_parts.specs.Counts.{user_at}
+use Rattle.board_parts.specs.Counts.{user_at}
 use Rattle.board_face.specs.Blank.{blank_app}
 use Rattle.plain_board.specs.declared.others.Others.{Others}
 use Rattle.plain_board.specs.Board.{Arrays, Board, setting_of, side_of}

@@ -15,7 +15,7 @@ use Rattle.board_face.proofs.AppLemmas.{pool_count-app, app_count-cut}
 use Rattle.board_face.proofs.IsFilledByOneLemmas.{IsFilledByOne-cut}
 use Rattle.board_face.proofs.OwnBufferLemmas.{AppLiesInOwn-cut}
 use Rattle.board_face.proofs.AreShownLemmas.{AreShown-cut}
-use Rattle.plain_parts.specs.Free.{listed_in}
+use Rattle.board_parts.specs.Free.{listed_in}
 use Rattle.plain_board.specs.Board.{Board, byte_of}
 use Rattle.plain_board.specs.Sound.{IsSound}
 use Rattle.plain_board.proofs.Lists.{weight-other, same-or-other, raised}

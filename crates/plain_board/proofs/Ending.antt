@@ -20,8 +20,8 @@ use Rattle.board_face.proofs.Tallies.{weight, tally, total, tally-flat}
 use Rattle.board_face.proofs.Parts.{nic_count, app_count, helds_in, spares_in, loans_in, notes_in, owed_count, returned_in-count, pool_count-parts, count-tally}
 use Rattle.board_face.proofs.FreeLemmas.{user_count-le}
 use Rattle.board_face.proofs.RelayLemmas.{way-taken}
-use Rattle.plain_parts.specs.Free.{listed_in, listed_below}
-use Rattle.plain_parts.proofs.FreeLists.{IsEachOnce-free, free-fit}
+use Rattle.board_parts.specs.Free.{listed_in, listed_below}
+use Rattle.board_parts.proofs.FreeLists.{IsEachOnce-free, free-fit}
 use Rattle.plain_board.specs.Board.{Board}
 use Rattle.plain_board.specs.Finish.{IsOver, free_of, IsEachOnce, HasNoCounts, IsServed, BoardsEndWell}
 use Rattle.plain_board.specs.Sound.{IsSound, IsPhased}

@@ -8,8 +8,8 @@ use Rattle.std.proofs.lemmas.Bool.{ltb-true}
 use Rattle.board_face.specs.NicEvents.{cached, cache_room}
 use Rattle.board_face.proofs.ListLemmas.{not-eqb}
 use Rattle.board_face.proofs.Tallies.{weight}
-use Rattle.plain_parts.specs.Free.{listed_in}
-use Rattle.plain_parts.specs.Free.{relisted}
+use Rattle.board_parts.specs.Free.{listed_in}
+use Rattle.board_parts.specs.Free.{relisted}
 use Rattle.plain_board.proofs.Lists.{weight-swap, count-push}
 
 pub and-right : (c d : Bool) → (c && d) ≡ true → d ≡ true

@@ -21,8 +21,8 @@ use Rattle.board_face.proofs.IsFilledByOneLemmas.{IsFilledByOne-gave}
 use Rattle.board_face.proofs.OwnBufferLemmas.{AppLiesInOwn-abandoned}
 use Rattle.board_face.proofs.FillingsFitLemmas.{FillingsFit-same}
 use Rattle.board_face.proofs.AreShownLemmas.{AreShown-gave}
-use Rattle.plain_parts.specs.Rings.{ring_in, pushed}
-use Rattle.plain_parts.specs.Counts.{user_at}
+use Rattle.board_parts.specs.Rings.{ring_in, pushed}
+use Rattle.board_parts.specs.Counts.{user_at}
 use Rattle.plain_board.specs.Board.{Arrays, Board, byte_of}
 use Rattle.plain_board.specs.Returns.{AreReturns, entries_on_way, reach_of}
 use Rattle.plain_board.proofs.RingSlots.{IsRing-at, IsRing-pushed}

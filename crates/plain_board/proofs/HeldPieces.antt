@@ -24,7 +24,7 @@ use Rattle.board_face.proofs.AppLemmas.{app_count-released}
 use Rattle.board_face.proofs.RelayLemmas.{Relayed-app}
 use Rattle.board_face.proofs.FewLemmas.{pool_count-few}
 use Rattle.board_face.proofs.FillingsFitLemmas.{FillingsFit-same}
-use Rattle.plain_parts.specs.Free.{listed_in}
+use Rattle.board_parts.specs.Free.{listed_in}
 use Rattle.plain_board.specs.Board.{Arrays, Board, byte_of}
 use Rattle.plain_board.specs.Sound.{IsSound, IsAtRest}
 use Rattle.board_face.proofs.LiesLemmas.{total-at}

@@ -32,8 +32,8 @@ use Rattle.board_face.proofs.FillingsFitLemmas.{FillingsFit-nic}
 use Rattle.board_face.proofs.IsFilledByOneLemmas.{IsFilledByOne-honoured, IsFilledByOne-gave_up}
 use Rattle.board_face.proofs.OwnBufferLemmas.{LieInOwn-nic}
 use Rattle.board_face.proofs.AreShownLemmas.{AreShown-honoured, AreShown-gave_up}
-use Rattle.plain_parts.specs.Free.{listed_in}
-use Rattle.plain_parts.specs.Counts.{user_at}
+use Rattle.board_parts.specs.Free.{listed_in}
+use Rattle.board_parts.specs.Counts.{user_at}
 use Rattle.plain_board.specs.Board.{Board, byte_of}
 use Rattle.plain_board.specs.Returns.{AreReturns, is_some_of, returns, names, abandoned_in}
 use Rattle.plain_board.specs.Sound.{IsSound, refills_of}

@@ -16,7 +16,7 @@ use Rattle.board_face.proofs.IsFilledByOneLemmas.{IsFilledByOne-lent}
 use Rattle.board_face.proofs.OwnBufferLemmas.{AppLiesInOwn-lent}
 use Rattle.board_face.proofs.FillingsFitLemmas.{FillingsFit-same}
 use Rattle.board_face.proofs.AreShownLemmas.{AreShown-lent}
-use Rattle.plain_parts.specs.Counts.{user_at}
+use Rattle.board_parts.specs.Counts.{user_at}
 use Rattle.plain_board.specs.Board.{Board, byte_of}
 use Rattle.plain_board.specs.Sound.{IsSound}
 use Rattle.plain_board.proofs.AppFrames.{was-booked_filled, was-own}

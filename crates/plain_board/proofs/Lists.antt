@@ -8,7 +8,7 @@ use Rattle.std.proofs.lemmas.Nat.{div-mul-add}
 use Rattle.std.proofs.lemmas.Bool.Decides.{eqb_tells}
 use Rattle.circular_buffer.specs.Buffer.{last_item}
 use Rattle.board_face.proofs.Tallies.{weight, tally}
-pub use Rattle.plain_parts.proofs.FreeLists.{weight-same, weight-other, count-push, count-append}
+pub use Rattle.board_parts.proofs.FreeLists.{weight-same, weight-other, count-push, count-append}
 
 -- ---- one count raised or lowered
 

@@ -28,10 +28,10 @@ use Rattle.board_face.proofs.IsFilledByOneLemmas.{IsFilledByOne-sent, IsFilledBy
 use Rattle.board_face.proofs.OwnBufferLemmas.{LieInOwn-sent, LieInOwn-sent_linear}
 use Rattle.board_face.proofs.AreShownLemmas.{AreShown-sent, AreShown-sent_linear}
 use Rattle.board_face.proofs.RelayLemmas.{taken-within, Relayed-sent, Relayed-sent_other}
-use Rattle.plain_parts.specs.declared.slots.NoteSlot.{NoteSlot}
-use Rattle.plain_parts.specs.Free.{listed_in}
+use Rattle.board_parts.specs.declared.slots.NoteSlot.{NoteSlot}
+use Rattle.board_parts.specs.Free.{listed_in}
 use Rattle.plain_board.specs.Board.{Arrays, Board, byte_of}
-use Rattle.plain_parts.specs.Rings.{pushed}
+use Rattle.board_parts.specs.Rings.{pushed}
 use Rattle.plain_board.specs.Sound.{IsSound, IsRing, AreRelayed, IsProper, refills_of, notes_of, taken_of}
 use Rattle.plain_board.proofs.RingSlots.{IsRing-pushed}
 use Rattle.board_face.proofs.SideLemmas.{IsApp-at}

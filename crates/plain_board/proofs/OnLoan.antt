@@ -17,7 +17,7 @@ use Rattle.board_face.proofs.Tallies.{weight}
 use Rattle.board_face.proofs.Parts.{app_count, user_part, count-tally}
 use Rattle.board_face.proofs.FreeLemmas.{user_count-le}
 use Rattle.board_face.proofs.RelayLemmas.{Relayed-app}
-use Rattle.plain_parts.specs.Counts.{user_at}
+use Rattle.board_parts.specs.Counts.{user_at}
 use Rattle.plain_board.specs.Board.{Arrays, Board, byte_of}
 use Rattle.plain_board.specs.Returns.{loans_out}
 use Rattle.plain_board.specs.Sound.{IsSound}

@@ -23,11 +23,11 @@ use Rattle.board_face.proofs.Tallies.{weight}
 use Rattle.board_face.proofs.OpenedLemmas.{length-new_apps, numbered-new_apps, All-new, hands-new, count-new, users-new}
 use Rattle.board_face.proofs.OpenedLemmas.{all-alike, IsNew, FillingsFit-opened, IsFilledByOne-opened, AreShown-opened}
 use Rattle.zr_kinds.specs.declared.ring.Rqe.{Rqe}
-use Rattle.plain_parts.specs.declared.slots.NoteSlot.{NoteSlot}
+use Rattle.board_parts.specs.declared.slots.NoteSlot.{NoteSlot}
 use Rattle.plain_board.specs.Returns.{AreReturns, entries_on_way, loans_out, reach_of}
-use Rattle.plain_parts.specs.Opened.{new_apps}
-use Rattle.plain_parts.specs.Free.{listed_in}
-use Rattle.plain_parts.specs.Counts.{user_at}
+use Rattle.board_parts.specs.Opened.{new_apps}
+use Rattle.board_parts.specs.Free.{listed_in}
+use Rattle.board_parts.specs.Counts.{user_at}
 use Rattle.plain_board.specs.Board.{Board, new_board, byte_of}
 use Rattle.plain_board.specs.Sound.{IsRing, IsSound, IsAtRest, IsProper, IsPhased}
 

@@ -16,7 +16,7 @@ use Rattle.board_face.proofs.Tallies.{weight, tally, total, tally-flat}
 use Rattle.board_face.proofs.Parts.{app_count, user_part, loans_in, owed_count, returned_in-count, count-tally}
 use Rattle.board_face.proofs.AppLemmas.{pool_count-app, user_count-app}
 use Rattle.board_face.specs.Blank.{blank_app}
-use Rattle.plain_parts.specs.Free.{HasNoneListed}
+use Rattle.board_parts.specs.Free.{HasNoneListed}
 use Rattle.board_face.proofs.OpenedLemmas.{all-alike}
 use Rattle.plain_board.specs.Board.{Board, others_of}
 use Rattle.plain_board.specs.Seen.{self_of, all_of, HasNothingListed}

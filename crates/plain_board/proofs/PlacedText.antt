@@ -20,8 +20,8 @@ use Rattle.board_face.proofs.FillingsFitLemmas.{FillingsFit-own, FillingsFit-pla
 use Rattle.board_face.proofs.IsFilledByOneLemmas.{IsFilledByOne-placed}
 use Rattle.board_face.proofs.OwnBufferLemmas.{LieInOwn-placed}
 use Rattle.board_face.proofs.AreShownLemmas.{AreShown-placed}
-use Rattle.plain_parts.specs.Area.{stored}
-use Rattle.plain_parts.specs.Free.{listed_in}
+use Rattle.board_parts.specs.Area.{stored}
+use Rattle.board_parts.specs.Free.{listed_in}
 use Rattle.plain_board.specs.Board.{Board, byte_of}
 use Rattle.plain_board.specs.Sound.{IsSound}
 use Rattle.plain_board.proofs.Lists.{weight-same, weight-other, same-or-other}

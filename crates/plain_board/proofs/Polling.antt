@@ -28,8 +28,8 @@ use Rattle.board_face.proofs.FillingsFitLemmas.{FillingsFit-same}
 use Rattle.board_face.proofs.IsFilledByOneLemmas.{IsFilledByOne-took_note, IsFilledByOne-took_linear}
 use Rattle.board_face.proofs.OwnBufferLemmas.{AppLiesInOwn-took_note}
 use Rattle.board_face.proofs.AreShownLemmas.{AreShown-took_note, AreShown-took_linear}
-use Rattle.plain_parts.specs.declared.slots.NoteSlot.{NoteSlot}
-use Rattle.plain_parts.specs.Rings.{popped}
+use Rattle.board_parts.specs.declared.slots.NoteSlot.{NoteSlot}
+use Rattle.board_parts.specs.Rings.{popped}
 use Rattle.plain_board.specs.Board.{Arrays, Board, others_of, byte_of}
 use Rattle.plain_board.specs.Seen.{IsSeenBy}
 use Rattle.plain_board.proofs.RingSlots.{IsRing-popped}

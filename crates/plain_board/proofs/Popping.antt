@@ -14,7 +14,7 @@ use Rattle.board_face.specs.declared.views.nic.NicView.{NicView}
 use Rattle.board_face.specs.declared.views.app.AppSide.{AppSide}
 use Rattle.board_face.proofs.RelayLemmas.{Relayed-dealt, Relayed-dealt_other}
 use Rattle.plain_board.specs.Board.{Arrays, Board}
-use Rattle.plain_parts.specs.Rings.{popped}
+use Rattle.board_parts.specs.Rings.{popped}
 use Rattle.plain_board.specs.Returns.{entries_on_way, reach_of}
 use Rattle.plain_board.proofs.RingSlots.{IsRing-popped}
 use Rattle.plain_board.specs.Sound.{IsRing, IsSound, AreRelayed, AreBooked, refills_of, notes_of, taken_of}

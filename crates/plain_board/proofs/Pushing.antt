@@ -24,7 +24,7 @@ use Rattle.board_face.proofs.IsFilledByOneLemmas.{IsFilledByOne-same}
 use Rattle.board_face.proofs.FillingsFitLemmas.{FillingsFit-same}
 use Rattle.board_face.proofs.AreShownLemmas.{AreShown-same}
 use Rattle.board_face.proofs.WrittenLemmas.{way-written, AreReturns-pushed}
-use Rattle.plain_parts.specs.Rings.{ring_in, pushed}
+use Rattle.board_parts.specs.Rings.{ring_in, pushed}
 use Rattle.plain_board.specs.Board.{Board, byte_of, others_of}
 use Rattle.plain_board.specs.Returns.{AreReturns, entries_on_way, reach_of}
 use Rattle.plain_board.specs.Seen.{IsSeenBy}

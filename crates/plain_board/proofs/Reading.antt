@@ -25,7 +25,7 @@ use Rattle.board_face.proofs.TextsByEvent.{IsShown-loan}
 use Rattle.board_face.proofs.IsFilledByOneLemmas.{IsFilledByOne-same}
 use Rattle.board_face.proofs.FillingsFitLemmas.{FillingsFit-same}
 use Rattle.board_face.proofs.AreShownLemmas.{AreShown-same}
-use Rattle.plain_parts.specs.Area.{loaded}
+use Rattle.board_parts.specs.Area.{loaded}
 use Rattle.plain_board.specs.Board.{Board, byte_of}
 use Rattle.plain_board.specs.Sound.{IsSound, taken_of, notes_of, refills_of}
 use Rattle.plain_board.proofs.AppFrames.{IsSet-app, was-at_rest, AreCounted-app, was-returned, AreRelayed-kept, was-relayed, returns-app, was-returns}

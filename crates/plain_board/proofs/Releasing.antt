@@ -18,7 +18,7 @@ use Rattle.board_face.proofs.AppLemmas.{pool_count-app, app_count-released}
 use Rattle.board_face.proofs.IsFilledByOneLemmas.{IsFilledByOne-released}
 use Rattle.board_face.proofs.OwnBufferLemmas.{AppLiesInOwn-released}
 use Rattle.board_face.proofs.AreShownLemmas.{AreShown-released}
-use Rattle.plain_parts.specs.Free.{listed_in}
+use Rattle.board_parts.specs.Free.{listed_in}
 use Rattle.plain_board.specs.Board.{Board, byte_of}
 use Rattle.plain_board.specs.Sound.{IsSound}
 use Rattle.plain_board.proofs.Lists.{weight-other, weight-none, same-or-other, lowered}

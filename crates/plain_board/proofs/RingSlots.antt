@@ -2,7 +2,7 @@
 use Rattle.std.proofs.Common.{ℕ, ◌<◌, List, [], ◌∷◌, length, arith, length-append, length-drop}
 use Rattle.std.specs.Prelude.{All}
 use Rattle.circular_buffer.specs.Buffer.{Buffer, buffer}
-use Rattle.plain_parts.specs.Rings.{ring_in, popped, pushed}
+use Rattle.board_parts.specs.Rings.{ring_in, popped, pushed}
 use Rattle.plain_board.specs.Sound.{IsRing}
 
 pub IsRing-at : {X : Type 0} (places : ℕ) (rings : List (Buffer X)) (a : ℕ) → a < length rings → All (IsRing places) rings

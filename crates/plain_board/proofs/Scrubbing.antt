@@ -18,9 +18,9 @@ use Rattle.board_face.proofs.AppLemmas.{scrubbed_side, pool_count-app, app_count
 use Rattle.board_face.proofs.IsFilledByOneLemmas.{IsFilledByOne-scrubbed}
 use Rattle.board_face.proofs.FillingsFitLemmas.{FillingsFit-same}
 use Rattle.board_face.proofs.AreShownLemmas.{AreShown-scrubbed}
-use Rattle.plain_parts.specs.Area.{loaded}
-use Rattle.plain_parts.specs.Counts.{user_at, HasFewUsers, came_back, TakesBack}
-use Rattle.plain_parts.specs.Free.{listed_in}
+use Rattle.board_parts.specs.Area.{loaded}
+use Rattle.board_parts.specs.Counts.{user_at, HasFewUsers, came_back, TakesBack}
+use Rattle.board_parts.specs.Free.{listed_in}
 use Rattle.plain_board.specs.Board.{Board, byte_of}
 use Rattle.plain_board.specs.Sound.{IsSound, IsAtRest}
 use Rattle.plain_board.proofs.AppFrames.{has-setting, IsSet-app, was-at_rest, AreCounted-app, was-returned, AreRelayed-kept, was-relayed, returns-app}

@@ -23,7 +23,7 @@ use Rattle.board_face.proofs.FreeLemmas.{user_count-le}
 use Rattle.board_face.proofs.LookLemmas.{NicTold-none, NicTold-one, NicTold-two}
 use Rattle.board_face.proofs.RelayLemmas.{way-taken}
 use Rattle.board_face.specs.Blank.{blank_app}
-use Rattle.plain_parts.specs.Counts.{user_at}
+use Rattle.board_parts.specs.Counts.{user_at}
 use Rattle.plain_board.specs.Board.{Arrays, Board}
 use Rattle.plain_board.specs.Returns.{entries_on_way}
 use Rattle.plain_board.specs.Sound.{IsSound, notes_of, refills_of}

@@ -25,7 +25,7 @@ use Rattle.board_face.proofs.IsFilledByOneLemmas.{fillings-one, IsFilledByOne-fi
 use Rattle.board_face.proofs.OwnBufferLemmas.{AppLiesInOwn-filled}
 use Rattle.board_face.proofs.FillingsFitLemmas.{FillingsFit-spare, FillingsFit-filled}
 use Rattle.board_face.proofs.AreShownLemmas.{AreShown-filled}
-use Rattle.plain_parts.specs.Area.{stored}
+use Rattle.board_parts.specs.Area.{stored}
 use Rattle.plain_board.specs.Board.{Arrays, Board, byte_of}
 use Rattle.plain_board.specs.Sound.{IsSound}
 use Rattle.board_face.proofs.LiesLemmas.{total-of}

@@ -29,7 +29,7 @@ use Rattle.board_face.proofs.FillingsFitLemmas.{FillingsFit-got_spare}
 use Rattle.board_face.proofs.IsFilledByOneLemmas.{IsFilledByOne-got_spare, fillings-held}
 use Rattle.board_face.proofs.OwnBufferLemmas.{AppLiesInOwn-got_spare}
 use Rattle.board_face.proofs.AreShownLemmas.{AreShown-got_spare}
-use Rattle.plain_parts.specs.Free.{listed_in, HasNoneListed, IsPicked}
+use Rattle.board_parts.specs.Free.{listed_in, HasNoneListed, IsPicked}
 use Rattle.plain_board.specs.Board.{Arrays, Board, setting_of, others_of, byte_of}
 use Rattle.plain_board.specs.Seen.{IsSeenBy}
 use Rattle.plain_board.specs.Sound.{IsSound, IsAtRest}

@@ -17,7 +17,7 @@ use Rattle.board_face.proofs.FillingsFitLemmas.{FillingsFit-nic}
 use Rattle.board_face.proofs.IsFilledByOneLemmas.{IsFilledByOne-nic}
 use Rattle.board_face.proofs.OwnBufferLemmas.{LieInOwn-nic}
 use Rattle.board_face.proofs.AreShownLemmas.{AreShown-nic}
-use Rattle.plain_parts.specs.Free.{listed_in}
+use Rattle.board_parts.specs.Free.{listed_in}
 use Rattle.plain_board.specs.Board.{Board, byte_of}
 use Rattle.plain_board.specs.Sound.{IsSound}
 use Rattle.plain_board.proofs.Card.{IsSet-nic, AreCounted-same, AreRelayed-nic, AreReturns-nic, AreBooked-nic, ArePhased-nic}

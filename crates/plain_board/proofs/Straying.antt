@@ -30,7 +30,7 @@ use Rattle.board_face.proofs.IsFilledByOneLemmas.{IsFilledByOne-passed_over}
 use Rattle.board_face.proofs.OwnBufferLemmas.{LieInOwn-nic}
 use Rattle.board_face.proofs.AreShownLemmas.{AreShown-passed_over}
 use Rattle.board_face.proofs.Tallies.{weight}
-use Rattle.plain_parts.specs.Counts.{user_at}
+use Rattle.board_parts.specs.Counts.{user_at}
 use Rattle.plain_board.specs.Board.{Board, byte_of}
 use Rattle.plain_board.specs.Returns.{AreReturns, returns, abandoned_in, is_some_of, IsNamed}
 use Rattle.plain_board.specs.Sound.{IsSound, refills_of}

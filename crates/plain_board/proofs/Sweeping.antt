@@ -20,13 +20,13 @@ use Rattle.board_face.proofs.OwnBufferLemmas.{LieInOwn-nic}
 use Rattle.board_face.proofs.AreShownLemmas.{AreShown-swept}
 use Rattle.board_face.proofs.LookLemmas.{NicRose-nic_saw}
 use Rattle.board_face.proofs.Tallies.{weight}
-use Rattle.plain_parts.specs.Free.{listed_in}
+use Rattle.board_parts.specs.Free.{listed_in}
 use Rattle.plain_board.specs.Board.{Board, byte_of}
-use Rattle.plain_parts.specs.Free.{listed_from, found_in, word_len, word_end}
+use Rattle.board_parts.specs.Free.{listed_from, found_in, word_len, word_end}
 use Rattle.plain_board.specs.Sound.{IsSound}
 use Rattle.plain_board.proofs.Lists.{weight-same, weight-other, count-push, count-append}
 use Rattle.plain_board.proofs.Card.{IsSet-nic, AreCounted-same, AreRelayed-nic, AreReturns-nic, AreBooked-nic, ArePhased-nic}
-use Rattle.plain_parts.proofs.Moving.{length-listed_from}
+use Rattle.board_parts.proofs.Moving.{length-listed_from}
 
 -- ---- the buffers found
 

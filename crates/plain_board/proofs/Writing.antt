@@ -14,7 +14,7 @@ use Rattle.board_face.specs.declared.views.app.TakenNote.{TakenNote}
 use Rattle.board_face.specs.declared.views.app.WrittenEntry.{WrittenEntry}
 use Rattle.board_face.specs.declared.views.app.AppSide.{AppSide}
 use Rattle.board_face.proofs.LookLemmas.{AppTold-one}
-use Rattle.plain_parts.specs.Rings.{ring_in}
+use Rattle.board_parts.specs.Rings.{ring_in}
 use Rattle.plain_board.specs.Board.{Board, others_of}
 use Rattle.plain_board.specs.Seen.{IsSeenBy}
 use Rattle.plain_board.specs.Sound.{IsSound}

@@ -9,9 +9,9 @@ use Rattle.board_face.specs.declared.views.parts.Setting.{Setting}
 use Rattle.board_face.specs.declared.views.nic.NicSide.{NicSide}
 use Rattle.board_face.specs.declared.views.app.AppSide.{AppSide}
 use Rattle.board_face.specs.Blank.{blank_app}
-use Rattle.plain_parts.specs.Free.{listed_in}
-use Rattle.plain_parts.specs.Opened.{new_apps}
-use Rattle.plain_parts.specs.declared.slots.NoteSlot.{NoteSlot}
+use Rattle.board_parts.specs.Free.{listed_in}
+use Rattle.board_parts.specs.Opened.{new_apps}
+use Rattle.board_parts.specs.declared.slots.NoteSlot.{NoteSlot}
 use Rattle.plain_board.specs.declared.others.Others.{Others}
 
 -- Counts and flags, and what lies in the area and in the slots.

@@ -3,7 +3,7 @@ use Rattle.std.specs.Prelude.{◌≡◌, ℕ, true, List, ◌++◌, length, All}
 use Rattle.area_layout.specs.Layout.{pool_buffers}
 use Rattle.board_face.specs.Counts.{pool_count, user_count}
 pub use Rattle.board_face.specs.Ended.{IsEachOnce, IsServed}
-use Rattle.plain_parts.specs.Free.{listed_below}
+use Rattle.board_parts.specs.Free.{listed_below}
 use Rattle.plain_board.specs.Board.{Arrays, Board}
 use Rattle.plain_board.specs.Sound.{IsSound}
 

@@ -22,10 +22,10 @@ use Rattle.board_face.specs.declared.views.parts.Setting.{Setting}
 use Rattle.board_face.specs.declared.views.nic.NicSide.{NicSide}
 use Rattle.board_face.specs.declared.views.app.AppSide.{AppSide}
 use Rattle.board_face.specs.declared.views.app.TakenNote.{TakenNote}
-use Rattle.plain_parts.specs.declared.slots.NoteSlot.{NoteSlot}
+use Rattle.board_parts.specs.declared.slots.NoteSlot.{NoteSlot}
 use Rattle.plain_board.specs.Returns.{AreReturns, entries_on_way, loans_out, reach_of}
-use Rattle.plain_parts.specs.Free.{listed_in}
-use Rattle.plain_parts.specs.Counts.{user_at}
+use Rattle.board_parts.specs.Free.{listed_in}
+use Rattle.board_parts.specs.Counts.{user_at}
 use Rattle.plain_board.specs.Board.{Arrays, Board, setting_of, byte_of}
 
 -- The arrays have an element for each buffer, for each application, or for both.

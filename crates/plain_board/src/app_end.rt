@@ -4,7 +4,7 @@ ghost use Rattle.board_face.specs.AppEvents.{scrubbed, left_board};
 ghost use Rattle.plain_board.specs.Board.{side_of, others_of};
 
 use crate::contents::Contents;
-use plain_parts::{note_at, put, take_back};
+use board_parts::{note_at, put, take_back};
 use std::marker::Brand;
 
 impl Contents {

@@ -6,7 +6,7 @@ ghost use Rattle.plain_board.specs.Board.{side_of, others_of};
 ghost use Rattle.plain_board.specs.Seen.{AppSawSo};
 
 use crate::contents::Contents;
-use plain_parts::{note_at, put, put_back, ring_len};
+use board_parts::{note_at, put, put_back, ring_len};
 use std::marker::Brand;
 use zr_kinds::Rqe;
 

@@ -7,7 +7,7 @@ ghost use Rattle.plain_board.specs.Seen.{AppSawSo};
 
 use crate::contents::Contents;
 use board_face::Loan;
-use plain_parts::{load, lower, note_at, put_back, user_index};
+use board_parts::{load, lower, note_at, put_back, user_index};
 use std::marker::Brand;
 use zr_kinds::{Place, Rqe};
 

@@ -5,7 +5,7 @@ ghost use Rattle.plain_board.specs.Seen.{AppSawSo};
 
 use crate::contents::Contents;
 use board_face::{Held, Polled};
-use plain_parts::{note_at, take_front};
+use board_parts::{note_at, take_front};
 use std::marker::Brand;
 use zr_kinds::Note;
 

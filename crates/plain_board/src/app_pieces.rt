@@ -6,7 +6,7 @@ ghost use Rattle.plain_board.specs.Board.{side_of, others_of};
 
 use crate::contents::Contents;
 use board_face::{Held, Loan};
-use plain_parts::{came_free, list_if, lower, note_at, raise, user_index};
+use board_parts::{came_free, list_if, lower, note_at, raise, user_index};
 use std::marker::Brand;
 use zr_kinds::Place;
 

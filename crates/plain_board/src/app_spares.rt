@@ -8,7 +8,7 @@ ghost use Rattle.plain_board.specs.Seen.{AppSawSo};
 
 use crate::contents::Contents;
 use board_face::{Filling, Loan, Own};
-use plain_parts::{filled_up, filling_of, note_at, pick_spare, put, raise, store, user_index};
+use board_parts::{filled_up, filling_of, note_at, pick_spare, put, raise, store, user_index};
 use std::marker::Brand;
 use zr_kinds::Place;
 

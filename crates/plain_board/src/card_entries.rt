@@ -5,7 +5,7 @@ ghost use Rattle.plain_board.specs.Seen.{IsJudged, CardSawSo};
 
 use crate::contents::Contents;
 use board_face::Entry;
-use plain_parts::{came_free, free_if, lower, lower_if_some, owed_buffer, take_front, user_index};
+use board_parts::{came_free, free_if, lower, lower_if_some, owed_buffer, take_front, user_index};
 use std::marker::Brand;
 use zr_kinds::Rqe;
 

@@ -8,7 +8,7 @@ ghost use Rattle.plain_board.specs.Seen.{CardSawSo};
 
 use crate::contents::Contents;
 use board_face::Piece;
-use plain_parts::{NoteSlot, put_back, with_room};
+use board_parts::{NoteSlot, put_back, with_room};
 use std::marker::Brand;
 use zr_kinds::Note;
 

@@ -6,7 +6,7 @@ ghost use Rattle.board_face.specs.Tokens.{filled_by, next_place};
 
 use crate::contents::Contents;
 use board_face::{Filling, Own, Piece};
-use plain_parts::{filled_up, filling_of, raise, store};
+use board_parts::{filled_up, filling_of, raise, store};
 use std::marker::Brand;
 use zr_kinds::Place;
 

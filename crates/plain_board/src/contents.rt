@@ -4,16 +4,16 @@ ghost use Rattle.board_face.specs.NicCalls.{apps_of, IsOpen, HasOwn, HasNoToken,
 ghost use Rattle.board_face.specs.NicEvents.{word_bits, shut, nic_ended, saw_leave, nic_saw};
 ghost use Rattle.board_face.specs.declared.views.nic.NicLook.TheVariants.{NotLeft};
 ghost use Rattle.board_face.specs.Sides.{nic_at};
-ghost use Rattle.plain_parts.specs.Free.{listed_in};
+ghost use Rattle.board_parts.specs.Free.{listed_in};
 ghost use Rattle.plain_board.specs.Board.{new_board};
 ghost use Rattle.plain_board.specs.Seen.{CardSawSo};
 
 use area_layout::Layout;
 use board_face::{AppSide, NicSide, Own};
-use circular_buffer::HeapCircularBuffer;
-use plain_parts::{
+use board_parts::{
     Cache, Diary, NoteSlot, came_free, diaries, free_if, lower, move_word, raise, rings,
 };
+use circular_buffer::HeapCircularBuffer;
 use std::alloc::{AllocError, Global};
 use std::marker::{Brand, Model};
 use zr_kinds::Rqe;

@@ -3,7 +3,7 @@ ghost use Rattle.area_layout.specs.Layout.{pool_buffers};
 ghost use Rattle.plain_board.specs.Finish.{IsOver, free_of, IsEachOnce, HasNoCounts, IsServed};
 
 use crate::contents::Contents;
-use plain_parts::all_free;
+use board_parts::all_free;
 use zr_kinds::Ended;
 
 impl Contents {

@@ -1,7 +1,7 @@
 ghost use Rattle.std.specs.Prelude.{◌≡◌, ◌≢◌, ℕ, ◌/◌, ◌<◌, ◌≤◌, false, length};
 ghost use Rattle.board_face.specs.NicCalls.{apps_of, free_words_of, lost_of, sent_unsplit_bytes, SweptWord, DealtWith};
 ghost use Rattle.board_face.specs.NicEvents.{word_bits};
-ghost use Rattle.plain_parts.specs.Free.{listed_in};
+ghost use Rattle.board_parts.specs.Free.{listed_in};
 ghost use Rattle.plain_board.specs.Board.{IsUntouched};
 ghost use Rattle.plain_board.specs.Sound.{IsSound};
 ghost use Rattle.plain_board.specs.Seen.{IsSeenByCard, IsJudged, CardSawSo};

@@ -12,8 +12,8 @@ use Rattle.board_face.proofs.Tallies.{weight}
 use Rattle.ref_words.specs.declared.view.View.{View}
 use Rattle.ref_words.specs.Over.{CardIsOver, AppIsOver}
 use Rattle.ref_words.specs.Seated.{times_in, both_sides, card_view, app_view}
-use Rattle.plain_parts.specs.Free.{listed_below}
-use Rattle.plain_parts.proofs.FreeLists.{below-rises}
+use Rattle.board_parts.specs.Free.{listed_below}
+use Rattle.board_parts.proofs.FreeLists.{below-rises}
 use Rattle.word_board.specs.Board.{HasDealt, first_nic}
 use Rattle.word_board.specs.Desk.{AreOver, StandInOrder, cache_back}
 

@@ -12,7 +12,7 @@ use crate::kinds::{
 };
 use crate::rule::WordSeat;
 use board_face::{AppFace, Held, Loan, Own, Polled};
-use plain_parts::{filled_up, filling_of, lower, put, raise};
+use board_parts::{filled_up, filling_of, lower, put, raise};
 use std::marker::Model;
 use zr_kinds::{Place, Rqe};
 

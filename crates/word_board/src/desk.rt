@@ -10,7 +10,7 @@ use crate::kinds::{join_seats, look_served};
 use crate::nic_seat::NicSeat;
 use crate::rule::WordSeat;
 use board_face::Setting;
-use plain_parts::Cache;
+use board_parts::Cache;
 use std::alloc::{AllocError, Global};
 use std::marker::Model;
 

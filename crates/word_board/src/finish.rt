@@ -8,7 +8,7 @@ ghost use Rattle.word_board.specs.Desk.{AllAreBack, AreServed, HasNoHolders, Sta
 use crate::board::WordBoard;
 use crate::desk::Desk;
 use crate::kinds::{look_listed, look_unheld};
-use plain_parts::all_free;
+use board_parts::all_free;
 use zr_kinds::Ended;
 
 impl WordBoard {

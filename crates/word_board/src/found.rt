@@ -4,7 +4,7 @@ ghost use Rattle.board_face.specs.NicEvents.{cached, cache_room, word_bits};
 ghost use Rattle.ref_words.specs.FreeSteps.{found_in};
 
 use crate::kinds::WORD_BITS;
-use plain_parts::Cache;
+use board_parts::Cache;
 
 /// The highest buffer that `found` lists, and the number that lists the others. `None` says that it lists none.
 pub(crate) fn highest_listed(word: u32, found: u64) -> Option<(u32, u64)>

@@ -4,7 +4,7 @@ ghost use Rattle.std.specs.Prelude.{◌≡◌, ◌+◌, ◌%◌, ◌<◌, [], If
 ghost use Rattle.area_layout.specs.Layout.{total};
 
 use area_layout::Layout;
-use plain_parts::Cache;
+use board_parts::Cache;
 use std::alloc::{AllocError, Global};
 
 /// How many applications a board has at most.

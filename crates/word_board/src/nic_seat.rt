@@ -13,7 +13,7 @@ use crate::kinds::{
 };
 use crate::rule::WordSeat;
 use board_face::{Entry, NicFace, Own, Piece};
-use plain_parts::{CACHE_ROOM, filled_up, filling_of};
+use board_parts::{CACHE_ROOM, filled_up, filling_of};
 use std::marker::Model;
 use zr_kinds::{Note, Place};
 

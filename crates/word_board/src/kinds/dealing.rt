@@ -12,7 +12,7 @@ use crate::kinds::{Loaded, free_stray, free_void, honour_entry, look_user, take_
 use crate::rule::{SharedWords, WordSeat};
 use area_layout::Layout;
 use board_face::Entry;
-use plain_parts::{CACHE_ROOM, Cache};
+use board_parts::{CACHE_ROOM, Cache};
 
 /// The card deals with an entry in hand that names this buffer: the application's user count there tells whether it is a return
 /// or a stray. A pool buffer that comes to be free enters the cache where that has room.

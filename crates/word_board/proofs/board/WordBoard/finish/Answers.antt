@@ -4,8 +4,8 @@ use Rattle.std.specs.Prelude.{count_by}
 use Rattle.std.proofs.lemmas.List.{length-set}
 use Rattle.area_layout.specs.Layout.{pool_buffers}
 use Rattle.board_face.specs.Ended.{IsEachOnce}
-use Rattle.plain_parts.specs.Free.{listed_below}
-use Rattle.plain_parts.proofs.FreeLists.{IsEachOnce-free, free-fit}
+use Rattle.board_parts.specs.Free.{listed_below}
+use Rattle.board_parts.proofs.FreeLists.{IsEachOnce-free, free-fit}
 use Rattle.ref_words.specs.declared.view.View.{View}
 use Rattle.word_board.specs.Board.{TheBoard, TheDesk, card_of}
 use Rattle.word_board.specs.Desk.{AllAreBack, AreOver, AreServed, HasNoHolders}
