@@ -5,7 +5,7 @@ use Rattle.std.proofs.Common.{refl, sym, ap, subst, ◌∙◌, length-append, ar
 use Rattle.std.proofs.lemmas.Bool.{true≢false}
 use Rattle.zr_kinds.specs.declared.fault.Fault.{Fault}
 use Rattle.zr_kinds.specs.declared.fault.Fault.TheVariants.{Memory, Usage, NotPcap, Version, LinkType, Cut, LongRecord, Read, Write, TooManyFlows}
-use Rattle.zr_kinds.specs.declared.fault.Fault.TheVariants.{TooManyFrames}
+use Rattle.zr_kinds.specs.declared.fault.Fault.TheVariants.{TooManyFrames, BadBlock, BadRun}
 use Rattle.flow_table.specs.Flows.{Flow, flows_of, number_of_flow}
 use Rattle.flow_table.specs.Steered.{Steered}
 use Rattle.frames_read.specs.Ending.{ending_at, flow_ending, steered_in, steered_next}
@@ -13,15 +13,15 @@ use Rattle.frames_read.specs.Reading.{EndsAt, HasEnded}
 use Rattle.frames_read.proofs.Framing.{ending-flow}
 use Rattle.std.specs.Prelude.{All, option_to_list}
 use Rattle.board_face.specs.declared.views.nic.NicView.{NicView}
-use Rattle.replay_turns.specs.Coming.{Arrives, ComesTo, TookBytes, is_over}
-use Rattle.replay_turns.specs.Feed.{FeedState, FeedStands, end_of}
-use Rattle.replay_turns.specs.Offered.{WantsRoom}
-use Rattle.replay_turns.specs.declared.arrived.Arrived.TheVariants as arrived
-use Rattle.replay_turns.specs.declared.intake.Stage.{Stage}
-use Rattle.replay_turns.specs.declared.intake.Stage.TheVariants as stage
-use Rattle.run_end.specs.Ran.{HasReadOn}
-use Rattle.run_end.proofs.ReadOn.{HasReadOn-refl}
-use Rattle.replay_turns.proofs.Further.{took-then}
+use Rattle.card_feed.specs.Coming.{Arrives, ComesTo, TookBytes, is_over}
+use Rattle.card_feed.specs.Feed.{FeedState, FeedStands, end_of}
+use Rattle.card_feed.specs.Offered.{WantsRoom}
+use Rattle.card_feed.specs.declared.arrived.Arrived.TheVariants as arrived
+use Rattle.card_feed.specs.declared.intake.Stage.{Stage}
+use Rattle.card_feed.specs.declared.intake.Stage.TheVariants as stage
+use Rattle.run_account.specs.Ran.{HasReadOn}
+use Rattle.run_account.proofs.ReadOn.{HasReadOn-refl}
+use Rattle.card_feed.proofs.Further.{took-then}
 use Rattle.replay_threads.specs.declared.carried.Carried.{Carried}
 use Rattle.replay_threads.specs.declared.carried.Carried.TheVariants as carried
 use Rattle.replay_threads.specs.Carried.{MayFollow, arrived_of, has_end, is_end}
@@ -82,6 +82,8 @@ module _ (split : ℕ) (ports : List ℕ) where
       by_fault Write by = shown Write by
       by_fault TooManyFlows by = shown TooManyFlows by
       by_fault TooManyFrames by = shown TooManyFrames by
+      by_fault BadBlock by = shown BadBlock by
+      by_fault BadRun by = shown BadRun by
   frame-own before frames (carried.Over end) bytes fault many follows is by = absurd is
 
   either-false : (a b : Bool) → (a || b) ≡ false → (a ≡ false) × (b ≡ false)

@@ -1,7 +1,7 @@
 -- Applications go on: turns come behind turns, of one and of all.
 use Rattle.std.proofs.Common.{ℕ, List, Option, refl, ◌∙◌, arith}
 use Rattle.std.specs.Prelude.{slice_index_or}
-use Rattle.run_end.specs.Running.{WorkerFits}
+use Rattle.run_account.specs.Running.{WorkerFits}
 use Rattle.replay_threads.specs.declared.lane.Lane.{Lane}
 use Rattle.replay_threads.specs.Lanes.{AllFit, LaneGoes, AllGo}
 

@@ -4,11 +4,11 @@ use Rattle.std.proofs.Common.{refl, sym, ap, subst, ◌∙◌, append_assoc, app
 use Rattle.zr_kinds.specs.declared.fault.Fault.TheVariants.{TooManyFrames}
 use Rattle.pcap_reader.specs.declared.capture.Record.{Record}
 use Rattle.frames_read.proofs.Framing.{ending-limit}
-use Rattle.replay_turns.specs.declared.intake.Stage.{Stage}
-use Rattle.replay_turns.specs.declared.arrived.Arrived.TheVariants.{Frame}
-use Rattle.replay_turns.specs.Coming.{ComesTo, Arrives, TookBytes}
-use Rattle.replay_turns.specs.Offered.{WantsRoom}
-use Rattle.replay_turns.proofs.Further.{took-same, took-then}
+use Rattle.card_feed.specs.declared.intake.Stage.{Stage}
+use Rattle.card_feed.specs.declared.arrived.Arrived.TheVariants.{Frame}
+use Rattle.card_feed.specs.Coming.{ComesTo, Arrives, TookBytes}
+use Rattle.card_feed.specs.Offered.{WantsRoom}
+use Rattle.card_feed.proofs.Further.{took-same, took-then}
 use Rattle.replay_threads.specs.declared.carried.Carried.{Carried}
 use Rattle.replay_threads.specs.declared.carried.Carried.TheVariants.{Over}
 use Rattle.replay_threads.specs.declared.reader.Reader.{Reader}

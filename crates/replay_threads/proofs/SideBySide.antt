@@ -8,10 +8,10 @@ use Rattle.board_face.specs.Opened.{new_app}
 use Rattle.board_face.specs.Sides.{AreNumbered, side_in}
 use Rattle.board_face.specs.declared.views.app.AppSide.{AppSide}
 use Rattle.word_board.specs.Board.{TheBoard}
-use Rattle.run_end.specs.Running.{AreNew, IsNew, WorkerFits}
-use Rattle.run_end.specs.declared.run.Worker.{Worker}
-use Rattle.run_end.proofs.NewWorkers.{new-fits}
-use Rattle.replay_turns.specs.declared.plan.Plan.{Plan}
+use Rattle.run_account.specs.Running.{AreNew, IsNew, WorkerFits}
+use Rattle.run_account.specs.declared.run.Worker.{Worker}
+use Rattle.run_account.proofs.NewWorkers.{new-fits}
+use Rattle.card_feed.specs.declared.plan.Plan.{Plan}
 use Rattle.replay_threads.specs.declared.lane.Lane.{Lane}
 use Rattle.replay_threads.specs.Lanes.{LaneGoes, AllGo, AllFit, AreAtOpening}
 

@@ -1,12 +1,12 @@
 -- What is told of a run that was played, with the shelves that were set aside behind those of its applications.
 use Rattle.std.proofs.Common.{◌≡◌, ℕ, List, ◌++◌, Option, inr, sym, subst}
 use Rattle.std.specs.Prelude.{Result, Ok, Err, OnErr}
-use Rattle.replay_turns.specs.declared.outcome.Outcome.{Outcome}
-use Rattle.replay_turns.specs.declared.plan.Plan.{Plan}
-use Rattle.run_end.specs.Laws.{RunsAreTold, RunsEndWell}
-use Rattle.run_end.specs.Ran.{HasReadOn, LacksMemoryBeside, Ran, TellsOf, told_of}
-use Rattle.run_end.specs.Running.{Running}
-use Rattle.run_end.specs.declared.run.Run.{Run}
+use Rattle.card_feed.specs.declared.outcome.Outcome.{Outcome}
+use Rattle.card_feed.specs.declared.plan.Plan.{Plan}
+use Rattle.run_account.specs.Laws.{RunsAreTold, RunsEndWell}
+use Rattle.run_account.specs.Ran.{HasReadOn, LacksMemoryBeside, Ran, TellsOf, told_of}
+use Rattle.run_account.specs.Running.{Running}
+use Rattle.run_account.specs.declared.run.Run.{Run}
 use Rattle.word_board.specs.Board.{TheDesk, card_of}
 use Rattle.replay_threads.specs.Played.{HasPlayed}
 

@@ -4,13 +4,13 @@ use Rattle.zr_kinds.specs.declared.fault.Fault.{Fault}
 use Rattle.board_face.specs.declared.views.nic.NicView.{NicView}
 use Rattle.frames_read.specs.Ending.{ending_at}
 use Rattle.frames_read.specs.Reading.{EndsAt}
-use Rattle.replay_turns.specs.Coming.{is_over}
-use Rattle.replay_turns.specs.Feed.{FeedState, IsReady, FeedKnows}
-use Rattle.replay_turns.specs.Offered.{WantsRoom}
-use Rattle.replay_turns.specs.declared.arrived.Arrived.{Arrived}
-use Rattle.replay_turns.specs.declared.arrived.Arrived.TheVariants as arrived
-use Rattle.replay_turns.specs.declared.intake.Stage.{Stage}
-use Rattle.replay_turns.specs.declared.intake.Stage.TheVariants as stage
+use Rattle.card_feed.specs.Coming.{is_over}
+use Rattle.card_feed.specs.Feed.{FeedState, IsReady, FeedKnows}
+use Rattle.card_feed.specs.Offered.{WantsRoom}
+use Rattle.card_feed.specs.declared.arrived.Arrived.{Arrived}
+use Rattle.card_feed.specs.declared.arrived.Arrived.TheVariants as arrived
+use Rattle.card_feed.specs.declared.intake.Stage.{Stage}
+use Rattle.card_feed.specs.declared.intake.Stage.TheVariants as stage
 use Rattle.rtrb.specs.Ring.{known_items, received, SameConsumer}
 use Rattle.replay_threads.specs.Carried.{MayFollow, arrived_of}
 use Rattle.replay_threads.specs.declared.carried.Carried.{Carried}

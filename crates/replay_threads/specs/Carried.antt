@@ -1,8 +1,8 @@
 -- What goes from the reading to the card.
 use Rattle.std.specs.Prelude.{◌≡◌, ℕ, ◌+◌, ◌≤◌, Bool, true, false, List, length}
 use Rattle.std.specs.List.{list_any}
-use Rattle.replay_turns.specs.declared.arrived.Arrived.{Arrived}
-use Rattle.replay_turns.specs.declared.arrived.Arrived.TheVariants as arrived
+use Rattle.card_feed.specs.declared.arrived.Arrived.{Arrived}
+use Rattle.card_feed.specs.declared.arrived.Arrived.TheVariants as arrived
 use Rattle.replay_threads.specs.declared.carried.Carried.{Carried}
 use Rattle.replay_threads.specs.declared.carried.Carried.TheVariants.{Frame, Over}
 

@@ -3,7 +3,7 @@ use Rattle.std.specs.Prelude.{◌≡◌, ℕ, suc, ◌<◌, List, [], ◌∷◌,
 use Rattle.zr_kinds.specs.declared.behaviour.Behaviour.{Behaviour}
 use Rattle.board_face.specs.Opened.{new_app}
 use Rattle.word_board.specs.Board.{TheBoard}
-use Rattle.run_end.specs.Running.{WorkerFits, WorkerRuns}
+use Rattle.run_account.specs.Running.{WorkerFits, WorkerRuns}
 use Rattle.replay_threads.specs.declared.lane.Lane.{Lane}
 
 -- ---- turns

@@ -1,8 +1,8 @@
 -- How the reading of a source made its messages.
 use Rattle.std.specs.Prelude.{◌≡◌, ℕ, suc, ◌≤◌, List, [], ◌∷◌, length, Option}
-use Rattle.replay_turns.specs.declared.intake.Stage.{Stage}
-use Rattle.replay_turns.specs.Coming.{ComesTo, Arrives, TookBytes}
-use Rattle.replay_turns.specs.Offered.{WantsRoom}
+use Rattle.card_feed.specs.declared.intake.Stage.{Stage}
+use Rattle.card_feed.specs.Coming.{ComesTo, Arrives, TookBytes}
+use Rattle.card_feed.specs.Offered.{WantsRoom}
 use Rattle.replay_threads.specs.declared.carried.Carried.{Carried}
 use Rattle.replay_threads.specs.Carried.{arrived_of}
 

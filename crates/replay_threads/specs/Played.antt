@@ -1,11 +1,11 @@
 -- All turns of a run: every role is back at the desk.
 use Rattle.std.specs.Prelude.{ℕ, List, ◌++◌, Option}
 use Rattle.board_face.specs.Ended.{HaveEnded}
-use Rattle.replay_turns.specs.Feed.{end_of}
-use Rattle.replay_turns.specs.declared.plan.Plan.{Plan}
-use Rattle.run_end.specs.Ran.{HasReadOn}
-use Rattle.run_end.specs.Running.{AreOver, RolesFit, Running}
-use Rattle.run_end.specs.declared.run.Run.{Run}
+use Rattle.card_feed.specs.Feed.{end_of}
+use Rattle.card_feed.specs.declared.plan.Plan.{Plan}
+use Rattle.run_account.specs.Ran.{HasReadOn}
+use Rattle.run_account.specs.Running.{AreOver, RolesFit, Running}
+use Rattle.run_account.specs.declared.run.Run.{Run}
 use Rattle.word_board.specs.Board.{TheDesk, card_of}
 use Rattle.word_board.specs.Desk.{AllAreBack}
 

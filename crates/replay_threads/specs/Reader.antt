@@ -1,8 +1,8 @@
 -- How the reading goes on beside the card.
 use Rattle.std.specs.Prelude.{◌≡◌, ℕ, true, List, [], ◌++◌, length, Option, None, option_to_list}
 use Rattle.rtrb.specs.Ring.{IsPair, received, sent, SameProducer}
-use Rattle.replay_turns.specs.Coming.{is_over}
-use Rattle.replay_turns.specs.declared.intake.Stage.TheVariants as stage
+use Rattle.card_feed.specs.Coming.{is_over}
+use Rattle.card_feed.specs.declared.intake.Stage.TheVariants as stage
 use Rattle.replay_threads.specs.declared.carried.Carried.{Carried}
 use Rattle.replay_threads.specs.declared.reader.Reader.{Reader}
 use Rattle.replay_threads.specs.declared.reading.Opened.{Opened}

@@ -1,7 +1,7 @@
 //! The card at its seat: its turns, and the loop of its thread.
 ghost use Rattle.std.specs.Prelude.{◌≡◌, true, None, IsTrue};
-ghost use Rattle.replay_turns.specs.Feed.{IsReady};
-ghost use Rattle.replay_turns.specs.Turns.{MayArrive};
+ghost use Rattle.card_feed.specs.Feed.{IsReady};
+ghost use Rattle.card_feed.specs.Turns.{MayArrive};
 ghost use Rattle.rtrb.specs.Ring.{IsPair, received, sent};
 ghost use Rattle.replay_threads.specs.Cards.{CardGoes, CardLooks, CardTakes};
 
@@ -9,8 +9,8 @@ use crate::beside::{Beside, IDLE, Pace};
 use crate::carried::{Carried, InOrder};
 use crate::gate::Gate;
 use board_face::NicFace;
+use card_feed::{Arrived, Feed, nic_step};
 use crossbeam_utils::Backoff;
-use replay_turns::{Arrived, Feed, nic_step};
 use rtrb::{Consumer, Producer};
 use std::alloc::Global;
 use std::sync::Wait;

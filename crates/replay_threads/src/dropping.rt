@@ -1,8 +1,8 @@
 //! What was sent and not taken.
 ghost use Rattle.std.specs.Prelude.{◌≡◌, ◌+◌, ◌<◌, true, ◌++◌, length};
 ghost use Rattle.rtrb.specs.Ring.{IsPair, known_items, received, sent};
-ghost use Rattle.replay_turns.specs.Coming.{is_over};
-ghost use Rattle.replay_turns.specs.Feed.{IsReady};
+ghost use Rattle.card_feed.specs.Coming.{is_over};
+ghost use Rattle.card_feed.specs.Feed.{IsReady};
 ghost use Rattle.replay_threads.specs.Cards.{CardDrops, CardGoes};
 ghost use Rattle.replay_threads.specs.Reader.{messages_of};
 

@@ -1,13 +1,13 @@
 //! An application at its seat: its turns, and the loop of its thread.
 ghost use Rattle.std.specs.Prelude.{◌≡◌, true, All, IsTrue};
-ghost use Rattle.run_end.specs.Running.{WorkerFits};
+ghost use Rattle.run_account.specs.Running.{WorkerFits};
 ghost use Rattle.replay_threads.specs.Lanes.{AllFit, LaneGoes, AllGo};
 
 use crate::beside::{Beside, IDLE, MOST_APPS};
 use crate::gate::Gate;
 use app_worker::{Turn, app_turn};
 use crossbeam_utils::Backoff;
-use run_end::Worker;
+use run_account::Worker;
 use std::alloc::Global;
 use std::sync::Wait;
 use std::thread::{self, Threads};

@@ -1,6 +1,6 @@
 //! All turns of a run: the reading and the roles side by side, and rounds for what is left.
 ghost use Rattle.std.specs.Prelude.{◌≡◌, true, All, IsTrue};
-ghost use Rattle.replay_turns.specs.Feed.{IsReady};
+ghost use Rattle.card_feed.specs.Feed.{IsReady};
 ghost use Rattle.replay_threads.specs.Cards.{CardGoes};
 ghost use Rattle.replay_threads.specs.Reader.{ReaderGoes};
 ghost use Rattle.replay_threads.specs.Lanes.{AllFit, AllGo};

@@ -2,12 +2,12 @@
 ghost use Rattle.std.specs.Prelude.{◌≡◌, ◌+◌, ◌≤◌, ◌++◌, length, option_to_list};
 ghost use Rattle.std.specs.Option.{ForSome};
 ghost use Rattle.rtrb.specs.Ring.{sent};
-ghost use Rattle.replay_turns.specs.Coming.{is_over};
-ghost use Rattle.replay_turns.specs.Feed.{one_if};
+ghost use Rattle.card_feed.specs.Coming.{is_over};
+ghost use Rattle.card_feed.specs.Feed.{one_if};
 ghost use Rattle.replay_threads.specs.Carried.{MayFollow, has_end};
 
 use crate::carried::{Carried, InOrder};
-use replay_turns::Stage;
+use card_feed::Stage;
 use rtrb::{Consumer, Producer};
 use std::alloc::Global;
 

@@ -1,8 +1,8 @@
 //! The turns of the reading, and the loop of its thread: what it reads is sent to the card, or held where the ring is full.
 ghost use Rattle.std.specs.Prelude.{◌≡◌, ℕ, ◌+◌, ◌≤◌, false, List, [], ◌∷◌, ◌++◌, length, None, option_to_list, IfOk, IfSome};
 ghost use Rattle.rtrb.specs.Ring.{sent, SameProducer};
-ghost use Rattle.replay_turns.specs.Coming.{is_over};
-ghost use Rattle.replay_turns.specs.Feed.{one_if};
+ghost use Rattle.card_feed.specs.Coming.{is_over};
+ghost use Rattle.card_feed.specs.Feed.{one_if};
 ghost use Rattle.replay_threads.specs.Carried.{MayFollow, is_end, has_end};
 ghost use Rattle.replay_threads.specs.Made.{Makes};
 ghost use Rattle.replay_threads.specs.Reader.{IsOpened, ReaderGoes};
@@ -12,8 +12,8 @@ use crate::beside::{Beside, IDLE};
 use crate::carried::{Carried, InOrder};
 use crate::reader::Reader;
 use crate::sleeping::rest_reading;
+use card_feed::{Arrived, Stage};
 use crossbeam_utils::Backoff;
-use replay_turns::{Arrived, Stage};
 use rtrb::{Consumer, Producer, PushError, RingBuffer};
 use std::alloc::{AllocError, Global};
 use std::sync::Wait;

@@ -6,7 +6,7 @@ ghost use Rattle.word_board.specs.Desk.{AreOfBoard, AreServed};
 ghost use Rattle.replay_threads.specs.Lanes.{AreAtOpening, AreAtBoard};
 
 use crate::lane::Lane;
-use run_end::Worker;
+use run_account::Worker;
 use word_board::{Desk, WordBoard};
 
 /// Gives each application its lane, the last first, with its seat and its shelf. It takes no memory.

@@ -1,27 +1,17 @@
-//! What the card does in one turn, over any source and any board, and what the turns of a run come to.
+//! Runs over the board for one thread: the turns of a text, and then rounds until all have left.
 #![tactic(auto)]
 
-mod arrived;
-mod feed;
-mod intake;
+mod board_turns;
 mod laws;
-mod outcome;
-mod plan;
+mod opening;
 mod playing;
-mod reading;
-mod receiving;
-mod steps;
-mod turn;
+mod role;
+mod running;
+mod stepping;
 
-pub use arrived::Arrived;
-pub use feed::Feed;
-pub use intake::Stage;
-pub use laws::{
-    accounts_give_streams, closed_feeds_show, feeds_send_own, feeds_send_whole,
-    first_notes_are_whole, new_feeds_stand, offers_have_apps, own_notes_mark_no_other,
-    shown_notes_are_own, shown_notes_are_whole,
-};
-pub use outcome::Outcome;
-pub use plan::Plan;
-pub use steps::{app_step, card_step};
-pub use turn::{nic_step, nic_turn};
+pub use laws::{runs_stay_within, stuck_runs_are_over, turns_rise};
+pub use role::Role;
+pub use running::run_turns;
+
+#[cfg(test)]
+mod tests;

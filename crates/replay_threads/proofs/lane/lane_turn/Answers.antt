@@ -2,8 +2,8 @@
 use Rattle.std.proofs.Common.{◌≡◌, ◌≢◌, true, false, ◌∙◌, subst}
 use Rattle.app_worker.specs.Turns.{Answers}
 use Rattle.app_worker.specs.declared.turn.Turn.TheVariants.{Finished}
-use Rattle.run_end.specs.declared.run.Worker.{Worker}
-use Rattle.run_end.proofs.Workers.{goes-on}
+use Rattle.run_account.specs.declared.run.Worker.{Worker}
+use Rattle.run_account.proofs.Workers.{goes-on}
 use Rattle.replay_threads.proofs.lane.lane_turn.Goals.{in-Finished, in_default}
 use Rattle.replay_threads.proofs.lane.lane_turn.Goals as goal
 

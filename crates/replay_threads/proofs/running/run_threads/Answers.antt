@@ -1,7 +1,7 @@
 -- A whole run: the shelves that were set aside stand behind the others again.
 use Rattle.std.proofs.Common.{◌≡◌, ◌++◌, length, ap, ◌∙◌, subst, sym, arith}
 use Rattle.std.specs.Prelude.{reverse}
-use Rattle.run_end.specs.Ran.{TellsOf}
+use Rattle.run_account.specs.Ran.{TellsOf}
 use Rattle.replay_threads.proofs.Reversed.{put-back, set-aside}
 use Rattle.replay_threads.proofs.Told.{on-err, run-lacks, run-told}
 use Rattle.replay_threads.proofs.running.run_threads.Goals as goal

@@ -1,0 +1,190 @@
+-- What the pool's counts say after a turn.
+use Rattle.std.proofs.Common.{◌≡◌, ◌≢◌, inl, ℕ, ◌+◌, ◌-◌, ◌^◌, ◌<◌, ◌≤◌, nat_le, cond, true, false}
+use Rattle.std.proofs.Common.{List, [], ◌∷◌, ◌++◌, length, Option, Some, None, option_to_list, ⊎_elim, refl, sym, ap, subst}
+use Rattle.std.proofs.Common.{◌∙◌, append-nil, length-append, arith}
+use Rattle.std.proofs.lemmas.Bool.{cases_Bool, leb-false, lt-ltb}
+use Rattle.std.proofs.lemmas.List.Sums.{sum_by-append}
+use Rattle.zr_kinds.specs.declared.outcome.PoolStats.{PoolStats}
+use Rattle.board_face.specs.declared.views.parts.Filling.{Filling}
+use Rattle.board_face.specs.declared.views.nic.Dealt.{Dealt}
+use Rattle.board_face.specs.declared.views.nic.NicView.{NicView}
+use Rattle.page_pool.specs.declared.offer.Offer.{Offer}
+use Rattle.page_pool.specs.Frames.{Offered, offered}
+use Rattle.page_pool.specs.Dealing.{IsRaised, is_stray, strays_in, DrainsRings}
+use Rattle.page_pool.specs.Searching.{SearchEnd, fast, refill, slow, empty, CountsEnd}
+use Rattle.page_pool.specs.Pool.{PoolState, Closes}
+use Rattle.page_pool.specs.Offer.{payload_of, needed_for, LooksFor, not_needed, searched, Accepts, Refuses}
+use Rattle.card_feed.specs.Counts.{capped, is_long, long_in, searches_in, AreCounted}
+use Rattle.card_feed.proofs.PlayLemmas.{closed-dealt}
+
+-- each count fits its type
+pub record AreInType (stats : PoolStats) : Type 0 where
+  pub fast : stats.fast ≤ 2 ^ 64 - 1
+  pub refill : stats.refill ≤ 2 ^ 64 - 1
+  pub slow : stats.slow ≤ 2 ^ 64 - 1
+  pub empty : stats.empty ≤ 2 ^ 64 - 1
+  pub strays : stats.strays ≤ 2 ^ 64 - 1
+
+-- ---- one count
+
+raised-capped : (n was more now : ℕ) → was ≡ capped n → IsRaised was more now → now ≤ 2 ^ 64 - 1 → now ≡ capped (n + more)
+raised-capped n was more now same raised fits = ⊎_elim
+    (λ (exact : now ≡ was + more). omega (arith, same, exact, fits))
+    (λ (full : (2 ^ 64 - 1 ≤ now) × (2 ^ 64 - 1 ≤ was + more)). omega (arith, same, full.0, full.1, fits))
+    raised
+
+raised-most : (was more now : ℕ) → IsRaised was more now → now ≤ 2 ^ 64 - 1 → now ≤ was + more
+raised-most was more now raised fits = ⊎_elim
+    (λ (exact : now ≡ was + more). omega (arith, exact))
+    (λ (full : (2 ^ 64 - 1 ≤ now) × (2 ^ 64 - 1 ≤ was + more)). omega (arith, full.1, fits))
+    raised
+
+strays-append : (xs ys : List Dealt) → strays_in (xs ++ ys) ≡ strays_in xs + strays_in ys
+strays-append xs ys = sum_by-append (λ (d : Dealt). cond (is_stray d.fate) 1 0) xs ys
+
+long-append : (split : ℕ) (xs ys : List Offered) → long_in split (xs ++ ys) ≡ long_in split xs + long_in split ys
+long-append split xs ys = sum_by-append (λ (o : Offered). cond (is_long split o) 1 0) xs ys
+
+strays-more : (was now : PoolStats) (before after more : List Dealt) → was.strays ≡ capped (strays_in before) → after ≡ before ++ more
+    → IsRaised was.strays (strays_in more) now.strays → now.strays ≤ 2 ^ 64 - 1 → now.strays ≡ capped (strays_in after)
+strays-more was now before after more same dealt raised fits =
+    raised-capped (strays_in before) was.strays (strays_in more) now.strays same raised fits
+    ∙ ap capped (sym (strays-append before more) ∙ ap strays_in (sym dealt))
+
+-- ---- a search, or none
+
+end-strays : (how : SearchEnd) (was now : PoolStats) (more : List Dealt) → CountsEnd how was now more → IsRaised was.strays (strays_in more) now.strays
+end-strays fast was now more counts = counts.1
+end-strays refill was now more counts = counts.1
+end-strays slow was now more counts = counts.1
+end-strays empty was now more counts = counts.1
+
+end-searches : (how : SearchEnd) (was now : PoolStats) (more : List Dealt) → AreInType now → CountsEnd how was now more
+    → searches_in now ≤ searches_in was + 1
+end-searches fast was now more fits counts =
+    let one = raised-most was.fast 1 now.fast counts.0 fits.fast in
+    let others : searches_in now ≡ now.fast + was.refill + was.slow + was.empty = ap searches_in counts.2 in
+    omega (arith, one, others)
+end-searches refill was now more fits counts =
+    let one = raised-most was.refill 1 now.refill counts.0 fits.refill in
+    let others : searches_in now ≡ was.fast + now.refill + was.slow + was.empty = ap searches_in counts.2 in
+    omega (arith, one, others)
+end-searches slow was now more fits counts =
+    let one = raised-most was.slow 1 now.slow counts.0 fits.slow in
+    let others : searches_in now ≡ was.fast + was.refill + now.slow + was.empty = ap searches_in counts.2 in
+    omega (arith, one, others)
+end-searches empty was now more fits counts =
+    let one = raised-most was.empty 1 now.empty counts.0 fits.empty in
+    let others : searches_in now ≡ was.fast + was.refill + was.slow + now.empty = ap searches_in counts.2 in
+    omega (arith, one, others)
+
+end-found : (how : SearchEnd) (was now : PoolStats) (more : List Dealt) → how ≢ empty → CountsEnd how was now more → now.empty ≡ was.empty
+end-found fast was now more found counts = ap (λ (s : PoolStats). s.empty) counts.2
+end-found refill was now more found counts = ap (λ (s : PoolStats). s.empty) counts.2
+end-found slow was now more found counts = ap (λ (s : PoolStats). s.empty) counts.2
+end-found empty was now more found counts = absurd (found refl)
+
+-- what it counted, where it is one of at most so many
+record Looked (most : ℕ) (was now : PoolStats) (old new : NicView) : Type 0 where
+  more : List Dealt
+  dealt : new.dealt ≡ old.dealt ++ more
+  strays : IsRaised was.strays (strays_in more) now.strays
+  searches : searches_in now ≤ searches_in was + most
+
+looked : (need most : ℕ) → (0 < need → 1 ≤ most) → (current : Option Filling) (was now : PoolStats) (old new : NicView) (how : Option SearchEnd)
+    → AreInType now → LooksFor need current was now old new how → Looked most was now old new
+looked need most some current was now old new _ fits (not_needed none stats same) = record {
+  more = [];
+  dealt = ap (λ (v : NicView). v.dealt) same ∙ sym (append-nil old.dealt);
+  strays = inl (ap (λ (s : PoolStats). s.strays) stats ∙ omega arith);
+  searches = omega (arith, ap searches_in stats);
+}
+looked need most some current was now old new _ fits (searched begin how wanted closes searches) = record {
+  more = searches.more;
+  dealt = ap (λ (v : NicView). v.dealt) searches.view ∙ ap (λ ds. ds ++ searches.more) (closed-dealt current old begin closes);
+  strays = end-strays how was now searches.more searches.counts;
+  searches = omega (arith, end-searches how was now searches.more fits searches.counts, some wanted);
+}
+
+looked-found : (need : ℕ) (current : Option Filling) (was now : PoolStats) (old new : NicView) (how : Option SearchEnd)
+    → how ≢ Some empty → LooksFor need current was now old new how → now.empty ≡ was.empty
+looked-found need current was now old new _ found (not_needed none stats same) = ap (λ (s : PoolStats). s.empty) stats
+looked-found need current was now old new _ found (searched begin how wanted closes searches) =
+    end-found how was now searches.more (λ same. found (ap Some same)) searches.counts
+
+looked-empty : (need : ℕ) (current : Option Filling) (was now : PoolStats) (old new : NicView) (how : Option SearchEnd)
+    → how ≡ Some empty → LooksFor need current was now old new how → IsRaised was.empty 1 now.empty
+looked-empty need current was now old new _ is (not_needed none stats same) = absurd (cc)
+looked-empty need current was now old new _ is (searched begin how wanted closes searches) =
+    let same : how ≡ empty = cc in (subst (λ end. CountsEnd end was now searches.more) same searches.counts).0
+
+-- it is made for a long payload alone
+needs-long : (split : ℕ) (was : PoolState) (old : NicView) (o : Offer) → was.split ≡ split → 0 < needed_for was old o
+    → 1 ≤ long_in split (offered o ∷ [])
+needs-long split was old o split_is some = ⊎_elim
+    (λ (few : nat_le (length (payload_of o)) was.split ≡ true). let none = rw few at some in absurd (omega (arith, none)))
+    (λ (many : nat_le (length (payload_of o)) was.split ≡ false).
+    let long = lt-ltb split (length (payload_of o)) (omega (arith, leb-false _ _ many, split_is)) in rw long (omega arith))
+    (cases_Bool (nat_le (length (payload_of o)) was.split))
+
+-- ---- the counts, after each part of a turn
+
+module _ (split : ℕ) (offers : List Offered) (refused : List ℕ) where
+  pub counted-read : (next : Option Offered) (dealt : List Dealt) (stats : PoolStats) → AreCounted split offers refused None dealt stats
+      → AreCounted split (offers ++ option_to_list next) refused next dealt stats
+  counted-read next dealt stats counted = record {
+    searches = omega (arith, counted.searches, long-append split offers (option_to_list next));
+    empty = counted.empty;
+    strays = counted.strays;
+  }
+
+  pub counted-same : (hand : Option Offered) (was now : PoolStats) (before after : List Dealt) → now ≡ was → after ≡ before
+      → AreCounted split offers refused hand before was → AreCounted split offers refused hand after now
+  counted-same hand was now before after same dealt counted = rw (same, dealt) counted
+
+  pub counted-drained : (hand : Option Offered) (was now : PoolStats) (old new : NicView) (count : ℕ) → AreInType now
+      → DrainsRings was now old new count → AreCounted split offers refused hand old.dealt was → AreCounted split offers refused hand new.dealt now
+  counted-drained hand was now old new count fits drains counted =
+      let others = drains.strays.others in
+      record {
+        searches = omega (arith, counted.searches, ap searches_in others);
+        empty = ap (λ (s : PoolStats). s.empty) others ∙ counted.empty;
+        strays = strays-more was now old.dealt new.dealt drains.more counted.strays (ap (λ (v : NicView). v.dealt) drains.deals.view)
+            drains.strays.strays fits.strays;
+      }
+
+  module _ (was now : PoolState) (old new : NicView) (o : Offer) (split_is : was.split ≡ split) (fits : AreInType now.stats)
+      (counted : AreCounted split offers refused (Some (offered o)) old.dealt was.stats) where
+    pub counted-accepted : Accepts was now old new o → AreCounted split offers refused None new.dealt now.stats
+    counted-accepted accepts =
+        let look = looked (needed_for was old o) (long_in split (offered o ∷ [])) (needs-long split was old o split_is) was.current was.stats now.stats
+        accepts.flushed accepts.found accepts.how fits accepts.search in
+        let before : accepts.flushed.dealt ≡ old.dealt = ap (λ (v : NicView). v.dealt) accepts.flush.view in
+        let after : new.dealt ≡ accepts.found.dealt = ap (λ (v : NicView). v.dealt) accepts.placing in
+        record {
+          searches = omega (arith, counted.searches, look.searches);
+          empty = looked-found _ was.current was.stats now.stats accepts.flushed accepts.found accepts.how accepts.enough accepts.search ∙ counted.empty;
+          strays = strays-more was.stats now.stats old.dealt new.dealt look.more counted.strays
+              (after ∙ look.dealt ∙ ap (λ ds. ds ++ look.more) before) look.strays fits.strays;
+        }
+
+    pub counted-refused : (cached need : ℕ) → Refuses was now old new o cached need
+        → AreCounted split offers (refused ++ o.frame ∷ []) None new.dealt now.stats
+    counted-refused cached need refuses =
+        let wants : 0 < need → 1 ≤ long_in split (offered o ∷ []) = λ some. needs-long split was old o split_is (omega (arith, some, refuses.need_is)) in
+        let look = looked need (long_in split (offered o ∷ [])) wants was.current was.stats now.stats refuses.flushed new (Some empty) fits refuses.search in
+        let before : refuses.flushed.dealt ≡ old.dealt = ap (λ (v : NicView). v.dealt) refuses.flush.view in
+        let more : length refused + 1 ≡ length (refused ++ o.frame ∷ []) = sym (length-append refused (o.frame ∷ [])) in
+        record {
+          searches = omega (arith, counted.searches, look.searches);
+          empty = raised-capped (length refused) was.stats.empty 1 now.stats.empty counted.empty
+              (looked-empty need was.current was.stats now.stats refuses.flushed new (Some empty) refl refuses.search) fits.empty
+              ∙ ap capped more;
+          strays = strays-more was.stats now.stats old.dealt new.dealt look.more counted.strays
+              (look.dealt ∙ ap (λ ds. ds ++ look.more) before) look.strays fits.strays;
+        }
+
+-- the card was closed
+pub closes-dealt : (current : Option Filling) (old new : NicView) → Closes current old new → new.dealt ≡ old.dealt
+closes-dealt None old new closes = ap (λ (v : NicView). v.dealt) closes
+closes-dealt (Some own) old new (closed, shuts, ended) = ap (λ (v : NicView). v.dealt) ended ∙ ap (λ (v : NicView). v.dealt) shuts.event

@@ -1,0 +1,17 @@
+-- The rings were empty, and nothing is pending or a slot was in use: nothing changed.
+use Rattle.std.proofs.Common.{◌≡◌, arith}
+use Rattle.std.proofs.lemmas.Bool.{ltb-false}
+use Rattle.card_feed.proofs.PlayLemmas.{flushed-or, looked-idle}
+use Rattle.card_feed.proofs.playing.keep_up.Goals as goal
+
+pub returns-else-pending-clause-idle : goal.returns-else-pending-clause-idle
+returns-else-pending-clause-idle g c = λ none_dealt intake closed.
+    let flush = c.nic_flush.ensures in
+    let drain = c.nic_drain-dealt.ensures in
+    let none : c.nic_drain-dealt.result ≡ 0 = omega (arith, ltb-false 0 c.nic_drain-dealt.result none_dealt) in
+    looked-idle _ _ _ _ _ _ _ c.requires.stands flush.stands flush.sends drain.drains drain.pool
+    _ g.F.NicFace.tells _ _ intake closed
+    (omega (arith, c.if-pending.false, c.pending.ensures.value, c.pending-pending.ensures.value)) none
+    (flushed-or c.nic_flush.result c.nic_flush.new.pool _ _ drain.pool flush.answer)
+    (drain.still none) drain.beside
+    (drain.none none)

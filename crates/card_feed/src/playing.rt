@@ -1,0 +1,187 @@
+//! The part of a turn that is played at the face: the frame at hand is offered, or the card finishes.
+
+ghost use Rattle.std.specs.Prelude.{◌≡◌, ◌≢◌, ◌⊎◌, ℕ, ◌<◌, ◌≤◌, Bool, length, take, true, false, Some, None};
+ghost use Rattle.board_face.specs.Looks.{NicRose};
+ghost use Rattle.board_face.specs.NicCalls.{apps_of, IsOpen};
+ghost use Rattle.board_face.specs.NicEvents.{nic_gist};
+ghost use Rattle.board_face.specs.declared.views.nic.NicLook.TheVariants.{NoteInUse};
+ghost use Rattle.page_pool.specs.declared.offer.Offer.{Offer as TheOffer};
+ghost use Rattle.page_pool.specs.Frames.{offered};
+ghost use Rattle.page_pool.specs.Offer.{Offers, KeepsRest};
+ghost use Rattle.page_pool.specs.Pool.{PoolStands, HasNonePending, IsNextApp, pending_count};
+ghost use Rattle.card_feed.specs.Offered.{payload_in};
+ghost use Rattle.card_feed.specs.Hand.{offered_by};
+ghost use Rattle.card_feed.specs.Coming.{is_over};
+ghost use Rattle.card_feed.specs.Feed.{Fits, card_steps};
+ghost use Rattle.card_feed.specs.Turns.{OffersHand, Finishes, KeepsUp, Plays, HasLooked, IsIdle};
+ghost use Rattle.card_feed.specs.Parts.{feed_of};
+ghost use Rattle.card_feed.specs.declared.intake.Intake.{Intake as TheIntake};
+
+use crate::intake::{Intake, Route};
+use board_face::NicFace;
+use frame_headers::{Seen, read_frame};
+use page_pool::{Offer, Pool, Verdict, nic_close, nic_drain, nic_flush, nic_offer};
+
+/// The payload in a frame, or none.
+fn payload_in(frame: &[u8]) -> &[u8]
+    ensures { result.now ≡ payload_in frame.now }
+{
+    match read_frame(frame) {
+        Seen::Tcp(segment) => segment.payload,
+        _ => &[],
+    }
+}
+
+/// Offers what counts of a frame.
+fn offer<F: NicFace>(route: &Route, frame: &[u8], pool: &mut Pool, face: &mut F) -> Verdict
+    requires open { IsOpen (F.seen face.old) }
+    requires stands { PoolStands pool.old (F.seen face.old) }
+    requires app { route.now.app < apps_of (F.seen face.old).setting }
+    requires len { route.now.len ≤ length (payload_in frame.now) }
+    requires some { 0 < route.now.len }
+    requires most { route.now.len ≤ 65515 }
+    ensures stands { PoolStands pool.new (F.seen face.new) }
+    ensures offers { (o : TheOffer) × (offered o ≡ offered_by route.now (take route.now.len (payload_in frame.now)))
+        × Offers pool.old pool.new (F.seen face.old) (F.seen face.new) o result }
+    ensures rest { KeepsRest (F.seen face.old) (F.seen face.new) }
+    ensures pending { (app : ℕ) → IsNextApp pool.new app
+        → NicRose (NoteInUse app) (F.seen face.old) (F.seen face.new) × F.tells (NoteInUse app) (nic_gist (F.seen face.new)) (F.beside face.new) }
+    ensures beside { F.beside face.new ≡ F.beside face.old }
+{
+    let offer = Offer {
+        app: route.app,
+        frame: route.frame,
+        flow: route.flow,
+        base: route.base,
+        seq: route.seq,
+        fin: route.fin,
+        payload: &payload_in(frame)[..route.len as usize],
+    };
+    nic_offer(face, pool, &offer)
+}
+
+/// Offers the frame at hand. It is settled, or stays at hand behind pending notes. `false` says that nothing changed.
+pub fn offer_hand<F: NicFace>(
+    intake: &mut Intake,
+    route: Route,
+    pool: &mut Pool,
+    face: &mut F,
+) -> bool
+    requires hand { intake.old.hand ≡ Some route }
+    requires open { IsOpen (F.seen face.old) }
+    requires stands { PoolStands pool.old (F.seen face.old) }
+    requires apps { length intake.old.table.ports ≡ apps_of (F.seen face.old).setting }
+    requires split { pool.old.split ≡ intake.old.split }
+    ensures stands { PoolStands pool.new (F.seen face.new) }
+    ensures offers { OffersHand (feed_of intake.old pool.old false) (feed_of intake.new pool.new false) (F.seen face.old) (F.seen face.new)
+        (offered_by route (take route.len (payload_in intake.old.bytes.items))) }
+    ensures split { (intake.new.split ≡ intake.old.split) × (pool.new.split ≡ pool.old.split) }
+    ensures same { (intake.new.stage ≡ intake.old.stage) × (intake.new.counting.tally ≡ intake.old.counting.tally)
+        × (intake.new.table.ports ≡ intake.old.table.ports) }
+    ensures setting { ((F.seen face.new).setting ≡ (F.seen face.old).setting) × IsOpen (F.seen face.new) }
+    ensures waits { intake.new.hand ≢ None → 0 < pending_count pool.new }
+    ensures later { card_steps false (F.seen face.old) ≤ card_steps false (F.seen face.new) }
+    ensures rises { result ≡ true → 0 < pending_count pool.old → card_steps false (F.seen face.old) < card_steps false (F.seen face.new) }
+    ensures idle { result ≡ false → IsIdle F.tells (F.beside face.new) (feed_of intake.old pool.old false) (feed_of intake.new pool.new false)
+        (F.seen face.old) (F.seen face.new) }
+    ensures beside { F.beside face.new ≡ F.beside face.old }
+{
+    let pending = pool.pending();
+    match offer(&route, &intake.bytes, pool, face) {
+        Verdict::Accepted => {
+            intake.hand = None;
+            true
+        }
+        Verdict::NoRoom { .. } => {
+            intake.refused.push(route.frame).unwrap();
+            intake.hand = None;
+            true
+        }
+        Verdict::Busy => {
+            let dealt = nic_drain(face, pool);
+            pool.pending() < pending || dealt > 0
+        }
+    }
+}
+
+/// Sends what is pending and closes the card, or drains. `false` says that nothing changed.
+pub fn finish<F: NicFace>(pool: &mut Pool, closed: &mut bool, face: &mut F) -> bool
+    requires on { closed.old ≡ false }
+    requires open { IsOpen (F.seen face.old) }
+    requires stands { PoolStands pool.old (F.seen face.old) }
+    ensures stands { PoolStands pool.new (F.seen face.new) }
+    ensures finishes { (intake : TheIntake) → intake.hand ≡ None
+        → Finishes (feed_of intake pool.old closed.old) (feed_of intake pool.new closed.new) (F.seen face.old) (F.seen face.new) }
+    ensures split { pool.new.split ≡ pool.old.split }
+    ensures setting { (F.seen face.new).setting ≡ (F.seen face.old).setting }
+    ensures on { closed.new ≡ false → IsOpen (F.seen face.new) }
+    ensures ended { closed.new ≡ true → ((F.seen face.new).ended ≡ true) × HasNonePending pool.new }
+    ensures rises { result ≡ true → card_steps closed.old (F.seen face.old) < card_steps closed.new (F.seen face.new) }
+    ensures idle { result ≡ false → (intake : TheIntake) → IsIdle F.tells (F.beside face.new)
+        (feed_of intake pool.old closed.old) (feed_of intake pool.new closed.new)
+        (F.seen face.old) (F.seen face.new) }
+    ensures beside { F.beside face.new ≡ F.beside face.old }
+{
+    let pending = pool.pending();
+    if nic_flush(face, pool) {
+        nic_close(face, pool);
+        *closed = true;
+        return true;
+    }
+    let dealt = nic_drain(face, pool);
+    pool.pending() < pending || dealt > 0
+}
+
+/// Sends what is pending, up to a slot in use, and drains. `false` says that nothing changed.
+pub fn keep_up<F: NicFace>(pool: &mut Pool, face: &mut F) -> bool
+    requires open { IsOpen (F.seen face.old) }
+    requires stands { PoolStands pool.old (F.seen face.old) }
+    ensures stands { PoolStands pool.new (F.seen face.new) }
+    ensures keeps_up { (intake : TheIntake) (closed : Bool) → KeepsUp (feed_of intake pool.old closed) (feed_of intake pool.new closed)
+        (F.seen face.old) (F.seen face.new) }
+    ensures split { pool.new.split ≡ pool.old.split }
+    ensures setting { (F.seen face.new).setting ≡ (F.seen face.old).setting }
+    ensures open { IsOpen (F.seen face.new) }
+    ensures rises { result ≡ true → card_steps false (F.seen face.old) < card_steps false (F.seen face.new) }
+    ensures idle { result ≡ false → (intake : TheIntake) (closed : Bool) → HasLooked (HasNonePending pool.new) F.tells (F.beside face.new)
+        (feed_of intake pool.old closed) (feed_of intake pool.new closed) (F.seen face.old) (F.seen face.new) }
+    ensures beside { F.beside face.new ≡ F.beside face.old }
+{
+    let pending = pool.pending();
+    nic_flush(face, pool);
+    let dealt = nic_drain(face, pool);
+    pool.pending() < pending || dealt > 0
+}
+
+/// What a turn does once it has read what it reads. `false` says that nothing changed.
+pub fn play<F: NicFace>(
+    intake: &mut Intake,
+    pool: &mut Pool,
+    closed: &mut bool,
+    face: &mut F,
+) -> bool
+    requires fits { Fits (feed_of intake.old pool.old closed.old) (F.seen face.old) }
+    requires split { pool.old.split ≡ intake.old.split }
+    ensures fits { Fits (feed_of intake.new pool.new closed.new) (F.seen face.new) }
+    ensures waits { intake.new.hand ≢ None → 0 < pending_count pool.new }
+    ensures split { pool.new.split ≡ intake.new.split }
+    ensures plays { Plays (feed_of intake.old pool.old closed.old) (feed_of intake.new pool.new closed.new) (F.seen face.old) (F.seen face.new) }
+    ensures same { (intake.new.stage ≡ intake.old.stage) × (intake.new.counting.tally ≡ intake.old.counting.tally)
+        × (intake.new.table.ports ≡ intake.old.table.ports) }
+    ensures later { card_steps closed.old (F.seen face.old) ≤ card_steps closed.new (F.seen face.new) }
+    ensures rises { result ≡ true → (intake.old.hand ≢ None → 0 < pending_count pool.old)
+        → card_steps closed.old (F.seen face.old) < card_steps closed.new (F.seen face.new) }
+    ensures idle { result ≡ false → ((intake.old.hand ≡ None) × (is_over intake.old.stage ≡ false))
+        ⊎ IsIdle F.tells (F.beside face.new) (feed_of intake.old pool.old closed.old) (feed_of intake.new pool.new closed.new)
+        (F.seen face.old) (F.seen face.new) }
+    ensures beside { F.beside face.new ≡ F.beside face.old }
+{
+    if *closed {
+        return nic_drain(face, pool) > 0;
+    }
+    match intake.hand {
+        Some(route) => offer_hand(intake, route, pool, face),
+        None if intake.is_over() => finish(pool, closed, face),
+        None => false,
+    }
+}

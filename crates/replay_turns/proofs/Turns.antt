@@ -1,0 +1,174 @@
+-- A turn goes on with the run: one of the card, and one of an application.
+use Rattle.std.proofs.Common.{◌≡◌, ◌≢◌, ℕ, ◌<◌, ◌≤◌, List, [], ◌∷◌, All, length, set, Option, Some, sym, ap, ◌∙◌}
+use Rattle.std.proofs.Common.{subst, arith}
+use Rattle.std.proofs.lemmas.List.{length-set, drop-set-lt}
+use Rattle.std.specs.List.{slice_get}
+use Rattle.board_face.specs.declared.views.app.AppSide.{AppSide}
+use Rattle.board_face.specs.declared.views.parts.Setting.{Setting}
+use Rattle.board_face.specs.Sides.{side_in}
+use Rattle.plain_board.specs.Board.{Board, side_of, setting_of}
+use Rattle.plain_board.specs.Sound.{IsSound}
+use Rattle.card_feed.specs.Account.{kept_in}
+use Rattle.board_face.specs.declared.views.nic.Dealt.{Dealt}
+use Rattle.board_face.specs.declared.views.nic.NicSide.{NicSide}
+use Rattle.card_feed.specs.Feed.{FeedState, IsReady, FeedStands}
+use Rattle.card_feed.specs.Turns.{Plays as CardPlays}
+use Rattle.card_feed.specs.declared.plan.Plan.{Plan}
+use Rattle.run_account.specs.Running.{losses_in, Running, WorkerFits, WorkerRuns}
+use Rattle.replay_turns.specs.Running.{Fits, Plays}
+use Rattle.run_account.specs.declared.run.Run.{Run}
+use Rattle.run_account.specs.declared.run.Worker.{Worker}
+use Rattle.run_account.proofs.DealtEntries.{dealt-of}
+use Rattle.run_account.proofs.Places.{InSet, here, there, in-set, get-set_same, get-set_other, get-within, kept-here, kept-there, losses-here, losses-there}
+
+-- ---- the board
+
+-- as many applications, so as many reserves
+reserves-same : (board board_now : Board) → IsSound board → IsSound board_now → length board_now.apps ≡ length board.apps
+    → board_now.arrays.layout.reserves ≡ board.arrays.layout.reserves
+reserves-same board board_now sound sound_now many = sym sound_now.set.many ∙ many ∙ sound.set.many
+
+one-setting : (s t : Setting) (apps : List AppSide) → 0 < length apps → All (λ (app : AppSide). app.view.setting ≡ s) apps
+    → All (λ (app : AppSide). app.view.setting ≡ t) apps → t ≡ s
+one-setting s t [] some are are_t = absurd (omega arith)
+one-setting s t (app ∷ apps) some are are_t = sym (are_t 0 app (omega arith)) ∙ are 0 app (omega arith)
+
+-- the applications have one setting with the card, so it is that of before
+setting-same : (board board_now : Board) → IsSound board → IsSound board_now → board_now.apps ≡ board.apps → 0 < length board.apps
+    → board_now.nic.view.setting ≡ board.nic.view.setting
+setting-same board board_now sound sound_now apps some =
+    sound_now.set.card
+    ∙ one-setting (setting_of board.arrays) (setting_of board_now.arrays) board.apps some sound.set.roles
+    (subst (λ all. All (λ (app : AppSide). app.view.setting ≡ setting_of board_now.arrays) all) apps sound_now.set.roles)
+    ∙ sym sound.set.card
+
+-- ---- the card
+
+module _ (board board_now : Board) (was now : Run) (workers : now.workers.items ≡ was.workers.items) (apps : board_now.apps ≡ board.apps)
+    (sound_now : IsSound board_now) (ready : IsReady now.feed board_now.nic.view) where
+  pub card-fits : (n : ℕ) → Fits board was n → Fits board_now now n
+  card-fits n fits = record {
+    sound = sound_now;
+    roles = record {
+      ready = ready;
+      worker = λ a w is. subst (λ all. WorkerFits (side_in all a).view w) (sym apps)
+          (fits.roles.worker a w (ap (λ items. slice_get items a) (sym workers) ∙ is));
+    };
+    many = ap length workers ∙ fits.many ∙ sym (reserves-same board board_now fits.sound sound_now (ap length apps));
+    shelves_enough = let same : length now.workers.items ≡ length was.workers.items = ap length workers in omega (arith, same, fits.shelves_enough);
+  }
+
+  pub card-runs : {S T : Type 0} (left : S → Option (List ℕ)) (faults : S → ℕ) (kept : T → ℕ → Option (List ℕ)) (losses : T → ℕ)
+      (first source source_now : S) (firsts shelves : List T) (plan : Plan) → Fits board was (length shelves)
+      → (runs : Running left faults kept losses first source firsts shelves plan board.nic board.apps was)
+      → (more : List (List ℕ)) → FeedStands left faults first source_now plan.ports.items plan.split more now.feed board_now.nic.view
+      → now.feed.tally.records ≤ 16777216 → (read : FeedState) → CardPlays read now.feed board.nic.view board_now.nic.view
+      → Running left faults kept losses first source_now firsts shelves plan board_now.nic board_now.apps now
+  card-runs left faults kept losses first source source_now firsts shelves plan fits runs more stands records read plays =
+      let some : 0 < length board.apps =
+      omega (arith, runs.many, fits.many, fits.sound.set.many, runs.plan_is.some) in
+      record {
+        plan_is = runs.plan_is;
+        frames = more;
+        feed = stands;
+        setting = setting-same board board_now fits.sound sound_now apps some ∙ runs.setting;
+        many = ap length workers ∙ runs.many;
+        worker = λ a w is. subst
+            (λ all. WorkerRuns (kept_in kept firsts a) (kept_in kept shelves a) (losses_in losses firsts a) (losses_in losses shelves a) plan.how
+            (side_in all a).view w)
+            (sym apps) (runs.worker a w (ap (λ items. slice_get items a) (sym workers) ∙ is));
+        many_shelves = runs.many_shelves;
+        beyond = runs.beyond;
+        records = records;
+        dealt = dealt-of (length plan.ports.items) read now.feed board.nic.view board_now.nic.view plays
+            (ap (λ s. s.layout.reserves) fits.sound.set.card ∙ sym fits.many ∙ runs.many) runs.dealt;
+      }
+
+-- ---- an application
+
+module _ (board board_now : Board) (was now : Run) (app : ℕ) (w_was w_now : Worker) (is_was : slice_get was.workers.items app ≡ Some w_was)
+    (feed_is : now.feed ≡ was.feed) (items_are : now.workers.items ≡ set was.workers.items app w_now)
+    (nic_is : board_now.nic ≡ board.nic) (others : (b : ℕ) → b ≢ app → side_of board_now b ≡ side_of board b)
+    (many_apps : length board_now.apps ≡ length board.apps) (sound_now : IsSound board_now) where
+  many-now : length now.workers.items ≡ length was.workers.items
+  many-now = ap length items_are ∙ length-set was.workers.items app w_now
+
+  get-now : (a : ℕ) (w : Worker) → slice_get now.workers.items a ≡ Some w → InSet was.workers.items app w_now a w
+  get-now a w is = in-set was.workers.items app w_now a w (ap (λ items. slice_get items a) (sym items_are) ∙ is)
+
+  pub app-fits : (n : ℕ) → Fits board was n → WorkerFits (side_of board_now app).view w_now → Fits board_now now n
+  app-fits n fits worker_now = record {
+    sound = sound_now;
+    roles = record {
+      ready = subst (λ f. IsReady f board_now.nic.view) (sym feed_is) (subst (λ nic. IsReady was.feed nic.view) (sym nic_is) fits.roles.ready);
+      worker = λ a w is. elim (get-now a w is) [
+        | here at same ↦ subst (λ b. WorkerFits (side_of board_now b).view w) (sym at)
+            (subst (λ x. WorkerFits (side_of board_now app).view x) (sym same) worker_now)
+        | there other is_there ↦ subst (λ side. WorkerFits side.view w) (sym (others a other)) (fits.roles.worker a w is_there)
+      ];
+    };
+    many = many-now ∙ fits.many ∙ sym (reserves-same board board_now fits.sound sound_now many_apps);
+    shelves_enough = let same = many-now in omega (arith, same, fits.shelves_enough);
+  }
+
+  pub app-runs : {S T : Type 0} (left : S → Option (List ℕ)) (faults : S → ℕ) (kept : T → ℕ → Option (List ℕ)) (losses : T → ℕ)
+      (first source : S) (firsts shelves : List T) (plan : Plan) (shelf shelf_now : T) → slice_get shelves app ≡ Some shelf
+      → Running left faults kept losses first source firsts shelves plan board.nic board.apps was
+      → (WorkerRuns (kept_in kept firsts app) (kept shelf) (losses_in losses firsts app) (losses shelf) plan.how (side_of board app).view w_was
+      → WorkerRuns (kept_in kept firsts app) (kept shelf_now) (losses_in losses firsts app) (losses shelf_now) plan.how (side_of board_now app).view w_now)
+      → Running left faults kept losses first source firsts (set shelves app shelf_now) plan board_now.nic board_now.apps now
+  app-runs left faults kept losses first source firsts shelves plan shelf shelf_now shelf_is runs goes =
+      let later = set shelves app shelf_now in
+      let within : app < length shelves = get-within shelves app shelf shelf_is in
+      let below : app < length plan.ports.items = omega (arith, get-within was.workers.items app w_was is_was, runs.many) in
+      let here_is = get-set_same shelves app shelf_now within in
+      let was_runs = subst (λ k. WorkerRuns (kept_in kept firsts app) k (losses_in losses firsts app) (losses shelf) plan.how (side_of board app).view w_was)
+      (kept-here kept shelves app shelf shelf_is)
+      (subst (λ n. WorkerRuns (kept_in kept firsts app) (kept_in kept shelves app) (losses_in losses firsts app) n plan.how (side_of board app).view w_was)
+      (losses-here losses shelves app shelf shelf_is) (runs.worker app w_was is_was)) in
+      let now_runs = subst (λ k. WorkerRuns (kept_in kept firsts app) k (losses_in losses firsts app) (losses_in losses later app) plan.how
+      (side_of board_now app).view w_now)
+      (sym (kept-here kept later app shelf_now here_is))
+      (subst (λ n. WorkerRuns (kept_in kept firsts app) (kept shelf_now) (losses_in losses firsts app) n plan.how (side_of board_now app).view w_now)
+      (sym (losses-here losses later app shelf_now here_is)) (goes was_runs)) in
+      record {
+        plan_is = runs.plan_is;
+        frames = runs.frames;
+        feed = subst (λ f. FeedStands left faults first source plan.ports.items plan.split runs.frames f board_now.nic.view) (sym feed_is)
+            (subst (λ nic. FeedStands left faults first source plan.ports.items plan.split runs.frames was.feed nic.view) (sym nic_is) runs.feed);
+        setting = ap (λ nic. nic.view.setting) nic_is ∙ runs.setting;
+        many = many-now ∙ runs.many;
+        worker = λ a w is. elim (get-now a w is) [
+          | here at same ↦ subst (λ b. WorkerRuns (kept_in kept firsts b) (kept_in kept later b) (losses_in losses firsts b)
+              (losses_in losses later b) plan.how
+              (side_of board_now b).view w) (sym at)
+              (subst (λ x. WorkerRuns (kept_in kept firsts app) (kept_in kept later app) (losses_in losses firsts app) (losses_in losses later app) plan.how
+              (side_of board_now app).view x) (sym same) now_runs)
+          | there other is_there ↦
+              let shelf_there = get-set_other shelves app a shelf_now other in
+              subst (λ k. WorkerRuns (kept_in kept firsts a) k (losses_in losses firsts a) (losses_in losses later a) plan.how (side_of board_now a).view w)
+              (sym (kept-there kept shelves later a shelf_there))
+              (subst (λ n. WorkerRuns (kept_in kept firsts a) (kept_in kept shelves a) (losses_in losses firsts a) n plan.how (side_of board_now a).view w)
+              (sym (losses-there losses shelves later a shelf_there))
+              (subst (λ side. WorkerRuns (kept_in kept firsts a) (kept_in kept shelves a) (losses_in losses firsts a)
+              (losses_in losses shelves a) plan.how side.view w)
+              (sym (others a other)) (runs.worker a w is_there)))
+        ];
+        many_shelves = length-set shelves app shelf_now ∙ runs.many_shelves;
+        beyond = drop-set-lt (length plan.ports.items) shelves app shelf_now below ∙ runs.beyond;
+        records = subst (λ (f : FeedState). f.tally.records ≤ 16777216) (sym feed_is) runs.records;
+        dealt = subst (λ (nic : NicSide). All (λ (d : Dealt). d.app < length plan.ports.items) nic.view.dealt) (sym nic_is) runs.dealt;
+      }
+
+-- ---- turns behind turns
+
+pub plays-through : {S T : Type 0} (left : S → Option (List ℕ)) (faults : S → ℕ) (kept : T → ℕ → Option (List ℕ)) (losses : T → ℕ)
+    (a b c : S) (k l m : List T) (first second third : Board) (u v w : Run)
+    → Plays left faults kept losses a b k l first second u v → Plays left faults kept losses b c l m second third v w
+    → Plays left faults kept losses a c k m first third u w
+plays-through left faults kept losses a b c k l m first second third u v w before after = record {
+  fits = after.fits;
+  workers = after.workers ∙ before.workers;
+  many = after.many ∙ before.many;
+  runs = λ source firsts plan runs. after.runs source firsts plan (before.runs source firsts plan runs);
+}

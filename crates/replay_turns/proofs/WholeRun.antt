@@ -1,0 +1,93 @@
+-- A run from its opening to its end: the turns of the text, and then rounds.
+use Rattle.std.proofs.Common.{◌≡◌, ℕ, ◌≤◌, List, ◌++◌, length, take, drop, Option}
+use Rattle.std.proofs.Common.{inr, sym, ap, subst, ◌∙◌, arith}
+use Rattle.std.specs.Prelude.{Result, Ok, Err, OnErr}
+use Rattle.std.proofs.Math.Seq.{take-append_seam}
+use Rattle.plain_board.specs.Board.{Board}
+use Rattle.card_feed.specs.declared.outcome.Outcome.{Outcome}
+use Rattle.card_feed.specs.declared.plan.Plan.{Plan}
+use Rattle.run_account.specs.Ran.{TellsOf, Ran, LacksMemory, told_of}
+use Rattle.replay_turns.specs.Rounds.{IsOfPlan}
+use Rattle.run_account.specs.Running.{Running, AreOver}
+use Rattle.replay_turns.specs.Running.{Fits, Plays}
+use Rattle.run_account.specs.declared.run.Run.{Run}
+use Rattle.run_account.proofs.Ended.{end-well, end-told}
+use Rattle.replay_turns.proofs.BoardOver.{have-ended}
+
+pub on-err : {A E : Type 0} (r : Result A E) (P : Type 0) → P → OnErr r P
+on-err (Ok x) P holds = tt
+on-err (Err e) P holds = holds
+
+-- what was written in place of all is what there is
+back : {T : Type 0} (n : ℕ) (xs all : List T) → length xs ≡ n → take n (xs ++ drop (length xs) all) ≡ xs
+back n xs all same = ap (λ k. take k (xs ++ drop (length xs) all)) (sym same) ∙ take-append_seam xs (drop (length xs) all)
+
+module _ {S T : Type 0} (left : S → Option (List ℕ)) (faults : S → ℕ) (kept : T → ℕ → Option (List ℕ)) (losses : T → ℕ)
+    (source mid : S) (items was text was_text : List T) (n : ℕ) (opened played : Board) (begun went : Run) (size : n ≡ length items) (is : was ≡ items)
+    (is_text : was_text ≡ take n (text ++ drop (length text) items))
+    (first : Plays left faults kept losses source mid was text opened played begun went) where
+  same-text : was_text ≡ text
+  same-text = is_text ∙ back n text items (first.many ∙ ap length is ∙ sym size)
+
+  -- the board fits after the text
+  pub text-fits : Fits played went (length was_text)
+  text-fits = subst (λ ws. Fits played went (length ws)) (sym same-text) first.fits
+
+  -- and the run is still one of its plan
+  pub text-plan : (plan : Plan) → length plan.ports.items ≤ n
+      → ((first : S) (shelves : List T) → length plan.ports.items ≤ length shelves
+      → Running left faults kept losses first first shelves shelves plan opened.nic opened.apps begun)
+      → IsOfPlan left faults kept losses mid was_text played went
+  text-plan plan enough begins = record {
+    first = source;
+    firsts = was;
+    plan = plan;
+    runs = subst (λ ws. Running left faults kept losses source mid was ws plan played.nic played.apps went) (sym same-text)
+        (first.runs source was plan (begins source was (omega (arith, size, enough, ap length is))));
+  }
+
+module _ {S T : Type 0} (left : S → Option (List ℕ)) (faults : S → ℕ) (kept : T → ℕ → Option (List ℕ)) (losses : T → ℕ) (source mid now : S)
+    (items was text was_text rounds : List T) (n : ℕ) (plan : Plan) (opened played over_board : Board) (begun went over_run : Run)
+    (size : n ≡ length items) (enough : length plan.ports.items ≤ n) (is : was ≡ items)
+    (is_text : was_text ≡ take n (text ++ drop (length text) items))
+    (begins : (first : S) (shelves : List T) → length plan.ports.items ≤ length shelves
+    → Running left faults kept losses first first shelves shelves plan opened.nic opened.apps begun)
+    (first : Plays left faults kept losses source mid was text opened played begun went)
+    (second : Plays left faults kept losses mid now was_text rounds played over_board went over_run) where
+  text-size : length text ≡ n
+  text-size = first.many ∙ ap length is ∙ sym size
+
+  text-is : was_text ≡ text
+  text-is = is_text ∙ back n text items text-size
+
+  -- the shelves at the end
+  ends-with : take n (rounds ++ drop (length rounds) (take n (text ++ drop (length text) items))) ≡ rounds
+  ends-with = back n rounds (take n (text ++ drop (length text) items)) (second.many ∙ ap length text-is ∙ text-size)
+
+  pub whole-runs : Running left faults kept losses source now items rounds plan over_board.nic over_board.apps over_run
+  whole-runs =
+      let one = subst (λ ws. Plays left faults kept losses source mid ws text opened played begun went) is first in
+      let two = subst (λ ws. Plays left faults kept losses mid now ws rounds played over_board went over_run) text-is second in
+      two.runs source items plan (one.runs source items plan (begins source items (omega (arith, size, enough))))
+
+  module _ (over : AreOver over_run) where
+    pub run-told : (outcome : Outcome) → TellsOf over_run plan.ports.items outcome
+        → Ran left faults kept losses source now items (take n (rounds ++ drop (length rounds) (take n (text ++ drop (length text) items)))) plan
+        (told_of outcome) over_board.nic over_board.apps
+    run-told outcome tells =
+        subst (λ shelves. Ran left faults kept losses source now items shelves plan (told_of outcome) over_board.nic over_board.apps) (sym ends-with)
+        (end-well left faults kept losses source now items rounds plan over_board.nic over_board.apps over_run outcome
+        (have-ended over_board over_run (length rounds) second.fits over) second.fits.roles over whole-runs tells)
+
+    pub run-lacks : LacksMemory left faults kept losses source now items
+        (take n (rounds ++ drop (length rounds) (take n (text ++ drop (length text) items)))) plan
+    run-lacks =
+        let told = end-told left faults kept losses source now items rounds plan over_board.nic over_board.apps over_run
+        (have-ended over_board over_run (length rounds) second.fits over) second.fits.roles over whole-runs in
+        inr (
+          told.0,
+          over_board.nic,
+          over_board.apps,
+          subst
+              (λ shelves. Ran left faults kept losses source now items shelves plan told.0 over_board.nic over_board.apps) (sym ends-with) told.2,
+        )

@@ -1,5 +1,0 @@
-use Rattle.replay_turns.proofs.Bridge.{give_streams}
-use Rattle.replay_turns.proofs.laws.accounts_give_streams.Goals as goal
-
-pub returns : goal.returns
-returns g c = give_streams g.T.Shelf.kept

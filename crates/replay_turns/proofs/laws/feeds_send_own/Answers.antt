@@ -1,5 +1,0 @@
-use Rattle.replay_turns.proofs.SentNotes.{feeds-own}
-use Rattle.replay_turns.proofs.laws.feeds_send_own.Goals as goal
-
-pub returns : goal.returns
-returns g c = feeds-own g.S.Source.left g.S.Source.faults

@@ -1,5 +1,0 @@
-use Rattle.replay_turns.proofs.Beginning.{feeds_stand}
-use Rattle.replay_turns.proofs.laws.new_feeds_stand.Goals as goal
-
-pub returns : goal.returns
-returns g c = feeds_stand g.S.Source.left g.S.Source.faults

@@ -1,0 +1,62 @@
+-- Nobody has taken a turn.
+use Rattle.std.proofs.Common.{◌≡◌, length, Option, IfSome, [], refl, sym, ap, ◌∙◌, subst, arith}
+use Rattle.std.proofs.Common.{◌<◌}
+use Rattle.std.specs.Prelude.{All}
+use Rattle.std.proofs.lemmas.List.Elements.{All-nil}
+use Rattle.area_layout.specs.Layout.{Shape}
+use Rattle.board_face.specs.declared.views.nic.Dealt.{Dealt}
+use Rattle.card_feed.specs.Feed.{FeedState}
+use Rattle.plain_board.specs.Board.{Board}
+use Rattle.card_feed.specs.Plan.{layout_of}
+use Rattle.run_account.proofs.NewWorkers.{new-fits, new-runs}
+use Rattle.run_account.proofs.Places.{get-within}
+use Rattle.replay_turns.proofs.News.{begun}
+use Rattle.replay_turns.proofs.opening.open.Goals as goal
+
+pub returns-clause-many : goal.returns-clause-many
+returns-clause-many g c = c.in_ok-workers.ensures.many
+
+pub returns-clause-fits : goal.returns-clause-fits
+returns-clause-fits g c shelves enough =
+    let layout_is : c.unwrap-layout.result ≡ layout_of c.args.plan.now =
+    subst (λ (r : Option Shape). IfSome r (λ l. l ≡ layout_of c.args.plan.now)) c.unwrap-layout.ensures c.layout.ensures.value in
+    let reserves : c.unwrap-layout.result.reserves ≡ length c.args.plan.now.ports.items = ap (λ (s : Shape). s.reserves) layout_is in
+    let many = c.in_ok-workers.ensures.many in
+    let board_reserves : c.in_ok-board.board.arrays.layout.reserves ≡ c.unwrap-layout.result.reserves =
+    ap (λ (b : Board). b.arrays.layout.reserves) c.in_ok-board.ensures in
+    record {
+      sound = c.sound.ensures;
+      roles = record {
+        ready = rw c.in_ok-board.ensures (c.in_ok-feed.ensures.ready _ refl (record { owns = refl; pieces = refl }) (sym reserves));
+        worker = λ a w is. let within = get-within c.in_ok-workers.workers.items a w is in
+            new-fits c.args.plan.now _ a _ w (begun c.in_ok-board.board c.unwrap-layout.result c.args.plan.now.ring a c.in_ok-board.ensures
+            (omega (arith, within, many, reserves))) (c.in_ok-workers.ensures.each a w is);
+      };
+      many = many ∙ sym reserves ∙ sym board_reserves;
+      shelves_enough = omega (arith, many, enough);
+    }
+
+pub returns-clause-runs : goal.returns-clause-runs
+returns-clause-runs g c source shelves enough =
+    let layout_is : c.unwrap-layout.result ≡ layout_of c.args.plan.now =
+    subst (λ (r : Option Shape). IfSome r (λ l. l ≡ layout_of c.args.plan.now)) c.unwrap-layout.ensures c.layout.ensures.value in
+    let reserves : c.unwrap-layout.result.reserves ≡ length c.args.plan.now.ports.items = ap (λ (s : Shape). s.reserves) layout_is in
+    let many = c.in_ok-workers.ensures.many in
+    record {
+      plan_is = c.requires;
+      frames = [];
+      feed = rw c.in_ok-feed.ensures.value (c.new_feeds_stand.ensures source c.args.plan.now.ports.items c.args.plan.now.split
+          c.in_ok-board.board.nic.view (ap (λ (b : Board). b.nic.view.sent) c.in_ok-board.ensures)
+          (ap (λ (b : Board). b.nic.view.dealt) c.in_ok-board.ensures)
+          (ap (λ (b : Board). b.nic.view.used) c.in_ok-board.ensures));
+      setting = rw c.in_ok-board.ensures (rw layout_is refl);
+      many = many;
+      worker = λ a w is. let within = get-within c.in_ok-workers.workers.items a w is in
+          new-runs c.args.plan.now _ a _ w (begun c.in_ok-board.board c.unwrap-layout.result c.args.plan.now.ring a c.in_ok-board.ensures
+          (omega (arith, within, many, reserves))) (c.in_ok-workers.ensures.each a w is) _ _;
+      many_shelves = refl;
+      beyond = refl;
+      records = let none = ap (λ (f : FeedState). f.tally.records) c.in_ok-feed.ensures.value in omega (arith, none);
+      dealt = subst (All (λ (d : Dealt). d.app < length c.args.plan.now.ports.items)) (sym (ap (λ (b : Board). b.nic.view.dealt) c.in_ok-board.ensures))
+          (All-nil (λ (d : Dealt). d.app < length c.args.plan.now.ports.items));
+    }

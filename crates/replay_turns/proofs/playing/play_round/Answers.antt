@@ -1,0 +1,30 @@
+-- Each turn goes on, and is told of.
+use Rattle.std.proofs.Common.{length, refl, arith}
+use Rattle.replay_turns.proofs.Turns.{plays-through}
+use Rattle.replay_turns.proofs.Rounds.{begins, turns, ends}
+use Rattle.replay_turns.proofs.playing.play_round.Goals as goal
+
+pub loop-app-init : goal.loop-app-init
+loop-app-init g c = (
+  record { fits = c.step-board.ensures.plays.fits; workers = refl; many = refl; runs = λ first firsts plan runs. runs },
+  begins c.args.board c.step-board.result.0 c.args.run.now c.step-board.new.run c.step-board.result.1 c.step-board.ensures.answer,
+)
+
+pub loop-app-preserved : goal.loop-app-preserved
+loop-app-preserved g c =
+    let round = c.loop-app.invariant in (
+      plays-through g.S.Source.left g.S.Source.faults g.T.Shelf.kept g.T.Shelf.faults _ _ _ _ _ _ _ _ _ _ _ _ round.0 c.step-next.ensures.plays,
+      turns c.args.board c.loop-app.board c.step-next.result.0 c.args.run.now c.loop-app.run c.step-next.new.run c.loop-app.did c.step-next.result.1
+          c.loop-app.app (length c.loop-app.shelves) round.0.fits round.1 c.step-next.ensures.answer,
+    )
+
+pub returns : goal.returns
+returns g c =
+    let first = c.step-board.ensures in
+    let round = c.loop-app.invariant in
+    record {
+      plays = plays-through g.S.Source.left g.S.Source.faults g.T.Shelf.kept g.T.Shelf.faults _ _ _ _ _ _ _ _ _ _ _ _ first.plays round.0;
+      answer = ends c.args.board c.loop-app.board c.args.run.now c.loop-app.run c.loop-app.did c.loop-app.app round.1
+          (let before = first.plays.workers in let later = round.0.workers in
+          omega (arith, c.loop-app-test.false, c.len-apps.ensures, c.args.run.now.workers.ok, before, later));
+    }

@@ -1,0 +1,10 @@
+-- What was played so far goes on with the run, and says what was done.
+use Rattle.replay_turns.specs.Running.{Plays}
+use Rattle.replay_turns.proofs.Rounds.{GoesRound}
+use Rattle.replay_turns.proofs.playing.play_round.Given as goal
+
+abbrev pub invariant-loop-app : goal.invariant-loop-app
+invariant-loop-app g l =
+    Plays g.S.Source.left g.S.Source.faults g.T.Shelf.kept g.T.Shelf.faults l.initial.source l.source l.initial.shelves l.shelves
+    l.initial.board l.board l.initial.run l.run
+    × GoesRound l.fn.board l.board l.fn.run l.run l.did l.app

@@ -1,0 +1,8 @@
+-- What was played so far goes on with the run.
+use Rattle.replay_turns.specs.Running.{Plays}
+use Rattle.replay_turns.proofs.playing.play_text.Given as goal
+
+abbrev pub invariant-loop-letter : goal.invariant-loop-letter
+invariant-loop-letter g l =
+    Plays g.S.Source.left g.S.Source.faults g.T.Shelf.kept g.T.Shelf.faults l.initial.source l.source l.initial.shelves l.shelves
+    l.initial.board l.board l.initial.run l.run

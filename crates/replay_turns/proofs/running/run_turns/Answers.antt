@@ -1,0 +1,46 @@
+-- A whole run.
+use Rattle.std.proofs.Common.{length, inl, refl, sym, ap, subst, ◌∙◌, arith}
+use Rattle.run_account.specs.Ran.{TellsOf}
+use Rattle.replay_turns.specs.Schedule.{AreTurns}
+use Rattle.replay_turns.proofs.WholeRun.{on-err, whole-runs, text-fits, text-plan, run-told, run-lacks}
+use Rattle.replay_turns.proofs.running.run_turns.Goals as goal
+
+pub returns-clause-ran : goal.returns-clause-ran
+returns-clause-ran g c = run-told _ _ _ _ _ _ _ _ _ _ _ _ c.args.shelves.now.len c.args.plan.now _ _ _ _ _ _
+    (omega (arith, c.args.shelves.now.ok)) c.requires.shelves c.deref_mut.ensures.value c.deref_mut-2.ensures.value
+    c.in_ok-board.ensures.runs c.play_text-board.ensures.plays c.play_rounds-board.ensures.plays c.play_rounds-board.ensures.over
+    c.in_ok-outcome.outcome (subst (λ ports. TellsOf c.play_rounds-board.new.run ports c.in_ok-outcome.outcome) c.deref.ensures.value c.in_ok-outcome.ensures)
+
+pub returns-in_err-board-clause-lacks : goal.returns-in_err-board-clause-lacks
+returns-in_err-board-clause-lacks g c = on-err _ _ (inl (record { source_is = refl; shelves_are = refl }))
+
+pub returns-in_err-outcome-clause-lacks : goal.returns-in_err-outcome-clause-lacks
+returns-in_err-outcome-clause-lacks g c = on-err _ _ (run-lacks _ _ _ _ _ _ _ _ _ _ _ _ c.args.shelves.now.len c.args.plan.now _ _ _ _ _ _
+    (omega (arith, c.args.shelves.now.ok)) c.requires.shelves c.deref_mut.ensures.value c.deref_mut-2.ensures.value
+    c.in_ok-board.ensures.runs c.play_text-board.ensures.plays c.play_rounds-board.ensures.plays c.play_rounds-board.ensures.over)
+
+pub play_text-board-requires : goal.play_text-board-requires
+play_text-board-requires g c = record {
+  fits = c.in_ok-board.ensures.fits (length c.deref_mut.result.now)
+      (omega (arith, c.requires.shelves, c.args.shelves.now.ok, ap length c.deref_mut.ensures.value));
+  turns = subst (λ apps. AreTurns apps c.args.turns.now) (sym c.in_ok-board.ensures.many) c.requires.turns;
+}
+
+pub play_rounds-board-requires : goal.play_rounds-board-requires
+play_rounds-board-requires g c = record {
+  fits = text-fits _ _ _ _ _ _ _ _ _ _ c.args.shelves.now.len _ _ _ _ (omega (arith, c.args.shelves.now.ok)) c.deref_mut.ensures.value
+      c.deref_mut-2.ensures.value c.play_text-board.ensures.plays;
+  plan = text-plan _ _ _ _ _ _ _ _ _ _ c.args.shelves.now.len _ _ _ _ (omega (arith, c.args.shelves.now.ok)) c.deref_mut.ensures.value
+      c.deref_mut-2.ensures.value c.play_text-board.ensures.plays c.args.plan.now c.requires.shelves c.in_ok-board.ensures.runs;
+}
+
+pub tell-requires : goal.tell-requires
+tell-requires g c =
+    let runs = whole-runs _ _ _ _ _ _ _ _ _ _ _ _ c.args.shelves.now.len c.args.plan.now _ _ _ _ _ _
+    (omega (arith, c.args.shelves.now.ok)) c.requires.shelves c.deref_mut.ensures.value c.deref_mut-2.ensures.value
+    c.in_ok-board.ensures.runs c.play_text-board.ensures.plays c.play_rounds-board.ensures.plays in
+    record {
+      over = c.play_rounds-board.ensures.over;
+      ports = runs.feed.knows.ports_are ∙ sym c.deref.ensures.value;
+      many = runs.many ∙ ap length (sym c.deref.ensures.value);
+    }

@@ -1,0 +1,102 @@
+-- A turn of an application goes on with the run.
+use Rattle.std.proofs.Common.{◌≡◌, ◌≢◌, ◌<◌, Bool, true, false, not, length, get_or, refl, sym, ap, ◌∙◌, subst, arith}
+use Rattle.std.specs.Prelude.{MatchBool}
+use Rattle.std.proofs.lemmas.List.{length-set}
+use Rattle.std.proofs.lemmas.Option.{slice_get_read, slice_get-get_or}
+use Rattle.std.specs.Vec.{with_item}
+use Rattle.plain_board.specs.Board.{side_of}
+use Rattle.app_worker.specs.Turns.{Answers}
+use Rattle.app_worker.specs.declared.turn.Turn.TheVariants.{Finished}
+use Rattle.card_feed.specs.Account.{kept_in}
+use Rattle.replay_turns.specs.Rounds.{DidNothing}
+use Rattle.run_account.specs.Running.{losses_in}
+use Rattle.replay_turns.specs.Running.{Fits}
+use Rattle.replay_turns.specs.Steps.{run_steps}
+use Rattle.replay_turns.specs.declared.role.Role.TheVariants.{App}
+use Rattle.run_account.specs.declared.run.Run.{Run}
+use Rattle.run_account.specs.declared.run.Worker.{Worker}
+use Rattle.replay_turns.proofs.Answering.{gone-idle, app-idles, app-rises}
+use Rattle.replay_turns.proofs.Rising.{turns-rise}
+use Rattle.replay_turns.proofs.Turns.{app-fits, app-runs}
+use Rattle.run_account.proofs.Workers.{goes-on}
+use Rattle.replay_turns.proofs.stepping.app_turn.Goals.{in-Finished, in_default, in-Idle, in_default-matches}
+use Rattle.replay_turns.proofs.stepping.app_turn.Goals as goal
+
+pub returns-then-index : goal.returns-then-index
+returns-then-index g c = record {
+  plays = λ source. record { fits = c.requires.fits; workers = refl; many = refl; runs = λ first firsts plan runs. runs };
+  answer = gone-idle c.args.board c.args.run.now c.args.app c.index.result.now
+      (slice_get_read c.args.run.now.workers.items _ c.args.app c.index.result.now refl c.requires.app c.index.ensures) c.if-index.true;
+}
+
+pub app_step-board-requires-clause-here : goal.app_step-board-requires-clause-here
+app_step-board-requires-clause-here g c =
+    (c.requires.fits.roles.worker c.args.app c.index.result.now
+    (slice_get_read c.args.run.now.workers.items _ c.args.app c.index.result.now refl c.requires.app c.index.ensures)).here c.if-index.false
+
+pub app_step-board-requires-clause-stands : goal.app_step-board-requires-clause-stands
+app_step-board-requires-clause-stands g c =
+    (c.requires.fits.roles.worker c.args.app c.index_mut-worker.result.now
+    (slice_get_read c.args.run.now.workers.items _ c.args.app c.index_mut-worker.result.now refl c.requires.app c.index_mut-worker.ensures.value)).stands
+
+pub returns : goal.returns
+returns g c =
+    let step = c.app_step-board.ensures in
+    let board = c.args.board in
+    let board_now = c.app_step-board.result.0 in
+    let old = (side_of board c.args.app).view in
+    let new = (side_of board_now c.args.app).view in
+    let w_was : Worker = c.index_mut-worker.result.now in
+    let w_now : Worker = record { state = c.app_step-board.new.st; left = c.match-matches.worker } in
+    let shelf = get_or c.args.shelves.now c.args.app c.index-shelves-app.result in
+    let shelf_now = c.app_step-board.new.shelf in
+    let is_was = slice_get_read c.args.run.now.workers.items _ c.args.app w_was refl c.requires.app c.index_mut-worker.ensures.value in
+    let shelf_is = slice_get-get_or c.args.shelves.now c.args.app c.index-shelves-app.result
+    (omega (arith, c.requires.app, c.requires.fits.shelves_enough)) in
+    let is_left : w_now.left ≡ true → c.app_step-board.result.1 ≡ Finished = λ is. elim c.match-matches.branch [
+      | in-Finished w ↦ w.in-Finished.is
+      | in_default w ↦ let not : c.match-matches.worker ≡ false = w.worker-is in absurd (cc)
+    ] in
+    let not_left : w_now.left ≡ false → c.app_step-board.result.1 ≢ Finished = λ is same. elim c.match-matches.branch [
+      | in-Finished w ↦ let left : c.match-matches.worker ≡ true = w.worker-is in absurd (cc)
+      | in_default w ↦ w.in_default.not-Finished same
+    ] in
+    let is_gone : c.app_step-board.result.1 ≡ Finished → w_now.left ≡ true = λ is. elim c.match-matches.branch [
+      | in-Finished w ↦ w.worker-is
+      | in_default w ↦ absurd (w.in_default.not-Finished is)
+    ] in
+    let here : w_was.left ≡ false =
+    let there = slice_get_read c.args.run.now.workers.items _ c.args.app c.index.result.now refl c.requires.app c.index.ensures in
+    let same : w_was ≡ c.index.result.now = cc in ap (λ (w : Worker). w.left) same ∙ c.if-index.false in
+    let run_now : Run = record { feed = c.args.run.now.feed; workers = with_item c.args.run.now.workers c.args.app w_now } in
+    let says : Bool → Type 0 = λ did. MatchBool did (run_steps board c.args.run.now < run_steps board_now run_now)
+    (DidNothing (App c.args.app) board board_now c.args.run.now run_now) in
+    let finished = λ (left : w_now.left ≡ true). subst
+    (λ turn. Answers w_was.state w_now.state old new (g.T.Shelf.faults shelf) (g.T.Shelf.faults shelf_now) turn) (is_left left) step.turns.answer in
+    record {
+      plays = λ source. record {
+        fits = subst (λ n. Fits board_now run_now n) (sym (length-set c.args.shelves.now c.args.app shelf_now))
+            (app-fits board board_now c.args.run.now run_now c.args.app w_was w_now is_was refl refl step.card step.others step.many step.sound
+            (length c.args.shelves.now) c.requires.fits
+            (record { stands = step.stands; here = λ left. step.here (not_left left); gone = λ left. ((finished left).1, (finished left).2) }));
+        workers = length-set c.args.run.now.workers.items c.args.app w_now;
+        many = length-set c.args.shelves.now c.args.app shelf_now;
+        runs = λ first firsts plan runs.
+            app-runs board board_now c.args.run.now run_now c.args.app w_was w_now is_was refl refl step.card step.others step.many step.sound
+            g.S.Source.left g.S.Source.faults g.T.Shelf.kept g.T.Shelf.faults first source firsts c.args.shelves.now plan
+            shelf shelf_now shelf_is runs
+            (λ was_runs. goes-on (kept_in g.T.Shelf.kept firsts c.args.app) (g.T.Shelf.kept shelf) (g.T.Shelf.kept shelf_now)
+            (losses_in g.T.Shelf.faults firsts c.args.app) (g.T.Shelf.faults shelf) (g.T.Shelf.faults shelf_now) plan.how old new w_was w_now
+            c.app_step-board.result.1 was_runs step.turns step.later is_left
+            (record { fronts = step.fronts _; failed = step.failed _; whole = step.whole _; copies = step.copies; counts = step.counts })
+            (λ left. (finished left).2) step.still);
+      };
+      answer = elim c.match-matches-2.branch [
+        | in-Idle w ↦ subst (λ is. says (not is)) (sym w.matches-is)
+            (app-idles board board_now c.args.run.now run_now c.args.app w_was w_now is_was refl refl step.card step.others
+            _ _ _ _ c.app_step-board.result.1 step.turns here is_left _ w.in-Idle.is (step.told _ w.in-Idle.is))
+        | in_default-matches w ↦ subst (λ is. says (not is)) (sym w.matches-is)
+            (app-rises board board_now c.args.run.now run_now c.args.app w_was w_now is_was refl refl step.card step.others
+            ((turns-rise w_was w_now old new _ _ _ _ c.app_step-board.result.1 step.turns here is_gone).1 w.in_default-matches.not-Idle))
+      ];
+    }

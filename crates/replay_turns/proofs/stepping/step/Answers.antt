@@ -1,0 +1,38 @@
+-- A turn of the card, or of an application.
+use Rattle.std.proofs.Common.{◌<◌, ◌≤◌, refl, sym, subst}
+use Rattle.std.specs.Prelude.{MatchBool}
+use Rattle.replay_turns.specs.Rounds.{DidNothing}
+use Rattle.replay_turns.specs.Steps.{run_steps}
+use Rattle.run_account.specs.declared.run.Run.{Run}
+use Rattle.replay_turns.proofs.Answering.{card-answers}
+use Rattle.replay_turns.proofs.Turns.{card-fits, card-runs}
+use Rattle.replay_turns.proofs.stepping.step.Goals as goal
+
+pub returns-in-App : goal.returns-in-App
+returns-in-App g c = record {
+  plays = c.app_turn.ensures.plays c.args.source.now;
+  answer = subst (λ role. MatchBool c.app_turn.result.1 (run_steps c.args.board c.args.run.now < run_steps c.app_turn.result.0 c.app_turn.new.run)
+      (DidNothing role c.args.board c.app_turn.result.0 c.args.run.now c.app_turn.new.run)) (sym c.in-App.is) c.app_turn.ensures.answer;
+}
+
+pub returns-in-Card : goal.returns-in-Card
+returns-in-Card g c =
+    let step = c.card_step-turn.ensures in
+    let fits = c.requires.fits in
+    let run_now : Run = record { feed = c.card_step-turn.new.feed; workers = c.args.run.now.workers } in
+    record {
+      plays = record {
+        fits = card-fits c.args.board c.card_step-turn.result.0 c.args.run.now run_now refl step.apps step.sound step.ready _ fits;
+        workers = refl;
+        many = refl;
+        runs = λ first firsts plan runs.
+            let turns = step.turns first plan.ports.items plan.split runs.frames runs.feed in
+            card-runs c.args.board c.card_step-turn.result.0 c.args.run.now run_now refl step.apps step.sound step.ready
+            g.S.Source.left g.S.Source.faults g.T.Shelf.kept g.T.Shelf.faults first c.args.source.now c.card_step-turn.new.source firsts c.args.shelves.now
+            plan fits runs turns.more turns.stands
+            (subst (λ n. n ≤ 16777216) c.records.ensures.count c.records.ensures.most) turns.read turns.plays;
+      };
+      answer = subst (λ role. MatchBool c.card_step-turn.result.1 (run_steps c.args.board c.args.run.now < run_steps c.card_step-turn.result.0 run_now)
+          (DidNothing role c.args.board c.card_step-turn.result.0 c.args.run.now run_now)) (sym c.in-Card.is)
+          (card-answers c.args.board c.card_step-turn.result.0 c.args.run.now run_now refl step.apps c.card_step-turn.result.1 step.answer);
+    }

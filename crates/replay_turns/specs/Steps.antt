@@ -1,0 +1,66 @@
+-- How far a run has come, and how far it can come.
+use Rattle.std.specs.Prelude.{◌≡◌, ◌≢◌, ◌<◌, true, false, ℕ, suc, ◌+◌, ◌*◌, ◌≤◌, List, [], ◌∷◌, length, Option}
+use Rattle.board_face.specs.declared.views.app.AppView.{AppView}
+use Rattle.plain_board.specs.Board.{Board, side_of}
+use Rattle.app_worker.specs.State.{app_steps, one_if}
+use Rattle.app_worker.specs.Turns.{Turns}
+use Rattle.app_worker.specs.declared.turn.Turn.{Turn}
+use Rattle.app_worker.specs.declared.turn.Turn.TheVariants.{Idle, Finished}
+use Rattle.app_worker.specs.declared.turn.Why.{Why}
+use Rattle.card_feed.specs.Feed.{feed_steps}
+use Rattle.card_feed.specs.declared.plan.Plan.{Plan}
+use Rattle.run_account.specs.Running.{Running}
+use Rattle.replay_turns.specs.Running.{Fits}
+use Rattle.run_account.specs.declared.run.Run.{Run}
+use Rattle.run_account.specs.declared.run.Worker.{Worker}
+
+-- ---- how far it has come
+
+-- Each note, loan and entry of an application at the place that it has come to, and what comes once; and 1 each once it has
+-- nothing any more, and once it has left.
+abbrev pub worker_steps : AppView → Worker → ℕ
+worker_steps v w = app_steps w.state v + one_if w.state.bare + one_if w.left
+
+-- those of these applications, which have the numbers from `a` on
+abbrev pub steps_from : Board → ℕ → List Worker → ℕ
+steps_from board a [] = 0
+steps_from board a (w ∷ workers) = worker_steps (side_of board a).view w + steps_from board (suc a) workers
+
+-- Records read, notes sent and entries dealt with, the end of the reading and closing; and what the applications did.
+abbrev pub run_steps : Board → Run → ℕ
+run_steps board run = feed_steps run.feed board.nic.view + steps_from board 0 run.workers.items
+
+-- A turn of an application that is here brings it back in nothing and, unless it did nothing, further.
+abbrev pub TurnsRise : Type 0
+TurnsRise =
+    (was now : Worker) (old new : AppView) (kept kept_now : ℕ → Option (List ℕ)) (faults faults_now : ℕ) (result : Turn)
+    → Turns was.state now.state old new kept kept_now faults faults_now result → was.left ≡ false → (result ≡ Finished → now.left ≡ true)
+    → (worker_steps old was ≤ worker_steps new now) × (((why : Why) → result ≢ Idle why) → worker_steps old was < worker_steps new now)
+
+-- ---- how far it can come
+
+abbrev pub most_records : ℕ
+most_records = 16777216
+
+-- A record has a payload of at most 65,515 bytes. Each note shows one of them at least, and each loan is of one at least.
+abbrev pub most_bytes : ℕ
+most_bytes = 1099159306240
+
+-- Each loan comes to four places, and its entry is followed by at most `stray` others. The 7 are for the loan that is due, for
+-- the end of its notes, for its scrub, and twice each for having nothing any more and for having left.
+abbrev pub worker_most : ℕ → ℕ
+worker_most stray = most_bytes + 4 * most_bytes + stray * most_bytes + 7
+
+-- the entries of an application: one for each loan, and those that follow it
+abbrev pub entries_most : ℕ → ℕ
+entries_most stray = most_bytes + stray * most_bytes
+
+abbrev pub run_most : ℕ → ℕ → ℕ
+run_most apps stray = most_records + most_bytes + 2 + apps * entries_most stray + apps * worker_most stray
+
+-- A run of a plan goes no further.
+abbrev pub RunsStayWithin : {S T : Type 0} → (S → Option (List ℕ)) → (S → ℕ) → (T → ℕ → Option (List ℕ)) → (T → ℕ) → Type 0
+RunsStayWithin {S} {T} left faults kept losses =
+    (source source_now : S) (shelves shelves_now : List T) (plan : Plan) (board : Board) (run : Run)
+    → Fits board run (length shelves_now) → Running left faults kept losses source source_now shelves shelves_now plan board.nic board.apps run
+    → run_steps board run ≤ run_most (length plan.ports.items) plan.how.stray

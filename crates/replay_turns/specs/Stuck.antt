@@ -1,0 +1,47 @@
+-- A run in which no turn can do anything, and what keeps each role back.
+use Rattle.std.specs.Prelude.{◌≡◌, ℕ, ◌<◌, ◌⊎◌, true, Some}
+use Rattle.std.specs.List.{slice_get}
+use Rattle.board_face.specs.AppEvents.{app_gist}
+use Rattle.board_face.specs.NicCalls.{apps_of}
+use Rattle.board_face.specs.NicEvents.{nic_gist}
+use Rattle.board_face.specs.declared.views.nic.NicLook.TheVariants.{RingEmpty, NoteInUse}
+use Rattle.plain_board.specs.Board.{Board, side_of, others_of}
+use Rattle.plain_board.specs.Seen.{IsSeenBy, IsSeenByCard}
+use Rattle.app_worker.specs.Turns.{Because, look_of}
+use Rattle.app_worker.specs.declared.turn.Why.{Why}
+use Rattle.run_account.specs.Running.{AreOver}
+use Rattle.replay_turns.specs.Running.{Fits}
+use Rattle.replay_turns.specs.declared.role.Role.{Role}
+use Rattle.replay_turns.specs.declared.role.Role.TheVariants.{Card, App}
+use Rattle.run_account.specs.declared.run.Run.{Run}
+use Rattle.run_account.specs.declared.run.Worker.{Worker}
+
+-- Each refill ring is empty and, unless the card was closed, a note ring is full.
+pub record IsCardStuck (board : Board) (run : Run) : Type 0 where
+  pub rings : (a : ℕ) → a < apps_of board.nic.view.setting → IsSeenByCard (RingEmpty a) (nic_gist board.nic.view) board.apps
+  pub notes : (run.feed.closed ≡ true)
+      ⊎ ((a : ℕ) × (a < apps_of board.nic.view.setting) × IsSeenByCard (NoteInUse a) (nic_gist board.nic.view) board.apps)
+
+-- There is something that keeps the application back, and that is so.
+pub record IsKeptBack (board : Board) (a : ℕ) (w : Worker) : Type 0 where
+  pub why : Why
+  pub because : Because why w.state (side_of board a).view
+  pub seen : IsSeenBy (look_of why) (app_gist (side_of board a).view) (others_of board a)
+
+-- It has left or is kept back.
+abbrev pub IsAppStuck : Board → Run → ℕ → Type 0
+IsAppStuck board run a = (w : Worker) → slice_get run.workers.items a ≡ Some w → (w.left ≡ true) ⊎ IsKeptBack board a w
+
+-- The role can do nothing.
+abbrev pub IsStuck : Role → Board → Run → Type 0
+IsStuck Card board run = IsCardStuck board run
+IsStuck (App a) board run = IsAppStuck board run a
+
+-- Nobody can do anything.
+pub record AreStuck (board : Board) (run : Run) : Type 0 where
+  pub card : IsCardStuck board run
+  pub app : (a : ℕ) → IsAppStuck board run a
+
+-- Nobody waits for anybody but where all are gone.
+abbrev pub StuckRunsAreOver : Type 0
+StuckRunsAreOver = (board : Board) (run : Run) (shelves : ℕ) → Fits board run shelves → AreStuck board run → AreOver run

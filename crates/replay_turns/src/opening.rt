@@ -1,0 +1,34 @@
+//! How a run begins.
+
+ghost use Rattle.std.specs.Prelude.{◌≡◌, ℕ, ◌≤◌, List, length, IfOk};
+ghost use Rattle.card_feed.specs.Plan.{IsPlan};
+ghost use Rattle.run_account.specs.Running.{Running};
+ghost use Rattle.replay_turns.specs.Running.{Fits};
+
+use card_feed::{Feed, Plan, new_feeds_stand};
+use plain_board::PlainBoard;
+use run_account::{Run, new_workers};
+use std::alloc::{AllocError, Global};
+use std::collections::hash_map::RandomState;
+use zr_io::{Shelf, Source};
+
+/// Opens the board of a plan, at which nobody has taken a turn. The keys of the flows are hashed with `random`.
+pub fn open<S: Source, T: Shelf>(
+    alloc: Global,
+    random: RandomState,
+    plan: &Plan,
+) -> Result<(PlainBoard, Run), AllocError>
+    requires { IsPlan plan.now }
+    ensures fits { IfOk result (λ it. (shelves : ℕ) → length plan.now.ports.items ≤ shelves → Fits it.0 it.1 shelves) }
+    ensures many { IfOk result (λ it. length it.1.workers.items ≡ length plan.now.ports.items) }
+    ensures runs { IfOk result (λ it. (source : S) (shelves : List T) → length plan.now.ports.items ≤ length shelves
+        → Running S.left S.faults T.kept T.faults source source shelves shelves plan.now it.0.nic it.0.apps it.1) }
+{
+    let layout = plan.layout().unwrap();
+    let board = PlainBoard::open(alloc, layout, plan.ports.len() as u32, plan.ring)?;
+    let feed = Feed::new(alloc, random, plan)?;
+    let workers = new_workers(alloc, plan)?;
+    board.sound();
+    new_feeds_stand::<S>();
+    Ok((board, Run { feed, workers }))
+}

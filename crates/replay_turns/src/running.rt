@@ -1,0 +1,48 @@
+//! A whole run.
+
+ghost use Rattle.std.specs.Prelude.{◌≡◌, ◌≤◌, length, vec_len, IfOk, OnErr};
+ghost use Rattle.plain_board.specs.Sound.{IsSound};
+ghost use Rattle.card_feed.specs.Plan.{IsPlan};
+ghost use Rattle.run_account.specs.Ran.{Ran, LacksMemory, told_of};
+ghost use Rattle.replay_turns.specs.Schedule.{AreTurns};
+
+use crate::opening::open;
+use crate::playing::{play_rounds, play_text};
+use card_feed::{Outcome, Plan};
+use plain_board::PlainBoard;
+use run_account::tell;
+use std::alloc::{AllocError, Global};
+use std::collections::hash_map::RandomState;
+use zr_io::{Shelf, Source};
+
+/// Replays a capture over a board for one thread. The turns are those of the text, one a letter: `n` is a turn of the card,
+/// a digit one of the application with that number, from 0. Then it goes round, the card and each application, until all have
+/// left. Shelf `a` takes the flows to the port of place `a` among the plan's. `random` keys the table of flows.
+///
+/// It answers how the run went, and its board as it stands then.
+pub fn run_turns<S: Source, T: Shelf>(
+    alloc: Global,
+    random: RandomState,
+    source: &mut S,
+    shelves: &mut Vec<T>,
+    plan: &Plan,
+    turns: &str,
+) -> Result<(Outcome, PlainBoard), AllocError>
+    requires plan { IsPlan plan.now }
+    requires shelves { length plan.now.ports.items ≤ vec_len shelves.old }
+    requires turns { AreTurns (length plan.now.ports.items) turns.now }
+    ensures many { vec_len shelves.new ≡ vec_len shelves.old }
+    // The stream theorem, what the outcome says, and that all is over at the board and it accounts for the run.
+    ensures ran { IfOk result (λ it. Ran S.left S.faults T.kept T.faults source.old source.new shelves.old.items shelves.new.items plan.now
+        (told_of it.0) it.1.nic it.1.apps) }
+    // The board is sound too.
+    ensures sound { IfOk result (λ it. IsSound it.1) }
+    // Want of memory comes before the first turn or behind the last.
+    ensures lacks { OnErr result (LacksMemory S.left S.faults T.kept T.faults source.old source.new shelves.old.items shelves.new.items plan.now) }
+{
+    let (mut board, mut run) = open::<S, T>(alloc, random, plan)?;
+    board = play_text(alloc, board, &mut run, source, shelves, turns);
+    board = play_rounds(alloc, board, &mut run, source, shelves);
+    let outcome = tell(alloc, run, &plan.ports)?;
+    Ok((outcome, board))
+}

@@ -1,0 +1,73 @@
+//! One turn of a role.
+
+ghost use Rattle.std.specs.Prelude.{◌<◌, length, MatchBool};
+ghost use Rattle.replay_turns.specs.Rounds.{DidNothing};
+ghost use Rattle.replay_turns.specs.Running.{Fits, Plays};
+ghost use Rattle.replay_turns.specs.Schedule.{IsRole};
+ghost use Rattle.replay_turns.specs.Steps.{run_steps};
+ghost use Rattle.replay_turns.specs.declared.role.Role.TheVariants.{App};
+
+use crate::Role;
+use crate::board_turns::{app_step, card_step};
+use app_worker::Turn;
+use plain_board::PlainBoard;
+use run_account::Run;
+use std::alloc::Global;
+use zr_io::{Shelf, Source};
+
+/// A turn of an application, unless it has left. `false` says that it did nothing.
+fn app_turn<S: Source, T: Shelf>(
+    alloc: Global,
+    board: PlainBoard,
+    run: &mut Run,
+    shelves: &mut [T],
+    app: u32,
+) -> (PlainBoard, bool)
+    requires fits { Fits board run.old (length shelves.old) }
+    requires app { app < length run.old.workers.items }
+    ensures plays { (source : S) → Plays S.left S.faults T.kept T.faults source source shelves.old shelves.new board result.0 run.old run.new }
+    ensures answer { MatchBool result.1 (run_steps board run.old < run_steps result.0 run.new)
+        (DidNothing (App app) board result.0 run.old run.new) }
+{
+    if run.workers[app as usize].left {
+        return (board, false);
+    }
+    let worker = &mut run.workers[app as usize];
+    let (board, turn) = app_step(
+        alloc,
+        board,
+        app,
+        &mut worker.state,
+        &mut shelves[app as usize],
+    );
+    worker.left = matches!(turn, Turn::Finished);
+    let did = !matches!(turn, Turn::Idle(_));
+    (board, did)
+}
+
+/// A turn of a role. An application that has left does nothing in it. `false` says that nothing was done, and then there is
+/// nothing that the role can do.
+pub fn step<S: Source, T: Shelf>(
+    alloc: Global,
+    board: PlainBoard,
+    run: &mut Run,
+    source: &mut S,
+    shelves: &mut [T],
+    role: Role,
+) -> (PlainBoard, bool)
+    requires fits { Fits board run.old (length shelves.old) }
+    requires role { IsRole (length run.old.workers.items) role }
+    ensures plays { Plays S.left S.faults T.kept T.faults source.old source.new shelves.old shelves.new board result.0 run.old run.new }
+    ensures answer { MatchBool result.1 (run_steps board run.old < run_steps result.0 run.new)
+        (DidNothing role board result.0 run.old run.new) }
+{
+    match role {
+        Role::Card => {
+            let turn = card_step(board, &mut run.feed, source);
+            // Its answer says that no more records were read than are read at most.
+            let _ = run.feed.records();
+            turn
+        }
+        Role::App(app) => app_turn::<S, T>(alloc, board, run, shelves, app),
+    }
+}

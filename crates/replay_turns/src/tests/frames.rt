@@ -1,0 +1,120 @@
+//! Frames and captures, made byte by byte.
+use std::alloc::Global;
+use std::test::Fail;
+
+pub const FIN: u8 = 1;
+
+pub const SYN: u8 = 2;
+
+pub const RST: u8 = 4;
+
+pub const ACK: u8 = 16;
+
+pub const PSH_ACK: u8 = 24;
+
+/// The first port of the flows.
+pub const SPORT: u16 = 40000;
+
+/// Ethernet, IPv4 and TCP without options, from 10.0.0.1 to 10.0.0.2. The total length, the ports, the sequence
+/// number and the flags are 0.
+const HEADERS: [u8; 54] = [
+    2, 0, 0, 0, 0, 2, 2, 0, 0, 0, 0, 1, 8, 0, 0x45, 0, 0, 0, 0, 0, 0x40, 0, 0x40, 6, 0, 0, 10, 0,
+    0, 1, 10, 0, 0, 2, 0, 0, 0, 0, 0, 0, 0, 0, 0, 0, 0, 0, 0x50, 0, 0xff, 0xff, 0, 0, 0, 0,
+];
+
+/// The header of a classic pcap file: little-endian, microseconds, version 2.4, Ethernet.
+pub const FILE_HEADER: [u8; 24] = [
+    0xd4, 0xc3, 0xb2, 0xa1, 2, 0, 4, 0, 0, 0, 0, 0, 0, 0, 0, 0, 0, 0, 4, 0, 1, 0, 0, 0,
+];
+
+/// A segment to make a frame of.
+#[derive(Clone, Copy, Debug)]
+pub struct Sent<'a> {
+    pub sport: u16,
+    pub dport: u16,
+    pub seq: u32,
+    pub flags: u8,
+    pub text: &'a [u8],
+}
+
+/// A segment of the first flow to a port.
+pub const fn to(dport: u16, seq: u32, flags: u8, text: &[u8]) -> Sent<'_> {
+    Sent {
+        sport: SPORT,
+        dport,
+        seq,
+        flags,
+        text,
+    }
+}
+
+pub const fn to_9000(seq: u32, flags: u8, text: &[u8]) -> Sent<'_> {
+    to(9000, seq, flags, text)
+}
+
+pub fn frame(alloc: Global, sent: &Sent<'_>) -> Result<Vec<u8>, Fail> {
+    let total = u16::try_from(sent.text.len())?
+        .checked_add(40)
+        .ok_or("too long")?;
+    let mut headers = HEADERS;
+    headers[16..18].copy_from_slice(&total.to_be_bytes());
+    headers[34..36].copy_from_slice(&sent.sport.to_be_bytes());
+    headers[36..38].copy_from_slice(&sent.dport.to_be_bytes());
+    headers[38..42].copy_from_slice(&sent.seq.to_be_bytes());
+    headers[47] = sent.flags;
+    let mut frame = headers.to_vec(alloc)?;
+    frame.extend_from_slice(sent.text)?;
+    Ok(frame)
+}
+
+/// The record of a frame, captured whole at time 0.
+pub fn record_of(alloc: Global, frame: &[u8]) -> Result<Vec<u8>, Fail> {
+    let len = u32::try_from(frame.len())?.to_le_bytes();
+    let mut record = [0; 8].to_vec(alloc)?;
+    record.extend_from_slice(&len)?;
+    record.extend_from_slice(&len)?;
+    record.extend_from_slice(frame)?;
+    Ok(record)
+}
+
+/// The capture of these frames.
+pub fn capture(alloc: Global, frames: &[Vec<u8>]) -> Result<Vec<u8>, Fail> {
+    let mut capture = FILE_HEADER.to_vec(alloc)?;
+    for frame in frames {
+        capture.extend_from_slice(&record_of(alloc, frame)?)?;
+    }
+    Ok(capture)
+}
+
+/// The capture of the frames of these segments.
+pub fn capture_of(alloc: Global, all: &[Sent<'_>]) -> Result<Vec<u8>, Fail> {
+    let mut capture = FILE_HEADER.to_vec(alloc)?;
+    for one in all {
+        capture.extend_from_slice(&record_of(alloc, &frame(alloc, one)?)?)?;
+    }
+    Ok(capture)
+}
+
+/// The bytes of a stream: that of place i is i modulo 251.
+pub fn stream_bytes(alloc: Global, len: usize) -> Result<Vec<u8>, Fail> {
+    let mut bytes = Vec::with_capacity(alloc, len)?;
+    for place in 0..len {
+        bytes.push((place % 251) as u8)?;
+    }
+    Ok(bytes)
+}
+
+/// The capture of a stream to port 9000 from sequence number 1000 on, in payloads of these lengths.
+pub fn in_sequence(alloc: Global, stream: &[u8], lengths: &[usize]) -> Result<Vec<u8>, Fail> {
+    let mut capture = FILE_HEADER.to_vec(alloc)?;
+    let mut seq = 1000u32;
+    let mut left = stream;
+    for len in lengths {
+        let (text, rest) = left.split_at_checked(*len).ok_or("a stream too short")?;
+        let made = frame(alloc, &to_9000(seq, PSH_ACK, text))?;
+        capture.extend_from_slice(&record_of(alloc, &made)?)?;
+        seq = seq.wrapping_add(u32::try_from(*len)?);
+        left = rest;
+    }
+    Ok(capture)
+}

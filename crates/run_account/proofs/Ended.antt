@@ -1,0 +1,307 @@
+-- What is told of a run that is over is how it went.
+use Rattle.std.proofs.Common.{◌≡◌, ◌≢◌, ℕ, zero, suc, ◌+◌, ◌*◌, ◌-◌, ◌<◌, ◌≤◌, List, [], ◌∷◌, length, drop}
+use Rattle.std.proofs.Common.{true, Option, Some, None}
+use Rattle.std.proofs.Common.{refl, sym, ap, subst, ◌∙◌, arith, ⊎_elim}
+use Rattle.std.specs.Prelude.{option_map, option_and_then}
+use Rattle.std.specs.List.{slice_get}
+use Rattle.std.specs.Io.KnownBytes.{Keeps}
+use Rattle.std.proofs.KnownBytes.{Keeps-refl}
+use Rattle.std.proofs.lemmas.Bool.{cases_lt, true≢false}
+use Rattle.std.proofs.lemmas.List.Sums.{count_by-le-length}
+use Rattle.std.proofs.lemmas.Option.{slice_get_within}
+use Rattle.zr_kinds.specs.declared.behaviour.Behaviour.{Behaviour}
+use Rattle.zr_kinds.specs.declared.behaviour.Stopped.TheVariants as stop
+use Rattle.zr_kinds.specs.declared.outcome.AppLine.{AppLine}
+use Rattle.zr_kinds.specs.declared.outcome.FlowLine.{FlowLine}
+use Rattle.zr_kinds.specs.declared.outcome.PoolStats.{PoolStats}
+use Rattle.zr_io.specs.Moved.{Gained}
+use Rattle.flow_table.specs.Flows.{Flow, flows_of}
+use Rattle.flow_table.specs.Stream.{stream_of}
+use Rattle.frames_read.specs.Ending.{steered_in}
+use Rattle.frames_read.specs.Reading.{HasEnded}
+use Rattle.board_face.specs.Ended.{HaveEnded}
+use Rattle.board_face.specs.Sides.{IsApp, side_in}
+use Rattle.board_face.specs.declared.views.nic.NicSide.{NicSide}
+use Rattle.board_face.specs.declared.views.app.AppSide.{AppSide}
+use Rattle.board_face.specs.declared.views.app.AppView.{AppView}
+use Rattle.app_worker.specs.Kept.{flow_bytes}
+use Rattle.app_worker.specs.State.{Quits}
+use Rattle.card_feed.specs.Account.{AccountsFor, IsStreamedTo, kept_in}
+use Rattle.card_feed.specs.Coming.{ComesTo, is_over}
+use Rattle.card_feed.specs.Feed.{end_of}
+use Rattle.card_feed.specs.Offered.{AreRefused, AreSettled, offers_of}
+use Rattle.card_feed.specs.Outcomes.{AreLinesOf, line_of as flow_line_of}
+use Rattle.card_feed.specs.declared.intake.Stage.{Stage}
+use Rattle.card_feed.specs.declared.intake.Stage.TheVariants as stage
+use Rattle.card_feed.specs.declared.plan.Plan.{Plan}
+use Rattle.card_feed.proofs.Bridge.{give_streams}
+use Rattle.run_account.specs.Laws.{RunsAreTold, RunsEndWell}
+use Rattle.card_feed.specs.Counts.{AreCounted, is_long, long_in, searches_in}
+use Rattle.card_feed.specs.Need.{AreNeeded, RefusesByNeed}
+use Rattle.card_feed.proofs.Needing.{refuses-by-need}
+use Rattle.run_account.specs.Ran.{There, IsLineOf, IsStreamed, IsTorn, HasFailed, IsAppLine, all_loans, line_of, lines_of, AreCounts, Ran, Told, told_of}
+use Rattle.run_account.specs.Running.{RolesFit, Running, AreOver, losses_in}
+use Rattle.run_account.specs.declared.run.Run.{Run}
+use Rattle.run_account.specs.declared.run.Worker.{Worker}
+use Rattle.run_account.proofs.AppLines.{there, one-value, is-there, line-at, many-lines, ports-of-lines}
+use Rattle.run_account.proofs.Gone.{IsGone}
+use Rattle.run_account.proofs.Accounting.{told, gone-at, line-known, side-is, accounts}
+use Rattle.run_account.proofs.Counted.{IsCounted, gained-both, flow-counted}
+use Rattle.run_account.proofs.Ports.{flows-have-apps}
+use Rattle.run_account.proofs.SentFew.{frames-read, offers-few}
+use Rattle.run_account.proofs.Strays.{strays-within}
+use Rattle.run_account.proofs.Tellable.{Tells, all-told, all-tells}
+use Rattle.run_account.proofs.Torn.{flow-torn}
+use Rattle.run_account.proofs.Written.{app-below, flow-line, queues-own, written-is}
+
+-- ---- small steps
+
+-- a reading that is over has ended
+comes-over : {S : Type 0} (Wants : List (List ℕ) → List ℕ → Type 0) (left : S → Option (List ℕ)) (faults : S → ℕ) (first now : S)
+    (ports : List ℕ) (at : Stage) (frames : List (List ℕ)) → is_over at ≡ true → ComesTo Wants left faults first now ports at frames
+    → HasEnded Wants (left first) (left now) (faults first) (faults now) ports frames (end_of at)
+comes-over Wants left faults first now ports stage.Unopened frames over comes = absurd (true≢false (sym over))
+comes-over Wants left faults first now ports (stage.Open capture) frames over comes = absurd (true≢false (sym over))
+comes-over Wants left faults first now ports (stage.Over end) frames over comes = comes
+
+slice-drop : {A : Type 0} (n : ℕ) (xs : List A) (i : ℕ) → slice_get (drop n xs) i ≡ slice_get xs (n + i)
+slice-drop zero xs i = let same : i ≡ 0 + i = omega arith in ap (slice_get xs) same
+slice-drop (suc n) [] i = refl
+slice-drop (suc n) (x ∷ xs) i = let same : suc (n + i) ≡ suc n + i = omega arith in slice-drop n xs i ∙ ap (slice_get (x ∷ xs)) same
+
+-- what follows so many is the same, so each of it is
+same-beyond : {A : Type 0} (n : ℕ) (xs ys : List A) (i : ℕ) → drop n xs ≡ drop n ys → n ≤ i → slice_get xs i ≡ slice_get ys i
+same-beyond n xs ys i same behind =
+    let place : n + (i - n) ≡ i = omega (arith, behind) in
+    ap (slice_get xs) (sym place) ∙ sym (slice-drop n xs (i - n)) ∙ ap (λ zs. slice_get zs (i - n)) same ∙ slice-drop n ys (i - n)
+    ∙ ap (slice_get ys) place
+
+module _ {S T : Type 0} (left : S → Option (List ℕ)) (faults : S → ℕ) (kept : T → ℕ → Option (List ℕ)) (losses : T → ℕ)
+    (source source_now : S) (shelves shelves_now : List T) (plan : Plan) (nic : NicSide) (apps : List AppSide) (run : Run) (told_is : Told)
+    (ended : HaveEnded nic apps) (fits : RolesFit nic apps run) (over : AreOver run)
+    (runs : Running left faults kept losses source source_now shelves shelves_now plan nic apps run)
+    (tells : Tells run plan.ports.items told_is) where
+  here-is : (a : ℕ) → a < length run.workers.items → IsApp apps a (side_in apps a)
+  here-is = side-is left faults kept losses source source_now shelves shelves_now plan nic apps run ended fits over runs
+
+  accounts-told : AccountsFor kept shelves shelves_now plan runs.frames told_is.refused nic apps told_is.apps
+      told_is.pool.strays
+  accounts-told =
+      subst (λ refused. AccountsFor kept shelves shelves_now plan runs.frames refused nic apps told_is.apps told_is.pool.strays)
+      (sym tells.refused)
+      (subst (λ lines. AccountsFor kept shelves shelves_now plan runs.frames run.feed.refused nic apps lines told_is.pool.strays)
+      (sym tells.apps_are)
+      (subst (λ (stats : PoolStats). AccountsFor kept shelves shelves_now plan runs.frames run.feed.refused nic apps
+      (lines_of plan.ports.items run.workers.items) stats.strays) (sym tells.pool)
+      (accounts left faults kept losses source source_now shelves shelves_now plan nic apps run ended fits over runs)))
+
+  counts-are : AreCounts (flows_of (steered_in plan.ports.items runs.frames)) run.workers.items tells.counts
+  counts-are = subst (λ flows. AreCounts flows run.workers.items tells.counts) runs.feed.knows.flows_are tells.are
+
+  lines-are : AreLinesOf (flows_of (steered_in plan.ports.items runs.frames)) tells.counts told_is.flows
+  lines-are = subst (λ flows. AreLinesOf flows tells.counts told_is.flows) runs.feed.knows.flows_are
+      (tells.flows (ports-of-lines plan.ports.items run.workers.items runs.many ∙ sym runs.feed.knows.ports_are))
+
+  app-line-at : (a port : ℕ) (w : Worker) → slice_get plan.ports.items a ≡ Some port → slice_get run.workers.items a ≡ Some w
+      → slice_get told_is.apps a ≡ Some (line_of port w)
+  app-line-at a port w port_at w_at = ap (λ lines. slice_get lines a) tells.apps_are
+      ∙ line-at plan.ports.items run.workers.items a port w port_at w_at
+
+  refused-are : AreRefused plan.split (offers_of (steered_in plan.ports.items runs.frames)) told_is.refused
+  refused-are =
+      let settled : AreSettled plan.split (offers_of (steered_in plan.ports.items runs.frames)) run.feed.refused None _ =
+      rw (fits.ready.fits.none over.card) at runs.feed.knows.settled in
+      subst (AreRefused plan.split (offers_of (steered_in plan.ports.items runs.frames))) (sym tells.refused)
+      (subst (λ offers. AreRefused plan.split offers run.feed.refused) settled.awaits settled.refused_are)
+
+  counted : AreCounted plan.split (offers_of (steered_in plan.ports.items runs.frames)) told_is.refused None nic.view.dealt told_is.pool
+  counted =
+      let pool : AreCounted plan.split (offers_of (steered_in plan.ports.items runs.frames)) run.feed.refused None nic.view.dealt _ =
+      rw (fits.ready.fits.none over.card) at runs.feed.knows.counted in
+      subst (λ refused. AreCounted plan.split (offers_of (steered_in plan.ports.items runs.frames)) refused None nic.view.dealt told_is.pool)
+      (sym tells.refused)
+      (subst (λ (stats : PoolStats). AreCounted plan.split (offers_of (steered_in plan.ports.items runs.frames)) run.feed.refused None
+      nic.view.dealt stats) (sym tells.pool) pool)
+
+  by-need : RefusesByNeed plan (offers_of (steered_in plan.ports.items runs.frames)) told_is.refused
+  by-need =
+      let needed : AreNeeded nic.view.setting.layout plan.split (offers_of (steered_in plan.ports.items runs.frames)) run.feed.refused None _ _ =
+      rw (fits.ready.fits.none over.card) at runs.feed.knows.needed in
+      subst (RefusesByNeed plan (offers_of (steered_in plan.ports.items runs.frames))) (sym tells.refused)
+      (refuses-by-need plan nic.view.setting _ run.feed.refused _ _ runs.setting needed)
+
+  searched : searches_in told_is.pool ≤ long_in plan.split (offers_of (steered_in plan.ports.items runs.frames))
+  searched = omega (arith, counted.searches)
+
+  strays-few : told_is.pool.strays ≤ plan.how.stray * all_loans told_is.apps
+  strays-few =
+      let most = strays-within left faults kept losses source source_now shelves shelves_now plan nic apps run ended fits over runs in
+      subst (λ lines. told_is.pool.strays ≤ plan.how.stray * all_loans lines) (sym tells.apps_are) (omega (arith, counted.strays, most))
+
+  -- the searches that found too few are too few themselves for their count to stop
+  found-none : told_is.pool.empty ≡ length told_is.refused
+  found-none =
+      let few : long_in plan.split (offers_of (steered_in plan.ports.items runs.frames)) ≤ length (offers_of (steered_in plan.ports.items runs.frames)) =
+      count_by-le-length (is_long plan.split) (offers_of (steered_in plan.ports.items runs.frames)) in
+      omega (
+        arith,
+        counted.empty,
+        searched,
+        few,
+        offers-few plan.ports.items runs.frames,
+        frames-read left faults kept losses source source_now shelves shelves_now plan nic apps run runs,
+      )
+
+  one-stream : (number port : ℕ) (flow : Flow) (w : Worker) → slice_get (flows_of (steered_in plan.ports.items runs.frames)) number ≡ Some flow
+      → slice_get plan.ports.items flow.app ≡ Some port → slice_get run.workers.items flow.app ≡ Some w
+      → IsApp apps flow.app (side_in apps flow.app)
+      → Gained (kept_in kept shelves flow.app number) (kept_in kept shelves_now flow.app number)
+      (λ bytes. IsStreamed w.state.stopped (stream_of (steered_in plan.ports.items runs.frames) told_is.refused number) bytes
+      (flow_bytes number w.state.flows))
+  one-stream number port flow w at port_at w_at here =
+      let app : AppSide = side_in apps flow.app in
+      let own = runs.worker flow.app w w_at in
+      let went : IsGone w app.view = gone-at left faults kept losses source source_now shelves shelves_now plan nic apps run ended fits over runs
+      flow.app app w here w_at in
+      let stream : List ℕ = stream_of (steered_in plan.ports.items runs.frames) told_is.refused number in
+      let count : ℕ = flow_bytes number w.state.flows in
+      let streamed = give_streams kept shelves shelves_now plan runs.frames told_is.refused nic apps told_is.apps
+      told_is.pool.strays accounts-told number flow app (line_of port w) at here (app-line-at flow.app port w port_at w_at)
+      (told left faults kept losses source source_now shelves shelves_now plan nic apps run ended fits over runs flow.app app here).reads in
+      let counted = flow-counted (kept_in kept shelves flow.app) (kept_in kept shelves_now flow.app) app.view w.state.flows number w.state.stopped
+      went.bare.flows own.shelved own.failed in
+      gained-both (kept_in kept shelves flow.app number) (kept_in kept shelves_now flow.app number)
+      (IsStreamedTo w.state.stopped stream) (IsCounted w.state.stopped count) (λ bytes. IsStreamed w.state.stopped stream bytes count)
+      (λ bytes s c. record { rest = s.rest; front = s.front; whole = s.whole; counted = c.counted; at_least = c.at_least })
+      streamed counted
+
+  streams : (number : ℕ) (flow : Flow) → slice_get (flows_of (steered_in plan.ports.items runs.frames)) number ≡ Some flow
+      → There (slice_get told_is.flows number) (λ line. There (slice_get told_is.apps flow.app) (λ app.
+      IsLineOf flow line × Gained (kept_in kept shelves flow.app number) (kept_in kept shelves_now flow.app number)
+      (λ bytes. IsStreamed app.stopped (stream_of (steered_in plan.ports.items runs.frames) told_is.refused number) bytes line.bytes)))
+  streams number flow at =
+      let have = flows-have-apps plan.ports.items runs.frames in
+      let below : flow.app < length plan.ports.items = app-below plan.ports.items _ have number flow at in
+      let within : flow.app < length run.workers.items = omega (arith, below, runs.many) in
+      let (port, port_at) = there plan.ports.items flow.app below in
+      let (w, w_at) = there run.workers.items flow.app within in
+      let gained = one-stream number port flow w at port_at w_at (here-is flow.app within) in
+      is-there (slice_get told_is.flows number) (flow_line_of flow (flow_bytes number w.state.flows)) _
+      (flow-line plan.ports.items _ run.workers.items tells.counts told_is.flows have counts-are lines-are number flow w at w_at)
+      (is-there (slice_get told_is.apps flow.app) (line_of port w) _ (app-line-at flow.app port w port_at w_at)
+      (record { port = refl; base = refl; fin = refl; end = refl }, gained))
+
+  others : (a number : ℕ) → option_map (λ (flow : Flow). flow.app) (slice_get (flows_of (steered_in plan.ports.items runs.frames)) number) ≢ Some a
+      → Keeps (kept_in kept shelves a number) (kept_in kept shelves_now a number)
+  others a number other = ⊎_elim
+      (λ (below : a < length plan.ports.items). accounts-told.others a number (omega (arith, below, accounts-told.many_apps))
+      (λ flow at same. other (ap (option_map (λ (f : Flow). f.app)) at ∙ ap Some same)))
+      (λ (past : length plan.ports.items ≤ a).
+      let same : kept_in kept shelves_now a number ≡ kept_in kept shelves a number =
+      ap (option_and_then (λ (shelf : T). kept shelf number)) (same-beyond (length plan.ports.items) shelves_now shelves a runs.beyond past) in
+      subst (λ now. Keeps (kept_in kept shelves a number) now) (sym same) (Keeps-refl (kept_in kept shelves a number)))
+      (cases_lt a (length plan.ports.items))
+
+  one-app : (a port : ℕ) (w : Worker) → slice_get plan.ports.items a ≡ Some port → slice_get run.workers.items a ≡ Some w
+      → IsApp apps a (side_in apps a)
+      → IsAppLine plan.how port (losses_in losses shelves a) (losses_in losses shelves_now a) told_is.flows (line_of port w)
+  one-app a port w port_at w_at here =
+      let app : AppSide = side_in apps a in
+      let own = runs.worker a w w_at in
+      let went : IsGone w app.view = gone-at left faults kept losses source source_now shelves shelves_now plan nic apps run ended fits over runs
+      a app w here w_at in
+      let has = told left faults kept losses source source_now shelves shelves_now plan nic apps run ended fits over runs a app here in
+      let queues = queues-own (flows_of (steered_in plan.ports.items runs.frames)) a app.view.taken _ has.taken has.own w.state.flows went.bare.flows in
+      record {
+        port_is = refl;
+        written = written-is plan.ports.items (flows_of (steered_in plan.ports.items runs.frames)) run.workers.items tells.counts told_is.flows
+            (flows-have-apps plan.ports.items runs.frames) counts-are lines-are runs.plan_is.distinct runs.many a port w port_at w_at queues
+            went.bare.distinct went.common.written;
+        copies = own.copies;
+        loans = own.counts went.left;
+        quits = subst (λ (how : Behaviour). Quits how.quit w.state.written w.state.stopped) own.how_is went.common.quits;
+        later = own.later;
+        cause = own.cause;
+        still = own.still;
+      }
+
+  app-lines : (a port : ℕ) → slice_get plan.ports.items a ≡ Some port
+      → There (slice_get told_is.apps a) (IsAppLine plan.how port (losses_in losses shelves a) (losses_in losses shelves_now a) told_is.flows)
+  app-lines a port port_at =
+      let within : a < length run.workers.items = omega (arith, slice_get_within plan.ports.items a port port_at, runs.many) in
+      let (w, w_at) = there run.workers.items a within in
+      is-there (slice_get told_is.apps a) (line_of port w) _ (app-line-at a port w port_at w_at)
+      (one-app a port w port_at w_at (here-is a within))
+
+  -- where its shelf failed
+  failed-at : (a : ℕ) (app : AppLine) → slice_get told_is.apps a ≡ Some app → app.stopped ≡ stop.Write
+      → HasFailed kept shelves shelves_now (flows_of (steered_in plan.ports.items runs.frames)) told_is.flows a (side_in apps a).view
+  failed-at a line at is_write =
+      let known = line-known left faults kept losses source source_now shelves shelves_now plan nic apps run ended fits over runs a line
+      (ap (λ lines. slice_get lines a) (sym tells.apps_are) ∙ at) in
+      let w : Worker = known.worker in
+      let w_at = known.worker_at in
+      let own = runs.worker a w w_at in
+      let v : AppView = (side_in apps a).view in
+      let here = here-is a (slice_get_within run.workers.items a w w_at) in
+      let went : IsGone w v = gone-at left faults kept losses source source_now shelves shelves_now plan nic apps run ended fits over runs
+      a (side_in apps a) w here w_at in
+      let has = told left faults kept losses source source_now shelves shelves_now plan nic apps run ended fits over runs a (side_in apps a) here in
+      let fronts = own.failed (sym (ap (λ (l : AppLine). l.stopped) known.is) ∙ is_write) in
+      record {
+        torn = fronts.torn;
+        each = λ number flow flow_line flow_at goes flow_line_at.
+            let same : slice_get run.workers.items flow.app ≡ Some w = ap (slice_get run.workers.items) goes ∙ w_at in
+            let is : flow_line_of flow (flow_bytes number w.state.flows) ≡ flow_line = one-value (sym (flow-line plan.ports.items _ run.workers.items
+            tells.counts told_is.flows (flows-have-apps plan.ports.items runs.frames) counts-are lines-are number flow w flow_at same) ∙ flow_line_at) in
+            subst (λ (l : FlowLine). Gained (kept_in kept shelves a number) (kept_in kept shelves_now a number) (IsTorn v fronts.torn number l.bytes)) is
+            (flow-torn (kept_in kept shelves a) (kept_in kept shelves_now a) v w.state.flows went.bare.flows has.whole went.bare.loans fronts
+            (own.fronts has.whole) number);
+      }
+
+  ran : Ran left faults kept losses source source_now shelves shelves_now plan told_is nic apps
+  ran = record {
+    before = runs.frames;
+    ended = subst (HasEnded _ (left source) (left source_now) (faults source) (faults source_now) plan.ports.items runs.frames) (sym tells.end)
+        (comes-over _ left faults source source_now plan.ports.items run.feed.stage runs.frames (fits.ready.fits.over over.card) runs.feed.comes);
+    tally = tells.tally ∙ runs.feed.knows.tally_is;
+    refused = refused-are;
+    need = by-need;
+    searches = searched;
+    empty = found-none;
+    strays = strays-few;
+    flow = streams;
+    many_flows = lines-are.many;
+    others = others;
+    app = app-lines;
+    many_apps = ap length tells.apps_are ∙ many-lines plan.ports.items run.workers.items runs.many;
+    failed = failed-at;
+    many_shelves = runs.many_shelves;
+    beyond = runs.beyond;
+    over = ended;
+    accounts = accounts-told;
+  }
+
+-- Once all are gone, the outcome that is told is that of the run.
+pub end-well : {S T : Type 0} (left : S → Option (List ℕ)) (faults : S → ℕ) (kept : T → ℕ → Option (List ℕ)) (losses : T → ℕ)
+    → RunsEndWell left faults kept losses
+end-well left faults kept losses source source_now shelves shelves_now plan nic apps run outcome ended fits over runs tells =
+    ran left faults kept losses source source_now shelves shelves_now plan nic apps run (told_of outcome) ended fits over runs
+    (record {
+      counts = tells.counts;
+      are = tells.are;
+      tally = tells.is.tally;
+      apps_are = tells.is.apps_are;
+      flows = tells.is.flows;
+      refused = tells.is.refused;
+      pool = tells.is.pool;
+      end = tells.is.end;
+    })
+
+-- And there is something to tell, whether there is memory for it or not.
+pub end-told : {S T : Type 0} (left : S → Option (List ℕ)) (faults : S → ℕ) (kept : T → ℕ → Option (List ℕ)) (losses : T → ℕ)
+    → RunsAreTold left faults kept losses
+end-told left faults kept losses source source_now shelves shelves_now plan nic apps run ended fits over runs =
+    let told_is = all-told run plan.ports.items in
+    let tells = all-tells run plan.ports.items in
+    (told_is, tells.end, ran left faults kept losses source source_now shelves shelves_now plan nic apps run told_is ended fits over runs tells)

@@ -1,0 +1,55 @@
+-- What the shelf of an application that is gone has of a flow.
+use Rattle.std.proofs.Common.{◌≡◌, ◌≢◌, ℕ, List, [], ◌∷◌, ◌++◌, true, Option, Some, None, refl, sym, ap, subst, ◌∙◌, ⊎_elim}
+use Rattle.std.proofs.Common.{append-nil}
+use Rattle.std.specs.Io.KnownBytes.{Keeps}
+use Rattle.zr_kinds.specs.declared.behaviour.Behaviour.{Behaviour}
+use Rattle.zr_kinds.specs.declared.behaviour.Stopped.TheVariants as stop
+use Rattle.zr_io.specs.Moved.{Gained}
+use Rattle.zr_io.proofs.Moved.{Gained-weaker}
+use Rattle.board_face.specs.declared.views.app.Reading.{Reading}
+use Rattle.board_face.specs.declared.views.app.TakenNote.{TakenNote}
+use Rattle.board_face.specs.declared.views.app.AppSide.{AppSide}
+use Rattle.app_worker.specs.Marks.{AreWholeFrames, Mark, marks_of}
+use Rattle.app_worker.specs.Core.{AreReadAt}
+use Rattle.app_worker.specs.Streams.{IsFront}
+use Rattle.card_feed.specs.Account.{IsFlowRead}
+use Rattle.run_account.specs.Running.{WorkerRuns}
+use Rattle.run_account.specs.declared.run.Worker.{Worker}
+use Rattle.run_account.proofs.Counted.{is-no, read-length}
+
+-- no mark, so no byte
+no-byte : (taken : List TakenNote) (reads : List Reading) (read rest : List Mark) (bytes : List ℕ) → [] ≡ read ++ rest
+    → AreReadAt taken reads read bytes → bytes ≡ []
+no-byte taken reads [] rest [] parts are = refl
+no-byte taken reads [] rest (b ∷ bytes) parts are = absurd are
+no-byte taken reads (m ∷ read) rest bytes parts are = absurd (cc)
+
+nothing-gained : (a b : Option (List ℕ)) (taken : List TakenNote) (reads : List Reading) → Gained a b (IsFront taken reads []) → Keeps a b
+nothing-gained None b taken reads gained = tt
+nothing-gained (Some xs) None taken reads gained = absurd gained
+nothing-gained (Some xs) (Some ys) taken reads (bytes, is, front) =
+    is ∙ ap (λ more. xs ++ more) (no-byte taken reads front.read front.rest bytes front.parts front.are) ∙ append-nil xs
+
+module _ (first kept : ℕ → Option (List ℕ)) (losses losses_now : ℕ) (how : Behaviour) (app : AppSide) (w : Worker)
+    (runs : WorkerRuns first kept losses losses_now how app.view w) (whole : AreWholeFrames app.view.taken) (number : ℕ) where
+  pub flow-read : w.left ≡ true → Gained (first number) (kept number) (IsFlowRead app w.state.stopped number)
+  flow-read left =
+      let marks : List Mark = marks_of number app.view.taken in
+      ⊎_elim
+      (λ (no : w.state.stopped ≡ stop.No).
+      Gained-weaker (first number) (kept number) (AreReadAt app.view.taken app.view.reads marks) (IsFlowRead app w.state.stopped number)
+      (λ bytes are. record {
+        front = record { read = marks; rest = []; parts = sym (append-nil marks); are = are };
+        whole = λ goes. sym (read-length app.view.taken app.view.reads marks bytes are);
+      })
+      (runs.whole left no whole number))
+      (λ (other : w.state.stopped ≢ stop.No).
+      Gained-weaker (first number) (kept number) (IsFront app.view.taken app.view.reads marks) (IsFlowRead app w.state.stopped number)
+      (λ bytes front. record { front = front; whole = λ goes. absurd (other goes) })
+      (runs.fronts whole number))
+      (is-no w.state.stopped)
+
+  -- of a flow that has no mark it has nothing
+  pub no-flow-read : marks_of number app.view.taken ≡ [] → Keeps (first number) (kept number)
+  no-flow-read none = nothing-gained (first number) (kept number) app.view.taken app.view.reads
+      (subst (λ marks. Gained (first number) (kept number) (IsFront app.view.taken app.view.reads marks)) none (runs.fronts whole number))

@@ -1,0 +1,13 @@
+-- There is a line for each port.
+use Rattle.std.proofs.Common.{length, ap, ◌∙◌, arith}
+use Rattle.run_account.proofs.AppLines.{many-lines}
+use Rattle.run_account.proofs.ending.tell.Goals as goal
+
+pub outcome-requires-clause-apps : goal.outcome-requires-clause-apps
+outcome-requires-clause-apps c = omega (
+  arith,
+  c.in_ok-apps.apps.ok,
+  ap length c.in_ok-apps.ensures,
+  many-lines c.args.ports.now c.deref.result.now (ap length c.deref.ensures.value ∙ c.requires.many),
+  ap length c.requires.ports,
+)

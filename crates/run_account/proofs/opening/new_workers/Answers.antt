@@ -1,0 +1,34 @@
+-- One more application, which has taken no turn.
+use Rattle.std.proofs.Common.{◌≡◌, length, Some, None, false, refl, sym, ap, ◌∙◌, subst, arith}
+use Rattle.std.specs.List.{slice_get}
+use Rattle.run_account.specs.Running.{IsNew}
+use Rattle.run_account.specs.declared.run.Worker.{Worker}
+use Rattle.run_account.proofs.Places.{here, there, in-push, length-push}
+use Rattle.run_account.proofs.opening.new_workers.Goals as goal
+
+pub loop-app-init : goal.loop-app-init
+loop-app-init c = record {
+  many = ap length c.in_ok-workers.ensures.items;
+  each = λ a w is.
+      let not : None ≡ Some w = sym (ap (λ items. slice_get items a) c.in_ok-workers.ensures.items) ∙ is in
+      absurd (cc);
+}
+
+pub loop-app-preserved : goal.loop-app-preserved
+loop-app-preserved c =
+    let new : Worker = record { state = c.in_ok-state.state; left = false } in
+    let at : length c.loop-app.workers.items ≡ c.loop-app.app = c.loop-app.invariant.many in
+    record {
+      many = let longer = ap length c.in_ok-push.ensures.items in let l = length-push c.loop-app.workers.items new in omega (arith, longer, l, at);
+      each = λ a w is. elim (in-push c.loop-app.workers.items new a w (ap (λ items. slice_get items a) (sym c.in_ok-push.ensures.items) ∙ is)) [
+        | here last same ↦ subst (λ x. IsNew c.args.plan.now a x) (sym same) (subst (λ n. IsNew c.args.plan.now n new) (sym (last ∙ at))
+            (record { state_is = c.in_ok-state.ensures.state; left_is = refl; stands = c.in_ok-state.ensures.stands; shelved = c.in_ok-state.ensures.shelved }))
+        | there other is_there ↦ c.loop-app.invariant.each a w is_there
+      ];
+    }
+
+pub returns : goal.returns
+returns c = record {
+  many = omega (arith, c.len-apps.ensures, c.loop-app-test.false, c.loop-app.auto.app-end, c.loop-app.invariant.many);
+  each = c.loop-app.invariant.each;
+}

@@ -1,0 +1,28 @@
+-- What the turns of a run come to, once all is over at its board.
+use Rattle.std.specs.Prelude.{◌≡◌, ℕ, List, Option}
+use Rattle.board_face.specs.Ended.{HaveEnded}
+use Rattle.board_face.specs.declared.views.nic.NicSide.{NicSide}
+use Rattle.board_face.specs.declared.views.app.AppSide.{AppSide}
+use Rattle.card_feed.specs.Feed.{end_of}
+use Rattle.card_feed.specs.declared.outcome.Outcome.{Outcome}
+use Rattle.card_feed.specs.declared.plan.Plan.{Plan}
+use Rattle.run_account.specs.Ran.{Ran, TellsOf, Told, told_of}
+use Rattle.run_account.specs.Running.{AreOver, RolesFit, Running}
+use Rattle.run_account.specs.declared.run.Run.{Run}
+
+-- The outcome that is told is that of the run.
+abbrev pub RunsEndWell : {S T : Type 0} → (S → Option (List ℕ)) → (S → ℕ) → (T → ℕ → Option (List ℕ)) → (T → ℕ) → Type 0
+RunsEndWell {S} {T} left faults kept losses =
+    (source source_now : S) (shelves shelves_now : List T) (plan : Plan) (nic : NicSide) (apps : List AppSide) (run : Run) (outcome : Outcome)
+    → HaveEnded nic apps → RolesFit nic apps run → AreOver run
+    → Running left faults kept losses source source_now shelves shelves_now plan nic apps run
+    → TellsOf run plan.ports.items outcome
+    → Ran left faults kept losses source source_now shelves shelves_now plan (told_of outcome) nic apps
+
+-- There is something to tell of the run, whether there is memory for it or not, and what ended the reading is as the feed has it.
+abbrev pub RunsAreTold : {S T : Type 0} → (S → Option (List ℕ)) → (S → ℕ) → (T → ℕ → Option (List ℕ)) → (T → ℕ) → Type 0
+RunsAreTold {S} {T} left faults kept losses =
+    (source source_now : S) (shelves shelves_now : List T) (plan : Plan) (nic : NicSide) (apps : List AppSide) (run : Run)
+    → HaveEnded nic apps → RolesFit nic apps run → AreOver run
+    → Running left faults kept losses source source_now shelves shelves_now plan nic apps run
+    → (told : Told) × (told.end ≡ end_of run.feed.stage) × Ran left faults kept losses source source_now shelves shelves_now plan told nic apps

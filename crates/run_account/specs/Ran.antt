@@ -1,0 +1,231 @@
+-- What a run leaves: the streams on their shelves, what its outcome says, and roles that account for it. It is over the sides of the
+-- roles alone, so it is the same for every board.
+use Rattle.std.specs.Prelude.{◌≡◌, ◌≢◌, ℕ, ◌+◌, ◌-◌, ◌*◌, ◌^◌, ◌<◌, ◌≤◌, ◌==◌, min, ◌⊎◌}
+use Rattle.std.specs.Prelude.{if◌then◌else◌, List, [], ◌∷◌, ◌++◌, length, take, drop, sum_by}
+use Rattle.std.specs.Prelude.{Option, Some, None, option_map}
+use Rattle.std.specs.List.{slice_get}
+use Rattle.std.specs.Option.{is_some}
+use Rattle.std.specs.Io.KnownBytes.{Keeps}
+use Rattle.zr_kinds.specs.declared.behaviour.Behaviour.{Behaviour}
+use Rattle.zr_kinds.specs.declared.behaviour.Stopped.{Stopped}
+use Rattle.zr_kinds.specs.declared.behaviour.Stopped.TheVariants as stop
+use Rattle.zr_kinds.specs.declared.fault.Fault.{Fault}
+use Rattle.zr_kinds.specs.declared.fault.Fault.TheVariants.{Memory, TooManyFlows}
+use Rattle.zr_kinds.specs.declared.outcome.AppLine.{AppLine}
+use Rattle.zr_kinds.specs.declared.outcome.FlowLine.{FlowLine}
+use Rattle.zr_kinds.specs.declared.outcome.PoolStats.{PoolStats}
+use Rattle.zr_kinds.specs.declared.outcome.Tally.{Tally}
+use Rattle.zr_io.specs.Moved.{Rose, Gained, Took}
+use Rattle.flow_table.specs.Flows.{Flow, flows_of}
+use Rattle.flow_table.specs.Stream.{stream_of}
+use Rattle.frames_read.specs.Ending.{steered_in}
+use Rattle.frames_read.specs.Reading.{HasEnded}
+use Rattle.frames_read.specs.Tally.{tally_of}
+use Rattle.board_face.specs.Ended.{HaveEnded}
+use Rattle.board_face.specs.Sides.{side_in}
+use Rattle.board_face.specs.declared.views.nic.NicSide.{NicSide}
+use Rattle.board_face.specs.declared.views.app.AppSide.{AppSide}
+use Rattle.board_face.specs.declared.views.app.AppView.{AppView}
+use Rattle.app_worker.specs.Core.{most_at_once}
+use Rattle.app_worker.specs.Kept.{flow_bytes}
+use Rattle.app_worker.specs.Marks.{marks_of}
+use Rattle.app_worker.specs.Shelves.{AreOfOneLoan}
+use Rattle.app_worker.specs.State.{Quits, loan_entries}
+use Rattle.card_feed.specs.Account.{AccountsFor, kept_in}
+use Rattle.card_feed.specs.Counts.{long_in, searches_in}
+use Rattle.card_feed.specs.Need.{RefusesByNeed}
+use Rattle.card_feed.specs.Offered.{AreRefused, WantsRoom, offers_of}
+use Rattle.card_feed.specs.Outcomes.{IsOutcomeOf, flow_end}
+use Rattle.card_feed.specs.declared.outcome.Outcome.{Outcome}
+use Rattle.card_feed.specs.declared.plan.Plan.{Plan}
+use Rattle.run_account.specs.Running.{losses_in}
+use Rattle.run_account.specs.declared.run.Run.{Run}
+use Rattle.run_account.specs.declared.run.Worker.{Worker}
+
+-- what holds of something that is there
+abbrev pub There : {A : Type 0} → Option A → (A → Type 0) → Type 0
+There None P = ⊥
+There (Some value) P = P value
+
+-- ---- lines
+
+-- the flow's line says what the definition says of the flow
+pub record IsLineOf (flow : Flow) (line : FlowLine) : Type 0 where
+  pub port : line.port ≡ flow.key.dport
+  pub base : line.base ≡ flow.base
+  pub fin : line.fin ≡ is_some flow.close.fin
+  pub end : line.end ≡ flow_end flow line.bytes
+
+-- The shelf gained a front of the stream, and all of it where its application wasn't stopped. All of what it gained is
+-- counted but where it failed: then there may be some bytes more.
+pub record IsStreamed (stopped : Stopped) (stream bytes : List ℕ) (count : ℕ) : Type 0 where
+  pub rest : List ℕ
+  pub front : stream ≡ bytes ++ rest
+  pub whole : stopped ≡ stop.No → bytes ≡ stream
+  pub counted : stopped ≢ stop.Write → count ≡ length bytes
+  pub at_least : count ≤ length bytes
+
+-- A flow of an application whose shelf failed at the flow `torn`. All of what another gained is counted. Of that flow there may
+-- be up to 4,096 bytes more than are counted, all of one loan, which no entry gave back. An append that went well may be
+-- among them.
+pub record IsTorn (v : AppView) (torn number count : ℕ) (bytes : List ℕ) : Type 0 where
+  pub exact : number ≢ torn → count ≡ length bytes
+  pub at_once : length bytes ≤ count + most_at_once
+  pub more : count < length bytes → AreOfOneLoan v.taken (drop (loan_entries v) v.returned) (drop count (take (length bytes) (marks_of number v.taken)))
+
+-- The shelf of an application failed at one of its flows, and at no other.
+pub record HasFailed {T : Type 0} (kept : T → ℕ → Option (List ℕ)) (shelves shelves_now : List T) (flows : List Flow) (lines : List FlowLine)
+    (a : ℕ) (v : AppView) : Type 0 where
+  pub torn : ℕ
+  pub each : (number : ℕ) (flow : Flow) (line : FlowLine) → slice_get flows number ≡ Some flow → flow.app ≡ a → slice_get lines number ≡ Some line
+      → Gained (kept_in kept shelves a number) (kept_in kept shelves_now a number) (IsTorn v torn number line.bytes)
+
+-- the bytes of the flows to a port; the count stays at 2^64 - 1 once it is there
+abbrev pub written_to : ℕ → List FlowLine → ℕ
+written_to port lines = min (sum_by (λ (line : FlowLine). if line.port == port then line.bytes else 0) lines) (2 ^ 64 - 1)
+
+-- The line of the application of a port: what was written, how many loans it had, and why it stopped.
+pub record IsAppLine (how : Behaviour) (port losses losses_now : ℕ) (flows : List FlowLine) (app : AppLine) : Type 0 where
+  pub port_is : app.port ≡ port
+  pub written : app.written ≡ written_to port flows
+  pub copies : app.copied ≤ app.loans
+  pub loans : app.stopped ≡ stop.No → app.loans ≤ app.written
+  -- it quits exactly where it has written so many bytes
+  pub quits : Quits how.quit app.written app.stopped
+  pub later : losses ≤ losses_now
+  -- its shelf failed, and otherwise none of the shelf's calls did
+  pub cause : app.stopped ≡ stop.Write → Rose losses losses_now
+  pub still : app.stopped ≢ stop.Write → losses_now ≡ losses
+
+-- the loans of all applications
+abbrev pub all_loans : List AppLine → ℕ
+all_loans apps = sum_by (λ (app : AppLine). app.loans) apps
+
+-- the line of an application, as its state has it
+abbrev pub line_of : ℕ → Worker → AppLine
+line_of port w = record {
+  port = port;
+  written = w.state.written;
+  loans = w.state.loans;
+  copied = w.state.copied;
+  stopped = w.state.stopped;
+}
+
+-- the lines of the applications, in the order of the ports
+abbrev pub lines_of : List ℕ → List Worker → List AppLine
+lines_of [] workers = []
+lines_of (port ∷ ports) [] = []
+lines_of (port ∷ ports) (w ∷ workers) = line_of port w ∷ lines_of ports workers
+
+-- how many bytes of each flow its application wrote
+pub record AreCounts (flows : List Flow) (workers : List Worker) (counts : List ℕ) : Type 0 where
+  pub many : length counts ≡ length flows
+  pub each : (number : ℕ) (flow : Flow) (w : Worker) → slice_get flows number ≡ Some flow → slice_get workers flow.app ≡ Some w
+      → slice_get counts number ≡ Some (flow_bytes number w.state.flows)
+
+-- the outcome that is told of what the roles keep
+pub record TellsOf (run : Run) (ports : List ℕ) (outcome : Outcome) : Type 0 where
+  pub counts : List ℕ
+  pub are : AreCounts run.feed.flows run.workers.items counts
+  pub is : IsOutcomeOf run.feed (lines_of ports run.workers.items) counts outcome
+
+-- ---- the whole run
+
+-- what is told of a run
+pub record Told : Type 0 where
+  pub tally : Tally
+  pub apps : List AppLine
+  pub flows : List FlowLine
+  pub refused : List ℕ
+  pub pool : PoolStats
+  pub end : Option Fault
+
+abbrev pub told_of : Outcome → Told
+told_of outcome = record {
+  tally = outcome.tally;
+  apps = outcome.apps.items;
+  flows = outcome.flows.items;
+  refused = outcome.refused.items;
+  pool = outcome.pool;
+  end = outcome.end;
+}
+
+pub record Ran {S T : Type 0} (left : S → Option (List ℕ)) (faults : S → ℕ) (kept : T → ℕ → Option (List ℕ)) (losses : T → ℕ)
+    (source source_now : S) (shelves shelves_now : List T) (plan : Plan) (told : Told) (nic : NicSide) (apps : List AppSide) : Type 0 where
+  -- the frames before the reading ended, and what ended it
+  pub before : List (List ℕ)
+  pub ended : HasEnded (WantsRoom plan.split plan.ports.items) (left source) (left source_now) (faults source) (faults source_now)
+      plan.ports.items before told.end
+  pub tally : told.tally ≡ tally_of plan.ports.items before
+  -- the frames that were refused: in order, each a steered one of which more than `split` bytes count
+  pub refused : AreRefused plan.split (offers_of (steered_in plan.ports.items before)) told.refused
+  -- each only where its need, with that of the frames before it that weren't, is above the number of buffers
+  pub need : RefusesByNeed plan (offers_of (steered_in plan.ports.items before)) told.refused
+  -- the searches for fresh buffers: no more than frames of which more than `split` bytes count, and as many found too few as frames
+  -- were refused
+  pub searches : searches_in told.pool ≤ long_in plan.split (offers_of (steered_in plan.ports.items before))
+  pub empty : told.pool.empty ≡ length told.refused
+  -- no more strays than may follow the loans
+  pub strays : told.pool.strays ≤ plan.how.stray * all_loans told.apps
+  -- The stream theorem: each flow's shelf gained a front of what the copying receiver gives of what counts of the flow's payloads
+  -- but those that were refused, and all of it where the flow's application wasn't stopped.
+  pub flow : (number : ℕ) (flow : Flow) → slice_get (flows_of (steered_in plan.ports.items before)) number ≡ Some flow →
+      There (slice_get told.flows number) (λ line. There (slice_get told.apps flow.app) (λ app.
+      IsLineOf flow line × Gained (kept_in kept shelves flow.app number) (kept_in kept shelves_now flow.app number)
+      (λ bytes. IsStreamed app.stopped (stream_of (steered_in plan.ports.items before) told.refused number) bytes line.bytes)))
+  pub many_flows : length told.flows ≡ length (flows_of (steered_in plan.ports.items before))
+  -- No other flow of any shelf gained anything.
+  pub others : (app number : ℕ) → option_map (λ (flow : Flow). flow.app) (slice_get (flows_of (steered_in plan.ports.items before)) number) ≢ Some app
+      → Keeps (kept_in kept shelves app number) (kept_in kept shelves_now app number)
+  pub app : (number port : ℕ) → slice_get plan.ports.items number ≡ Some port
+      → There (slice_get told.apps number) (IsAppLine plan.how port (losses_in losses shelves number)
+      (losses_in losses shelves_now number) told.flows)
+  pub many_apps : length told.apps ≡ length plan.ports.items
+  -- Where an application was stopped by its shelf, all that the shelf gained for it is counted, but for up to 4,096 bytes of one
+  -- flow, all of one loan, which no entry gave back.
+  pub failed : (number : ℕ) (app : AppLine) → slice_get told.apps number ≡ Some app → app.stopped ≡ stop.Write
+      → HasFailed kept shelves shelves_now (flows_of (steered_in plan.ports.items before)) told.flows number (side_in apps number).view
+  -- The shelves of no application are as they were.
+  pub many_shelves : length shelves_now ≡ length shelves
+  pub beyond : drop (length plan.ports.items) shelves_now ≡ drop (length plan.ports.items) shelves
+  -- All is over at the board, and it accounts for the run.
+  pub over : HaveEnded nic apps
+  pub accounts : AccountsFor kept shelves shelves_now plan before told.refused nic apps told.apps told.pool.strays
+
+-- Each flow's shelf gained the whole stream that the copying receiver gives for it over these frames, the refused ones left out,
+-- unless its application wrote as many bytes as it was to.
+abbrev pub HaveWholeStreams : {T : Type 0} → (T → ℕ → Option (List ℕ)) → List T → List T → List ℕ → Option ℕ → List (List ℕ) → Told → Type 0
+HaveWholeStreams kept shelves shelves_now ports quit frames told =
+    (number : ℕ) (flow : Flow) → slice_get (flows_of (steered_in ports frames)) number ≡ Some flow → There (slice_get told.apps flow.app) (λ app.
+    quit ≢ Some app.written → Gained (kept_in kept shelves flow.app number) (kept_in kept shelves_now flow.app number)
+    (λ bytes. bytes ≡ stream_of (steered_in ports frames) told.refused number))
+
+-- Nothing was read, and no shelf touched.
+pub record IsUntouched {S T : Type 0} (source source_now : S) (shelves shelves_now : List T) : Type 0 where
+  pub source_is : source_now ≡ source
+  pub shelves_are : shelves_now ≡ shelves
+
+-- Want of memory came before the first turn; or behind the last one, and then the run is as any other.
+abbrev pub LacksMemory : {S T : Type 0} → (S → Option (List ℕ)) → (S → ℕ) → (T → ℕ → Option (List ℕ)) → (T → ℕ) → S → S
+    → List T → List T → Plan → Type 0
+LacksMemory left faults kept losses source source_now shelves shelves_now plan =
+    IsUntouched source source_now shelves shelves_now
+    ⊎ ((told : Told) × (nic : NicSide) × (apps : List AppSide)
+    × Ran left faults kept losses source source_now shelves shelves_now plan told nic apps)
+
+-- ---- a capture that is read beside the card
+
+-- The source as the ending of the reading left it, and as it is now. Only where the card ended the reading, by want of memory or by
+-- a flow too many, may a reading beside it have gone on.
+pub record HasReadOn {S : Type 0} (left : S → Option (List ℕ)) (faults : S → ℕ) (at now : S) (end : Option Fault) : Type 0 where
+  pub same : end ≢ Some Memory → end ≢ Some TooManyFlows → at ≡ now
+  pub taken : Took (left at) (left now) (λ bytes. Unit {0})
+  pub later : faults at ≤ faults now
+
+-- `LacksMemory` of a run whose capture is read beside the card.
+abbrev pub LacksMemoryBeside : {S T : Type 0} → (S → Option (List ℕ)) → (S → ℕ) → (T → ℕ → Option (List ℕ)) → (T → ℕ) → S → S
+    → List T → List T → Plan → Type 0
+LacksMemoryBeside {S} {T} left faults kept losses source source_now shelves shelves_now plan =
+    IsUntouched source source_now shelves shelves_now
+    ⊎ ((at : S) × (told : Told) × (nic : NicSide) × (apps : List AppSide) × HasReadOn left faults at source_now told.end
+    × Ran left faults kept losses source at shelves shelves_now plan told nic apps)

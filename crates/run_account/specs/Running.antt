@@ -1,0 +1,95 @@
+-- What the roles of a run keep, and how that stands to their sides and to what was read, sent and written since the first turn. It is
+-- over the sides of the roles alone, so it is the same for every board.
+use Rattle.std.specs.Prelude.{◌≡◌, ◌≢◌, ℕ, ◌<◌, ◌≤◌, true, false, List, All, length, drop, Option, Some, None, option_map}
+use Rattle.std.specs.List.{slice_get}
+use Rattle.zr_kinds.specs.declared.behaviour.Behaviour.{Behaviour}
+use Rattle.zr_kinds.specs.declared.behaviour.Stopped.TheVariants as stop
+use Rattle.zr_io.specs.Moved.{Rose}
+use Rattle.board_face.specs.AppCalls.{IsHere}
+use Rattle.board_face.specs.Sides.{side_in}
+use Rattle.board_face.specs.declared.views.nic.NicSide.{NicSide}
+use Rattle.board_face.specs.declared.views.app.AppSide.{AppSide}
+use Rattle.board_face.specs.declared.views.app.AppView.{AppView}
+use Rattle.app_worker.specs.Kept.{new_state, IsFresh}
+use Rattle.app_worker.specs.Marks.{AreWholeFrames}
+use Rattle.app_worker.specs.Shelves.{AreShelved, AreFronts}
+use Rattle.app_worker.specs.State.{AppStands}
+use Rattle.app_worker.specs.Streams.{HasFronts, HasAll}
+use Rattle.card_feed.specs.Account.{kept_in}
+use Rattle.card_feed.specs.Feed.{IsReady, FeedStands}
+use Rattle.card_feed.specs.Plan.{IsPlan, layout_of}
+use Rattle.card_feed.specs.declared.plan.Plan.{Plan}
+use Rattle.run_account.specs.declared.run.Run.{Run}
+use Rattle.run_account.specs.declared.run.Worker.{Worker}
+
+-- how often the shelf of an application has failed
+abbrev pub losses_or : Option ℕ → ℕ
+losses_or None = 0
+losses_or (Some count) = count
+
+abbrev pub losses_in : {T : Type 0} → (T → ℕ) → List T → ℕ → ℕ
+losses_in losses shelves app = losses_or (option_map losses (slice_get shelves app))
+
+-- ---- what is kept fits the sides
+
+-- An application's state stands to its side. It is there until it has left.
+pub record WorkerFits (v : AppView) (w : Worker) : Type 0 where
+  pub stands : AppStands w.state v
+  pub here : w.left ≡ false → IsHere v
+  pub gone : w.left ≡ true → (v.left ≡ true) × (w.state.bare ≡ true)
+
+-- The feed fits the card's side, and each state its application's.
+pub record RolesFit (nic : NicSide) (apps : List AppSide) (run : Run) : Type 0 where
+  pub ready : IsReady run.feed nic.view
+  pub worker : (a : ℕ) (w : Worker) → slice_get run.workers.items a ≡ Some w → WorkerFits (side_in apps a).view w
+
+-- ---- a run at which nobody has taken a turn
+
+pub record IsNew (plan : Plan) (a : ℕ) (w : Worker) : Type 0 where
+  pub state_is : w.state ≡ new_state a plan.ring plan.how
+  pub left_is : w.left ≡ false
+  pub stands : (v : AppView) → IsFresh a v → AppStands w.state v
+  pub shelved : (kept : ℕ → Option (List ℕ)) (v : AppView) → AreShelved kept kept w.state.flows v
+
+-- one application for each port
+pub record AreNew (plan : Plan) (workers : List Worker) : Type 0 where
+  pub many : length workers ≡ length plan.ports.items
+  pub each : (a : ℕ) (w : Worker) → slice_get workers a ≡ Some w → IsNew plan a w
+
+-- ---- what was read, sent and written since the first turn
+
+-- One application: what its shelf has, by the marks of the notes that it took, and why it stopped.
+pub record WorkerRuns (first kept : ℕ → Option (List ℕ)) (losses losses_now : ℕ) (how : Behaviour) (v : AppView) (w : Worker) : Type 0 where
+  pub how_is : w.state.how ≡ how
+  pub shelved : w.state.stopped ≢ stop.Write → AreShelved first kept w.state.flows v
+  pub failed : w.state.stopped ≡ stop.Write → AreFronts first kept w.state.flows v
+  pub later : losses ≤ losses_now
+  pub cause : w.state.stopped ≡ stop.Write → Rose losses losses_now
+  pub still : w.state.stopped ≢ stop.Write → losses_now ≡ losses
+  pub fronts : AreWholeFrames v.taken → HasFronts first kept v
+  pub whole : w.left ≡ true → w.state.stopped ≡ stop.No → AreWholeFrames v.taken → HasAll first kept v
+  pub copies : w.state.copied ≤ w.state.loans
+  pub counts : w.left ≡ true → w.state.stopped ≡ stop.No → w.state.loans ≤ w.state.written
+
+-- The run of a plan so far: these frames were read and the card stands by them, each application stands by what it took,
+-- and no other shelf was touched.
+pub record Running {S T : Type 0} (left : S → Option (List ℕ)) (faults : S → ℕ) (kept : T → ℕ → Option (List ℕ)) (losses : T → ℕ)
+    (source source_now : S) (shelves shelves_now : List T) (plan : Plan) (nic : NicSide) (apps : List AppSide) (run : Run) : Type 0 where
+  pub plan_is : IsPlan plan
+  pub frames : List (List ℕ)
+  pub feed : FeedStands left faults source source_now plan.ports.items plan.split frames run.feed nic.view
+  pub setting : nic.view.setting ≡ record { layout = layout_of plan; places = plan.ring }
+  pub many : length run.workers.items ≡ length plan.ports.items
+  pub worker : (a : ℕ) (w : Worker) → slice_get run.workers.items a ≡ Some w
+      → WorkerRuns (kept_in kept shelves a) (kept_in kept shelves_now a) (losses_in losses shelves a) (losses_in losses shelves_now a)
+      plan.how (side_in apps a).view w
+  pub many_shelves : length shelves_now ≡ length shelves
+  pub beyond : drop (length plan.ports.items) shelves_now ≡ drop (length plan.ports.items) shelves
+  -- No more records were read than are read at most, and each entry that was dealt with is of an application.
+  pub records : run.feed.tally.records ≤ 16777216
+  pub dealt : All (λ d. d.app < length plan.ports.items) nic.view.dealt
+
+-- The card was closed and every application has left.
+pub record AreOver (run : Run) : Type 0 where
+  pub card : run.feed.closed ≡ true
+  pub apps : All (λ (w : Worker). w.left ≡ true) run.workers.items

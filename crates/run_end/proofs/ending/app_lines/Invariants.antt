@@ -1,7 +1,0 @@
--- The lines so far.
-use Rattle.std.proofs.Common.{◌≡◌, take}
-use Rattle.run_end.specs.Ran.{lines_of}
-use Rattle.run_end.proofs.ending.app_lines.Given as goal
-
-abbrev pub invariant-loop-app : goal.invariant-loop-app
-invariant-loop-app l = l.lines.items ≡ lines_of (take l.app l.ports) (take l.app l.workers)

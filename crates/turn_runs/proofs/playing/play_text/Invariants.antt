@@ -1,8 +1,0 @@
--- What was played so far goes on with the run.
-use Rattle.turn_runs.specs.Running.{Plays}
-use Rattle.turn_runs.proofs.playing.play_text.Given as goal
-
-abbrev pub invariant-loop-letter : goal.invariant-loop-letter
-invariant-loop-letter g l =
-    Plays g.S.Source.left g.S.Source.faults g.T.Shelf.kept g.T.Shelf.faults l.initial.source l.source l.initial.shelves l.shelves
-    l.initial.board l.board l.initial.run l.run

@@ -1,5 +1,0 @@
-pub mod Running
-pub mod Schedule
-pub mod Stuck
-pub mod Steps
-pub mod Rounds
