@@ -1,0 +1,205 @@
+-- How the reading of a record's lines goes on and ends.
+use Rattle.std.proofs.Common.{◌≡◌, ◌∙◌, ℕ, ◌+◌, ◌++◌, ◌≤◌, List, [], ◌∷◌, length, map, All, Bool, true, false, refl, sym, ap, subst, arith, ◌⊎◌, ⊎_elim}
+use Rattle.std.proofs.Common.{Some, None, IsTrue, append_assoc, append-nil, length-append, zero, suc}
+use Rattle.std.specs.Prelude.{option_and_then}
+use Rattle.std.specs.List.{AllByRecursion}
+use Rattle.run_records.specs.declared.event.Event.{Event}
+use Rattle.run_records.specs.Setting.{IsArea, IsSetting, Setting}
+use Rattle.run_records.specs.Holders.{Holdings, after, all_after, no_holdings}
+use Rattle.run_records.specs.LegalRun.{HasSmallNumbers, IsLegalRun}
+use Rattle.run_records.specs.RunText.{Text, last_line, line_of, run_line, text_of_lines}
+use Rattle.run_check.specs.declared.checking.Checked.TheVariants.{Yes, No}
+use Rattle.run_check.specs.Coming.{HasNoLine, IsOneLine}
+use Rattle.run_check.specs.Judged.{BeginARun, Judges}
+use Rattle.run_check.specs.Reading.{event_of}
+use Rattle.run_check.proofs.Going.{IsLegalSoFar, MayFollow, not_last, some_from}
+use Rattle.run_check.proofs.Judging.{bad_line, more_behind, no_run, same_line, whole_run}
+use Rattle.run_check.proofs.LineText.{event_of-line_of, line_of-event_of}
+use Rattle.run_check.proofs.Short.{last_line-short, line_of-short}
+
+-- so many events were read of the bytes behind the first line, and these are the holders after them
+pub record HasCome (s : Setting) (start rest : List ℕ) (h : Holdings) (count : ℕ) : Type 0 where
+  pub events : List Event
+  pub number : length events ≡ count
+  pub far : IsLegalSoFar s events h
+  pub text : start ≡ text_of_lines (map line_of events) ++ rest
+
+abbrev pub behind_first : Setting → List ℕ → List ℕ
+behind_first s start = text_of_lines (run_line s ∷ []) ++ start
+
+first_then : (s : Setting) (lines : List Text) (rest start : List ℕ) → start ≡ text_of_lines lines ++ rest
+    → behind_first s start ≡ text_of_lines (run_line s ∷ lines) ++ rest
+first_then s lines rest start text =
+    ap (λ t. t ++ start) (append-nil (run_line s ++ 10 ∷ [])) ∙ ap (λ t. (run_line s ++ 10 ∷ []) ++ t) text
+    ∙ sym (append_assoc (run_line s ++ 10 ∷ []) (text_of_lines lines) rest)
+
+-- ---- at first, and one event more
+
+pub come_first : (s : Setting) (start : List ℕ) → IsSetting s → HasCome s start start no_holdings 0
+come_first s start sound = record {
+  events = [];
+  number = refl;
+  far = record { sound = sound; most = omega arith; small = tt; reached = refl };
+  text = refl;
+}
+
+all_after_more : (s : Setting) (start h now : Holdings) (events : List Event) (e : Event) → all_after s start events ≡ Some h → after s h e ≡ Some now
+    → all_after s start (events ++ e ∷ []) ≡ Some now
+all_after_more s start h now [] e reached follows =
+    let same : start ≡ h = cc in
+    ap (option_and_then (λ k. Some k)) (ap (λ k. after s k e) same ∙ follows)
+all_after_more s start h now (f ∷ events) e reached follows =
+    let step = some_from (after s start f) (λ k. all_after s k events) h reached in
+    ap (option_and_then (λ k. all_after s k (events ++ e ∷ []))) step.1 ∙ all_after_more s step.0 h now events e step.2 follows
+
+small_more : (events : List Event) (e : Event) → AllByRecursion HasSmallNumbers events → HasSmallNumbers e → AllByRecursion HasSmallNumbers (events ++ e ∷ [])
+small_more [] e small own = (own, tt)
+small_more (f ∷ events) e small own = (small.0, small_more events e small.1 own)
+
+text_more : (events : List Event) (e : Event) (rest : List ℕ)
+    → text_of_lines (map line_of events) ++ ((line_of e ++ 10 ∷ []) ++ rest) ≡ text_of_lines (map line_of (events ++ e ∷ [])) ++ rest
+text_more [] e rest = ap (λ t. t ++ rest) (sym (append-nil (line_of e ++ 10 ∷ [])))
+text_more (f ∷ events) e rest =
+    append_assoc (line_of f ++ 10 ∷ []) (text_of_lines (map line_of events)) ((line_of e ++ 10 ∷ []) ++ rest)
+    ∙ ap (λ t. (line_of f ++ 10 ∷ []) ++ t) (text_more events e rest)
+    ∙ sym (append_assoc (line_of f ++ 10 ∷ []) (text_of_lines (map line_of (events ++ e ∷ []))) rest)
+
+pub come_more : (s : Setting) (start rest later : List ℕ) (h now : Holdings) (count : ℕ) (line : Text) (e : Event) → HasCome s start rest h count
+    → count + 1 ≤ 1000000 → rest ≡ (line ++ 10 ∷ []) ++ later → event_of line ≡ Some e → after s h e ≡ Some now → HasCome s start later now (count + 1)
+come_more s start rest later h now count line e come room took read follows =
+    let own = line_of-event_of line e read in
+    record {
+      events = come.events ++ e ∷ [];
+      number = omega (arith, length-append come.events (e ∷ []), come.number);
+      far = record {
+        sound = come.far.sound;
+        most = omega (arith, length-append come.events (e ∷ []), come.number);
+        small = small_more come.events e come.far.small own.1;
+        reached = all_after_more s no_holdings h now come.events e come.far.reached follows;
+      };
+      text = come.text ∙ ap (λ r. text_of_lines (map line_of come.events) ++ r) (took ∙ ap (λ l. (l ++ 10 ∷ []) ++ later) own.0) ∙ text_more come.events e later;
+    }
+
+-- ---- the ends
+
+-- no line comes
+pub no_line : (s : Setting) (start rest : List ℕ) (h : Holdings) (count : ℕ) → HasCome s start rest h count → HasNoLine rest
+    → Judges (behind_first s start) (No (count + 2))
+no_line s start rest h count come none =
+    subst (λ n. Judges (behind_first s start) (No (n + 2))) come.number
+    (bad_line s come.events h (behind_first s start) rest come.far (first_then s (map line_of come.events) rest start come.text)
+    (λ line behind same one. ⊎_elim
+    (λ next. let long = none line behind same one in
+    absurd (omega (arith, long, line_of-short next.e next.small, ap length next.told)))
+    (λ end. let long = none line behind same one in
+    absurd (omega (arith, long, last_line-short end.whole, ap length end.told)))))
+
+-- the line that comes is no one that may follow
+bad_here : (s : Setting) (start rest later : List ℕ) (h : Holdings) (count : ℕ) (line : Text) → HasCome s start rest h count
+    → rest ≡ (line ++ 10 ∷ []) ++ later → IsOneLine line → ((events : List Event) → length events ≡ count → IsLegalSoFar s events h → MayFollow s events h line → ⊥)
+    → Judges (behind_first s start) (No (count + 2))
+bad_here s start rest later h count line come took one bad =
+    subst (λ n. Judges (behind_first s start) (No (n + 2))) come.number
+    (bad_line s come.events h (behind_first s start) rest come.far (first_then s (map line_of come.events) rest start come.text)
+    (λ other behind same other_one may.
+    let lines = same_line other line behind later other_one one (sym same ∙ took ∙ append_assoc line (10 ∷ []) later) in
+    bad come.events come.number come.far (subst (MayFollow s come.events h) lines.0 may)))
+
+-- it is no last line, and no event that the holders allow
+pub bad_event : (s : Setting) (start rest later : List ℕ) (h : Holdings) (count : ℕ) (line : Text) → HasCome s start rest h count
+    → rest ≡ (line ++ 10 ∷ []) ++ later → IsOneLine line → (line ≡ last_line true → ⊥) → (line ≡ last_line false → ⊥)
+    → ((e : Event) → event_of line ≡ Some e → after s h e ≡ None) ⊎ (1000000 ≤ count) → Judges (behind_first s start) (No (count + 2))
+bad_event s start rest later h count line come took one no_end no_more why =
+    bad_here s start rest later h count line come took one (λ events number far. ⊎_elim
+    (λ next. ⊎_elim
+    (λ none. let unfit : after s h next.e ≡ None = none next.e (ap event_of next.told ∙ event_of-line_of next.e next.small) in
+    let fit : after s h next.e ≡ Some next.then = next.follows in cc)
+    (λ full. omega (arith, full, number, next.room)) why)
+    (λ end. no_last end.whole end.told))
+  where
+    no_last : (whole : Bool) → line ≡ last_line whole → ⊥
+    no_last true told = no_end told
+    no_last false told = no_more told
+
+-- it says the end, and there are holders
+pub early_end : (s : Setting) (start rest later : List ℕ) (h : Holdings) (count : ℕ) → HasCome s start rest h count
+    → rest ≡ (last_line true ++ 10 ∷ []) ++ later → IsOneLine (last_line true) → (((b : ℕ) → h b ≡ []) → ⊥) → Judges (behind_first s start) (No (count + 2))
+early_end s start rest later h count come took one some =
+    bad_here s start rest later h count (last_line true) come took one (λ events number far. ⊎_elim
+    (λ next. not_last next.e true next.small (sym next.told))
+    (λ end. ended events far end.whole end.told end.legal))
+  where
+    ended : (events : List Event) → IsLegalSoFar s events h → (whole : Bool) → last_line true ≡ last_line whole → IsLegalRun s events whole → ⊥
+    ended events far false told legal = cc
+    ended events far true told legal =
+        let same : Some h ≡ Some legal.holdings = sym far.reached ∙ legal.reached in
+        let equal : legal.holdings ≡ h = cc in
+        some (λ b. ap (λ k. k b) (sym equal) ∙ legal.ended refl b)
+
+-- it is a last line that may come: what is said goes by whether something follows
+legal_here : (s : Setting) (events : List Event) (h : Holdings) (whole : Bool) → IsLegalSoFar s events h → (IsTrue whole → (b : ℕ) → h b ≡ [])
+    → IsLegalRun s events whole
+legal_here s events h whole far none =
+    record { sound = far.sound; most = far.most; small = far.small; holdings = h; reached = far.reached; ended = none }
+
+pub told_whole : (s : Setting) (start rest : List ℕ) (h : Holdings) (count : ℕ) (whole : Bool) → HasCome s start rest h count
+    → (IsTrue whole → (b : ℕ) → h b ≡ []) → rest ≡ (last_line whole ++ 10 ∷ []) ++ [] → Judges (behind_first s start) (Yes (count + 2))
+told_whole s start rest h count whole come none took =
+    subst (λ n. Judges (behind_first s start) (Yes (n + 2))) come.number
+    (whole_run s come.events whole (behind_first s start) (legal_here s come.events h whole come.far none)
+    (first_then s (map line_of come.events) rest start come.text
+    ∙ ap (λ t. text_of_lines (run_line s ∷ map line_of come.events) ++ t) (took ∙ append_assoc (last_line whole) (10 ∷ []) [])))
+
+pub told_more : (s : Setting) (start rest later : List ℕ) (h : Holdings) (count : ℕ) (whole : Bool) → HasCome s start rest h count
+    → (IsTrue whole → (b : ℕ) → h b ≡ []) → rest ≡ (last_line whole ++ 10 ∷ []) ++ later → (later ≡ [] → ⊥)
+    → Judges (behind_first s start) (No (count + 3))
+told_more s start rest later h count whole come none took some =
+    subst (λ n. Judges (behind_first s start) (No (n + 3))) come.number
+    (more_behind s come.events h whole (behind_first s start) later come.far (legal_here s come.events h whole come.far none)
+    (first_then s (map line_of come.events) rest start come.text
+    ∙ ap (λ t. text_of_lines (run_line s ∷ map line_of come.events) ++ t) (took ∙ append_assoc (last_line whole) (10 ∷ []) later)) some)
+
+abbrev smallest : Setting
+smallest = record { areas = (1, 1024) ∷ []; apps = 1 }
+
+one_area : All IsArea smallest.areas
+one_area zero d lt = record { buffers = (omega arith, omega arith); size = record { power = (10, refl); least = omega arith; most = omega arith } }
+one_area (suc k) d lt = absurd (omega arith)
+
+smallest_sound : IsSetting smallest
+smallest_sound = record {
+  areas = record { some = omega arith; most = omega arith; each = one_area; buffers = omega arith; bytes = omega arith };
+  apps = (omega arith, omega arith);
+}
+
+first_run : BeginARun []
+first_run = (
+  run_line smallest ∷ last_line false ∷ [],
+  record {
+    setting = smallest;
+    events = [];
+    whole = false;
+    legal = record { sound = smallest_sound; most = omega arith; small = tt; holdings = no_holdings; reached = refl; ended = λ t. cc };
+    told = refl;
+  },
+)
+
+-- the first line isn't one that a run may have
+pub bad_first : (bytes : List ℕ) → ((line : Text) (behind : List ℕ) → bytes ≡ line ++ 10 ∷ behind → IsOneLine line
+    → (s : Setting) → IsSetting s → line ≡ run_line s → ⊥) → Judges bytes (No 1)
+bad_first bytes bad =
+    let ends : (line : Text) (behind : List ℕ) → bytes ≡ line ++ 10 ∷ behind → IsOneLine line → BeginARun ([] ++ line ∷ []) → ⊥ =
+    λ line behind same one begun. let run = begun.1 in
+    let told : line ∷ begun.0 ≡ run_line run.setting ∷ (map line_of run.events ++ last_line run.whole ∷ []) = run.told in
+    let first : line ≡ run_line run.setting = cc in
+    bad line behind same one run.setting run.legal.sound first in (
+      record {
+        before = [];
+        rest = bytes;
+        parted = refl;
+        counted = refl;
+        begun = first_run;
+        ends = ends;
+      },
+      no_run [] bytes bytes tt refl ends (λ nothing run. let told : [] ≡ run_line run.setting ∷ (map line_of run.events ++ last_line run.whole ∷ []) = run.told in cc),
+    )

@@ -1,0 +1,14 @@
+pub mod AllOf
+pub mod Areas
+pub mod Becoming
+pub mod Coming
+pub mod Numerals
+pub mod Powers
+pub mod Parting
+pub mod LineText
+pub mod SettingText
+pub mod Going
+pub mod Judging
+pub mod Short
+pub mod Ending
+pub mod Telling

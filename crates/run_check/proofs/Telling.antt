@@ -1,0 +1,135 @@
+-- The same where the source may tell its bytes or not.
+use Rattle.std.proofs.Common.{◌≡◌, ◌∙◌, ℕ, ◌+◌, ◌++◌, ◌≤◌, List, [], ◌∷◌, length, Bool, true, false, sym, ap, subst, arith, ◌⊎◌, Option, Some, None, Result, Ok, Err, IsTrue, IfSome, IfOk, rules}
+use Rattle.std.specs.Str.{bytes_eq}
+use Rattle.std.proofs.lemmas.Slice.Eq.{bytes_eq-Decides}
+use Rattle.std.proofs.Common.{append_assoc, append-nil}
+use Rattle.std.proofs.Math.Path.{fun_ext}
+use Rattle.std.specs.Prelude.{codes}
+use Rattle.std.specs.Io.KnownBytes.{Consumes}
+use Rattle.run_records.specs.declared.event.Event.{Event}
+use Rattle.run_records.specs.Setting.{IsSetting, Setting}
+use Rattle.run_records.specs.Holders.{Holdings, after, no_holdings}
+use Rattle.run_records.specs.RunText.{Text, last_line, run_line}
+use Rattle.run_check.specs.declared.checking.Checked.{Checked}
+use Rattle.run_check.specs.declared.checking.Checked.TheVariants.{Yes, No}
+use Rattle.run_check.specs.Coming.{HasNoLine, IsOneLine, ahead}
+use Rattle.run_check.specs.Holding.{EndsRecord, LineChanges}
+use Rattle.run_check.specs.Judged.{Judges}
+use Rattle.run_check.specs.Reading.{IsSettingOf, event_of, setting_of}
+use Rattle.run_check.proofs.Judging.{same_line}
+use Rattle.run_check.proofs.SettingText.{run_line-setting_of, setting_of-run_line}
+use Rattle.run_check.proofs.Short.{run_line-short}
+use Rattle.run_check.proofs.Ending.{HasCome, behind_first, bad_event, bad_first, come_first, come_more, early_end, no_line, told_more, told_whole}
+
+-- so many events were read of what came behind the first line
+abbrev pub ComesTo : Setting → Option (List ℕ) → Option (List ℕ) → Holdings → ℕ → Type 0
+ComesTo s None now h count = Unit {0}
+ComesTo s (Some start) None h count = ⊥
+ComesTo s (Some start) (Some rest) h count = HasCome s start rest h count
+
+abbrev pub AnswersFor : Setting → Option (List ℕ) → Checked → Type 0
+AnswersFor s start answer = IfSome start (λ rest. Judges (behind_first s rest) answer)
+
+pub comes_first : (s : Setting) (start : Option (List ℕ)) (h : Holdings) → IsSetting s → no_holdings ≡ h → ComesTo s start start h 0
+comes_first s None h sound none = tt
+comes_first s (Some start) h sound none = subst (λ k. HasCome s start start k 0) none (come_first s start sound)
+
+pub answers_no_line : (s : Setting) (start now : Option (List ℕ)) (h : Holdings) (count : ℕ) → ComesTo s start now h count → IfSome now HasNoLine
+    → AnswersFor s start (No (count + 2))
+answers_no_line s None now h count come none = tt
+answers_no_line s (Some start) None h count come none = absurd come
+answers_no_line s (Some start) (Some rest) h count come none = no_line s start rest h count come none
+
+pub answers_early : (s : Setting) (start now later : Option (List ℕ)) (h : Holdings) (count : ℕ) (line : Text) → ComesTo s start now h count
+    → Consumes now later (line ++ 10 ∷ []) → IsOneLine line → line ≡ codes "end" → (((b : ℕ) → h b ≡ []) → ⊥) → AnswersFor s start (No (count + 2))
+answers_early s None now later h count line come took one end some = tt
+answers_early s (Some start) None later h count line come took one end some = absurd come
+answers_early s (Some start) (Some rest) None h count line come took one end some = absurd took
+answers_early s (Some start) (Some rest) (Some later) h count line come took one end some =
+    early_end s start rest later h count come (took ∙ ap (λ l. (l ++ 10 ∷ []) ++ later) end) (subst IsOneLine end one) some
+
+pub answers_bad : (s : Setting) (start now later : Option (List ℕ)) (h : Holdings) (count : ℕ) (line : Text) → ComesTo s start now h count
+    → Consumes now later (line ++ 10 ∷ []) → IsOneLine line → (line ≡ codes "end" → ⊥) → (line ≡ codes "more" → ⊥)
+    → ((e : Event) → event_of line ≡ Some e → after s h e ≡ None) ⊎ (1000000 ≤ count) → AnswersFor s start (No (count + 2))
+answers_bad s None now later h count line come took one no_end no_more why = tt
+answers_bad s (Some start) None later h count line come took one no_end no_more why = absurd come
+answers_bad s (Some start) (Some rest) None h count line come took one no_end no_more why = absurd took
+answers_bad s (Some start) (Some rest) (Some later) h count line come took one no_end no_more why =
+    bad_event s start rest later h count line come took one no_end no_more why
+
+pub answers_last : (s : Setting) (start now later : Option (List ℕ)) (h : Holdings) (count : ℕ) (line : Text) (whole : Bool) (answer : Checked)
+    → ComesTo s start now h count → Consumes now later (line ++ 10 ∷ []) → line ≡ last_line whole → (IsTrue whole → (b : ℕ) → h b ≡ [])
+    → EndsRecord later (count + 2) answer → AnswersFor s start answer
+answers_last s None now later h count line whole answer come took last none ends = tt
+answers_last s (Some start) None later h count line whole answer come took last none ends = absurd come
+answers_last s (Some start) (Some rest) None h count line whole answer come took last none ends = absurd took
+answers_last s (Some start) (Some rest) (Some later) h count line whole (Yes lines) come took last none ends =
+    subst (λ n. Judges (behind_first s start) (Yes n)) (sym ends.0)
+    (told_whole s start rest h count whole come none (took ∙ ap (λ l. (l ++ 10 ∷ []) ++ later) last ∙ ap (λ r. (last_line whole ++ 10 ∷ []) ++ r) ends.1))
+answers_last s (Some start) (Some rest) (Some later) h count line whole (No bad) come took last none ends =
+    subst (λ n. Judges (behind_first s start) (No n)) (sym (ends.0 ∙ three))
+    (told_more s start rest later h count whole come none (took ∙ ap (λ l. (l ++ 10 ∷ []) ++ later) last) ends.1)
+  where
+    three : count + 2 + 1 ≡ count + 3
+    three = omega arith
+
+pub comes_more : (s : Setting) (start now later : Option (List ℕ)) (h then : Holdings) (count : ℕ) (line : Text) → ComesTo s start now h count
+    → Consumes now later (line ++ 10 ∷ []) → count + 1 ≤ 1000000 → LineChanges s h line then true → ComesTo s start later then (count + 1)
+comes_more s None now later h then count line come took room changes = tt
+comes_more s (Some start) None later h then count line come took room changes = absurd come
+comes_more s (Some start) (Some rest) None h then count line come took room changes = absurd took
+comes_more s (Some start) (Some rest) (Some later) h then count line come took room (e, read, (held, follows, same)) =
+    come_more s start rest later h then count line e come room took read (follows ∙ ap Some (fun_ext same))
+
+-- the same of a check's answer, where it has one
+abbrev pub AnswersIfOk : {E : Type 0} → Setting → Option (List ℕ) → Result Checked E → Type 0
+AnswersIfOk s start result = IfSome start (λ rest. IfOk result (Judges (behind_first s rest)))
+
+no_answer : (E : Type 0) (s : Setting) (start : Option (List ℕ)) (e : E) → AnswersIfOk {E = E} s start (Err e)
+no_answer E s None e = tt
+no_answer E s (Some start) e = tt
+
+answer_ok : (E : Type 0) (s : Setting) (start : Option (List ℕ)) (answer : Checked) → AnswersFor s start answer → AnswersIfOk {E = E} s start (Ok answer)
+answer_ok E s None answer h = tt
+answer_ok E s (Some start) answer h = h
+
+pub answers_ends : (E : Type 0) (s : Setting) (start now later : Option (List ℕ)) (h : Holdings) (count : ℕ) (line : Text) (whole : Bool)
+    (result : Result Checked E) → ComesTo s start now h count → Consumes now later (line ++ 10 ∷ []) → line ≡ last_line whole
+    → (IsTrue whole → (b : ℕ) → h b ≡ []) → IfOk result (EndsRecord later (count + 2)) → AnswersIfOk s start result
+answers_ends E s start now later h count line whole (Err e) come took last none ends = no_answer E s start e
+answers_ends E s start now later h count line whole (Ok answer) come took last none ends =
+    answer_ok E s start answer (answers_last s start now later h count line whole answer come took last none ends)
+
+pub not_text : (name other : Text) → bytes_eq name other ≡ false → name ≡ other → ⊥
+not_text name other differ same = search (rules, bytes_eq-Decides)
+
+-- ---- the first line
+
+pub no_first_line : (waiting : List ℕ) (left : Option (List ℕ)) → waiting ≡ [] → IfSome (ahead waiting left) HasNoLine
+    → IfSome left (λ bytes. Judges bytes (No 1))
+no_first_line waiting None fresh none = tt
+no_first_line waiting (Some bytes) fresh none =
+    let here : HasNoLine bytes = subst (λ w. HasNoLine (w ++ bytes)) fresh none in
+    bad_first bytes (λ line behind same one s sound first.
+    let long = here line behind same one in absurd (omega (arith, long, run_line-short s sound, ap length first)))
+
+pub no_first_setting : (waiting : List ℕ) (left later : Option (List ℕ)) (line : Text) → waiting ≡ []
+    → Consumes (ahead waiting left) later (line ++ 10 ∷ []) → IsOneLine line → IsSettingOf line None → IfSome left (λ bytes. Judges bytes (No 1))
+no_first_setting waiting None later line fresh took one none = tt
+no_first_setting waiting (Some bytes) None line fresh took one none = absurd took
+no_first_setting waiting (Some bytes) (Some rest) line fresh took one none =
+    let here : bytes ≡ (line ++ 10 ∷ []) ++ rest = subst (λ w. w ++ bytes ≡ (line ++ 10 ∷ []) ++ rest) fresh took in
+    bad_first bytes (λ other behind same other_one s sound first.
+    let lines = same_line other line behind rest other_one one (sym same ∙ here ∙ append_assoc line (10 ∷ []) rest) in
+    none s (ap setting_of (sym lines.0 ∙ first) ∙ setting_of-run_line s sound) sound)
+
+pub first_behind : (E : Type 0) (waiting : List ℕ) (left later : Option (List ℕ)) (line : Text) (s : Setting) (result : Result Checked E) → waiting ≡ []
+    → Consumes (ahead waiting left) later (line ++ 10 ∷ []) → setting_of line ≡ Some s → AnswersIfOk s later result
+    → IfSome left (λ bytes. IfOk result (Judges bytes))
+first_behind E waiting None later line s result fresh took read answers = tt
+first_behind E waiting (Some bytes) None line s result fresh took read answers = absurd took
+first_behind E waiting (Some bytes) (Some rest) line s result fresh took read answers =
+    let here : bytes ≡ (line ++ 10 ∷ []) ++ rest = subst (λ w. w ++ bytes ≡ (line ++ 10 ∷ []) ++ rest) fresh took in
+    let told : behind_first s rest ≡ bytes =
+    ap (λ t. t ++ rest) (append-nil (run_line s ++ 10 ∷ [])) ∙ ap (λ l. (l ++ 10 ∷ []) ++ rest) (sym (run_line-setting_of line s read)) ∙ sym here in
+    subst (λ b. IfOk result (Judges b)) told answers

@@ -1,0 +1,52 @@
+-- What a check says of the bytes of a record.
+use Rattle.std.specs.Prelude.{◌≡◌, ℕ, ◌+◌, ◌≢◌, Bool, List, [], ◌∷◌, ◌++◌, length, All, Result, Ok, Err}
+use Rattle.zr_kinds.specs.declared.fault.Fault.{Fault}
+use Rattle.zr_kinds.specs.declared.fault.Fault.TheVariants as fault
+use Rattle.zr_io.specs.Moved.{Rose}
+use Rattle.run_records.specs.declared.event.Event.{Event}
+use Rattle.run_records.specs.Setting.{Setting}
+use Rattle.run_records.specs.LegalRun.{IsLegalRun}
+use Rattle.run_records.specs.RunText.{Text, lines_of, text_of_lines}
+use Rattle.run_check.specs.declared.checking.Checked.{Checked}
+use Rattle.run_check.specs.declared.checking.Checked.TheVariants.{Yes, No}
+
+-- the lines are those of a legal run
+pub record AreOfRun (lines : List Text) : Type 0 where
+  pub setting : Setting
+  pub events : List Event
+  pub whole : Bool
+  pub legal : IsLegalRun setting events whole
+  pub told : lines ≡ lines_of setting events whole
+
+-- a legal run begins with the lines
+abbrev pub BeginARun : List Text → Type 0
+BeginARun lines = (behind : List Text) × AreOfRun (lines ++ behind)
+
+-- the bytes are the text of a legal run of so many lines, and nothing follows
+pub record IsRunText (bytes : List ℕ) (count : ℕ) : Type 0 where
+  pub lines : List Text
+  pub run : AreOfRun lines
+  pub text : bytes ≡ text_of_lines lines
+  pub number : count ≡ length lines
+
+-- The line with this number is the first that isn't as in a legal run: one begins with the lines before it, and none with
+-- these and the line behind them, which may be missing.
+pub record IsFirstBad (bytes : List ℕ) (number : ℕ) : Type 0 where
+  pub before : List Text
+  pub rest : List ℕ
+  pub parted : bytes ≡ text_of_lines before ++ rest
+  pub counted : number ≡ length before + 1
+  pub begun : BeginARun before
+  pub ends : (line : Text) (behind : List ℕ) → rest ≡ line ++ 10 ∷ behind → All (λ byte. byte ≢ 10) line → BeginARun (before ++ line ∷ []) → ⊥
+
+-- `Yes` is said of the text of a legal run, and `No` of all other bytes.
+abbrev pub Judges : List ℕ → Checked → Type 0
+Judges bytes (Yes lines) = IsRunText bytes lines
+Judges bytes (No line) = IsFirstBad bytes line × ((lines : ℕ) → IsRunText bytes lines → ⊥)
+
+-- the faults of a check: memory, which is free, and a failed read, at which the source's count rose
+abbrev pub HasCheckCause : {T : Type 0} → ℕ → ℕ → Result T Fault → Type 0
+HasCheckCause before now (Ok answer) = now ≡ before
+HasCheckCause before now (Err fault.Memory) = now ≡ before
+HasCheckCause before now (Err fault.Read) = Rose before now
+HasCheckCause before now (Err other) = ⊥

@@ -1,0 +1,118 @@
+ghost use Rattle.std.specs.Prelude.{◌≡◌, ◌+◌, ◌^◌, ◌<◌, [], ◌∷◌, ◌++◌, IfOk, IfErr, IfSome, length};
+ghost use Rattle.zr_kinds.specs.declared.fault.Fault.TheVariants as fault;
+ghost use Rattle.run_records.specs.Setting.{total_buffers};
+ghost use Rattle.run_records.specs.RunText.{run_line, text_of_lines};
+ghost use Rattle.run_check.specs.Coming.{ahead};
+ghost use Rattle.run_check.specs.Holding.{EndsRecord, LineChanges, holdings_of};
+ghost use Rattle.run_check.specs.Judged.{HasCheckCause, Judges};
+
+use crate::holders::Holders;
+use crate::lines::Lines;
+use crate::setting::Setting;
+use crate::words::{event_of, is_word};
+use std::alloc::Global;
+use zr_io::Source;
+use zr_kinds::Fault;
+
+/// The most events of a record.
+const MOST_EVENTS: u32 = 1_000_000;
+
+/// What a check says of a record.
+#[derive(Clone, Copy, Debug, PartialEq, Eq)]
+pub enum Checked {
+    /// It is the record of a legal run, and has this many lines.
+    Yes { lines: u32 },
+    /// No legal run with the lines before it has the line with this number, from 1; or this line is missing.
+    No { line: u32 },
+}
+
+/// Reads a record to its end, or to the first line that isn't as in a legal run: what is read behind that line isn't said.
+/// Of a source without end no more than 1,000,002 lines of at most 129 bytes and a buffer are read.
+pub fn check<S: Source>(alloc: Global, source: &mut S) -> Result<Checked, Fault>
+    ensures judges { IfSome (S.left source.old) (λ bytes. IfOk result (Judges bytes)) }
+    ensures cause { HasCheckCause (S.faults source.old) (S.faults source.new) result }
+{
+    let Ok(mut lines) = Lines::new(alloc) else {
+        return Err(Fault::Memory);
+    };
+    if !lines.read(source)? {
+        return Ok(Checked::No { line: 1 });
+    }
+    match Setting::of(alloc, lines.line()) {
+        Err(_) => Err(Fault::Memory),
+        Ok(None) => Ok(Checked::No { line: 1 }),
+        Ok(Some(setting)) => check_events(alloc, &setting, &mut lines, source),
+    }
+}
+
+/// Reads the lines behind the first.
+fn check_events<S: Source>(
+    alloc: Global,
+    setting: &Setting,
+    lines: &mut Lines,
+    source: &mut S,
+) -> Result<Checked, Fault>
+    ensures judges { IfSome (ahead lines.old.bytes (S.left source.old))
+        (λ rest. IfOk result (Judges (text_of_lines (run_line setting.now ∷ []) ++ rest))) }
+    ensures cause { HasCheckCause (S.faults source.old) (S.faults source.new) result }
+{
+    let Ok(mut holders) = Holders::new(alloc, setting.total_buffers()) else {
+        return Err(Fault::Memory);
+    };
+    for events in 0..=MOST_EVENTS {
+        let line = events + 2;
+        if !lines.read(source)? {
+            return Ok(Checked::No { line });
+        }
+        if is_word(lines.line(), "end") {
+            if !holders.are_none() {
+                return Ok(Checked::No { line });
+            }
+            return check_end(line, lines, source);
+        }
+        if is_word(lines.line(), "more") {
+            return check_end(line, lines, source);
+        }
+        if events == MOST_EVENTS {
+            return Ok(Checked::No { line });
+        }
+        if !change(alloc, setting, &mut holders, lines.line())? {
+            return Ok(Checked::No { line });
+        }
+    }
+    Ok(Checked::No {
+        line: MOST_EVENTS + 2,
+    })
+}
+
+/// Changes the holders as the line says, and answers whether it is an event that may come here.
+fn change(
+    alloc: Global,
+    setting: &Setting,
+    holders: &mut Holders,
+    line: &[u8],
+) -> Result<bool, Fault>
+    requires { length holders.old.buffers.items ≡ total_buffers setting.now }
+    ensures changes { IfOk result (LineChanges setting.now (holdings_of holders.old.buffers.items) line.now (holdings_of holders.new.buffers.items)) }
+    ensures count { IfOk result (λ _. length holders.new.buffers.items ≡ total_buffers setting.now) }
+    ensures memory { IfErr result (λ f. f ≡ fault.Memory) }
+{
+    match event_of(alloc, line) {
+        Err(_) => Err(Fault::Memory),
+        Ok(None) => Ok(false),
+        Ok(Some(event)) => holders.change(setting, event).map_err(|_| Fault::Memory),
+    }
+}
+
+/// What is said of a record whose last line was read.
+fn check_end<S: Source>(line: u32, lines: &mut Lines, source: &mut S) -> Result<Checked, Fault>
+    requires { line + 1 < 2 ^ 32 }
+    ensures ends { IfOk result (EndsRecord (ahead lines.old.bytes (S.left source.old)) line) }
+    ensures cause { HasCheckCause (S.faults source.old) (S.faults source.new) result }
+{
+    if lines.is_over(source)? {
+        Ok(Checked::Yes { lines: line })
+    } else {
+        Ok(Checked::No { line: line + 1 })
+    }
+}

@@ -1,0 +1,13 @@
+//! Reads the record of a run and says whether it is that of a legal run.
+#![tactic(auto)]
+
+mod bytes;
+mod checking;
+mod holders;
+mod lines;
+mod setting;
+#[cfg(test)]
+mod tests;
+mod words;
+
+pub use checking::{Checked, check};

@@ -1,0 +1,4 @@
+pub mod Setting
+pub mod Holders
+pub mod RunText
+pub mod LegalRun
