@@ -1,13 +1,15 @@
 -- How the steps of a reading go together.
 use Rattle.std.proofs.Common.{◌≡◌, ℕ, ◌<◌, ◌≤◌, List, [], ◌∷◌, ◌++◌, inl, inr, length, take, Option, Some, None, IfSome, refl, sym}
+use Rattle.std.proofs.Common.{Result, Ok, Err}
 use Rattle.std.proofs.Common.{ap, ◌∙◌, subst, arith, append-nil, length-take-le, take_all}
-use Rattle.std.specs.Io.KnownBytes.{IsAtEnd, Consumes}
+use Rattle.std.specs.Io.KnownBytes.{Keeps, IsAtEnd, Consumes}
 use Rattle.zr_kinds.specs.declared.fault.Fault.{Fault}
 use Rattle.zr_kinds.specs.declared.fault.Fault.TheVariants.{Memory, NotPcap, Version, LinkType, Cut, LongRecord, Read}
 use Rattle.zr_io.specs.Moved.{Took}
 use Rattle.zr_io.proofs.Moved.{Took-nothing, Took-consumed, Took-then, Took-weaker}
 use Rattle.pcap_reader.specs.Records.{ByteOrder, Records, no_record, with_record, captured_len, header_fault, records_in, records_of}
 use Rattle.pcap_reader.specs.Capture.{ShowsFault, BrokeOff, TakenShows, HeaderShows, TakenHeaderShows, IsOpeningFault, IsRecordFault, WantsMemory}
+use Rattle.pcap_reader.specs.Capture.{Reading, Opens, OpensBehind}
 use Rattle.pcap_reader.specs.Steps.{Stops, HeaderStops, BreaksOff, IsHeaderOf, BodyStops}
 use Rattle.pcap_reader.specs.declared.capture.Record.{Record}
 use Rattle.pcap_reader.proofs.HeaderLaws.{records_of-fault}
@@ -15,33 +17,37 @@ use Rattle.pcap_reader.proofs.RecordLaws.{records_in-whole, records_in-headless,
 
 -- ---- facts of all the bytes that were left
 
-always : (a : Option (List ℕ)) → IfSome a (λ _. Unit {0})
+pub always : (a : Option (List ℕ)) → IfSome a (λ _. Unit {0})
 always None = tt
 always (Some xs) = tt
 
-all_weaker : (a : Option (List ℕ)) (P Q : List ℕ → Type 0) → ((xs : List ℕ) → P xs → Q xs) → IfSome a P → IfSome a Q
+pub all_weaker : (a : Option (List ℕ)) (P Q : List ℕ → Type 0) → ((xs : List ℕ) → P xs → Q xs) → IfSome a P → IfSome a Q
 all_weaker None P Q weaken p = tt
 all_weaker (Some xs) P Q weaken p = weaken xs p
 
 -- by what was taken and what was left behind it
-all_then : (a b : Option (List ℕ)) (P Q R : List ℕ → Type 0) → ((xs ys : List ℕ) → P xs → Q ys → R (xs ++ ys)) → Took a b P → IfSome b Q
+pub all_then : (a b : Option (List ℕ)) (P Q R : List ℕ → Type 0) → ((xs ys : List ℕ) → P xs → Q ys → R (xs ++ ys)) → Took a b P → IfSome b Q
     → IfSome a R
 all_then None b P Q R join took q = tt
 all_then (Some xs) None P Q R join took q = absurd took
 all_then (Some xs) (Some ys) P Q R join (bs, e, p) q = subst R (sym e) (join bs ys p q)
 
 -- by the front that was taken, whatever is left behind it
-all_by_front : (a b : Option (List ℕ)) (front : List ℕ) (P : List ℕ → Type 0) → ((rest : List ℕ) → P (front ++ rest)) → Consumes a b front
+pub all_by_front : (a b : Option (List ℕ)) (front : List ℕ) (P : List ℕ → Type 0) → ((rest : List ℕ) → P (front ++ rest)) → Consumes a b front
     → IfSome a P
 all_by_front None b front P holds consumed = tt
 all_by_front (Some xs) None front P holds consumed = absurd consumed
 all_by_front (Some xs) (Some ys) front P holds consumed = subst P (sym consumed) (holds ys)
 
 -- by what was taken up to the end
-all_by_end : (a b : Option (List ℕ)) (bytes : List ℕ) (P : List ℕ → Type 0) → P bytes → Consumes a b bytes → IsAtEnd b → IfSome a P
+pub all_by_end : (a b : Option (List ℕ)) (bytes : List ℕ) (P : List ℕ → Type 0) → P bytes → Consumes a b bytes → IsAtEnd b → IfSome a P
 all_by_end None b bytes P p consumed end = tt
 all_by_end (Some xs) None bytes P p consumed end = absurd consumed
 all_by_end (Some xs) (Some ys) bytes P p consumed end = subst P (sym (consumed ∙ ap (λ (l : List ℕ). bytes ++ l) end ∙ append-nil bytes)) p
+
+pub Keeps-same : (a : Option (List ℕ)) → Keeps a a
+Keeps-same None = tt
+Keeps-same (Some xs) = refl
 
 -- ---- steps that break off
 
@@ -80,15 +86,15 @@ HeaderStops-broken fault_in a b P Read shows broke = (tt, always a, Took-weaker 
 HeaderStops-broken fault_in a b P Cut shows broke = (tt, all_weaker a P _ shows broke.0, Took-weaker a b P _ shows broke.1)
 HeaderStops-broken fault_in a b P _ shows broke = absurd broke
 
--- the later part of the header stopped, which has the header's fault behind the first part
-pub HeaderStops-behind : (fault_in later : List ℕ → Option Fault) (a b c : Option (List ℕ)) (P : List ℕ → Type 0) (fault : Fault)
-    → ((xs ys : List ℕ) → P xs → fault_in (xs ++ ys) ≡ later ys) → Took a b P → HeaderStops later b c fault → HeaderStops fault_in a c fault
-HeaderStops-behind fault_in later a b c P fault same took stops = (
+-- the fields behind the magic stopped, which have the header's fault behind it
+pub HeaderStops-within : (fault_in later : List ℕ → Option Fault) (a b : Option (List ℕ)) (first : List ℕ) (fault : Fault)
+    → ((ys : List ℕ) → fault_in (first ++ ys) ≡ later ys) → HeaderStops later a b fault → HeaderStops (λ ys. fault_in (first ++ ys)) a b fault
+HeaderStops-within fault_in later a b first fault same stops = (
   stops.0,
-  all_then a b P (λ ys. HeaderShows (later ys) fault) (λ all. HeaderShows (fault_in all) fault)
-      (λ xs ys p shows. subst (λ (found : Option Fault). HeaderShows found fault) (sym (same xs ys p)) shows) took stops.1,
-  Took-then a b c P (λ ys. TakenHeaderShows (later ys) fault) (λ taken. TakenHeaderShows (fault_in taken) fault)
-      (λ xs ys p shows. subst (λ (found : Option Fault). TakenHeaderShows found fault) (sym (same xs ys p)) shows) took stops.2,
+  all_weaker a (λ ys. HeaderShows (later ys) fault) (λ ys. HeaderShows (fault_in (first ++ ys)) fault)
+      (λ ys shows. subst (λ (found : Option Fault). HeaderShows found fault) (sym (same ys)) shows) stops.1,
+  Took-weaker a b (λ ys. TakenHeaderShows (later ys) fault) (λ ys. TakenHeaderShows (fault_in (first ++ ys)) fault)
+      (λ ys shows. subst (λ (found : Option Fault). TakenHeaderShows found fault) (sym (same ys)) shows) stops.2,
 )
 
 -- a front that was taken has a fault, whatever follows it
@@ -101,6 +107,31 @@ HeaderStops-front fault_in a b front fault comes shows fits taken consumed =
       comes,
       all_by_front a b front _ (λ rest. fits (fault_in (front ++ rest)) (shows rest)) consumed,
       Took-consumed a b front _ consumed (taken (fault_in front) alone),
+    )
+
+-- the first bytes have a fault, whatever follows them
+pub HeaderStops-nothing : (fault_in : List ℕ → Option Fault) (a : Option (List ℕ)) (first : List ℕ) (fault : Fault) → IsOpeningFault fault
+    → ((rest : List ℕ) → fault_in (first ++ rest) ≡ Some fault)
+    → ((found : Option Fault) → found ≡ Some fault → HeaderShows found fault)
+    → ((found : Option Fault) → found ≡ Some fault → TakenHeaderShows found fault) → HeaderStops (λ ys. fault_in (first ++ ys)) a a fault
+HeaderStops-nothing fault_in a first fault comes shows fits taken = (
+  comes,
+  all_weaker a (λ _. Unit {0}) _ (λ rest _. fits (fault_in (first ++ rest)) (shows rest)) (always a),
+  Took-nothing a a _ (Keeps-same a) (taken (fault_in (first ++ [])) (shows [])),
+)
+
+-- the four bytes of a magic, and a header behind them
+pub Opens-behind : (a b c : Option (List ℕ)) (first : List ℕ) (result : Result Reading Fault) → Consumes a b first
+    → OpensBehind first b c result → Opens a c result
+Opens-behind a b c first (Ok capture) consumed opens =
+    (opens.0, Took-then a b c (λ xs. xs ≡ first) _ _ (λ xs ys same good rest. subst (λ (l : List ℕ). records_of ((l ++ ys) ++ rest) ≡ records_in capture.order rest) (sym same) (good rest)) (Took-consumed a b first _ consumed refl) opens.1)
+Opens-behind a b c first (Err fault) consumed opens =
+    let front = Took-consumed a b first (λ xs. xs ≡ first) consumed refl in (
+      opens.0,
+      all_then a b (λ xs. xs ≡ first) _ (λ all. HeaderShows (header_fault all) fault)
+          (λ xs ys same shows. subst (λ (l : List ℕ). HeaderShows (header_fault (l ++ ys)) fault) (sym same) shows) front opens.1,
+      Took-then a b c (λ xs. xs ≡ first) _ (λ taken. TakenHeaderShows (header_fault taken) fault)
+          (λ xs ys same shows. subst (λ (l : List ℕ). TakenHeaderShows (header_fault (l ++ ys)) fault) (sym same) shows) front opens.2,
     )
 
 -- what the header shows, all the bytes show

@@ -74,6 +74,14 @@ Opens old new (Err fault) =
     IsOpeningFault fault × IfSome old (λ all. HeaderShows (header_fault all) fault)
     × Took old new (λ taken. TakenHeaderShows (header_fault taken) fault)
 
+-- The same where the first bytes were taken before.
+abbrev pub OpensBehind : List ℕ → Option (List ℕ) → Option (List ℕ) → Result Reading Fault → Type 0
+OpensBehind first old new (Ok capture) =
+    (capture.fault ≡ None) × Took old new (λ taken. (rest : List ℕ) → records_of ((first ++ taken) ++ rest) ≡ records_in capture.order rest)
+OpensBehind first old new (Err fault) =
+    IsOpeningFault fault × IfSome old (λ all. HeaderShows (header_fault (first ++ all)) fault)
+    × Took old new (λ taken. TakenHeaderShows (header_fault (first ++ taken)) fault)
+
 -- `Ok(Some(_))` took one record and no more: whatever follows it, the first record is this frame, and the others are
 -- those of what follows. `Ok(None)` is the end. A fault is that of all the bytes, and those that were taken show it.
 abbrev pub Gives : ByteOrder → Option (List ℕ) → Option (List ℕ) → List ℕ → Result (Option Record) Fault → Type 0

@@ -5,7 +5,7 @@ use Rattle.zr_kinds.specs.declared.fault.Fault.{Fault}
 use Rattle.zr_kinds.specs.declared.fault.Fault.TheVariants.{Memory, Cut, Read}
 use Rattle.zr_io.specs.Moved.{Took}
 use Rattle.pcap_reader.specs.declared.order.ByteOrder.TheVariants.{Little, Big}
-use Rattle.pcap_reader.specs.Records.{ByteOrder, Records, captured_len, original_len, order_of, fields_fault, header_fault, records_in, records_of}
+use Rattle.pcap_reader.specs.Records.{ByteOrder, Records, captured_len, original_len, order_of, fields_fault, records_in, records_of}
 use Rattle.pcap_reader.specs.Capture.{ShowsFault, TakenShows, HeaderShows, TakenHeaderShows, IsOpeningFault, IsRecordFault}
 use Rattle.pcap_reader.specs.declared.capture.Record.{Record}
 
@@ -54,10 +54,6 @@ fault_of_fields order bytes = fields_fault order (magic_in order ++ bytes)
 -- what the bytes behind a magic hold
 abbrev pub behind_magic_in : ByteOrder → List ℕ → Records
 behind_magic_in order bytes = records_of (magic_in order ++ bytes)
-
-abbrev pub TakesMagic : Option (List ℕ) → Option (List ℕ) → Result ByteOrder Fault → Type 0
-TakesMagic old new (Ok order) = Took old new (IsMagicOf order)
-TakesMagic old new (Err fault) = HeaderStops header_fault old new fault
 
 -- the fields behind the magic
 abbrev pub TakesFields : ByteOrder → Option (List ℕ) → Option (List ℕ) → Result (Unit {0}) Fault → Type 0

@@ -1,9 +1,10 @@
 ghost use Rattle.std.specs.Prelude.{◌≡◌, ◌≤◌, None, Some, IfOk, IfSome, IsErrOf, MatchResult};
 ghost use Rattle.zr_io.specs.Moved.{Took};
 ghost use Rattle.zr_kinds.specs.declared.fault.Fault.TheVariants.{Memory};
-ghost use Rattle.pcap_reader.specs.Capture.{Opens, Gives, HasReadCause, WantsMemory};
+ghost use Rattle.pcap_reader.specs.Capture.{Opens, OpensBehind, Gives, HasReadCause, WantsMemory};
 
-use crate::header::{read_fields, read_magic};
+use crate::filling::fill_whole;
+use crate::header::{order_of, read_fields};
 use crate::order::ByteOrder;
 use crate::record::{read_body, read_record};
 use std::marker::Model;
@@ -40,7 +41,17 @@ impl Capture {
         ensures opens { Opens (S.left source.old) (S.left source.new) result }
         ensures cause { HasReadCause (S.faults source.old) (S.faults source.new) result }
     {
-        let order = read_magic(source)?;
+        let mut first = [0; 4];
+        fill_whole(source, &mut first)?;
+        Capture::open_rest(first, source)
+    }
+
+    /// Reads the file header whose first four bytes were read before.
+    pub fn open_rest<S: Source>(first: [u8; 4], source: &mut S) -> Result<Capture, Fault>
+        ensures opens { OpensBehind first (S.left source.old) (S.left source.new) result }
+        ensures cause { HasReadCause (S.faults source.old) (S.faults source.new) result }
+    {
+        let order = order_of(&first).ok_or(Fault::NotPcap)?;
         read_fields(source, order)?;
         Ok(Capture { order, fault: None })
     }

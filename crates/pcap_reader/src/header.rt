@@ -1,9 +1,9 @@
 ghost use Rattle.std.specs.Prelude.{◌≡◌};
 ghost use Rattle.pcap_reader.specs.Capture.{HasReadCause};
 ghost use Rattle.pcap_reader.specs.Records.{order_of};
-ghost use Rattle.pcap_reader.specs.Steps.{TakesMagic, TakesFields};
+ghost use Rattle.pcap_reader.specs.Steps.{TakesFields};
 
-use crate::fill::fill_whole;
+use crate::filling::fill_whole;
 use crate::order::ByteOrder;
 use zr_io::Source;
 use zr_kinds::Fault;
@@ -20,17 +20,8 @@ const MAJOR_VERSION: u16 = 2;
 
 const ETHERNET: u32 = 1;
 
-/// Reads the first four bytes of a file header, which tell the order of the capture's numbers.
-pub(crate) fn read_magic<S: Source>(source: &mut S) -> Result<ByteOrder, Fault>
-    ensures takes { TakesMagic (S.left source.old) (S.left source.new) result }
-    ensures cause { HasReadCause (S.faults source.old) (S.faults source.new) result }
-{
-    let mut magic = [0; 4];
-    fill_whole(source, &mut magic)?;
-    order_of(&magic).ok_or(Fault::NotPcap)
-}
-
-fn order_of(magic: &[u8]) -> Option<ByteOrder>
+/// The order of the capture's numbers, as the first four bytes of a file header tell it.
+pub(crate) fn order_of(magic: &[u8]) -> Option<ByteOrder>
     ensures { result ≡ order_of magic.now }
 {
     if magic.starts_with(&LITTLE_MICROSECONDS) {

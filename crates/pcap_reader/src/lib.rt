@@ -3,13 +3,15 @@
 #![tactic(auto)]
 
 mod capture;
-mod fill;
+mod filling;
 mod header;
 mod order;
 mod record;
 
 pub use capture::{Capture, Record};
+pub use filling::{fill, fill_whole};
 pub use order::ByteOrder;
+pub use record::read_body;
 
 #[cfg(test)]
 mod tests;

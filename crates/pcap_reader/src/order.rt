@@ -14,7 +14,7 @@ pub enum ByteOrder {
 
 impl ByteOrder {
     /// The number in the first two bytes.
-    pub(crate) fn number16(self, bytes: &[u8]) -> u16
+    pub fn number16(self, bytes: &[u8]) -> u16
         requires { 2 ≤ length bytes.now }
         ensures { result ≡ number self 2 bytes.now }
     {
@@ -25,7 +25,7 @@ impl ByteOrder {
     }
 
     /// The number in the first four bytes.
-    pub(crate) fn number32(self, bytes: &[u8]) -> u32
+    pub fn number32(self, bytes: &[u8]) -> u32
         requires { 4 ≤ length bytes.now }
         ensures { result ≡ number self 4 bytes.now }
     {

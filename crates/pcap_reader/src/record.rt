@@ -4,7 +4,7 @@ ghost use Rattle.pcap_reader.specs.Capture.{HasReadCause};
 ghost use Rattle.pcap_reader.specs.Steps.{TakesHeader, TakesBody};
 
 use crate::capture::Record;
-use crate::fill::{fill, fill_whole};
+use crate::filling::{fill, fill_whole};
 use crate::order::ByteOrder;
 use zr_io::Source;
 use zr_kinds::Fault;
@@ -42,11 +42,7 @@ pub(crate) fn read_record<S: Source>(
 }
 
 /// Reads the bytes behind a record's header into `into`, which keeps its memory.
-pub(crate) fn read_body<S: Source>(
-    source: &mut S,
-    captured: u32,
-    into: &mut Vec<u8>,
-) -> Result<(), Fault>
+pub fn read_body<S: Source>(source: &mut S, captured: u32, into: &mut Vec<u8>) -> Result<(), Fault>
     ensures takes { TakesBody captured (S.left source.old) (S.left source.new) into.new.items result }
     ensures cause { HasReadCause (S.faults source.old) (S.faults source.new) result }
 {

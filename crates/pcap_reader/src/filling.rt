@@ -5,7 +5,7 @@ use zr_io::Source;
 use zr_kinds::Fault;
 
 /// Reads until `into` is full or the source is at its end, and returns how many bytes that were.
-pub(crate) fn fill<S: Source>(source: &mut S, into: &mut [u8]) -> Result<usize, Fault>
+pub fn fill<S: Source>(source: &mut S, into: &mut [u8]) -> Result<usize, Fault>
     ensures fills { Fills (S.left source.old) (S.left source.new) into.new result }
     ensures cause { HasReadCause (S.faults source.old) (S.faults source.new) result }
 {
@@ -23,7 +23,7 @@ pub(crate) fn fill<S: Source>(source: &mut S, into: &mut [u8]) -> Result<usize, 
 }
 
 /// Reads until `into` is full. Where the source ends before, `into` holds any bytes.
-pub(crate) fn fill_whole<S: Source>(source: &mut S, into: &mut [u8]) -> Result<(), Fault>
+pub fn fill_whole<S: Source>(source: &mut S, into: &mut [u8]) -> Result<(), Fault>
     ensures fills { FillsWhole (S.left source.old) (S.left source.new) into.new result }
     ensures cause { HasReadCause (S.faults source.old) (S.faults source.new) result }
 {

@@ -1,0 +1,6 @@
+mod BlockLaws
+mod BlockSteps
+mod Heads
+mod WholeBlocks
+mod Passing
+mod Forms
