@@ -20,6 +20,7 @@ pub record ReplayShown : Type 0 where
 pub data Shown : Type 0 where
   replay : ReplayShown → Shown
   make : Make → Shown
+  check : Shown
 
 -- a command as its definition shows it
 abbrev pub replay_shown : Replay → ReplayShown
@@ -28,6 +29,7 @@ replay_shown told = record { ports = told.ports.items; options = told.options; t
 abbrev pub command_shown : Command → Shown
 command_shown (Command.Replay told) = replay (replay_shown told)
 command_shown (Command.Make told) = make told
+command_shown Command.Check = check
 
 -- what a replay to these ports is told by the value of each option
 abbrev pub told_of : (Text → Option Text) → List ℕ → Option ReplayShown
@@ -51,12 +53,18 @@ numbers_of (seed ∷ frames ∷ more ∷ words) = None
 abbrev pub make_of : Option Said → Option Make
 make_of = option_and_then (λ said. numbers_of said.words)
 
+-- `check` has no further word
+abbrev pub check_of : List Text → Option Shown
+check_of [] = Some check
+check_of (word ∷ words) = None
+
 -- the words after the program's name, as a command
 abbrev pub reading_of : List Text → Option Shown
 reading_of [] = None
 reading_of (command ∷ words) =
     if bytes_eq command (codes "replay") then option_map replay (replay_of (sorted option_names words))
     else if bytes_eq command (codes "make") then option_map make (make_of (sorted [] words))
+    else if bytes_eq command (codes "check") then check_of words
     else None
 
 -- ports that a replay may have: 1 to 8, distinct, each from 1 to 65,535
@@ -75,3 +83,4 @@ pub record IsReplay (told : Replay) : Type 0 where
 abbrev pub IsCommand : Command → Type 0
 IsCommand (Command.Replay told) = IsReplay told
 IsCommand (Command.Make told) = ⊤
+IsCommand Command.Check = ⊤

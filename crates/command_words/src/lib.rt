@@ -7,10 +7,12 @@ mod making;
 mod numbers;
 mod options;
 mod reading;
+mod wrong;
 
 pub use making::Make;
 pub use options::Options;
 pub use reading::{Command, Replay, read_words};
+pub use wrong::{USAGE, Wrong, what_is_wrong};
 
 #[cfg(test)]
 mod tests;

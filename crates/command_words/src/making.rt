@@ -11,7 +11,7 @@ use clap::ArgMatches;
 use std::alloc::{AllocError, Global};
 
 /// The most frames that `make` makes.
-const MOST_FRAMES: u32 = 1_000_000;
+pub(crate) const MOST_FRAMES: u32 = 1_000_000;
 
 /// What `make` is told.
 #[derive(Clone, Copy, Debug, PartialEq, Eq)]

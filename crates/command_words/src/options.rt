@@ -164,7 +164,7 @@ fn all_turns(text: &str, apps: usize) -> bool
     text.as_bytes().iter().all(|letter| is_turn(*letter, apps))
 }
 
-fn are_turns(text: &str, apps: usize) -> bool
+pub(crate) fn are_turns(text: &str, apps: usize) -> bool
     requires { apps ≤ 8 }
     ensures { result ≡ are_turns apps text.now }
 {
@@ -181,5 +181,41 @@ pub fn read_turns<'a>(said: &ArgMatches<'a>, apps: usize) -> Option<Option<&'a s
         Some(text) if are_turns(text, apps) => Some(Some(text)),
         Some(_) => None,
         None => Some(None),
+    }
+}
+
+/// Whether an option of this name takes a value. Which letters a text of turns may have, the ports say.
+pub(crate) fn takes(name: &str, value: &str) -> bool {
+    match name {
+        "buffers" => BUFFERS.read(Some(value)).is_some(),
+        "size" => read_size(Some(value)).is_some(),
+        "ring" => RING.read(Some(value)).is_some(),
+        "split" => SPLIT.read(Some(value)).is_some(),
+        "hold" | "leak" => KEPT.read(Some(value)).is_some(),
+        "stray" => STRAY.read(Some(value)).is_some(),
+        "quit" => numbers::read_number(value).is_some(),
+        _ => true,
+    }
+}
+
+/// Which values an option takes, for people to read.
+pub(crate) fn range_of(name: &str) -> &'static str {
+    match name {
+        "buffers" => "a number from 1 to 4096",
+        "size" => "a power of two from 1024 to 65536",
+        "ring" => "a number from 1 to 256",
+        "split" => "a number from 0 to 256",
+        "hold" | "leak" => "a number from 0 to 4096",
+        "stray" => "a number from 0 to 16",
+        "quit" => "a number of at most 18 digits",
+        _ => "1 to 4096 letters n and digits of the ports, counted from 0",
+    }
+}
+
+/// Whether the buffers, by the values that were said, have no more bytes together than they may.
+pub(crate) fn pool_fits(buffers: Option<&str>, size: Option<&str>) -> bool {
+    match (BUFFERS.read(buffers), read_size(size)) {
+        (Some(buffers), Some(size)) => u64::from(buffers) * u64::from(size) <= MOST_BYTES,
+        _ => false,
     }
 }

@@ -20,6 +20,7 @@ use std::alloc::{AllocError, Global};
 pub enum Command<'a> {
     Replay(Replay<'a>),
     Make(Make),
+    Check,
 }
 
 /// What `replay` is told.
@@ -42,6 +43,12 @@ fn is_make(word: &str) -> bool
     ensures { result ≡ bytes_eq word.now (codes "make") }
 {
     word == "make"
+}
+
+fn is_check(word: &str) -> bool
+    ensures { result ≡ bytes_eq word.now (codes "check") }
+{
+    word == "check"
 }
 
 fn ports_said(alloc: Global, said: &ArgMatches) -> Result<Option<Vec<u16>>, AllocError>
@@ -85,7 +92,7 @@ fn read_replay<'a>(alloc: Global, words: &'a [&'a str]) -> Result<Option<Replay<
 ///
 /// `replay` takes 1 to 8 distinct ports, numbers from 1 to 65,535, and before, between or after them its options, each at
 /// most once, as `--name value` or `--name=value`; `make` takes a seed from 0 to 4,294,967,295 and a number of frames from
-/// 0 to 1,000,000. Numbers have 1 to 18 ASCII digits; after `--` each word is one. There is no text of help or of a
+/// 0 to 1,000,000; `check` takes none. Numbers have 1 to 18 ASCII digits; after `--` each word is one. There is no text of help or of a
 /// version.
 pub fn read_words<'a>(
     alloc: Global,
@@ -104,6 +111,7 @@ pub fn read_words<'a>(
             Some(make) => Ok(Some(Command::Make(make))),
             None => Ok(None),
         },
+        [first] if is_check(first) => Ok(Some(Command::Check)),
         _ => Ok(None),
     }
 }

@@ -1,5 +1,5 @@
 use super::assign::{assign, plain_words};
-use super::{Command, Make, Options, read_words};
+use super::{Command, Make, Options, USAGE, read_words, what_is_wrong};
 use std::alloc::Global;
 use std::process::Abort;
 use std::test::Fail;
@@ -46,8 +46,19 @@ fn a_seed_and_a_number_of_frames_are_read(rt: HostRuntime) -> Result<(), Fail> {
 }
 
 #[test]
+fn check_stands_alone(rt: HostRuntime) -> Result<(), Fail> {
+    match read_words(rt.alloc(), &["check"])? {
+        Some(Command::Check) => Ok(()),
+        _ => {
+            assert!(&rt; false, "`check` isn't read");
+            Ok(())
+        }
+    }
+}
+
+#[test]
 fn other_words_have_no_reading(rt: HostRuntime) -> Result<(), Fail> {
-    let rows: [&[&str]; 39] = [
+    let rows: [&[&str]; 45] = [
         &[],
         &["replay"],
         &["replay", "--"],
@@ -77,6 +88,12 @@ fn other_words_have_no_reading(rt: HostRuntime) -> Result<(), Fail> {
         &["--", "replay", "9000"],
         &["9000"],
         &["Replay", "9000"],
+        &["check", "--"],
+        &["check", ""],
+        &["check", "check"],
+        &["check", "--events"],
+        &["--", "check"],
+        &["checks"],
         &["make"],
         &["make", "7"],
         &["make", "7", "0", "0"],
@@ -91,6 +108,10 @@ fn other_words_have_no_reading(rt: HostRuntime) -> Result<(), Fail> {
     for words in rows {
         let reading = read_words(rt.alloc(), &*words)?;
         assert!(&rt; reading.is_none(), "{words:?} have a reading");
+        assert!(&rt;
+            what_is_wrong(words).is_some(),
+            "nothing is wrong with {words:?}"
+        );
     }
     Ok(())
 }
@@ -370,4 +391,87 @@ fn options_out_of_form_are_refused(rt: HostRuntime) -> Result<(), Fail> {
         assert!(&rt; is_refused(rt.alloc(), words)?, "{words:?} were taken");
     }
     Ok(())
+}
+
+/// What a person reads of words without a reading.
+#[test]
+fn the_first_wrong_word_is_named(rt: HostRuntime) -> Result<(), Fail> {
+    let rows: [(&[&str], &str); 22] = [
+        (&[], "there is no command"),
+        (&["--help"], "'--help' is no command"),
+        (&["replay"], "there is no port"),
+        (&["replay", "--"], "there is no port"),
+        (
+            &["replay", "--ring", "9000"],
+            "--ring takes a number from 1 to 256, not '9000'",
+        ),
+        (
+            &["replay", "--size=1000", "9000"],
+            "--size takes a power of two from 1024 to 65536, not '1000'",
+        ),
+        (
+            &["replay", "--sizes=1", "9000"],
+            "there is no option '--sizes=1'",
+        ),
+        (&["replay", "-h", "9000"], "there is no option '-h'"),
+        (
+            &["replay", "--hold", "1", "--hold=1", "1"],
+            "--hold stands twice",
+        ),
+        (&["replay", "9000", "--hold"], "--hold wants a value"),
+        (
+            &["replay", "--hold", "--leak", "9000"],
+            "--hold wants a value",
+        ),
+        (&["replay", "0"], "'0' is no port, a number from 1 to 65535"),
+        (
+            &["replay", "--", "--hold"],
+            "'--hold' is no port, a number from 1 to 65535",
+        ),
+        (&["replay", "9000", "09000"], "port 09000 stands twice"),
+        (
+            &["replay", "1", "2", "3", "4", "5", "6", "7", "8", "9"],
+            "'9' is a ninth port, and there may be 8",
+        ),
+        (
+            &["replay", "--buffers", "4096", "--size", "65536", "1"],
+            "--buffers times --size is above 67108864",
+        ),
+        (
+            &["replay", "--turns", "n1", "1"],
+            "--turns takes 1 to 4096 letters n and digits of the ports, counted from 0, not 'n1'",
+        ),
+        (&["make", "7"], "make wants two numbers"),
+        (
+            &["make", "4294967296", "1"],
+            "make takes a seed from 0 to 4294967295, not '4294967296'",
+        ),
+        (
+            &["make", "1", "1000001"],
+            "make takes 0 to 1000000 frames, not '1000001'",
+        ),
+        (&["mak", "1", "1"], "'mak' is no command"),
+        (&["check", "it"], "check takes no word more, as 'it'"),
+    ];
+    for (words, text) in rows {
+        assert!(&rt;
+            read_words(rt.alloc(), &*words)?.is_none(),
+            "{words:?} are read"
+        );
+        let told = match what_is_wrong(words) {
+            Some(wrong) => format!(in rt.alloc(); "{wrong}")?,
+            None => String::new(rt.alloc()),
+        };
+        assert_eq!(&rt; told.as_str(), text);
+    }
+    Ok(())
+}
+
+/// Usage has twelve lines or fewer, of no more than 100 characters.
+#[test]
+fn usage_is_short(rt: HostRuntime) {
+    assert!(&rt; USAGE.lines().count() <= 12);
+    for line in USAGE.lines() {
+        assert!(&rt; line.len() <= 100, "{line}");
+    }
 }

@@ -1,10 +1,9 @@
 //! Where a replay reads its capture and where it writes: three traits, which may tell their bytes and always count
 //! their faults. Those over memory tell all; a source or sink over a reader or writer tells what that tells, which of
-//! the system's is nothing; the shelf over files tells nothing.
+//! the system's is nothing.
 #![tactic(auto)]
 
 mod calls;
-mod file_shelf;
 mod mem_shelf;
 mod mem_sink;
 mod mem_source;
@@ -16,7 +15,6 @@ mod sure_source;
 mod tests;
 mod traits;
 
-pub use file_shelf::FileShelf;
 pub use mem_shelf::MemShelf;
 pub use mem_sink::MemSink;
 pub use mem_source::MemSource;

@@ -1,10 +1,9 @@
 ghost use Rattle.std.specs.Prelude.{◌≤◌, IfOk};
 
 use super::next;
-use crate::{Failed, FileShelf, Shelf, Sink, StdSink, StdSource};
-use std::io::{ErrorKind, Read, Write};
+use crate::{Failed, Sink, StdSink, StdSource};
+use std::io::{self, ErrorKind, Read, Write};
 use std::test::*;
-use std::{fs, io};
 
 /// Gives or takes one byte a call, until it is used up.
 #[derive(Drop)]
@@ -149,34 +148,4 @@ fn a_sink_fails_where_its_writer_cannot_be_flushed(rt: HostRuntime) {
     let mut sink = StdSink::new(Lossy);
     assert_eq!(rt; sink.write_all(b"hello"), Err(Failed));
     assert_eq!(rt; sink.write_all(b""), Err(Failed));
-}
-
-/// Writes to flow 7, then to so many others that its file is closed, and to flow 7 again.
-fn write_hello<S: Shelf>(shelf: &mut S) -> Result<(), Failed> {
-    shelf.append(7, b"he")?;
-    shelf.append(7, b"ll")?;
-    for flow in 100..164 {
-        shelf.append(flow, b"x")?;
-    }
-    shelf.append(7, b"o")
-}
-
-fn remove_flow(rt: &HostRuntime, flow: u32) -> io::Result<()> {
-    let name = format!(in rt.alloc(); "flow-{flow}.bin")?;
-    fs::remove_file(rt, name.as_str())
-}
-
-#[test]
-fn a_shelf_keeps_flows_in_files(rt: HostRuntime) -> Result<(), Fail> {
-    fs::write(&rt, "flow-7.bin", "an earlier run")?;
-    let mut shelf = FileShelf::new(&rt)?;
-    assert_eq!(rt; write_hello(&mut shelf), Ok(()));
-    assert_eq!(rt; shelf.append(65_536, b"x"), Err(Failed));
-    let bytes = fs::read(&rt, "flow-7.bin")?;
-    assert_eq!(rt; bytes.as_slice(), &b"hello"[..]);
-    for flow in 100..164 {
-        remove_flow(&rt, flow)?;
-    }
-    remove_flow(&rt, 7)?;
-    Ok(())
 }

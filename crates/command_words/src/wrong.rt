@@ -1,0 +1,238 @@
+//! What is wrong with words that have no reading, for people to read. No clause speaks of it: `read_words` decides.
+
+use crate::making::MOST_FRAMES;
+use crate::numbers::{read_port, read_up_to};
+use crate::options::{NAMES, are_turns, pool_fits, range_of, takes};
+use arrayvec::ArrayVec;
+use std::fmt;
+
+/// What is wrong with a command's words: the first that has no place among those before it, where one can be named.
+#[derive(Clone, Copy, Debug, PartialEq, Eq)]
+pub enum Wrong<'a> {
+    /// There is no word.
+    NoWord,
+    /// This is no command.
+    NoCommand(&'a str),
+    /// There is no such option.
+    NoOption(&'a str),
+    /// The option stands a second time.
+    Twice(&'a str),
+    /// The option has no value.
+    NoValue(&'a str),
+    /// The option takes no such value.
+    Value {
+        name: &'a str,
+        value: &'a str,
+        range: &'static str,
+    },
+    /// This is no port.
+    NoPort(&'a str),
+    /// The port stands a second time.
+    SamePort(&'a str),
+    /// There is no port.
+    Portless,
+    /// This is a ninth port.
+    NinthPort(&'a str),
+    /// The buffers have too many bytes together.
+    TooManyBytes,
+    /// `make` takes no such number here.
+    NoNumber {
+        value: &'a str,
+        range: &'static str,
+    },
+    /// `make` wants two numbers.
+    NotTwoNumbers,
+    /// `check` takes no word more.
+    Further(&'a str),
+}
+
+impl fmt::Display for Wrong<'_> {
+    fn fmt<W: fmt::Write>(&self, f: &mut fmt::Formatter<W>) -> fmt::Result {
+        match *self {
+            Wrong::NoWord => f.write_str("there is no command"),
+            Wrong::NoCommand(word) => write!(f, "'{word}' is no command"),
+            Wrong::NoOption(word) => write!(f, "there is no option '{word}'"),
+            Wrong::Twice(name) => write!(f, "--{name} stands twice"),
+            Wrong::NoValue(name) => write!(f, "--{name} wants a value"),
+            Wrong::Value { name, value, range } => write!(
+                f,
+                "--{name} takes {range}, not '{value}'"
+            ),
+            Wrong::NoPort(word) => write!(f, "'{word}' is no port, a number from 1 to 65535"),
+            Wrong::SamePort(word) => write!(f, "port {word} stands twice"),
+            Wrong::Portless => f.write_str("there is no port"),
+            Wrong::NinthPort(word) => write!(f, "'{word}' is a ninth port, and there may be 8"),
+            Wrong::TooManyBytes => f.write_str("--buffers times --size is above 67108864"),
+            Wrong::NoNumber { value, range } => write!(f, "make takes {range}, not '{value}'"),
+            Wrong::NotTwoNumbers => f.write_str("make wants two numbers"),
+            Wrong::Further(word) => write!(f, "check takes no word more, as '{word}'"),
+        }
+    }
+}
+
+/// How the program is called, in twelve lines or fewer.
+pub const USAGE: &str = "\
+usage: zcrx replay [--NAME VALUE].. PORT.. < CAPTURE
+       zcrx make SEED FRAMES > CAPTURE
+       zcrx check < RECORD
+replay follows the TCP flows to 1 to 8 ports, writes the stream of flow N to flow-N.bin
+in the current folder, and prints a report. Options, with what stands for each:
+  --buffers 64   1 to 4096 buffers            --hold 0    loans kept unread, to 4096
+  --size 4096    their bytes, a power of two  --leak 0    loans kept to the end, to 4096
+                 from 1024 to 65536           --stray 0   entries behind each, to 16
+  --ring 64      1 to 256 places in a ring    --quit N    stop after so many bytes
+  --split 0      longest payload in a note,   --turns T   n the card, 0 to 7 an application:
+                 to 256                                   by turns on one thread
+make writes a capture: a seed to 4294967295, 0 to 1000000 frames. zcrx(1) has the rest.
+";
+
+/// What was said of `replay` so far.
+#[derive(Drop)]
+struct Said<'a> {
+    named: [bool; NAMES.len()],
+    buffers: Option<&'a str>,
+    size: Option<&'a str>,
+    turns: Option<&'a str>,
+    ports: ArrayVec<u16, 8>,
+}
+
+impl<'a> Said<'a> {
+    fn nothing() -> Said<'a> {
+        Said {
+            named: [false; NAMES.len()],
+            buffers: None,
+            size: None,
+            turns: None,
+            ports: ArrayVec::new(),
+        }
+    }
+
+    /// The option of a word was named.
+    fn name(&mut self, word: &'a str, name: &'a str) -> Result<(), Wrong<'a>> {
+        let known = NAMES.iter().position(|one| *one == name);
+        let named = known.and_then(|place| self.named.get_mut(place));
+        match named {
+            None => Err(Wrong::NoOption(word)),
+            Some(true) => Err(Wrong::Twice(name)),
+            Some(named) => {
+                *named = true;
+                Ok(())
+            }
+        }
+    }
+
+    fn option(&mut self, name: &'a str, value: &'a str) -> Result<(), Wrong<'a>> {
+        if !takes(name, value) {
+            let range = range_of(name);
+            return Err(Wrong::Value { name, value, range });
+        }
+        match name {
+            "buffers" => self.buffers = Some(value),
+            "size" => self.size = Some(value),
+            "turns" => self.turns = Some(value),
+            _ => {}
+        }
+        Ok(())
+    }
+
+    fn port(&mut self, word: &'a str) -> Result<(), Wrong<'a>> {
+        let Some(port) = read_port(word) else {
+            return Err(Wrong::NoPort(word));
+        };
+        if self.ports.contains(&port) {
+            return Err(Wrong::SamePort(word));
+        }
+        self.ports
+            .try_push(port)
+            .map_err(|_| Wrong::NinthPort(word))
+    }
+
+    /// What only all words together show.
+    fn whole(&self) -> Option<Wrong<'a>> {
+        if self.ports.is_empty() {
+            return Some(Wrong::Portless);
+        }
+        match self.turns {
+            Some(text) if !are_turns(text, self.ports.len()) => Some(Wrong::Value {
+                name: "turns",
+                value: text,
+                range: range_of("turns"),
+            }),
+            _ if pool_fits(self.buffers, self.size) => None,
+            _ => Some(Wrong::TooManyBytes),
+        }
+    }
+}
+
+/// What stands behind the dashes of an option, parted at the first `=`.
+fn parted(name: &str) -> (&str, Option<&str>) {
+    match name.split_once('=') {
+        Some((name, value)) => (name, Some(value)),
+        None => (name, None),
+    }
+}
+
+/// What is wrong with the words behind `replay`.
+fn wrong_replay<'a>(words: &[&'a str]) -> Result<Option<Wrong<'a>>, Wrong<'a>> {
+    let mut said = Said::nothing();
+    let mut words = words.iter();
+    let mut options = true;
+    while let Some(word) = words.next() {
+        match word.strip_prefix("--") {
+            Some("") if options => options = false,
+            Some(name) if options => {
+                let (name, value) = parted(name);
+                said.name(word, name)?;
+                let value = match value {
+                    Some(value) => value,
+                    None => value_behind(name, words.next())?,
+                };
+                said.option(name, value)?;
+            }
+            _ if options && word.starts_with('-') && word.len() > 1 => {
+                return Err(Wrong::NoOption(word));
+            }
+            _ => said.port(word)?,
+        }
+    }
+    Ok(said.whole())
+}
+
+/// The word behind an option, which is its value where it doesn't look like an option.
+fn value_behind<'a>(name: &'a str, word: Option<&&'a str>) -> Result<&'a str, Wrong<'a>> {
+    match word {
+        Some(word) if !word.starts_with('-') || word.len() == 1 => Ok(word),
+        _ => Err(Wrong::NoValue(name)),
+    }
+}
+
+/// What is wrong with the words behind `make`.
+fn wrong_make<'a>(words: &[&'a str]) -> Option<Wrong<'a>> {
+    match words {
+        [seed, frames] => wrong_number(seed, u32::MAX, "a seed from 0 to 4294967295").or(
+            wrong_number(frames, MOST_FRAMES, "0 to 1000000 frames"),
+        ),
+        _ => Some(Wrong::NotTwoNumbers),
+    }
+}
+
+fn wrong_number<'a>(value: &'a str, most: u32, range: &'static str) -> Option<Wrong<'a>> {
+    match read_up_to(most, value) {
+        Some(_) => None,
+        None => Some(Wrong::NoNumber { value, range }),
+    }
+}
+
+/// What is wrong with words that have no reading, as far as it can be told.
+pub fn what_is_wrong<'a>(words: &[&'a str]) -> Option<Wrong<'a>> {
+    match words {
+        [] => Some(Wrong::NoWord),
+        ["replay", rest @ ..] => match wrong_replay(rest) {
+            Ok(wrong) => wrong,
+            Err(wrong) => Some(wrong),
+        },
+        ["make", rest @ ..] => wrong_make(rest),
+        ["check", word, ..] => Some(Wrong::Further(word)),
+        [word, ..] => Some(Wrong::NoCommand(word)),
+    }
+}

@@ -1,0 +1,9 @@
+//! A shelf over the files of the current folder: the edge at which a replay's streams leave the program.
+#![tactic(auto)]
+
+mod files;
+mod shelf;
+#[cfg(test)]
+mod tests;
+
+pub use shelf::{FileShelf, Lost};

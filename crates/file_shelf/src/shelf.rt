@@ -1,0 +1,91 @@
+//! The shelf.
+ghost use Rattle.std.specs.Prelude.{◌≡◌, ℕ, ◌≢◌, None, IfOk, MatchResult};
+ghost use Rattle.std.specs.Io.KnownBytes.{Keeps};
+ghost use Rattle.zr_io.specs.Moved.{AddsPiece, HasCause};
+ghost use Rattle.zr_io.specs.Memory.{raised};
+
+use crate::files::FlowFiles;
+use std::alloc::AllocError;
+use std::io;
+use std::marker::Model;
+use std::rt::Files;
+use std::sync::atomic::{AtomicU64, Ordering};
+use zr_io::{Failed, Shelf};
+
+/// The first append of a shelf that failed.
+#[derive(Clone, Copy, Debug)]
+pub struct Lost {
+    /// The flow. Its file is `flow-<number>.bin`.
+    pub flow: u32,
+    /// The system's reason.
+    pub error: io::Error,
+}
+
+/// Keeps flow n in the file `flow-n.bin` of the current folder, for n up to 65,535. The file is made anew at the flow's first
+/// append. It tells no bytes, and counts the errors of the system and of memory; an append to a flow from 65,536 on counts as
+/// one.
+#[derive(Drop)]
+pub struct FileShelf<'a, R: Files + AllocGlobal> {
+    rt: R,
+    files: FlowFiles<R::File>,
+    /// How many flows have a file, over all shelves that share the count.
+    flows: &'a AtomicU64,
+    lost: Option<Lost>,
+    faults: u64,
+}
+
+impl<'a, R: Files + AllocGlobal> Model for FileShelf<'a, R> {
+    ghost use Rattle.std.specs.Prelude.{ℕ};
+
+    ghost Value = { ℕ };
+
+    ghost view = { λ s. s.faults };
+}
+
+impl<'a, R: Files + AllocGlobal + Drop> FileShelf<'a, R> {
+    /// No flow has a file of this run yet. At most `most` files are open at a time, or one where that is 0: the one that was used
+    /// longest ago is closed before another is opened. `flows` rises with each flow that gets a file.
+    pub fn new(rt: R, most: usize, flows: &'a AtomicU64) -> Result<FileShelf<'a, R>, AllocError>
+        ensures { IfOk result (λ s. s ≡ 0) }
+    {
+        let files = FlowFiles::new(&rt, most)?;
+        Ok(FileShelf {
+            rt,
+            files,
+            flows,
+            lost: None,
+            faults: 0,
+        })
+    }
+
+    /// What failed first, if anything did. It is for people to read: no clause speaks of it.
+    pub fn lost(&self) -> Option<Lost> {
+        self.lost
+    }
+}
+
+impl<R: Files + AllocGlobal> Shelf for FileShelf<'_, R> {
+    ghost kept = { λ _ _. None };
+
+    ghost faults = { λ s. s };
+
+    fn append(&mut self, flow: u32, piece: &[u8]) -> Result<(), Failed>
+        ensures bytes { AddsPiece None None result piece.now }
+        ensures others { (other : ℕ) → other ≢ flow → Keeps None None }
+        ensures cause { HasCause self.old self.new result }
+
+        ensures after { MatchResult result (λ _. self.new ≡ self.old) (λ _. self.new ≡ raised self.old) }
+    {
+        match self.files.add(&self.rt, flow, piece) {
+            Ok(made) => {
+                self.flows.fetch_add(u64::from(made), Ordering::SeqCst);
+                Ok(())
+            }
+            Err(error) => {
+                self.lost = self.lost.or(Some(Lost { flow, error }));
+                self.faults = self.faults.saturating_add(1);
+                Err(Failed)
+            }
+        }
+    }
+}
