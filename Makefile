@@ -8,10 +8,12 @@ PREFIX ?= /usr/local
 build:
 	tools/prove_program.sh
 
-# Puts the program and its page in place: make install PREFIX=~/.local
+# Puts the program, its page and its completions in place: make install PREFIX=~/.local
 install: build
 	install -D crates/zcrx_cli/out/zcrx_cli $(DESTDIR)$(PREFIX)/bin/zcrx
 	install -D -m 644 docs/zcrx.1 $(DESTDIR)$(PREFIX)/share/man/man1/zcrx.1
+	install -D -m 644 completions/zcrx.bash $(DESTDIR)$(PREFIX)/share/bash-completion/completions/zcrx
+	install -D -m 644 completions/_zcrx $(DESTDIR)$(PREFIX)/share/zsh/site-functions/_zcrx
 
 # The demo capture, as it is committed.
 demo-data/hello.pcap: tools/demo_capture.py tools/frames.py

@@ -14,7 +14,7 @@ runs=${1:-5}
 top=$(cd "$(dirname "$0")/.." && pwd)
 work=$(mktemp -d)
 # page_pool and all that it stands on, with the proofs that earlier checks kept
-crates=(zr_kinds area_layout board_face face_table face_callers plain_parts plain_board page_pool)
+crates=(zr_kinds area_layout board_face face_table face_callers board_parts plain_board page_pool)
 trap 'rm -rf "$work"' EXIT
 
 fail() {

@@ -6,7 +6,8 @@ usage: tools/check_documents.py
 It prints a line for each thing that is wrong, and the status is 1 then, else 0. It looks at README.md, docs/ and
 bench/RESULTS.md:
 
-- the options of `replay`, with their ranges and defaults: docs/USE.md, docs/zcrx.1, and options.rt of command_words;
+- the options of `replay`, with their ranges and defaults: docs/USE.md, docs/zcrx.1, and options.rt of command_words; their names and
+  the commands in completions/ too, and the usage in wrong.rt;
 - the statuses: docs/USE.md, docs/zcrx.1, fault.rt of zr_kinds, and the list of them in the top call's theorem;
 - the lines of the report: docs/USE.md, docs/zcrx.1, and run_report; each report that is shown has them, and README's is the
   demo capture's;
@@ -30,6 +31,8 @@ COMMANDS = set("rt tcpdump dumpcap editcap tcpflow callgrind malloc ulimit retur
 OTHER_OPTIONS = set("--help --version --name".split())
 # Files that a run makes, or that the text gives a name.
 MADE_FILES = set("made.pcap flow-N.bin proofs/PATH/OF/FUNCTION/Answers.antt".split())
+# Faults that no replay ends with.
+OF_NO_REPLAY = {"BadBlock", "BadRun"}
 # The libraries that the crates stand on have no file here.
 OUTSIDE = set("std core alloc".split())
 
@@ -121,6 +124,19 @@ def check_options(page):
         default = re.search(r"\(([\d,]+)\)", text)
         manual[head.split()[0].strip("-")] = range_of(text, default and default.group(1))
     compare("option", {"options.rt": wanted, "docs/USE.md": use, "docs/zcrx.1": manual})
+    reading = read("crates/command_words/src/reading.rt")
+    commands = sorted(re.findall(r'word == "(\w+)"', reading))
+    offered = {
+        "completions/zcrx.bash": r'(?<=[" ])--([a-z]+)(?=[ "])',
+        "completions/_zcrx": r"'--([a-z]+)\[",
+        "crates/command_words/src/wrong.rt": r"  --([a-z]+) ",
+    }
+    for place, form in offered.items():
+        text = read(place)
+        compare("names of options", {"options.rt": sorted(wanted), place: sorted(set(re.findall(form, text)))})
+        for command in commands:
+            if not re.search(rf"\b{command}\b", text):
+                say(place, f"no command {command}")
     for place, text in (("docs/USE.md", read("docs/USE.md")), ("docs/zcrx.1", page)):
         if not re.search(rf"\b{most_bytes}\b", text.replace(",", "")):
             say(place, f"no limit of {most_bytes} bytes for all buffers")
@@ -146,7 +162,7 @@ def check_statuses(page):
     listed = re.search(r"IsStatus status = list_any \(λ n\. n == status\) \(([^[]*)\[\]", theorem).group(1)
     usage = next(n for n, name in code.items() if name == "Usage")
     compare("statuses of a replay", {
-        "fault.rt": sorted([0, *(int(n) for n in code if n != usage)]),
+        "fault.rt": sorted([0, *(int(n) for n, name in code.items() if n != usage and name not in OF_NO_REPLAY)]),
         "StreamTheorem.antt": sorted(map(int, re.findall(r"\d+", listed))),
     })
 

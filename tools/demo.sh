@@ -25,3 +25,8 @@ cd made || exit 1
 echo "zcrx make 7 2000, replayed:"
 "$zcrx" make 7 2000 >made.pcap || exit
 "$zcrx" replay --buffers 2000 9000 9001 9002 9003 <made.pcap
+status=$?
+echo
+echo "Next: crates/zcrx_cli/out/zcrx_cli replay PORT.. < CAPTURE, in an empty folder, with a classic pcap capture of your own"
+echo "(tcpdump -w CAPTURE). docs/USE.md has the options, the report and the statuses; make install puts it in place as zcrx."
+exit $status

@@ -1,12 +1,11 @@
 #!/usr/bin/env python3
 """Replays captures of many flows where the system lets the program open few files, and compares the streams.
 
-usage: tools/few_descriptors.py
+usage: tools/few_descriptors.py [RUNS]
 
-64 flows go to one port with 64 descriptors, and 512 flows to 8 ports with 256, in turn and one port's flows after
-another's. Each flow comes three times, so that a file that was closed is appended to again. The eight ports go by turns on one
-thread: with threads each keeps up to 64 files open whatever the others do, which wants about 520 descriptors. The status is 0
-where each run ends with status 0 and each stream is right.
+512 flows go to 8 ports, in turn and one port's flows after another's, with 40, 64, 128, 256 and 512 descriptors, on threads
+and by turns on one; and 64 flows go to one port with 40. Each flow comes three times, so that a file that was closed is appended
+to again, and each case runs so often (10). The status is 0 where each run ends with status 0 and each stream is right.
 
 ZCRX=FILE names another program than crates/zcrx_cli/out/zcrx_cli, which `make build` leaves there.
 """
@@ -36,10 +35,14 @@ def one_by_one(flow, ports, flows):
     return FIRST_PORT + flow * ports // flows
 
 
+DESCRIPTORS = [40, 64, 128, 256, 512]
+WAYS = {"threads": [], "turns": ["--turns=n"]}
+
+# A name, how many ports and flows, the port of a flow, and the descriptors.
 CASES = [
-    ("64 flows to one port", 1, 64, 64, in_turn),
-    ("512 flows to 8 ports in turn", 8, 512, 256, in_turn),
-    ("512 flows to 8 ports, port by port", 8, 512, 256, one_by_one),
+    ("64 flows to one port", 1, 64, in_turn, [40]),
+    ("512 flows to 8 ports in turn", 8, 512, in_turn, DESCRIPTORS),
+    ("512 flows to 8 ports, port by port", 8, 512, one_by_one, DESCRIPTORS),
 ]
 
 
@@ -58,11 +61,9 @@ def capture(ports, flows, port_of):
     return b"".join(records)
 
 
-def replay(program, ports, descriptors, bytes_in, folder):
+def replay(program, options, ports, descriptors, bytes_in, folder):
     """The status of a replay in a folder, with so many descriptors."""
-    words = [str(FIRST_PORT + port) for port in range(ports)]
-    if ports > 1:
-        words = ["--turns=n", *words]
+    words = [*options, *(str(FIRST_PORT + port) for port in range(ports))]
     limit = lambda: resource.setrlimit(resource.RLIMIT_NOFILE, (descriptors, descriptors))
     run = subprocess.run(
         [program, "replay", *words], input=bytes_in, cwd=folder, preexec_fn=limit, stdout=subprocess.DEVNULL)
@@ -80,16 +81,29 @@ def wrong_streams(flows, folder):
     return wrong
 
 
+def runs_of(program, options, case, descriptors, runs):
+    """How many of the runs of a case end with another status than 0, and how many streams are wrong in all."""
+    _, ports, flows, port_of, _ = case
+    bytes_in = capture(ports, flows, port_of)
+    failed = wrong = 0
+    for _ in range(runs):
+        with tempfile.TemporaryDirectory() as folder:
+            failed += replay(program, options, ports, descriptors, bytes_in, folder) != 0
+            wrong += len(wrong_streams(flows, folder))
+    return failed, wrong
+
+
 def main():
     program = pathlib.Path(os.environ.get("ZCRX", TOP / "crates/zcrx_cli/out/zcrx_cli")).resolve()
-    failed = False
-    for name, ports, flows, descriptors, port_of in CASES:
-        with tempfile.TemporaryDirectory() as folder:
-            status = replay(program, ports, descriptors, capture(ports, flows, port_of), folder)
-            wrong = wrong_streams(flows, folder)
-        print(f"{name}, {descriptors} descriptors: status {status}, {len(wrong)} wrong streams")
-        failed = failed or status != 0 or wrong
-    return 1 if failed else 0
+    runs = int(sys.argv[1]) if len(sys.argv) > 1 else 10
+    bad = False
+    for case in CASES:
+        for way, options in WAYS.items():
+            for descriptors in case[-1]:
+                failed, wrong = runs_of(program, options, case, descriptors, runs)
+                print(f"{case[0]}, {way}, {descriptors} descriptors: {failed} of {runs} runs failed, {wrong} wrong streams")
+                bad = bad or failed or wrong
+    return 1 if bad else 0
 
 
 if __name__ == "__main__":

@@ -8,7 +8,7 @@ import struct
 # Little-endian, microseconds, version 2.4, no offset, frames of at most 262,144 bytes, Ethernet.
 FILE_HEADER = bytes.fromhex("d4c3b2a1 0200 0400 00000000 00000000 00000400 01000000")
 
-SYN, FIN_ACK, PSH_ACK = 2, 17, 24
+FIN, SYN, RST, FIN_ACK, PSH_ACK = 1, 2, 4, 17, 24
 
 _ETHERNET = bytes.fromhex("020000000002 020000000001 0800")
 _IPV4_START = bytes.fromhex("4500")

@@ -25,7 +25,7 @@ diff -r first again
 for flow in 0 1 2 3; do
     cmp "first/flow-$flow.bin" "threads/flow-$flow.bin"
     for run in first threads; do
-        grep -q "^flow $flow port $((9000 + flow)) base 4294960000 bytes 25000000 fin no$" $run/report
+        grep -q "^flow $flow port $((9000 + flow)) base 4294960000 bytes 25000000 fin no end open$" $run/report
         grep -q "^app $flow port $((9000 + flow)) written 25000000 loans 25000 copied 0 stopped no$" $run/report
     done
 done

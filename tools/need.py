@@ -8,8 +8,9 @@ stands the number for `--buffers`, and nothing else:
 
     zcrx replay --buffers $(tools/need.py FILE 9000) 9000 < FILE
 
-It is the sum, over the frames to the ports that the replay would read, of how many buffers a payload fills that is longer than S,
-and of the bytes of one that has 1 to S; or 1, where that is 0. Where a pool may not have so many buffers of this size, standard
+It is the sum, over the frames to the ports that the replay would read, of how many buffers the bytes fill that count of a
+payload, where these are more than S, and of their number where they are 1 to S; or 1, where that is 0. Bytes count that lie
+before the FIN of their flow, and before a RST. Where a pool may not have so many buffers of this size, standard
 error names the smallest size of which it may have as many as are enough then. Where the capture has a fault, standard error names
 its status, and the number is that of the frames before it. The status is 0, or 1 where there is no capture.
 """
@@ -26,7 +27,7 @@ MOST_CAPTURED, MOST_RECORDS, MOST_FLOWS = 262_144, 16_777_216, 65_535
 ORDERS = {"d4c3b2a1": "<", "a1b2c3d4": ">", "4d3cb2a1": "<", "a1b23c4d": ">"}
 CLASSES = ["tcp", "other", "fragment", "cut", "bad"]
 CUT, NOT_PCAP, VERSION, LINK_TYPE, LONG_RECORD, TOO_MANY_FLOWS, TOO_MANY_RECORDS = 6, 3, 4, 5, 7, 10, 11
-SYN = 2
+FIN, SYN, RST = 1, 2, 4
 
 
 class Fault(Exception):
@@ -154,22 +155,44 @@ def port_of(key):
 # ---- the need
 
 
+class Flow:
+    """A flow: its base, and how it was closed so far."""
+
+    def __init__(self, base):
+        self.base = base
+        self.fin = None
+        self.reset = False
+
+    def see(self, first, flags, length):
+        """Sees a segment of so many bytes from a sequence number on, and says how many of them count."""
+        self.reset = self.reset or bool(flags & RST)
+        if self.reset:
+            return 0
+        if flags & FIN and self.fin is None:
+            self.fin = (first + length) % 2**32
+        if self.fin is None:
+            return length
+        ahead = (self.fin - first + 2**31) % 2**32 - 2**31
+        return min(length, max(ahead, 0))
+
+
 class Flows:
-    """How many flows there are, and the base of the newest of each key."""
+    """How many flows there are, and the newest of each key."""
 
     def __init__(self):
         self.count = 0
-        self.bases = {}
+        self.newest = {}
 
-    def place(self, key, sequence, flags):
+    def place(self, key, sequence, flags, length):
+        """How many bytes of a segment count, which its flow sees, or which begins one."""
         syn = bool(flags & SYN)
-        base = (sequence + syn) % 2**32
-        if key in self.bases and not (syn and base != self.bases[key]):
-            return
-        if self.count == MOST_FLOWS:
-            raise Fault(TOO_MANY_FLOWS)
-        self.count += 1
-        self.bases[key] = base
+        first = (sequence + syn) % 2**32
+        if key not in self.newest or syn and first != self.newest[key].base:
+            if self.count == MOST_FLOWS:
+                raise Fault(TOO_MANY_FLOWS)
+            self.count += 1
+            self.newest[key] = Flow(first)
+        return self.newest[key].see(first, flags, length)
 
 
 def need_for(length, split, size):
@@ -178,7 +201,7 @@ def need_for(length, split, size):
 
 
 class Need:
-    """What a replay needs: how many payloads of each length go to the ports, and how many frames of each class were read."""
+    """What a replay needs: how many payloads to the ports count with each length, and how many frames of each class were read."""
 
     def __init__(self, ports, split):
         self.ports = set(ports)
@@ -196,8 +219,7 @@ class Need:
         kind, segment = class_of(frame)
         if kind == "tcp" and port_of(segment[0]) in self.ports:
             key, sequence, flags, length = segment
-            self.flows.place(key, sequence, flags)
-            self.lengths[length] += 1
+            self.lengths[self.flows.place(key, sequence, flags, length)] += 1
         self.classes[kind] += 1
 
     def read(self, capture):

@@ -78,7 +78,7 @@ def draw_frame(draw):
     """An Ethernet frame with a TCP segment, and then perhaps changed bytes, a cut end, or padding."""
     payload = bytes(draw.choice([0, 1, 7, 200, 1500]))
     segment = struct.pack(">HHIIBBHHH", 40000 + draw.randrange(3), FIRST_PORT + draw.randrange(4), draw.randrange(2**32), 0,
-                          draw.choice([0x50, 0x50, 0x60, 0xF0, 0x40]), draw.choice([2, 16, 24, 17]), 0, 0, 0) + payload
+                          draw.choice([0x50, 0x50, 0x60, 0xF0, 0x40]), draw.choice([2, 16, 24, 24, 17, 4]), 0, 0, 0) + payload
     if draw.random() < 0.5:
         options = bytes(4 * draw.choice([0, 0, 0, 2]))
         total = 20 + len(options) + len(segment)
@@ -148,16 +148,15 @@ def bytes_of(segments):
 
 def counted(segments, split, size):
     """The need of drawn segments, without a look at a capture."""
-    long = [len(payload) for *_, payload in segments if len(payload) > split]
-    short = [len(payload) for *_, payload in segments if 0 < len(payload) <= split]
-    return sum((length + size - 1) // size for length in long) + sum(short)
+    lengths = thread_runs.counted_lengths(segments).values()
+    return sum((length + size - 1) // size if length > split else length for length in lengths)
 
 
 def needs_of(segments, split, size, refused):
     """The need of each refused frame with those before it that weren't refused."""
     so_far = 0
-    for number, (*_, payload) in enumerate(segments, 1):
-        own = need.need_for(len(payload), split, size)
+    for number, length in sorted(thread_runs.counted_lengths(segments).items()):
+        own = need.need_for(length, split, size)
         if number in refused:
             yield number, so_far + own
         else:

@@ -75,8 +75,8 @@ cat >"$work/four/report" <<'END'
 capture records 4 tcp 4 steered 4 other 0 fragment 0 cut 0 bad 0
 app 0 port 9000 written 100 loans 2 copied 0 stopped quit
 app 1 port 9001 written 100 loans 2 copied 0 stopped quit
-flow 0 port 9000 base 100 bytes 100 fin no
-flow 1 port 9001 base 100 bytes 100 fin no
+flow 0 port 9000 base 100 bytes 100 fin no end open
+flow 1 port 9001 base 100 bytes 100 fin no end open
 status 0
 END
 { letters a 80; letters b 20; } >"$work/four/flow-0.bin"

@@ -53,13 +53,39 @@ class Receiver:
 
 
 class Flow:
-    """A flow by the book: its port, its base, and its segments by their record numbers."""
+    """A flow by the book: its port, its base, the number behind its last byte, and what counts of its segments, by their record
+    numbers."""
 
     def __init__(self, port, base):
         self.port = port
         self.base = base
-        self.fin = False
+        self.fin = None
+        self.reset = False
         self.segments = []
+
+    def see(self, number, first, flags, payload):
+        if self.reset or flags & frames.RST:
+            self.reset = True
+        elif flags & frames.FIN and self.fin is None:
+            self.fin = (first + len(payload)) % 2**32
+        self.segments.append((number, first, payload[:self.counted(first, len(payload))]))
+
+    def counted(self, first, length):
+        """How many of so many bytes from a sequence number on count."""
+        if self.reset:
+            return 0
+        if self.fin is None:
+            return length
+        ahead = (self.fin - first) % 2**32
+        return min(length, ahead) if ahead < 2**31 else 0
+
+    def end(self, count):
+        """How it ended, where its stream has so many bytes."""
+        if self.reset:
+            return "reset"
+        if self.fin is None:
+            return "open"
+        return "whole" if (self.fin - self.base - count) % 2**32 == 0 else "short"
 
     def stream(self, refused):
         receiver = Receiver(self.base)
@@ -81,9 +107,13 @@ def flows_of(segments):
             flow = Flow(port, first)
             flows.append(flow)
             newest[source_port, port] = flow
-        flow.segments.append((number, first, payload))
-        flow.fin = flow.fin or bool(flags & 1)
+        flow.see(number, first, flags, payload)
     return flows
+
+
+def counted_lengths(segments):
+    """How many bytes count of each segment, by its record's number."""
+    return {number: len(payload) for flow in flows_of(segments) for number, _, payload in flow.segments}
 
 
 def draw_segments(draw, ports):
@@ -104,7 +134,7 @@ def draw_segments(draw, ports):
         shift = draw.choice([0, 0, 0, 0, -length, -3, -700, 900, 1000, 2000, 2**29])
         start = max(position + shift, -50)
         payload = bytes((start + offset) * 7 % 251 for offset in range(length))
-        flags = frames.FIN_ACK if draw.random() < 0.05 else frames.PSH_ACK
+        flags = draw.choices([frames.PSH_ACK, frames.FIN_ACK, frames.RST, frames.FIN_ACK | frames.RST], [95, 3, 1, 1])[0]
         segments.append((source_port, port, (base + start) % 2**32, flags, payload))
         if start <= position < start + length < 2**28:
             state[1] = start + length
@@ -150,8 +180,9 @@ def faults_of(segments, options, ports, report, folder):
     if status != 0 or len(applications) != ports:
         yield f"status {status}, {len(applications)} applications"
         return
+    lengths = counted_lengths(segments)
     for number in refused:
-        if number > len(segments) or len(segments[number - 1][4]) <= options["--split"]:
+        if lengths.get(number, 0) <= options["--split"]:
             yield f"frame {number} is refused, which isn't there or whose payload travels in its note"
     if pool["empty"] != len(refused):
         yield f"{len(refused)} frames are refused, and {pool['empty']} searches found too few"
@@ -165,8 +196,9 @@ def faults_of(segments, options, ports, report, folder):
         path = folder / f"flow-{number}.bin"
         stream = path.read_bytes() if path.exists() else b""
         wanted = flow.stream(refused)
-        told = (int(line["port"]), int(line["base"]), line["fin"], int(line["bytes"]))
-        if told != (flow.port, flow.base, "yes" if flow.fin else "no", len(stream)):
+        told = (int(line["port"]), int(line["base"]), line["fin"], int(line["bytes"]), line["end"])
+        fin = "no" if flow.fin is None else "yes"
+        if told != (flow.port, flow.base, fin, len(stream), flow.end(len(stream))):
             yield f"flow {number}: its line says {told}"
         if not wanted.startswith(stream):
             yield f"flow {number}: other bytes"

@@ -11,7 +11,7 @@ use Rattle.std.proofs.lemmas.Bool.{cases_lt}
 use Rattle.std.proofs.lemmas.Bool.Decides.{nat_tests}
 use Rattle.zr_kinds.specs.declared.fault.Fault.{Fault}
 use Rattle.zr_kinds.specs.declared.fault.Fault.TheVariants.{Memory, Usage, NotPcap, Version, LinkType, Cut, LongRecord, Read, Write, TooManyFlows}
-use Rattle.zr_kinds.specs.declared.fault.Fault.TheVariants.{TooManyFrames}
+use Rattle.zr_kinds.specs.declared.fault.Fault.TheVariants.{TooManyFrames, BadBlock, BadRun}
 use Rattle.zr_kinds.specs.declared.behaviour.Stopped.{Stopped}
 use Rattle.zr_kinds.specs.declared.behaviour.Stopped.TheVariants as stop
 use Rattle.zr_kinds.specs.declared.outcome.AppLine.{AppLine}
@@ -22,18 +22,18 @@ use Rattle.frames_read.specs.Reading.{ShowsEnding, BreaksOff, TakenEnds, IsEndin
 use Rattle.frames_read.proofs.Endings.{some-weaker}
 use Rattle.board_face.specs.declared.views.nic.NicSide.{NicSide}
 use Rattle.board_face.specs.declared.views.app.AppSide.{AppSide}
-use Rattle.replay_turns.specs.Need.{buffers_of, need_in}
-use Rattle.replay_turns.specs.Offered.{offers_of, WantsRoom}
-use Rattle.replay_turns.specs.declared.plan.Plan.{Plan}
-use Rattle.run_end.specs.Running.{losses_in, losses_or}
-use Rattle.run_end.specs.Ran.{HasReadOn, HaveWholeStreams, Ran, Told}
-use Rattle.run_end.proofs.WholeStreams.{whole-streams}
+use Rattle.card_feed.specs.Need.{buffers_of, need_in}
+use Rattle.card_feed.specs.Offered.{offers_of, WantsRoom}
+use Rattle.card_feed.specs.declared.plan.Plan.{Plan}
+use Rattle.run_account.specs.Running.{losses_in, losses_or}
+use Rattle.run_account.specs.Ran.{HasReadOn, HaveWholeStreams, Ran, Told}
+use Rattle.run_account.proofs.WholeStreams.{whole-streams}
 use Rattle.command_words.specs.Words.{ReplayShown}
 use Rattle.zcrx_cli.specs.Planned.{IsPlanOf}
 use Rattle.zcrx_cli.specs.declared.card.Card.{Card}
 use Rattle.zcrx_cli.proofs.Behind.{ended_of-behind}
-use Rattle.run_end.proofs.AppLines.{found-there, there}
-use Rattle.run_end.proofs.Places.{get-within}
+use Rattle.run_account.proofs.AppLines.{found-there, there}
+use Rattle.run_account.proofs.Places.{get-within}
 use Rattle.zcrx_cli.proofs.Found.{get-same_rest}
 use Rattle.run_report.specs.Report.{Reports, answer_of}
 use Rattle.run_report.specs.declared.report.Unreported.{Unreported}
@@ -58,6 +58,8 @@ ending_cases P none memory not_pcap version link_type cut long_record read flows
 ending_cases P none memory not_pcap version link_type cut long_record read flows frames (Some TooManyFrames) is = frames
 ending_cases P none memory not_pcap version link_type cut long_record read flows frames (Some Usage) is = absurd is
 ending_cases P none memory not_pcap version link_type cut long_record read flows frames (Some Write) is = absurd is
+ending_cases P none memory not_pcap version link_type cut long_record read flows frames (Some BadBlock) is = absurd is
+ending_cases P none memory not_pcap version link_type cut long_record read flows frames (Some BadRun) is = absurd is
 
 -- and what stopped applications
 all_cases : (P : Bool → Bool → Option Fault → Type 0) → ((lost : Bool) (end : Option Fault) → IsEnding end → P true lost end)

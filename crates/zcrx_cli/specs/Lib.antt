@@ -1,5 +1,6 @@
 pub mod Status
 pub mod Making
+pub mod Checking
 pub mod Cards
 pub mod Planned
 pub mod StreamTheorem

@@ -1,7 +1,7 @@
 -- The plan of a replay, by what it is told.
 use Rattle.std.specs.Prelude.{◌≡◌, ℕ, List}
 use Rattle.command_words.specs.declared.options.Options.{Options}
-use Rattle.replay_turns.specs.declared.plan.Plan.{Plan}
+use Rattle.card_feed.specs.declared.plan.Plan.{Plan}
 
 pub record IsPlanOf (ports : List ℕ) (options : Options) (plan : Plan) : Type 0 where
   pub ports_are : plan.ports.items ≡ ports

@@ -7,7 +7,7 @@ use Rattle.zr_kinds.specs.Fault.{number_of}
 use Rattle.zr_kinds.specs.declared.behaviour.Stopped.{Stopped}
 use Rattle.zr_kinds.specs.declared.behaviour.Stopped.TheVariants as stop
 use Rattle.zr_kinds.specs.declared.outcome.AppLine.{AppLine}
-use Rattle.run_end.specs.Ran.{Told}
+use Rattle.run_account.specs.Ran.{Told}
 
 abbrev pub is_memory : Stopped → Bool
 is_memory stop.Memory = true

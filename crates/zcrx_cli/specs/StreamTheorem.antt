@@ -6,22 +6,24 @@ use Rattle.zr_kinds.specs.declared.fault.Fault.TheVariants.{Cut}
 use Rattle.zr_io.specs.Moved.{Rose, Took}
 use Rattle.board_face.specs.declared.views.nic.NicSide.{NicSide}
 use Rattle.board_face.specs.declared.views.app.AppSide.{AppSide}
-use Rattle.command_words.specs.Words.{ReplayShown, Shown, replay, make}
+use Rattle.command_words.specs.Words.{ReplayShown, Shown, replay, make, check}
+use Rattle.command_words.specs.declared.options.Options.{Options}
 use Rattle.frames_read.specs.Ending.{ended_of, steered_in}
 use Rattle.frames_read.specs.Reading.{IsReadToEnd}
 use Rattle.zr_kinds.specs.declared.behaviour.Stopped.TheVariants as stop
 use Rattle.zr_kinds.specs.declared.outcome.AppLine.{AppLine}
-use Rattle.replay_turns.specs.declared.plan.Plan.{Plan}
-use Rattle.replay_turns.specs.Need.{buffers_of, need_in}
-use Rattle.replay_turns.specs.Offered.{offers_of}
-use Rattle.run_end.specs.Running.{losses_in}
-use Rattle.run_end.specs.Ran.{HasReadOn, HaveWholeStreams, LacksMemory, LacksMemoryBeside, Ran, Told}
+use Rattle.card_feed.specs.declared.plan.Plan.{Plan}
+use Rattle.card_feed.specs.Need.{buffers_of, need_in}
+use Rattle.card_feed.specs.Offered.{offers_of}
+use Rattle.run_account.specs.Running.{losses_in}
+use Rattle.run_account.specs.Ran.{HasReadOn, HaveWholeStreams, LacksMemory, LacksMemoryBeside, Ran, Told}
 use Rattle.run_report.specs.Report.{report_of, Reports, answer_of}
 use Rattle.run_report.specs.declared.report.Unreported.{Unreported}
-use Rattle.zcrx_cli.specs.Cards.{HasOver, HasSides, IsOfWay}
+use Rattle.zcrx_cli.specs.Cards.{HasOver, HasSides, IsClosed, IsOfWay}
 use Rattle.zcrx_cli.specs.Planned.{IsPlanOf}
 use Rattle.zcrx_cli.specs.Status.{end_number, status_of}
 use Rattle.zcrx_cli.specs.Making.{Makes}
+use Rattle.zcrx_cli.specs.Checking.{Checks}
 use Rattle.zcrx_cli.specs.declared.card.Card.{Card}
 
 -- Want of memory, a failed read and a lost shelf show in no byte. Any other status is that of what ended the reading.
@@ -137,6 +139,18 @@ pub record Lacks {S T O : Type 0} (left : S → Option (List ℕ)) (failed : S �
   pub planned : IsPlanOf told.ports told.options plan
   pub lacks : LacksMemoryBy left failed kept losses source source_now shelves shelves_now told.turns plan
 
+-- a replay of these ports and options, by these turns
+abbrev pub asked_by : List ℕ → Options → Option (List ℕ) → ReplayShown
+asked_by ports options turns = record { ports = ports; options = options; turns = turns }
+
+-- what a replay leaves, with memory or without
+abbrev pub RepliesTo : {S T O : Type 0} → (S → Option (List ℕ)) → (S → ℕ) → (T → ℕ → Option (List ℕ)) → (T → ℕ)
+    → (O → Option (List ℕ)) → (O → ℕ)
+    → S → S → List T → List T → O → O → Card → ReplayShown → ℕ → Type 0
+RepliesTo left failed kept losses sent refusals source source_now shelves shelves_now out out_now card_now told answer =
+    Replays left failed kept losses sent refusals source source_now shelves shelves_now out out_now card_now told answer
+    ⊎ Lacks left failed kept losses source source_now shelves shelves_now out out_now card_now told answer
+
 -- what a command leaves
 abbrev pub Commands : {S T O : Type 0} → (S → Option (List ℕ)) → (S → ℕ) → (T → ℕ → Option (List ℕ)) → (T → ℕ)
     → (O → Option (List ℕ)) → (O → ℕ)
@@ -147,6 +161,28 @@ Commands left failed kept losses sent refusals source source_now shelves shelves
     ⊎ ((answer ≡ 1) × (card_now ≡ Card.Blank) × IsUntouched source source_now shelves shelves_now out out_now)
 Commands left failed kept losses sent refusals source source_now shelves shelves_now out out_now card_now answer (make told) =
     Makes sent refusals source source_now shelves shelves_now out out_now told.seed told.frames answer × (card_now ≡ Card.Blank)
+Commands left failed kept losses sent refusals source source_now shelves shelves_now out out_now card_now answer check =
+    Checks left failed sent refusals source source_now out out_now answer × (shelves_now ≡ shelves) × (card_now ≡ Card.Blank)
+
+-- What words leave, whatever they ask for.
+pub record Answers {S T O : Type 0} (left : S → Option (List ℕ)) (failed : S → ℕ) (kept : T → ℕ → Option (List ℕ)) (losses : T → ℕ)
+    (sent : O → Option (List ℕ)) (refusals : O → ℕ)
+    (source source_now : S) (shelves shelves_now : List T) (out out_now : O) (card_now : Card) (reading : Option Shown) (answer : ℕ) : Type 0 where
+  -- Words without a reading are answered by 2, or by 1 where there was no memory to read them; and no other words by 2.
+  pub usage : answer ≡ 2 → reading ≡ None
+  pub unread : reading ≡ None → (answer ≡ 2) ⊎ (answer ≡ 1)
+  -- Then nothing is read or written.
+  pub untouched : reading ≡ None → IsUntouched source source_now shelves shelves_now out out_now × (card_now ≡ Card.Blank)
+  pub replays : IfSome reading (Commands left failed kept losses sent refusals source source_now shelves shelves_now out out_now card_now answer)
+  -- A board that is left may be finished.
+  pub closed : IsClosed card_now
+
+-- a replay without a text of turns
+abbrev pub IsThreaded : Option Shown → Type 0
+IsThreaded (Some (replay told)) = told.turns ≡ None
+IsThreaded (Some (make told)) = ⊥
+IsThreaded (Some check) = ⊥
+IsThreaded None = ⊥
 
 -- the report of an outcome, and the answer
 pub record Tells (sent now : Option (List ℕ)) (refusals refusals_now : ℕ) (outcome : Told) (answer : ℕ) : Type 0 where

@@ -1,20 +1,30 @@
 //! `zcrx replay PORT..` replays the capture on standard input: it writes the stream of each TCP flow to one of the ports
 //! into `flow-<number>.bin` in the current folder, and a report to standard output. The status that ends the report is
-//! the exit status too. `zcrx make SEED FRAMES` writes a capture to standard output.
+//! the exit status too. `zcrx make SEED FRAMES` writes a capture to standard output, and `zcrx check` says whether the record
+//! on standard input is that of a legal run.
 #![tactic(auto)]
 
 ghost use Rattle.std.specs.Prelude.{◌≡◌, IfOk, vec_len};
 ghost use Rattle.zcrx_cli.specs.Cards.{IsClosed};
 
 mod card;
+mod checking;
 mod descriptors;
+mod front;
+mod messages;
+mod progress;
+mod records;
 mod status;
 #[cfg(test)]
 mod tests;
 mod top;
 
 pub use card::Card;
-use descriptors::hold_closed_streams;
+use descriptors::{hold_closed_streams, spare_files};
+use file_shelf::FileShelf;
+use front::Front;
+use messages::{say_lost, say_status, say_usage};
+use progress::Progress;
 use replay_threads::NoGate;
 use std::alloc::AllocError;
 use std::collections::hash_map::RandomState;
@@ -22,10 +32,11 @@ use std::io::BufReader;
 use std::process::ExitCode;
 use std::rt::{Env, Files};
 use std::sync::Wait;
+use std::sync::atomic::AtomicU64;
 use std::thread::Threads;
 use std::{env, io};
-pub use top::zcrx;
-use zr_io::{FileShelf, StdSink, StdSource};
+pub use top::{zcrx, zcrx_alone};
+use zr_io::{StdSink, StdSource};
 use zr_kinds::Fault;
 
 /// How many shelves there are, one for each application.
@@ -48,12 +59,17 @@ fn memory_or(other: Fault, error: &io::Error) -> Fault {
     }
 }
 
-fn make_shelves<R: Files + AllocGlobal>(rt: &R) -> Result<Vec<FileShelf<&R>>, AllocError>
+/// Shelves that together keep no more than `files` open, and count their flows.
+fn make_shelves<'a, R: Files + AllocGlobal>(
+    rt: &'a R,
+    files: usize,
+    flows: &'a AtomicU64,
+) -> Result<Vec<FileShelf<'a, &'a R>>, AllocError>
     ensures { IfOk result (λ shelves. vec_len shelves ≡ 8) }
 {
     let mut shelves = Vec::with_capacity(rt.alloc(), SHELVES)?;
     for _ in 0..SHELVES {
-        shelves.push(FileShelf::new(rt)?)?;
+        shelves.push(FileShelf::new(rt, files / SHELVES, flows)?)?;
     }
     Ok(shelves)
 }
@@ -69,8 +85,10 @@ fn start(rt: &HostRuntime, threads: &(impl Threads + Wait + Sync)) -> Result<u8,
         .collect(rt.alloc())
         .map_err(|_| Fault::Memory)?;
     let input = BufReader::with_capacity(rt.alloc(), INPUT_BUFFER, rt.reader());
-    let mut source = StdSource::new(input.map_err(|_| Fault::Memory)?);
-    let mut shelves = make_shelves(rt).map_err(|_| Fault::Memory)?;
+    let flows = AtomicU64::new(0);
+    let progress = Progress::new(rt, &flows);
+    let mut source = Front::new(StdSource::new(input.map_err(|_| Fault::Memory)?), progress);
+    let mut shelves = make_shelves(rt, spare_files(rt), &flows).map_err(|_| Fault::Memory)?;
     let mut out = StdSink::new(io::writer(rt));
     let random = RandomState::new(rt).map_err(|_| Fault::Read)?;
     let mut card = Card::Blank;
@@ -86,6 +104,12 @@ fn start(rt: &HostRuntime, threads: &(impl Threads + Wait + Sync)) -> Result<u8,
         &mut card,
     );
     close(card);
+    source.clear();
+    if status == Fault::Usage.number() {
+        say_usage(rt, &words);
+    }
+    say_lost(rt, &shelves);
+    say_status(rt, status, source.bytes());
     Ok(status)
 }
 
@@ -105,7 +129,10 @@ fn main(rt: HostRuntime) -> ExitCode {
     // The system's value serves for threads only where `main` lends it for that, so it comes a second time.
     let status = match start(&rt, &rt) {
         Ok(status) => status,
-        Err(fault) => fault.number(),
+        Err(fault) => {
+            say_status(&rt, fault.number(), &[]);
+            fault.number()
+        }
     };
     ExitCode::from(status)
 }

@@ -1,10 +1,10 @@
 //! The status of a replay.
 
 ghost use Rattle.std.specs.Prelude.{◌≡◌};
-ghost use Rattle.run_end.specs.Ran.{told_of};
+ghost use Rattle.run_account.specs.Ran.{told_of};
 ghost use Rattle.zcrx_cli.specs.Status.{is_memory, is_write, any_stopped, status_of};
 
-use replay_turns::Outcome;
+use card_feed::Outcome;
 use zr_kinds::{AppLine, Fault, Stopped};
 
 fn want_memory(apps: &[AppLine]) -> bool

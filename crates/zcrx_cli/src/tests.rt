@@ -1,5 +1,8 @@
 //! Replays over memory.
 
+mod alone;
+mod checking;
+mod closing;
 mod drawn;
 mod enough;
 mod faults;

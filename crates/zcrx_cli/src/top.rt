@@ -1,30 +1,31 @@
 //! The top call: a command's words, a source, eight shelves and a sink.
 
-ghost use Rattle.std.specs.Prelude.{◌≡◌, ◌≢◌, ℕ, ◌≤◌, ◌<◌, ◌⊎◌, None, Some, IfSome, IfOk, OnErr, Ok, map, length, option_map, take, nat_eq, vec_len};
+ghost use Rattle.std.specs.Prelude.{◌≡◌, ◌≢◌, ℕ, ◌≤◌, ◌<◌, ◌⊎◌, None, Some, IfSome, IfOk, IfErr, OnErr, Ok, map, length, take, nat_eq, vec_len};
 ghost use Rattle.std.specs.Io.KnownBytes.{Appends};
 ghost use Rattle.zr_io.specs.Moved.{Rose};
 ghost use Rattle.cap_make.specs.GeneratedCapture.{generated_capture};
 ghost use Rattle.command_words.specs.Options.{AreInRange};
-ghost use Rattle.command_words.specs.Words.{IsPortList, IsReplay, reading_of, replay_shown};
-ghost use Rattle.replay_turns.specs.Plan.{IsPlan};
-ghost use Rattle.run_end.specs.Ran.{told_of};
-ghost use Rattle.turn_runs.specs.Schedule.{AreTurns};
+ghost use Rattle.command_words.specs.Words.{IsPortList, reading_of, replay};
+ghost use Rattle.card_feed.specs.Plan.{IsPlan};
+ghost use Rattle.run_account.specs.Ran.{told_of};
+ghost use Rattle.replay_turns.specs.Schedule.{AreTurns};
 ghost use Rattle.zcrx_cli.specs.Cards.{IsClosed};
 ghost use Rattle.zcrx_cli.specs.Planned.{IsPlanOf};
-ghost use Rattle.zcrx_cli.specs.StreamTheorem.{Commands, IsUntouched, Lacks, LacksMemoryBy, RanWith, Replays, Tells};
+ghost use Rattle.zcrx_cli.specs.StreamTheorem.{Answers, Commands, IsThreaded, IsUntouched, LacksMemoryBy, RanWith, RepliesTo, Tells, asked_by};
 
 use crate::card::Card;
+use crate::checking::check_record;
 use crate::status::status_of;
 use cap_make::make;
+use card_feed::{Outcome, Plan};
 use command_words::{Command, Options, Replay, read_words};
 use replay_threads::{Gate, run_threads};
-use replay_turns::{Outcome, Plan};
+use replay_turns::run_turns;
 use run_report::{Report, answer, write_report};
 use std::alloc::{AllocError, Global};
 use std::collections::hash_map::RandomState;
 use std::sync::Wait;
 use std::thread::Threads;
-use turn_runs::run_turns;
 use zr_io::{Failed, Shelf, Sink, Source};
 use zr_kinds::Fault;
 
@@ -67,71 +68,109 @@ fn plan_of(ports: Vec<u16>, options: Options) -> Plan
     }
 }
 
-/// Runs the plan: by the text of turns where there is one, and then its board is the one for one thread; or by threads over
-/// the board on words. The board is left in the card.
-fn play<S: Source + Send, T: Shelf + Send, G: Gate + Sync, R: Threads + Wait + Sync>(
+/// Runs the plan by the text of turns, on this thread, over the board for one. The board is left in the card.
+fn play_turns<S: Source, T: Shelf>(
+    alloc: Global,
+    random: RandomState,
+    source: &mut S,
+    shelves: &mut Vec<T>,
+    plan: &Plan,
+    turns: &str,
+    card: &mut Card,
+) -> Result<Outcome, AllocError>
+    requires plan { IsPlan plan.now }
+    requires shelves { length plan.now.ports.items ≤ vec_len shelves.old }
+    requires turns { AreTurns (length plan.now.ports.items) turns.now }
+    ensures many { vec_len shelves.new ≡ vec_len shelves.old }
+    ensures ran { IfOk result (λ outcome. RanWith S.left S.faults T.kept T.faults source.old source.new shelves.old.items shelves.new.items card.new
+        (Some turns.now) plan.now (told_of outcome)) }
+    ensures lacks { OnErr result (LacksMemoryBy S.left S.faults T.kept T.faults source.old source.new shelves.old.items shelves.new.items
+        (Some turns.now) plan.now × (card.new ≡ card.old)) }
+{
+    let (outcome, board) = run_turns(alloc, random, source, shelves, plan, turns)?;
+    *card = Card::Plain(board);
+    Ok(outcome)
+}
+
+/// Runs the plan by threads over the board on words. The board is left in the card.
+fn play_beside<S: Source + Send, T: Shelf + Send, G: Gate + Sync, R: Threads + Wait + Sync>(
     rt: &R,
     alloc: Global,
     random: RandomState,
     source: &mut S,
     shelves: &mut Vec<T>,
     plan: &Plan,
-    turns: Option<&str>,
     gate: &G,
     card: &mut Card,
 ) -> Result<Outcome, AllocError>
     requires plan { IsPlan plan.now }
     requires shelves { length plan.now.ports.items ≤ vec_len shelves.old }
-    requires turns { IfSome turns (λ text. AreTurns (length plan.now.ports.items) text.now) }
     ensures many { vec_len shelves.new ≡ vec_len shelves.old }
     ensures ran { IfOk result (λ outcome. RanWith S.left S.faults T.kept T.faults source.old source.new shelves.old.items shelves.new.items card.new
-        (option_map (λ text. text.now) turns.entry) plan.now (told_of outcome)) }
+        None plan.now (told_of outcome)) }
     ensures lacks { OnErr result (LacksMemoryBy S.left S.faults T.kept T.faults source.old source.new shelves.old.items shelves.new.items
-        (option_map (λ text. text.now) turns.entry) plan.now × (card.new ≡ card.old)) }
+        None plan.now × (card.new ≡ card.old)) }
 {
-    match turns {
-        Some(text) => {
-            let (outcome, board) = run_turns(alloc, random, source, shelves, plan, text)?;
-            *card = Card::Plain(board);
-            Ok(outcome)
-        }
-        None => {
-            let (outcome, board, desk) = run_threads(
-                rt, alloc, random, source, shelves, plan, gate,
-            )?;
-            *card = Card::Words(board, desk);
-            Ok(outcome)
-        }
+    let (outcome, board, desk) = run_threads(rt, alloc, random, source, shelves, plan, gate)?;
+    *card = Card::Words(board, desk);
+    Ok(outcome)
+}
+
+/// What a replay is asked for, but its turns.
+#[derive(Drop)]
+struct Asked {
+    ports: Vec<u16>,
+    options: Options,
+}
+
+/// Replays a capture by a text of turns, and writes the report.
+fn replay_alone<S: Source, T: Shelf, O: Sink>(
+    alloc: Global,
+    random: RandomState,
+    command: Asked,
+    turns: &str,
+    source: &mut S,
+    shelves: &mut Vec<T>,
+    out: &mut O,
+    card: &mut Card,
+) -> u8
+    requires ports { IsPortList command.ports.items }
+    requires options { AreInRange command.options }
+    requires turns { AreTurns (length command.ports.items) turns.now }
+    requires shelves { vec_len shelves.old ≡ 8 }
+    requires blank { card.old ≡ Card.Blank }
+    ensures replays { RepliesTo S.left S.faults T.kept T.faults O.sent O.faults source.old source.new shelves.old.items shelves.new.items out.old out.new
+        card.new (asked_by command.ports.items command.options (Some turns.now)) result }
+{
+    let plan = plan_of(command.ports, command.options);
+    match play_turns(alloc, random, source, shelves, &plan, turns, card) {
+        Ok(outcome) => tell(alloc, &outcome, out),
+        Err(_) => Fault::Memory.number(),
     }
 }
 
-/// Replays a capture as a command asks for, and writes the report.
+/// Replays a capture by threads, and writes the report.
 fn replay<S: Source + Send, T: Shelf + Send, O: Sink, G: Gate + Sync, R: Threads + Wait + Sync>(
     rt: &R,
     alloc: Global,
     random: RandomState,
-    command: Replay<'_>,
+    command: Asked,
     source: &mut S,
     shelves: &mut Vec<T>,
     out: &mut O,
     gate: &G,
     card: &mut Card,
 ) -> u8
-    requires told { IsReplay command }
+    requires ports { IsPortList command.ports.items }
+    requires options { AreInRange command.options }
     requires shelves { vec_len shelves.old ≡ 8 }
     requires blank { card.old ≡ Card.Blank }
-    ensures replays { Replays S.left S.faults T.kept T.faults O.sent O.faults source.old source.new shelves.old.items shelves.new.items out.old out.new
-        card.new (replay_shown command.entry) result
-        ⊎ Lacks S.left S.faults T.kept T.faults source.old source.new shelves.old.items shelves.new.items out.old out.new card.new
-        (replay_shown command.entry) result }
+    ensures replays { RepliesTo S.left S.faults T.kept T.faults O.sent O.faults source.old source.new shelves.old.items shelves.new.items out.old out.new
+        card.new (asked_by command.ports.items command.options None) result }
 {
-    let Replay {
-        ports,
-        options,
-        turns,
-    } = command;
+    let Asked { ports, options } = command;
     let plan = plan_of(ports, options);
-    match play(rt, alloc, random, source, shelves, &plan, turns, gate, card) {
+    match play_beside(rt, alloc, random, source, shelves, &plan, gate, card) {
         Ok(outcome) => tell(alloc, &outcome, out),
         Err(_) => Fault::Memory.number(),
     }
@@ -150,9 +189,86 @@ fn write_capture<O: Sink>(seed: u32, frames: u32, out: &mut O) -> u8
     }
 }
 
+/// A replay by threads, and the keys of its table of flows.
+#[derive(Drop)]
+struct Threaded {
+    random: RandomState,
+    command: Asked,
+}
+
+/// Runs the command of the words on this thread: the answer. A replay by threads is handed back, and nothing was done.
+fn run_alone<S: Source, T: Shelf, O: Sink>(
+    alloc: Global,
+    random: RandomState,
+    words: &[&str],
+    source: &mut S,
+    shelves: &mut Vec<T>,
+    out: &mut O,
+    card: &mut Card,
+) -> Result<u8, Threaded>
+    requires shelves { vec_len shelves.old ≡ 8 }
+    requires blank { card.old ≡ Card.Blank }
+    ensures answers { IfOk result (Answers S.left S.faults T.kept T.faults O.sent O.faults source.old source.new shelves.old.items shelves.new.items
+        out.old out.new card.new (reading_of (map (λ w. w.now) words.now))) }
+    ensures alone { IfOk result (λ answer. IsThreaded (reading_of (map (λ w. w.now) words.now)) → answer ≡ 1) }
+    ensures asks { IfErr result (λ t. reading_of (map (λ w. w.now) words.now) ≡ Some (replay (asked_by t.command.ports.items t.command.options None))) }
+    ensures untouched { OnErr result (IsUntouched source.old source.new shelves.old.items shelves.new.items out.old out.new × (card.new ≡ Card.Blank)) }
+    ensures asked { IfErr result (λ t. IsPortList t.command.ports.items × AreInRange t.command.options) }
+    ensures shelves { OnErr result (vec_len shelves.new ≡ 8) }
+{
+    match read_words(alloc, words) {
+        Ok(
+            Some(
+                Command::Replay(
+                    Replay {
+                        ports,
+                        options,
+                        turns,
+                    },
+                ),
+            ),
+        ) => {
+            let command = Asked { ports, options };
+            match turns {
+                Some(text) => Ok(replay_alone(
+                    alloc, random, command, text, source, shelves, out, card,
+                )),
+                None => Err(Threaded { random, command }),
+            }
+        }
+        Ok(Some(Command::Make(command))) => Ok(write_capture(command.seed, command.frames, out)),
+        Ok(Some(Command::Check)) => Ok(check_record(alloc, source, out)),
+        Ok(None) => Ok(Fault::Usage.number()),
+        Err(_) => Ok(Fault::Memory.number()),
+    }
+}
+
+/// As `zcrx`, where the command needs no threads: to make a capture, to check a record, to replay a capture by a text of turns, and
+/// where the words have no reading. It waits for nobody and returns. `None` is a replay without a text of turns, and then nothing was done.
+pub fn zcrx_alone<S: Source, T: Shelf, O: Sink>(
+    alloc: Global,
+    random: RandomState,
+    words: &[&str],
+    source: &mut S,
+    shelves: &mut Vec<T>,
+    out: &mut O,
+    card: &mut Card,
+) -> Option<u8>
+    requires shelves { vec_len shelves.old ≡ 8 }
+    requires blank { card.old ≡ Card.Blank }
+    ensures answers { IfSome result (Answers S.left S.faults T.kept T.faults O.sent O.faults source.old source.new shelves.old.items shelves.new.items
+        out.old out.new card.new (reading_of (map (λ w. w.now) words.now))) }
+    // It is `None` only for a replay by threads; such a one is answered by `None`, or by 1 where there was no memory to read the words.
+    ensures none { result ≡ None → IsThreaded (reading_of (map (λ w. w.now) words.now)) }
+    ensures threaded { IsThreaded (reading_of (map (λ w. w.now) words.now)) → (result ≡ None) ⊎ (result ≡ Some 1) }
+    ensures untouched { result ≡ None → IsUntouched source.old source.new shelves.old.items shelves.new.items out.old out.new × (card.new ≡ Card.Blank) }
+{
+    run_alone(alloc, random, words, source, shelves, out, card).ok()
+}
+
 /// Runs the command that `words`, the words after the program's name, ask for. To replay a capture shelf `a` takes the
 /// flows to the port of place `a` among the ports, and `random` keys the table of flows; to make one neither source nor
-/// shelves are needed. With a text of turns a replay goes by these on one thread. Without one the reading, the card and each
+/// shelves are needed, and to check the record of a run no shelves. With a text of turns a replay goes by these on one thread. Without one the reading, the card and each
 /// application have a thread of their own, and `gate` is asked before each turn of the card and of an application. The board of
 /// a run is left in `card`. Answers the status: 0, or the number of the fault that comes first.
 pub fn zcrx<S: Source + Send, T: Shelf + Send, O: Sink, G: Gate + Sync, R: Threads + Wait + Sync>(
@@ -183,12 +299,10 @@ pub fn zcrx<S: Source + Send, T: Shelf + Send, O: Sink, G: Gate + Sync, R: Threa
     // A board that is left may be finished.
     ensures closed { IsClosed card.new }
 {
-    match read_words(alloc, &*words) {
-        Ok(Some(Command::Replay(command))) => {
+    match run_alone(alloc, random, words, source, shelves, out, card) {
+        Ok(answer) => answer,
+        Err(Threaded { random, command }) => {
             replay(rt, alloc, random, command, source, shelves, out, gate, card)
         }
-        Ok(Some(Command::Make(command))) => write_capture(command.seed, command.frames, out),
-        Ok(None) => Fault::Usage.number(),
-        Err(_) => Fault::Memory.number(),
     }
 }

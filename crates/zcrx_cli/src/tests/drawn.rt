@@ -1,5 +1,5 @@
 //! Small captures that are drawn, and compared with the plain slow programs.
-use super::frames::{ACK, FIN, PSH_ACK, SYN, Sent, frame, over_ipv6, tagged};
+use super::frames::{ACK, FIN, PSH_ACK, RST, SYN, Sent, frame, over_ipv6, tagged};
 use super::plain::check_plain;
 use std::alloc::Global;
 use std::test::Fail;
@@ -21,6 +21,7 @@ enum Kind {
     SynOfTheNextByte,
     SynAnew,
     Fin,
+    Rst,
     Tagged,
     OverIpv6,
     PaddingBehind,
@@ -28,7 +29,7 @@ enum Kind {
 }
 
 /// What is drawn from.
-const KINDS: [Kind; 16] = [
+const KINDS: [Kind; 18] = [
     Kind::NextBytes,
     Kind::NextBytes,
     Kind::NextBytes,
@@ -41,6 +42,8 @@ const KINDS: [Kind; 16] = [
     Kind::SynOfTheNextByte,
     Kind::SynAnew,
     Kind::Fin,
+    Kind::Rst,
+    Kind::NextBytes,
     Kind::Tagged,
     Kind::OverIpv6,
     Kind::PaddingBehind,
@@ -98,6 +101,7 @@ impl Drawer {
             Kind::SynOfTheNextByte => (next.wrapping_sub(1), SYN, b""),
             Kind::SynAnew => (next.wrapping_add(7), SYN, b""),
             Kind::Fin => (next, ACK | FIN, piece),
+            Kind::Rst => (next, RST, b""),
             _ => {
                 self.next = next.wrapping_add(piece.len() as u32);
                 (next, PSH_ACK, piece)

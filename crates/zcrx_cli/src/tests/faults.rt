@@ -41,9 +41,9 @@ fn a_lost_shelf_keeps_fronts(rt: HostRuntime) -> Result<(), Fail> {
 capture records 6 tcp 6 steered 6 other 0 fragment 0 cut 0 bad 0
 app 0 port 9000 written {written} loans {call} copied 0 stopped write
 app 1 port 9001 written 12 loans 2 copied 0 stopped no
-flow 0 port 9000 base 1001 bytes {zero_bytes} fin yes
-flow 1 port 9001 base 500 bytes 12 fin no
-flow 2 port 9000 base 7 bytes {two_bytes} fin no
+flow 0 port 9000 base 1001 bytes {zero_bytes} fin yes end short
+flow 1 port 9001 base 500 bytes 12 fin no end open
+flow 2 port 9000 base 7 bytes {two_bytes} fin no end open
 pool fast 0 refill 0 slow 1 empty 0 strays 0
 status 9
 "
@@ -92,7 +92,7 @@ status 8
     let hello = "\
 capture records 1 tcp 1 steered 1 other 0 fragment 0 cut 0 bad 0
 app 0 port 9000 written 5 loans 1 copied 0 stopped no
-flow 0 port 9000 base 1001 bytes 5 fin no
+flow 0 port 9000 base 1001 bytes 5 fin no end open
 pool fast 0 refill 0 slow 1 empty 0 strays 0
 status 8
 ";
@@ -133,7 +133,7 @@ fn a_lost_report_is_answered(rt: HostRuntime) -> Result<(), Fail> {
     let report = "\
 capture records 3 tcp 3 steered 3 other 0 fragment 0 cut 0 bad 0
 app 0 port 9000 written 4 loans 2 copied 0 stopped no
-flow 0 port 9000 base 4294967294 bytes 4 fin no
+flow 0 port 9000 base 4294967294 bytes 4 fin no end open
 pool fast 0 refill 0 slow 1 empty 0 strays 0
 status 0
 ";
@@ -163,7 +163,7 @@ fn a_lost_shelf_or_report_comes_first(rt: HostRuntime) -> Result<(), Fail> {
     let lost_shelf = "\
 capture records 2 tcp 2 steered 2 other 0 fragment 0 cut 0 bad 0
 app 0 port 9000 written 0 loans 1 copied 0 stopped write
-flow 0 port 9000 base 1001 bytes 0 fin no
+flow 0 port 9000 base 1001 bytes 0 fin no end open
 pool fast 0 refill 0 slow 1 empty 0 strays 0
 status 9
 ";

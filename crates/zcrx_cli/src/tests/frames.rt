@@ -6,6 +6,8 @@ pub const FIN: u8 = 1;
 
 pub const SYN: u8 = 2;
 
+pub const RST: u8 = 4;
+
 pub const ACK: u8 = 16;
 
 pub const PSH_ACK: u8 = 24;

@@ -105,8 +105,8 @@ fn what_a_stopped_application_had_serves_another(rt: HostRuntime) -> Result<(), 
 capture records 4 tcp 4 steered 4 other 0 fragment 0 cut 0 bad 0
 app 0 port 9000 written 2500 loans 3 copied 0 stopped quit
 app 1 port 9001 written 2400 loans 3 copied 0 stopped no
-flow 0 port 9000 base 1000 bytes 2500 fin no
-flow 1 port 9001 base 1000 bytes 2400 fin no
+flow 0 port 9000 base 1000 bytes 2500 fin no end open
+flow 1 port 9001 base 1000 bytes 2400 fin no end open
 pool fast 2 refill 0 slow 2 empty 0 strays 0
 status 0
 ",
@@ -134,8 +134,8 @@ status 0
 capture records 3 tcp 3 steered 3 other 0 fragment 0 cut 0 bad 0
 app 0 port 9000 written 1000 loans 3 copied 0 stopped quit
 app 1 port 9001 written 999 loans 2 copied 0 stopped no
-flow 0 port 9000 base 1000 bytes 1000 fin no
-flow 1 port 9001 base 1000 bytes 999 fin no
+flow 0 port 9000 base 1000 bytes 1000 fin no end open
+flow 1 port 9001 base 1000 bytes 999 fin no end open
 pool fast 2 refill 0 slow 1 empty 0 strays 0
 status 0
 ",
@@ -163,8 +163,8 @@ status 0
 capture records 4 tcp 4 steered 4 other 0 fragment 0 cut 0 bad 0
 app 0 port 9000 written 0 loans 3 copied 0 stopped write
 app 1 port 9001 written 2400 loans 3 copied 0 stopped no
-flow 0 port 9000 base 1000 bytes 0 fin no
-flow 1 port 9001 base 1000 bytes 2400 fin no
+flow 0 port 9000 base 1000 bytes 0 fin no end open
+flow 1 port 9001 base 1000 bytes 2400 fin no end open
 pool fast 2 refill 0 slow 2 empty 0 strays 0
 status 9
 ",

@@ -82,7 +82,9 @@ app 0 port 9000 written 0 loans 0 copied 0 stopped no
     )?;
     for flow in 0..65_535u32 {
         let base = flow + 1;
-        let line = format!(in alloc; "flow {flow} port 9000 base {base} bytes 0 fin no\n")?;
+        let line = format!(in alloc;
+            "flow {flow} port 9000 base {base} bytes 0 fin no end open\n"
+        )?;
         report.push_str(&line)?;
     }
     report.push_str("pool fast 0 refill 0 slow 0 empty 0 strays 0\nstatus 10\n")?;

@@ -122,7 +122,7 @@ fn one_frame_is_replayed(rt: HostRuntime) -> Result<(), Fail> {
         report: "\
 capture records 1 tcp 1 steered 1 other 0 fragment 0 cut 0 bad 0
 app 0 port 9000 written 1000 loans 1 copied 0 stopped no
-flow 0 port 9000 base 4294960000 bytes 1000 fin no
+flow 0 port 9000 base 4294960000 bytes 1000 fin no end open
 pool fast 0 refill 0 slow 1 empty 0 strays 0
 status 0
 ",
@@ -175,10 +175,10 @@ app 0 port 9000 written 500000 loans 500 copied 0 stopped no
 app 1 port 9001 written 500000 loans 500 copied 0 stopped no
 app 2 port 9002 written 500000 loans 500 copied 0 stopped no
 app 3 port 9003 written 500000 loans 500 copied 0 stopped no
-flow 0 port 9000 base 4294960000 bytes 500000 fin no
-flow 1 port 9001 base 4294960000 bytes 500000 fin no
-flow 2 port 9002 base 4294960000 bytes 500000 fin no
-flow 3 port 9003 base 4294960000 bytes 500000 fin no
+flow 0 port 9000 base 4294960000 bytes 500000 fin no end open
+flow 1 port 9001 base 4294960000 bytes 500000 fin no end open
+flow 2 port 9002 base 4294960000 bytes 500000 fin no end open
+flow 3 port 9003 base 4294960000 bytes 500000 fin no end open
 pool fast 529 refill 8 slow 1 empty 0 strays 0
 status 0
 ",

@@ -58,6 +58,16 @@ fn written(app: usize, streams: &[Stream<'_>]) -> usize {
     written
 }
 
+/// How a flow ended that has these bytes. They are few, so they reach the FIN's number at most once.
+fn end_of(flow: &PlainFlow, bytes: usize) -> &'static str {
+    match flow.close.fin {
+        _ if flow.close.reset => "reset",
+        None => "open",
+        Some(fin) if flow.base.wrapping_add(bytes as u32) == fin => "whole",
+        Some(_) => "short",
+    }
+}
+
 /// The report of a replay that takes all of these frames and ends by this status, without loans and the pool's line: these the
 /// plain programs don't know.
 fn report(
@@ -90,9 +100,13 @@ fn report(
         let PlainFlow { dport, base, .. } = *flow;
         let number = stream.flow;
         let bytes = stream.bytes.len();
-        let fin = if flow.fin { "yes" } else { "no" };
+        let fin = match flow.close.fin {
+            Some(_) => "yes",
+            None => "no",
+        };
+        let end = end_of(flow, bytes);
         let line = format!(in alloc;
-            "flow {number} port {dport} base {base} bytes {bytes} fin {fin}\n"
+            "flow {number} port {dport} base {base} bytes {bytes} fin {fin} end {end}\n"
         )?;
         text.push_str(&line)?;
     }

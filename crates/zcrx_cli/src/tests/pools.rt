@@ -88,7 +88,7 @@ fn a_frame_without_a_buffer_is_refused(rt: HostRuntime) -> Result<(), Fail> {
         report: "\
 capture records 2 tcp 2 steered 2 other 0 fragment 0 cut 0 bad 0
 app 0 port 9000 written 1000 loans 1 copied 0 stopped no
-flow 0 port 9000 base 1000 bytes 1000 fin no
+flow 0 port 9000 base 1000 bytes 1000 fin no end open
 refused 2
 pool fast 0 refill 0 slow 1 empty 1 strays 0
 status 0
@@ -119,7 +119,7 @@ fn a_buffer_that_came_back_serves_again(rt: HostRuntime) -> Result<(), Fail> {
         report: "\
 capture records 2 tcp 2 steered 2 other 0 fragment 0 cut 0 bad 0
 app 0 port 9000 written 2000 loans 2 copied 0 stopped no
-flow 0 port 9000 base 1000 bytes 2000 fin no
+flow 0 port 9000 base 1000 bytes 2000 fin no end open
 pool fast 0 refill 1 slow 1 empty 0 strays 0
 status 0
 ",
@@ -137,7 +137,7 @@ fn the_longest_payload_takes_64_buffers(rt: HostRuntime) -> Result<(), Fail> {
         report: "\
 capture records 1 tcp 1 steered 1 other 0 fragment 0 cut 0 bad 0
 app 0 port 9000 written 65495 loans 64 copied 0 stopped no
-flow 0 port 9000 base 1000 bytes 65495 fin no
+flow 0 port 9000 base 1000 bytes 65495 fin no end open
 pool fast 0 refill 0 slow 1 empty 0 strays 0
 status 0
 ",
@@ -150,7 +150,7 @@ status 0
         report: "\
 capture records 1 tcp 1 steered 1 other 0 fragment 0 cut 0 bad 0
 app 0 port 9000 written 0 loans 0 copied 0 stopped no
-flow 0 port 9000 base 1000 bytes 0 fin no
+flow 0 port 9000 base 1000 bytes 0 fin no end open
 refused 1
 pool fast 0 refill 0 slow 0 empty 1 strays 0
 status 0
@@ -171,7 +171,7 @@ fn a_short_payload_is_copied(rt: HostRuntime) -> Result<(), Fail> {
         report: "\
 capture records 2 tcp 2 steered 2 other 0 fragment 0 cut 0 bad 0
 app 0 port 9000 written 129 loans 2 copied 1 stopped no
-flow 0 port 9000 base 1000 bytes 129 fin no
+flow 0 port 9000 base 1000 bytes 129 fin no end open
 pool fast 0 refill 1 slow 0 empty 0 strays 0
 status 0
 ",
@@ -203,7 +203,7 @@ fn a_copy_without_a_buffer_takes_the_reserve(rt: HostRuntime) -> Result<(), Fail
         report: "\
 capture records 2 tcp 2 steered 2 other 0 fragment 0 cut 0 bad 0
 app 0 port 9000 written 1064 loans 2 copied 1 stopped no
-flow 0 port 9000 base 1000 bytes 1064 fin no
+flow 0 port 9000 base 1000 bytes 1064 fin no end open
 pool fast 0 refill 0 slow 1 empty 0 strays 0
 status 0
 ",
@@ -233,7 +233,7 @@ fn strays_are_counted(rt: HostRuntime) -> Result<(), Fail> {
         report: "\
 capture records 2 tcp 2 steered 2 other 0 fragment 0 cut 0 bad 0
 app 0 port 9000 written 2000 loans 2 copied 0 stopped no
-flow 0 port 9000 base 1000 bytes 2000 fin no
+flow 0 port 9000 base 1000 bytes 2000 fin no end open
 pool fast 1 refill 0 slow 1 empty 0 strays 2
 status 0
 ",
@@ -263,7 +263,7 @@ fn a_ring_may_have_one_place(rt: HostRuntime) -> Result<(), Fail> {
         report: "\
 capture records 1 tcp 1 steered 1 other 0 fragment 0 cut 0 bad 0
 app 0 port 9000 written 2500 loans 3 copied 0 stopped no
-flow 0 port 9000 base 1000 bytes 2500 fin no
+flow 0 port 9000 base 1000 bytes 2500 fin no end open
 pool fast 0 refill 0 slow 1 empty 0 strays 0
 status 0
 ",
@@ -308,8 +308,8 @@ pub fn check_leak_and_quit<G: Gate + Sync>(
 capture records 4 tcp 4 steered 4 other 0 fragment 0 cut 0 bad 0
 app 0 port 9000 written 100 loans 2 copied 0 stopped quit
 app 1 port 9001 written 100 loans 2 copied 0 stopped quit
-flow 0 port 9000 base 100 bytes 100 fin no
-flow 1 port 9001 base 100 bytes 100 fin no
+flow 0 port 9000 base 100 bytes 100 fin no end open
+flow 1 port 9001 base 100 bytes 100 fin no end open
 pool fast 0 refill 0 slow 1 empty 0 strays 0
 status 0
 ",
@@ -352,7 +352,7 @@ fn a_flow_meets_each_fault(rt: HostRuntime) -> Result<(), Fail> {
             "\
 capture records 3 tcp 3 steered 3 other 0 fragment 0 cut 0 bad 0
 app 0 port 9000 written 0 loans 1 copied 0 stopped write
-flow 0 port 9000 base 1001 bytes 0 fin yes
+flow 0 port 9000 base 1001 bytes 0 fin yes end short
 pool fast 0 refill 0 slow 1 empty 0 strays 0
 status 9
 ",
@@ -390,7 +390,7 @@ status 8
             "\
 capture records 3 tcp 3 steered 3 other 0 fragment 0 cut 0 bad 0
 app 0 port 9000 written 2 loans 2 copied 0 stopped write
-flow 0 port 9000 base 4294967294 bytes 2 fin no
+flow 0 port 9000 base 4294967294 bytes 2 fin no end open
 pool fast 0 refill 0 slow 1 empty 0 strays 0
 status 9
 ",

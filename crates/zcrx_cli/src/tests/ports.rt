@@ -63,10 +63,10 @@ fn each_flow_goes_to_the_shelf_of_its_port(rt: HostRuntime) -> Result<(), Fail> 
 capture records 9 tcp 9 steered 8 other 0 fragment 0 cut 0 bad 0
 app 0 port 9000 written 15 loans 3 copied 0 stopped no
 app 1 port 9001 written 11 loans 3 copied 0 stopped no
-flow 0 port 9001 base 100 bytes 7 fin no
-flow 1 port 9000 base 1000 bytes 10 fin yes
-flow 2 port 9000 base 7 bytes 5 fin no
-flow 3 port 9001 base 0 bytes 4 fin no
+flow 0 port 9001 base 100 bytes 7 fin no end open
+flow 1 port 9000 base 1000 bytes 10 fin yes end whole
+flow 2 port 9000 base 7 bytes 5 fin no end open
+flow 3 port 9001 base 0 bytes 4 fin no end open
 pool fast 0 refill 0 slow 1 empty 0 strays 0
 status 0
 ",
@@ -101,7 +101,7 @@ app 4 port 4 written 0 loans 0 copied 0 stopped no
 app 5 port 3 written 0 loans 0 copied 0 stopped no
 app 6 port 2 written 0 loans 0 copied 0 stopped no
 app 7 port 9000 written 5 loans 1 copied 0 stopped no
-flow 0 port 9000 base 1001 bytes 5 fin no
+flow 0 port 9000 base 1001 bytes 5 fin no end open
 pool fast 0 refill 0 slow 1 empty 0 strays 0
 status 0
 ",

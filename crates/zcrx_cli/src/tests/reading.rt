@@ -54,8 +54,8 @@ const ALL_BUT_ONE: &str = "\
 capture records 199 tcp 199 steered 199 other 0 fragment 0 cut 0 bad 0
 app 0 port 9000 written 101 loans 100 copied 0 stopped no
 app 1 port 9001 written 100 loans 99 copied 0 stopped no
-flow 0 port 9000 base 0 bytes 101 fin no
-flow 1 port 9001 base 100 bytes 100 fin no
+flow 0 port 9000 base 0 bytes 101 fin no end open
+flow 1 port 9001 base 100 bytes 100 fin no end open
 pool fast 3 refill 0 slow 1 empty 0 strays 0
 status 6
 ";

@@ -54,7 +54,7 @@ fn greeting(alloc: Global) -> Result<Vec<u8>, Fail> {
 const GREETED: &str = "\
 capture records 3 tcp 3 steered 3 other 0 fragment 0 cut 0 bad 0
 app 0 port 9000 written 5 loans 1 copied 0 stopped no
-flow 0 port 9000 base 1001 bytes 5 fin yes
+flow 0 port 9000 base 1001 bytes 5 fin yes end whole
 pool fast 0 refill 0 slow 1 empty 0 strays 0
 ";
 
@@ -69,7 +69,7 @@ pool fast 0 refill 0 slow 0 empty 0 strays 0
 const BEGUN: &str = "\
 capture records 1 tcp 1 steered 1 other 0 fragment 0 cut 0 bad 0
 app 0 port 9000 written 0 loans 0 copied 0 stopped no
-flow 0 port 9000 base 1001 bytes 0 fin no
+flow 0 port 9000 base 1001 bytes 0 fin no end open
 pool fast 0 refill 0 slow 0 empty 0 strays 0
 ";
 
@@ -77,7 +77,7 @@ pool fast 0 refill 0 slow 0 empty 0 strays 0
 const UNFINISHED: &str = "\
 capture records 2 tcp 2 steered 2 other 0 fragment 0 cut 0 bad 0
 app 0 port 9000 written 5 loans 1 copied 0 stopped no
-flow 0 port 9000 base 1001 bytes 5 fin no
+flow 0 port 9000 base 1001 bytes 5 fin no end open
 pool fast 0 refill 0 slow 1 empty 0 strays 0
 ";
 
@@ -85,7 +85,7 @@ pool fast 0 refill 0 slow 1 empty 0 strays 0
 const HELLO_ALONE: &str = "\
 capture records 1 tcp 1 steered 1 other 0 fragment 0 cut 0 bad 0
 app 0 port 9000 written 5 loans 1 copied 0 stopped no
-flow 0 port 9000 base 1001 bytes 5 fin no
+flow 0 port 9000 base 1001 bytes 5 fin no end open
 pool fast 0 refill 0 slow 1 empty 0 strays 0
 status 0
 ";
@@ -186,7 +186,7 @@ fn big_endian_nanoseconds_are_read(rt: HostRuntime) -> Result<(), Fail> {
         report: "\
 capture records 1 tcp 1 steered 1 other 0 fragment 0 cut 0 bad 0
 app 0 port 9000 written 2 loans 1 copied 0 stopped no
-flow 0 port 9000 base 7 bytes 2 fin no
+flow 0 port 9000 base 7 bytes 2 fin no end open
 pool fast 0 refill 0 slow 1 empty 0 strays 0
 status 0
 ",
@@ -211,7 +211,7 @@ fn check_order(
         "\
 capture records 3 tcp 3 steered 3 other 0 fragment 0 cut 0 bad 0
 app 0 port 9000 written {bytes} loans {loans} copied 0 stopped no
-flow 0 port 9000 base {base} bytes {bytes} fin no
+flow 0 port 9000 base {base} bytes {bytes} fin no end open
 pool fast 0 refill 0 slow 1 empty 0 strays 0
 status 0
 "
@@ -392,7 +392,7 @@ fn each_record_counts_once(rt: HostRuntime) -> Result<(), Fail> {
         report: "\
 capture records 9 tcp 7 steered 5 other 2 fragment 0 cut 0 bad 0
 app 0 port 9000 written 18 loans 1 copied 0 stopped no
-flow 0 port 9000 base 1001 bytes 18 fin yes
+flow 0 port 9000 base 1001 bytes 18 fin yes end whole
 pool fast 0 refill 0 slow 1 empty 0 strays 0
 status 0
 ",

@@ -167,10 +167,10 @@ app 0 port 9000 written 500000 loans 500 copied 0 stopped no
 app 1 port 9001 written 500000 loans 500 copied 0 stopped no
 app 2 port 9002 written 500000 loans 500 copied 0 stopped no
 app 3 port 9003 written 500000 loans 500 copied 0 stopped no
-flow 0 port 9000 base 4294960000 bytes 500000 fin no
-flow 1 port 9001 base 4294960000 bytes 500000 fin no
-flow 2 port 9002 base 4294960000 bytes 500000 fin no
-flow 3 port 9003 base 4294960000 bytes 500000 fin no
+flow 0 port 9000 base 4294960000 bytes 500000 fin no end open
+flow 1 port 9001 base 4294960000 bytes 500000 fin no end open
+flow 2 port 9002 base 4294960000 bytes 500000 fin no end open
+flow 3 port 9003 base 4294960000 bytes 500000 fin no end open
 pool empty 0 strays 0
 status 0
 ";
@@ -197,10 +197,10 @@ app 0 port 9000 written 100000 loans 100 copied 0 stopped quit
 app 1 port 9001 written 100000 loans 100 copied 0 stopped quit
 app 2 port 9002 written 100000 loans 100 copied 0 stopped quit
 app 3 port 9003 written 100000 loans 100 copied 0 stopped quit
-flow 0 port 9000 base 4294960000 bytes 100000 fin no
-flow 1 port 9001 base 4294960000 bytes 100000 fin no
-flow 2 port 9002 base 4294960000 bytes 100000 fin no
-flow 3 port 9003 base 4294960000 bytes 100000 fin no
+flow 0 port 9000 base 4294960000 bytes 100000 fin no end open
+flow 1 port 9001 base 4294960000 bytes 100000 fin no end open
+flow 2 port 9002 base 4294960000 bytes 100000 fin no end open
+flow 3 port 9003 base 4294960000 bytes 100000 fin no end open
 pool empty 0 strays 0
 status 0
 ";

@@ -110,7 +110,7 @@ fn options_stand_among_the_ports_and_zeros_lead_numbers(rt: HostRuntime) -> Resu
             report: "\
 capture records 1 tcp 1 steered 1 other 0 fragment 0 cut 0 bad 0
 app 0 port 9000 written 5 loans 1 copied 0 stopped no
-flow 0 port 9000 base 1001 bytes 5 fin no
+flow 0 port 9000 base 1001 bytes 5 fin no end open
 pool fast 0 refill 0 slow 1 empty 0 strays 0
 status 0
 ",

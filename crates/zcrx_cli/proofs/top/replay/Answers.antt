@@ -1,13 +1,13 @@
 -- The outcome is told, and the board is in the card; or there was no memory for a board or an outcome.
-use Rattle.std.proofs.Common.{inl, inr, refl, ◌∙◌}
-use Rattle.command_words.specs.Words.{replay_shown}
+use Rattle.std.proofs.Common.{inl, inr, refl, ◌∙◌, None}
+use Rattle.zcrx_cli.specs.StreamTheorem.{asked_by}
 use Rattle.zcrx_cli.proofs.Statuses.{replays}
 use Rattle.zcrx_cli.proofs.top.replay.Goals as goal
 
 pub returns-in-Ok : goal.returns-in-Ok
 returns-in-Ok g c = record {
-  replays = inl (replays g.O.Sink.sent g.O.Sink.faults c.args.out.now c.tell.new.out (replay_shown c.args.command) _
-      c.plan_of-plan.ensures.told c.in-Ok.ensures.ran c.tell.ensures);
+  replays = inl (replays g.O.Sink.sent g.O.Sink.faults c.args.out.now c.tell.new.out
+      (asked_by c.args.command.ports.items c.args.command.options None) _ c.plan_of-plan.ensures.told c.in-Ok.ensures.ran c.tell.ensures);
 }
 
 pub returns : goal.returns

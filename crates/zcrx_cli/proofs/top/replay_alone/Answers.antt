@@ -1,0 +1,23 @@
+-- The outcome is told, and the board is in the card; or there was no memory for a board or an outcome.
+use Rattle.std.proofs.Common.{inl, inr, refl, ◌∙◌, Some}
+use Rattle.zcrx_cli.specs.StreamTheorem.{asked_by}
+use Rattle.zcrx_cli.proofs.Statuses.{replays}
+use Rattle.zcrx_cli.proofs.top.replay_alone.Goals as goal
+
+pub returns-in-Ok : goal.returns-in-Ok
+returns-in-Ok g c = record {
+  replays = inl (replays g.O.Sink.sent g.O.Sink.faults c.args.out.now c.tell.new.out
+      (asked_by c.args.command.ports.items c.args.command.options (Some c.args.turns.now)) _ c.plan_of-plan.ensures.told c.in-Ok.ensures.ran c.tell.ensures);
+}
+
+pub returns : goal.returns
+returns g c = record {
+  replays = inr (record {
+    answer_is = c.number.ensures;
+    card_is = c.in-Err.ensures.lacks.1 ∙ c.requires.blank;
+    out_is = refl;
+    plan = c.plan_of-plan.result;
+    planned = c.plan_of-plan.ensures.told;
+    lacks = c.in-Err.ensures.lacks.0;
+  });
+}

@@ -1,0 +1,36 @@
+-- What `check` leaves.
+use Rattle.std.specs.Prelude.{◌≡◌, ℕ, List, [], ◌∷◌, ◌++◌, ◌==◌, ◌⊎◌, true, take, codes, Option, IfSome}
+use Rattle.std.specs.Fmt.{decimal}
+use Rattle.std.specs.List.{list_any}
+use Rattle.std.specs.Io.KnownBytes.{Appends}
+use Rattle.zr_io.specs.Moved.{Rose}
+use Rattle.run_check.specs.Judged.{Judges}
+use Rattle.run_check.specs.declared.checking.Checked.{Checked}
+use Rattle.run_check.specs.declared.checking.Checked.TheVariants.{Yes, No}
+
+-- the line that says what was found
+abbrev pub check_line : Checked → List ℕ
+check_line (Yes lines) = codes "checked " ++ decimal lines ++ 10 ∷ []
+check_line (No line) = codes "bad " ++ decimal line ++ 10 ∷ []
+
+abbrev pub check_status : Checked → ℕ
+check_status (Yes lines) = 0
+check_status (No line) = 14
+
+-- this was found in what the source tells
+abbrev pub Finds : Option (List ℕ) → Checked → Type 0
+Finds bytes found = IfSome bytes (λ told. Judges told found)
+
+-- What `check` leaves of its source and its sink, and what its answer says.
+pub record Checks {S O : Type 0} (left : S → Option (List ℕ)) (failed : S → ℕ) (sent : O → Option (List ℕ)) (refusals : O → ℕ)
+    (source source_now : S) (out out_now : O) (answer : ℕ) : Type 0 where
+  pub kind : list_any (λ n. n == answer) (0 ∷ 1 ∷ 8 ∷ 9 ∷ 14 ∷ []) ≡ true
+  -- With 0 and 14 the record was found to be that of a legal run, or not, and the sink gained the line that says so.
+  pub told : (answer ≡ 0) ⊎ (answer ≡ 14) → (found : Checked) × (answer ≡ check_status found) × Finds (left source) found
+      × Appends (sent out) (sent out_now) (check_line found) × (refusals out_now ≡ refusals out)
+  -- With 9 it gained a front of that line, and one of its calls failed.
+  pub lost : answer ≡ 9 → (found : Checked) × Finds (left source) found
+      × ((n : ℕ) × Appends (sent out) (sent out_now) (take n (check_line found))) × Rose (refusals out) (refusals out_now)
+  -- With 8 a read failed, and with 1 there was no memory: nothing was written.
+  pub read : answer ≡ 8 → Rose (failed source) (failed source_now) × (out_now ≡ out)
+  pub unmade : answer ≡ 1 → out_now ≡ out

@@ -1,0 +1,211 @@
+#!/usr/bin/env python3
+"""Runs the program to each status, and looks at what it says on standard error; and at each kind of wrong word.
+
+usage: tools/messages_test.py
+
+A line for each run that says something else than it should, and the status is 1 then, else 0. Where standard error is closed or
+full, status and streams are the same as without. Where it is a terminal, a replay of three seconds shows how far it has come, and
+clears the line at its end; where it isn't, it shows nothing.
+
+ZCRX=FILE names another program than crates/zcrx_cli/out/zcrx_cli, which `make build` leaves there.
+"""
+
+import gzip
+import os
+import pathlib
+import pty
+import re
+import resource
+import struct
+import subprocess
+import sys
+import tempfile
+import time
+
+import frames
+
+TOP = pathlib.Path(__file__).resolve().parent.parent
+PROGRAM = pathlib.Path(os.environ.get("ZCRX", TOP / "crates/zcrx_cli/out/zcrx_cli")).resolve()
+
+HELLO = frames.FILE_HEADER + frames.record(0, frames.frame(40000, 9000, 1001, frames.PSH_ACK, b"hello"))
+BIG_RECORD = struct.pack("<4I", 0, 0, 262_145, 262_145)
+MANY_RECORDS = 16_777_217
+
+wrong = []
+
+
+def many_flows():
+    """One flow more than there may be."""
+    parts = [frames.FILE_HEADER]
+    for flow in range(65_536):
+        parts.append(frames.record(0, frames.frame(flow, 9000, 1000, 2, b"")))
+    return b"".join(parts)
+
+
+def run(words, given, folder, **options):
+    return subprocess.run([PROGRAM, *words], input=given, cwd=folder, capture_output=True, timeout=300, **options)
+
+
+def expect(name, answer, status, *texts):
+    said = answer.stderr.decode()
+    if answer.returncode != status:
+        wrong.append(f"{name}: status {answer.returncode} and not {status}")
+    for text in texts:
+        if text not in said:
+            wrong.append(f"{name}: no '{text}' in: {said!r}")
+    if not texts and said:
+        wrong.append(f"{name}: it says {said!r}")
+
+
+def replay(name, given, status, *texts, **options):
+    with tempfile.TemporaryDirectory() as folder:
+        expect(name, run(["replay", "9000"], given, folder, **options), status, *texts)
+
+
+def readings():
+    replay("whole", HELLO, 0)
+    replay("empty", b"", 6, "status 6: standard input is empty")
+    replay("cut", HELLO[:-1], 6, "status 6: the capture ends within")
+    replay("text", b"GET / HTTP/1.1\r\n", 3, "status 3: standard input is text")
+    replay("gzip", gzip.compress(HELLO), 3, "status 3: standard input is compressed", "gzip -dc")
+    replay("binary", b"\x00\x01\x02\x03" * 8, 3, "status 3: standard input is no pcap capture")
+    replay("version", HELLO[:4] + b"\x03" + HELLO[5:], 4, "status 4: the capture's major version")
+    replay("link type", HELLO[:20] + b"\x71" + HELLO[21:], 5, "status 5: the capture isn't of Ethernet", "'any'")
+    replay("long record", HELLO + BIG_RECORD, 7, "status 7: a record states more than 262144 bytes")
+    replay("closed input", None, 8, "status 8: standard input", preexec_fn=lambda: os.close(0))
+    replay("flows", many_flows(), 10, "status 10: there are more than 65535 flows")
+    records = frames.FILE_HEADER + bytes(16) * MANY_RECORDS
+    replay("records", records, 11, "status 11: there are more than 16777216 records")
+
+
+def records():
+    """Records of runs: a legal one, and one whose last line is missing."""
+    with tempfile.TemporaryDirectory() as folder:
+        answer = run(["check"], b"run 1:1024 1\nend\n", folder)
+        expect("legal run", answer, 0)
+        if answer.stdout != b"checked 2\n":
+            wrong.append(f"legal run: {answer.stdout!r}")
+        answer = run(["check"], b"run 1:1024 1\n", folder)
+        expect("run without an end", answer, 14, "status 14: the run record isn't that of a legal run")
+        if answer.stdout != b"bad 2\n":
+            wrong.append(f"run without an end: {answer.stdout!r}")
+
+
+def memory():
+    limit = lambda: resource.setrlimit(resource.RLIMIT_AS, (48 << 20, 48 << 20))
+    words = ["replay", "--buffers", "1024", "--size", "65536", "--turns", "n", "9000"]
+    with tempfile.TemporaryDirectory() as folder:
+        expect("memory", run(words, HELLO, folder, preexec_fn=limit), 1, "status 1: there was no memory")
+
+
+def writing():
+    with tempfile.TemporaryDirectory() as folder:
+        pathlib.Path(folder, "flow-0.bin").mkdir()
+        answer = run(["replay", "9000"], HELLO, folder)
+        expect("no file", answer, 9, "flow-0.bin: Is a directory", "status 9: standard output or a stream")
+    with tempfile.TemporaryDirectory() as folder, open("/dev/full", "wb") as full:
+        answer = subprocess.run([PROGRAM, "replay", "9000"], input=HELLO, cwd=folder, stdout=full, stderr=subprocess.PIPE)
+        expect("full output", answer, 9, "status 9: standard output or a stream")
+
+
+WORDS = [
+    ([], "there is no command"),
+    (["--help"], "'--help' is no command"),
+    (["help"], "'help' is no command"),
+    (["replay"], "there is no port"),
+    (["replay", "9000", "9000"], "port 9000 stands twice"),
+    (["replay", "90000"], "'90000' is no port"),
+    (["replay", "--sise", "1024", "9000"], "there is no option '--sise'"),
+    (["replay", "--size", "1000", "9000"], "--size takes a power of two from 1024 to 65536, not '1000'"),
+    (["replay", "--ring", "0", "9000"], "--ring takes a number from 1 to 256, not '0'"),
+    (["replay", "9000", "--quit"], "--quit wants a value"),
+    (["replay", "--turns", "n1", "9000"], "--turns takes"),
+    (["make", "7"], "make wants two numbers"),
+    (["make", "7", "1000001"], "make takes 0 to 1000000 frames, not '1000001'"),
+    (["check", "it"], "check takes no word more, as 'it'"),
+]
+
+
+def usage():
+    with tempfile.TemporaryDirectory() as folder:
+        for words, text in WORDS:
+            answer = run(words, b"", folder)
+            expect(" ".join(["zcrx", *words]), answer, 2, text, "usage: zcrx replay", "status 2: the words have no reading")
+        if any(pathlib.Path(folder).iterdir()):
+            wrong.append("usage: a file was written")
+
+
+def without_errors():
+    """Standard error is closed, or full."""
+    ways = [("closed", {"preexec_fn": lambda: os.close(2)}), ("full", {"stderr": open("/dev/full", "wb")})]
+    for name, options in ways:
+        for given, status in ((HELLO, 0), (HELLO + BIG_RECORD, 7)):
+            with tempfile.TemporaryDirectory() as folder:
+                answer = subprocess.run(
+                    [PROGRAM, "replay", "9000"], input=given, cwd=folder, stdout=subprocess.DEVNULL, timeout=60, **options)
+                stream = pathlib.Path(folder, "flow-0.bin").read_bytes()
+            if answer.returncode != status or stream != b"hello":
+                wrong.append(f"standard error {name}: status {answer.returncode}, stream {stream!r}")
+
+
+def slowly(pipe):
+    """Writes a capture of 10,000 records within three seconds: how many bytes."""
+    sent = pipe.write(frames.FILE_HEADER)
+    for piece in range(20):
+        for number in range(500):
+            sequence = 1001 + 5 * (500 * piece + number)
+            sent += pipe.write(frames.record(0, frames.frame(40000, 9000, sequence, frames.PSH_ACK, b"hello")))
+        pipe.flush()
+        time.sleep(0.15)
+    pipe.close()
+    return sent
+
+
+def shown_at_terminal():
+    """What the program shows on a terminal."""
+    main_end, other_end = pty.openpty()
+    with tempfile.TemporaryDirectory() as folder:
+        child = subprocess.Popen(
+            [PROGRAM, "replay", "9000"], cwd=folder, stdin=subprocess.PIPE, stdout=subprocess.DEVNULL, stderr=other_end)
+        os.close(other_end)
+        slowly(child.stdin)
+        child.wait(timeout=60)
+    shown = b""
+    try:
+        while piece := os.read(main_end, 4096):
+            shown += piece
+    except OSError:
+        pass
+    os.close(main_end)
+    return shown.decode()
+
+
+def progress():
+    shown = shown_at_terminal()
+    lines = re.findall(r"\r\x1b\[Kzcrx: (\d+) records, (\d+) bytes, (\d+) flows", shown)
+    if not 2 <= len(lines) <= 30 or not shown.endswith("\r\x1b[K"):
+        wrong.append(f"terminal: {len(lines)} lines of progress, behind them {shown[-20:]!r}")
+    for records, count, flows in lines:
+        most = 24 + 75 * (int(records) + 1)
+        if not (0 < int(records) <= 10_000 and most - 150 < int(count) <= most and flows == "1"):
+            wrong.append(f"terminal: {records} records, {count} bytes, {flows} flows")
+    with tempfile.TemporaryDirectory() as folder:
+        child = subprocess.Popen(
+            [PROGRAM, "replay", "9000"], cwd=folder, stdin=subprocess.PIPE, stdout=subprocess.DEVNULL, stderr=subprocess.PIPE)
+        slowly(child.stdin)
+        if said := child.stderr.read():
+            wrong.append(f"no terminal: {said!r}")
+        child.wait(timeout=60)
+
+
+def main():
+    for part in (readings, records, memory, writing, usage, without_errors, progress):
+        part()
+    for line in wrong:
+        print(line)
+    print(f"messages: {len(wrong)} wrong")
+    return 1 if wrong else 0
+
+
+if __name__ == "__main__":
+    sys.exit(main())
