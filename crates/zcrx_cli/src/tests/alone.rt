@@ -1,8 +1,9 @@
 //! Commands that need no threads.
 use super::frames::{PSH_ACK, capture_of, to_9000};
 use crate::{Card, SHELVES, zcrx_alone};
-use std::alloc::Global;
 use std::collections::hash_map::RandomState;
+use std::process::Abort;
+use std::random::RandomSource;
 use std::test::Fail;
 use zr_io::{MemShelf, MemSink, MemSource};
 
@@ -17,14 +18,15 @@ struct Left {
 }
 
 /// Runs a command over a capture of one segment, `hello` to port 9000.
-fn run_alone(rt: &HostRuntime, words: &[&str]) -> Result<Left, Fail> {
-    let alloc: Global = rt.alloc();
+fn run_alone(rt: &(impl Abort + AllocGlobal + RandomSource), words: &[&str]) -> Result<Left, Fail> {
+    let alloc = rt.alloc();
     let bytes = capture_of(alloc, &[to_9000(1001, PSH_ACK, b"hello")])?;
     let mut source = MemSource::new(bytes, 1000, Vec::new(alloc));
     let mut shelves = Vec::with_capacity(alloc, SHELVES)?;
     for _ in 0..SHELVES {
         shelves.push(MemShelf::new(alloc, 1, 100, Vec::new(alloc))?)?;
     }
+    assert_eq!(rt; shelves.len(), SHELVES);
     let mut out = MemSink::new(alloc, 2000, Vec::new(alloc))?;
     let random = RandomState::new(rt)?;
     let mut card = Card::Blank;

@@ -63,7 +63,7 @@ fn end_of(flow: &PlainFlow, bytes: usize) -> &'static str {
     match flow.close.fin {
         _ if flow.close.reset => "reset",
         None => "open",
-        Some(fin) if flow.base.wrapping_add(bytes as u32) == fin => "whole",
+        Some(fin) if fin.wrapping_sub(flow.base) as usize == bytes => "whole",
         Some(_) => "short",
     }
 }
