@@ -1,6 +1,7 @@
 pub mod Lists
 pub mod Tokens
 pub mod Looks
+pub mod NotNow
 pub mod Texts
 pub mod NicEvents
 pub mod AppEvents

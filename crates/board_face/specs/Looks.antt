@@ -1,6 +1,6 @@
 -- Looks. Each answer 'not now' of a face has a count, and comes only in a call in which its count rose. A count never
--- falls, and is as large as it is: it has no greatest value. On a board of words a look is noted only at a step that
--- saw the word so.
+-- falls, and is as large as it is: it has no greatest value. What a look tells beyond that is each board's to say, by
+-- `tells` of the face.
 use Rattle.std.specs.Prelude.{ℕ, ◌+◌, ◌<◌, ◌≤◌, Bool, true, false, if◌then◌else◌, List, [], ◌∷◌, ◌==◌, ◌&&◌}
 use Rattle.board_face.specs.declared.views.nic.NicLook.{NicLook}
 use Rattle.board_face.specs.declared.views.nic.NicLook.TheVariants.{RingEmpty, NoteInUse, Swept, NotLeft, HasLeft, NotOwed, Owed, LastHolder, StillHeld}

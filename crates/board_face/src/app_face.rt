@@ -1,10 +1,12 @@
-ghost use Rattle.std.specs.Prelude.{◌≡◌, ℕ, ◌+◌, ◌-◌, ◌<◌, ◌≤◌, ◌↔◌, true, false, length, IsTrue, MatchOption, MatchResult};
+ghost use Rattle.std.specs.Prelude.{◌≡◌, ℕ, ◌+◌, ◌-◌, ◌<◌, ◌≤◌, ◌↔◌, true, false, length, IsTrue, IfErr, IfNone, IfSome, MatchOption, MatchResult};
 ghost use Rattle.std.specs.Prelude.{MatchBool};
 ghost use Rattle.area_layout.specs.Layout.{IsLayout, total, least_size, off_of};
 ghost use Rattle.board_face.specs.declared.views.app.AppView.{AppView};
 ghost use Rattle.board_face.specs.declared.views.app.AppLook.TheVariants.{RefillInUse, RawOnItsWay, NoSpare, NotQuiet};
 ghost use Rattle.board_face.specs.declared.views.app.AppLook.{AppLook};
 ghost use Rattle.board_face.specs.Looks.{AppTold};
+ghost use Rattle.board_face.specs.NotNow.{HasWritten, HasWrittenRingful, HasPushedRaw, HasUsedReserve};
+ghost use Rattle.board_face.specs.declared.answers.Polled.TheVariants.{Empty as got_none};
 ghost use Rattle.board_face.specs.Tokens.{filled_by};
 ghost use Rattle.board_face.specs.Texts.{front_place, rest_place};
 ghost use Rattle.board_face.specs.AppEvents.{app_gist, cut, released, lent, loan_origin, has_read, abandoned, gave, pushed_raw, came_to_rest, reserve_of};
@@ -27,10 +29,14 @@ pub trait AppFace {
 
     ghost beside: { Self → Self.Beside };
 
-    /// What a board says of this look: that it is so, by what the application knows but for its looks and its refill
-    /// slots, and by what stands beside it. Each call whose count of a look rose is told so of the board before it. A
-    /// board on which others step meanwhile says nothing.
+    /// What a board says of this look, by what the application knows but for its looks and its refill slots, and by what
+    /// stands beside it: that it is so of the board before the call; or, where others step meanwhile, of some board with
+    /// what this application did. Each call whose count of a look rose is told so.
     ghost tells: { AppLook → AppView → Self.Beside → Type 0 } = { λ _ _ _. Unit {0} };
+
+    /// What a board says of a buffer that it gives as a spare: that it is the lowest of the first word of the free list that
+    /// had one, or the reserve where no word had, by the same.
+    ghost finds: { ℕ → AppView → Self.Beside → Type 0 } = { λ _ _ _. Unit {0} };
 
     /// How many slots each ring has.
     fn places(&self) -> u32
@@ -57,6 +63,8 @@ pub trait AppFace {
     fn poll(&mut self, linear: &mut [u8; 256]) -> Polled
         requires here { IsHere (seen self.old) }
         ensures view { Looked (seen self.old) (seen self.new) linear.new result }
+        // Once it answered `Ended`, it answers that again.
+        ensures untold { result ≡ got_none → (seen self.old).ended ≡ false }
         ensures told { AppTold (λ look. tells look (app_gist (seen self.old)) (beside self.old)) (seen self.old) (seen self.new) }
         ensures beside { beside self.new ≡ beside self.old };
 
@@ -76,6 +84,7 @@ pub trait AppFace {
         ensures view { MatchBool result
             (seen self.new ≡ came_to_rest (seen self.old))
             (AppOnlySaw RawOnItsWay (seen self.old) (seen self.new)) }
+        ensures raw { result ≡ false → HasPushedRaw (seen self.old) }
         ensures told { AppTold (λ look. tells look (app_gist (seen self.old)) (beside self.old)) (seen self.old) (seen self.new) }
         // Where nothing was pushed raw since the last `true`, it is `true` again.
         ensures still { (seen self.old).settled ≡ true → IsTrue result }
@@ -107,6 +116,7 @@ pub trait AppFace {
         ensures view { MatchResult result
             (λ _. seen self.new ≡ gave (seen self.old) loan)
             (λ back. (back ≡ loan) × AppOnlySaw RefillInUse (seen self.old) (seen self.new)) }
+        ensures full { IfErr result (λ _. HasWrittenRingful (seen self.old)) }
         ensures told { AppTold (λ look. tells look (app_gist (seen self.old)) (beside self.old)) (seen self.old) (seen self.new) }
         ensures beside { beside self.new ≡ beside self.old };
 
@@ -122,6 +132,7 @@ pub trait AppFace {
         ensures view { MatchResult result
             (λ _. seen self.new ≡ pushed_raw (seen self.old) entry)
             (λ back. (back ≡ entry) × AppOnlySaw RefillInUse (seen self.old) (seen self.new)) }
+        ensures full { IfErr result (λ _. HasWrittenRingful (seen self.old)) }
         ensures told { AppTold (λ look. tells look (app_gist (seen self.old)) (beside self.old)) (seen self.old) (seen self.new) }
         ensures beside { beside self.new ≡ beside self.old };
 
@@ -140,6 +151,8 @@ pub trait AppFace {
         ensures view { MatchOption result
             (AppOnlySaw NoSpare (seen self.old) (seen self.new))
             (λ own. GotSpare (seen self.old) (seen self.new) own) }
+        ensures held { IfNone result (HasUsedReserve (seen self.old)) }
+        ensures lowest { IfSome result (λ own. finds own.buffer (app_gist (seen self.old)) (beside self.old)) }
         ensures told { AppTold (λ look. tells look (app_gist (seen self.old)) (beside self.old)) (seen self.old) (seen self.new) }
         ensures beside { beside self.new ≡ beside self.old };
 
@@ -177,6 +190,7 @@ pub trait AppFace {
         ensures view { MatchBool result
             (seen self.new ≡ fell_quiet (seen self.old))
             (AppOnlySaw NotQuiet (seen self.old) (seen self.new)) }
+        ensures some { result ≡ false → HasWritten (seen self.old) }
         ensures told { AppTold (λ look. tells look (app_gist (seen self.old)) (beside self.old)) (seen self.old) (seen self.new) }
         ensures beside { beside self.new ≡ beside self.old };
 

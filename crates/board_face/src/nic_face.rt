@@ -1,9 +1,10 @@
-ghost use Rattle.std.specs.Prelude.{◌≡◌, ◌+◌, ◌<◌, ◌≤◌, [], length, MatchOption, MatchResult, MatchBool};
+ghost use Rattle.std.specs.Prelude.{◌≡◌, ◌+◌, ◌<◌, ◌≤◌, [], false, length, IfErr, MatchOption, MatchResult, MatchBool};
 ghost use Rattle.area_layout.specs.Layout.{IsLayout, least_size};
 ghost use Rattle.board_face.specs.declared.views.nic.NicView.{NicView};
 ghost use Rattle.board_face.specs.declared.views.nic.NicLook.TheVariants.{NoteInUse, NotLeft};
 ghost use Rattle.board_face.specs.declared.views.nic.NicLook.{NicLook};
 ghost use Rattle.board_face.specs.Looks.{NicTold};
+ghost use Rattle.board_face.specs.NotNow.{HasSentRingful};
 ghost use Rattle.board_face.specs.Tokens.{filled_by, next_place};
 ghost use Rattle.board_face.specs.Texts.{IsSplitNote, IsLinearNote};
 ghost use Rattle.board_face.specs.NicEvents.{nic_gist, placed, sent, sent_linear, saw_leave, nic_ended};
@@ -26,9 +27,9 @@ pub trait NicFace {
 
     ghost beside: { Self → Self.Beside };
 
-    /// What a board says of this look: that it is so, by what the card knows but for its looks, and by what stands beside
-    /// it. Each call whose count of a look rose is told so of the board before it. A board on which others step
-    /// meanwhile says nothing.
+    /// What a board says of this look, by what the card knows but for its looks, and by what stands beside it: that it is
+    /// so of the board before the call; or, where others step meanwhile, of some board with what the card did. Each call
+    /// whose count of a look rose is told so.
     ghost tells: { NicLook → NicView → Self.Beside → Type 0 } = { λ _ _ _. Unit {0} };
 
     /// How many applications share the board.
@@ -105,6 +106,7 @@ pub trait NicFace {
         ensures view { MatchResult result
             (λ _. seen self.new ≡ sent (seen self.old) app note)
             (λ back. (back ≡ piece) × NicOnlySaw (NoteInUse app) (seen self.old) (seen self.new)) }
+        ensures full { IfErr result (λ _. HasSentRingful (seen self.old) app) }
         ensures told { NicTold (λ look. tells look (nic_gist (seen self.old)) (beside self.old)) (seen self.old) (seen self.new) }
         ensures beside { beside self.new ≡ beside self.old };
 
@@ -117,6 +119,7 @@ pub trait NicFace {
         ensures view { MatchBool result
             (seen self.new ≡ sent_linear (seen self.old) app note bytes.now)
             (NicOnlySaw (NoteInUse app) (seen self.old) (seen self.new)) }
+        ensures full { result ≡ false → HasSentRingful (seen self.old) app }
         ensures told { NicTold (λ look. tells look (nic_gist (seen self.old)) (beside self.old)) (seen self.old) (seen self.new) }
         ensures beside { beside self.new ≡ beside self.old };
 

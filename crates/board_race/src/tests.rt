@@ -3,6 +3,7 @@ ghost use Rattle.face_table.specs.CardHand.{IsCardHand};
 ghost use Rattle.face_table.specs.AppHand.{IsAppHand};
 
 mod entries;
+mod spares;
 mod texts;
 mod threads;
 

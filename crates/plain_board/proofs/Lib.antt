@@ -43,3 +43,4 @@ pub mod Giving
 pub mod Reading
 pub mod OwnLending
 pub mod RingSlots
+pub mod NotNow

@@ -1,11 +1,11 @@
 -- What an application knows of itself counts as its side does: before its scrub nothing was taken by one, and then it owes nothing.
-use Rattle.std.proofs.Common.{◌≡◌, ℕ, ◌+◌, ◌-◌, Bool, true, false, List, [], ◌∷◌, set, refl, ap, sym, ◌∙◌, arith}
+use Rattle.std.proofs.Common.{◌≡◌, ℕ, ◌+◌, ◌-◌, ◌<◌, ◌≤◌, Bool, true, false, List, [], ◌∷◌, set, refl, ap, sym, ◌∙◌, arith}
 use Rattle.std.proofs.Common.{length-drop}
 use Rattle.std.specs.Prelude.{◌==◌, nat_eq, count_by, if◌then◌else◌, All}
 use Rattle.std.specs.List.{flat_map}
 use Rattle.std.proofs.lemmas.List.{set-set}
 use Rattle.std.proofs.lemmas.List.Elements.{All-head, All-tail}
-use Rattle.area_layout.specs.Layout.{total as all_buffers}
+use Rattle.area_layout.specs.Layout.{pool_buffers, total as all_buffers}
 use Rattle.board_face.specs.Sides.{IsApp}
 use Rattle.board_face.specs.Holders.{returning_in_hand, returned_in, ended_in}
 use Rattle.board_face.specs.Counts.{pool_count, user_count}
@@ -16,7 +16,7 @@ use Rattle.board_face.proofs.Tallies.{weight, tally, total, tally-flat}
 use Rattle.board_face.proofs.Parts.{app_count, user_part, loans_in, owed_count, returned_in-count, count-tally}
 use Rattle.board_face.proofs.AppLemmas.{pool_count-app, user_count-app}
 use Rattle.board_face.specs.Blank.{blank_app}
-use Rattle.board_parts.specs.Free.{HasNoneListed}
+use Rattle.board_parts.specs.Free.{listed_in, HasNoneListed}
 use Rattle.board_face.proofs.OpenedLemmas.{all-alike}
 use Rattle.plain_board.specs.Board.{Board, others_of}
 use Rattle.plain_board.specs.Seen.{self_of, all_of, HasNothingListed}
@@ -65,18 +65,30 @@ module _ (board : Board) (a : ℕ) (x : AppSide) (sound : IsSound board) (here :
   pub seen-users : (k b : ℕ) → user_count k b board.nic (all_of (app_gist x.view) (others_of board a)) ≡ user_count k b board.nic board.apps
   seen-users k b = omega (arith, ap (user_count k b board.nic) sides, user_count-app k b board.nic board.apps a x self here, self-part k b)
 
-  -- where no buffer is listed, one without holder is cached
-  pub nothing-listed : HasNoneListed board.arrays.listed → HasNothingListed (app_gist x.view) (others_of board a)
-  nothing-listed none b within free =
+  -- one that isn't listed and has no holder is cached,
+  pub unlisted-cached : (b : ℕ) → b < pool_buffers x.view.setting.layout → listed_in board.arrays.listed b ≡ false
+      → pool_count b board.nic (all_of (app_gist x.view) (others_of board a)) ≡ 0 → 1 ≤ count_by (nat_eq b) board.nic.view.cache
+  unlisted-cached b within none free =
       let before : pool_count b board.nic board.apps ≡ 0 = sym (seen-count b) ∙ free in
       let once = sound.free.pool b (rw sound.set.card (rw (has-setting board a x x sound here) at within)) in
       let hands : AppSide → List ℕ = λ app. app.inside.hands in
       omega (
         arith,
         rw before at once,
-        ap weight (none b),
+        ap weight none,
         ap (λ inside. count_by (nat_eq b) inside.hands) sound.set.card_rest,
         count-tally (nat_eq b) (flat_map hands board.apps),
         tally-flat (nat_eq b) hands board.apps,
         hands-none b board.apps sound.set.roles_rest,
       )
+
+  -- and one that is listed has no holder and isn't cached
+  pub listed-free : (b : ℕ) → b < pool_buffers x.view.setting.layout → listed_in board.arrays.listed b ≡ true → pool_count b board.nic board.apps ≡ 0
+      → (pool_count b board.nic (all_of (app_gist x.view) (others_of board a)) ≡ 0) × (count_by (nat_eq b) board.nic.view.cache ≡ 0)
+  listed-free b within there free =
+      let once = sound.free.pool b (rw sound.set.card (rw (has-setting board a x x sound here) at within)) in
+      (seen-count b ∙ free, omega (arith, rw free at once, ap weight there))
+
+  -- where no buffer is listed, one without holder is cached
+  pub nothing-listed : HasNoneListed board.arrays.listed → HasNothingListed (app_gist x.view) (others_of board a)
+  nothing-listed none b within free = unlisted-cached b within (none b) free

@@ -9,7 +9,6 @@ use Rattle.board_face.specs.declared.views.parts.Setting.{Setting}
 use Rattle.board_face.specs.declared.views.nic.NicSide.{NicSide}
 use Rattle.board_face.specs.declared.views.app.AppSide.{AppSide}
 use Rattle.board_face.specs.Blank.{blank_app}
-use Rattle.board_parts.specs.Free.{listed_in}
 use Rattle.board_parts.specs.Opened.{new_apps}
 use Rattle.board_parts.specs.declared.slots.NoteSlot.{NoteSlot}
 use Rattle.plain_board.specs.declared.others.Others.{Others}
@@ -64,11 +63,6 @@ side_of board a = side_in board.apps a
 -- what no call of an application changes: the card's side, those of the other applications, and its own number
 abbrev pub others_of : Board → ℕ → Others
 others_of board a = record { card = board.nic; apps = slice_set board.apps a blank_app; number = a }
-
--- Where a pool buffer is listed, this is the lowest of those.
-pub record IsLowestFree (arrays : Arrays) (buffer : ℕ) : Type 0 where
-  pub is_listed : (b : ℕ) → listed_in arrays.listed b ≡ true → listed_in arrays.listed buffer ≡ true
-  pub lowest : (b : ℕ) → listed_in arrays.listed b ≡ true → buffer ≤ b
 
 -- No count, no free place, no byte and no note changed.
 pub record IsUntouched (old new : Arrays) : Type 0 where

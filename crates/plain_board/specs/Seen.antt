@@ -85,6 +85,13 @@ IsSeenBy NoneListed v others = HasNothingListed v others
 IsSeenBy NoSpare v others = HasNothingListed v others × HoldsReserve v others
 IsSeenBy NotQuiet v others = 0 < length (entries_on_way others.card (self_of v))
 
+-- A spare that is a pool buffer was on the free list: nobody has it, and it isn't cached. No lower one was, nor any where it is the reserve.
+pub record IsFoundLowest (buffer : ℕ) (v : AppView) (others : Others) : Type 0 where
+  pub listed : buffer < pool_buffers v.setting.layout
+      → (pool_count buffer others.card (all_of v others) ≡ 0) × (count_by (nat_eq buffer) others.card.view.cache ≡ 0)
+  pub none_lower : (b : ℕ) → b < buffer → b < pool_buffers v.setting.layout → pool_count b others.card (all_of v others) ≡ 0
+      → 1 ≤ count_by (nat_eq b) others.card.view.cache
+
 -- ---- what a call saw
 
 -- Each look whose count rose for the card is so of the board before.

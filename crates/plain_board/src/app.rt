@@ -1,10 +1,4 @@
-ghost use Rattle.std.specs.Prelude.{◌≡◌, ◌<◌, IfSome, MatchOption};
-ghost use Rattle.board_face.specs.declared.views.app.AppLook.TheVariants.{NoSpare};
-ghost use Rattle.board_face.specs.AppCalls.{IsHere, MaySpare, AppOnlySaw, GotSpare};
-ghost use Rattle.board_face.specs.AppEvents.{app_gist};
-ghost use Rattle.board_face.specs.Looks.{AppTold};
-ghost use Rattle.plain_board.specs.Board.{side_of, others_of, IsLowestFree};
-ghost use Rattle.plain_board.specs.Seen.{IsSeenBy};
+ghost use Rattle.std.specs.Prelude.{◌≡◌, ◌<◌};
 ghost use Rattle.plain_board.specs.Sound.{IsSound};
 
 use crate::contents::Contents;
@@ -50,7 +44,7 @@ impl PlainApp {
 
 impl AppFace for PlainApp {
     ghost use Rattle.plain_board.specs.Board.{side_of, others_of};
-    ghost use Rattle.plain_board.specs.Seen.{IsSeenBy};
+    ghost use Rattle.plain_board.specs.Seen.{IsSeenBy, IsFoundLowest};
 
     type Beside = Others;
 
@@ -59,6 +53,8 @@ impl AppFace for PlainApp {
     ghost beside = { λ p. others_of p.board p.app };
 
     ghost tells = { IsSeenBy };
+
+    ghost finds = { IsFoundLowest };
 
     fn places(&self) -> u32 {
         self.board.places
@@ -112,18 +108,7 @@ impl AppFace for PlainApp {
         self.board.release(self.app, held);
     }
 
-    /// Beyond the face: where a pool buffer is listed, it is the lowest of those.
-    fn spare(&mut self) -> Option<Own>
-        requires here { IsHere (side_of self.old.board self.old.app).view }
-        requires due { MaySpare (side_of self.old.board self.old.app).view }
-        ensures view { MatchOption result
-            (AppOnlySaw NoSpare (side_of self.old.board self.old.app).view (side_of self.new.board self.new.app).view)
-            (λ own. GotSpare (side_of self.old.board self.old.app).view (side_of self.new.board self.new.app).view own) }
-        ensures told { AppTold (λ look. IsSeenBy look (app_gist (side_of self.old.board self.old.app).view) (others_of self.old.board self.old.app))
-            (side_of self.old.board self.old.app).view (side_of self.new.board self.new.app).view }
-        ensures beside { others_of self.new.board self.new.app ≡ others_of self.old.board self.old.app }
-        ensures lowest { IfSome result (λ own. IsLowestFree self.old.board.arrays own.buffer) }
-    {
+    fn spare(&mut self) -> Option<Own> {
         self.board.spare(self.app)
     }
 

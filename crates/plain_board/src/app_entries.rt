@@ -1,7 +1,8 @@
-ghost use Rattle.std.specs.Prelude.{◌≡◌, ◌<◌, true, false, IsTrue, MatchBool, MatchResult};
+ghost use Rattle.std.specs.Prelude.{◌≡◌, ◌<◌, true, false, IfErr, IsTrue, MatchBool, MatchResult};
 ghost use Rattle.board_face.specs.declared.views.app.AppLook.TheVariants.{RefillInUse, RawOnItsWay, NotQuiet};
 ghost use Rattle.board_face.specs.AppCalls.{IsHere, NamesNoLoan, AppOnlySaw};
 ghost use Rattle.board_face.specs.AppEvents.{pushed_raw, came_to_rest, fell_quiet};
+ghost use Rattle.board_face.specs.NotNow.{HasWritten, HasWrittenRingful, HasPushedRaw};
 ghost use Rattle.plain_board.specs.Board.{side_of, others_of};
 ghost use Rattle.plain_board.specs.Seen.{AppSawSo};
 
@@ -20,6 +21,7 @@ impl Contents {
         ensures view { MatchResult result
             (λ _. (side_of self.new app).view ≡ pushed_raw (side_of self.old app).view entry)
             (λ back. (back ≡ entry) × AppOnlySaw RefillInUse (side_of self.old app).view (side_of self.new app).view) }
+        ensures full { IfErr result (λ _. HasWrittenRingful (side_of self.old app).view) }
         ensures told { AppSawSo self.old self.new app }
         ensures others { others_of self.new app ≡ others_of self.old app }
         ensures layout { self.new.arrays.layout ≡ self.old.arrays.layout }
@@ -41,6 +43,7 @@ impl Contents {
         ensures view { MatchBool result
             ((side_of self.new app).view ≡ came_to_rest (side_of self.old app).view)
             (AppOnlySaw RawOnItsWay (side_of self.old app).view (side_of self.new app).view) }
+        ensures raw { result ≡ false → HasPushedRaw (side_of self.old app).view }
         ensures told { AppSawSo self.old self.new app }
         ensures still { (side_of self.old app).view.settled ≡ true → IsTrue result }
         ensures others { others_of self.new app ≡ others_of self.old app }
@@ -58,6 +61,7 @@ impl Contents {
         ensures view { MatchBool result
             ((side_of self.new app).view ≡ fell_quiet (side_of self.old app).view)
             (AppOnlySaw NotQuiet (side_of self.old app).view (side_of self.new app).view) }
+        ensures some { result ≡ false → HasWritten (side_of self.old app).view }
         ensures told { AppSawSo self.old self.new app }
         ensures others { others_of self.new app ≡ others_of self.old app }
         ensures layout { self.new.arrays.layout ≡ self.old.arrays.layout }

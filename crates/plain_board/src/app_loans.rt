@@ -1,7 +1,8 @@
-ghost use Rattle.std.specs.Prelude.{◌≡◌, ◌+◌, ◌<◌, ◌≤◌, ◌↔◌, length, IsTrue, MatchResult};
+ghost use Rattle.std.specs.Prelude.{◌≡◌, ◌+◌, ◌<◌, ◌≤◌, ◌↔◌, length, IfErr, IsTrue, MatchResult};
 ghost use Rattle.board_face.specs.declared.views.app.AppLook.TheVariants.{RefillInUse};
 ghost use Rattle.board_face.specs.AppCalls.{IsHere, HasLoan, IsLive, AppOnlySaw, ShowsCopy};
 ghost use Rattle.board_face.specs.AppEvents.{has_read, loan_origin, gave, abandoned};
+ghost use Rattle.board_face.specs.NotNow.{HasWrittenRingful};
 ghost use Rattle.plain_board.specs.Board.{side_of, others_of};
 ghost use Rattle.plain_board.specs.Seen.{AppSawSo};
 
@@ -37,6 +38,7 @@ impl Contents {
         ensures view { MatchResult result
             (λ _. (side_of self.new app).view ≡ gave (side_of self.old app).view loan)
             (λ back. (back ≡ loan) × AppOnlySaw RefillInUse (side_of self.old app).view (side_of self.new app).view) }
+        ensures full { IfErr result (λ _. HasWrittenRingful (side_of self.old app).view) }
         ensures told { AppSawSo self.old self.new app }
         ensures others { others_of self.new app ≡ others_of self.old app }
         ensures layout { self.new.arrays.layout ≡ self.old.arrays.layout }

@@ -1,5 +1,6 @@
-ghost use Rattle.std.specs.Prelude.{◌≡◌, ◌<◌};
+ghost use Rattle.std.specs.Prelude.{◌≡◌, ◌<◌, false};
 ghost use Rattle.board_face.specs.AppCalls.{IsHere, Looked};
+ghost use Rattle.board_face.specs.declared.answers.Polled.TheVariants.{Empty as got_none};
 ghost use Rattle.plain_board.specs.Board.{side_of, others_of};
 ghost use Rattle.plain_board.specs.Seen.{AppSawSo};
 
@@ -15,6 +16,7 @@ impl Contents {
         requires app { app < self.old.arrays.layout.reserves }
         requires here { IsHere (side_of self.old app).view }
         ensures view { Looked (side_of self.old app).view (side_of self.new app).view linear.new result }
+        ensures untold { result ≡ got_none → (side_of self.old app).view.ended ≡ false }
         ensures told { AppSawSo self.old self.new app }
         ensures others { others_of self.new app ≡ others_of self.old app }
         ensures layout { self.new.arrays.layout ≡ self.old.arrays.layout }

@@ -1,10 +1,11 @@
-ghost use Rattle.std.specs.Prelude.{◌≡◌, ◌<◌, ◌≤◌, length, IfSome, MatchOption};
+ghost use Rattle.std.specs.Prelude.{◌≡◌, ◌<◌, ◌≤◌, length, IfNone, IfSome, MatchOption};
 ghost use Rattle.board_face.specs.declared.views.app.AppLook.TheVariants.{NoSpare};
 ghost use Rattle.board_face.specs.Tokens.{filled_by};
 ghost use Rattle.board_face.specs.AppCalls.{IsHere, HasSpare, CanLend, MaySpare, IsFilled, AppOnlySaw, GotSpare};
-ghost use Rattle.board_face.specs.AppEvents.{filled, own_bytes, begin_place, lent_own};
-ghost use Rattle.plain_board.specs.Board.{side_of, others_of, IsLowestFree};
-ghost use Rattle.plain_board.specs.Seen.{AppSawSo};
+ghost use Rattle.board_face.specs.NotNow.{HasUsedReserve};
+ghost use Rattle.board_face.specs.AppEvents.{app_gist, filled, own_bytes, begin_place, lent_own};
+ghost use Rattle.plain_board.specs.Board.{side_of, others_of};
+ghost use Rattle.plain_board.specs.Seen.{AppSawSo, IsFoundLowest};
 
 use crate::contents::Contents;
 use board_face::{Filling, Loan, Own};
@@ -21,7 +22,8 @@ impl Contents {
         ensures view { MatchOption result
             (AppOnlySaw NoSpare (side_of self.old app).view (side_of self.new app).view)
             (λ own. GotSpare (side_of self.old app).view (side_of self.new app).view own) }
-        ensures lowest { IfSome result (λ own. IsLowestFree self.old.arrays own.buffer) }
+        ensures held { IfNone result (HasUsedReserve (side_of self.old app).view) }
+        ensures lowest { IfSome result (λ own. IsFoundLowest own.buffer (app_gist (side_of self.old app).view) (others_of self.old app)) }
         ensures told { AppSawSo self.old self.new app }
         ensures others { others_of self.new app ≡ others_of self.old app }
         ensures layout { self.new.arrays.layout ≡ self.old.arrays.layout }

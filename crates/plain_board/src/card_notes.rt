@@ -1,7 +1,8 @@
-ghost use Rattle.std.specs.Prelude.{◌≡◌, ◌<◌, length, MatchBool, MatchResult};
+ghost use Rattle.std.specs.Prelude.{◌≡◌, ◌<◌, false, length, IfErr, MatchBool, MatchResult};
 ghost use Rattle.board_face.specs.declared.views.nic.NicLook.TheVariants.{NoteInUse};
 ghost use Rattle.board_face.specs.NicCalls.{apps_of, IsOpen, HasPiece};
 ghost use Rattle.board_face.specs.NicEvents.{sent, sent_linear, nic_saw};
+ghost use Rattle.board_face.specs.NotNow.{HasSentRingful};
 ghost use Rattle.board_face.specs.Sides.{nic_at};
 ghost use Rattle.board_face.specs.Texts.{IsSplitNote, IsLinearNote};
 ghost use Rattle.plain_board.specs.Seen.{CardSawSo};
@@ -23,6 +24,7 @@ impl Contents {
         ensures view { MatchResult result
             (λ _. self.new.nic ≡ nic_at self.old.nic (sent self.old.nic.view app note))
             (λ back. (back ≡ piece) × (self.new.nic ≡ nic_at self.old.nic (nic_saw self.old.nic.view (NoteInUse app)))) }
+        ensures full { IfErr result (λ _. HasSentRingful self.old.nic.view app) }
         ensures told { CardSawSo self.old self.new }
         ensures apps { self.new.apps ≡ self.old.apps }
     {
@@ -49,6 +51,7 @@ impl Contents {
         ensures view { MatchBool result
             (self.new.nic ≡ nic_at self.old.nic (sent_linear self.old.nic.view app note bytes.now))
             (self.new.nic ≡ nic_at self.old.nic (nic_saw self.old.nic.view (NoteInUse app))) }
+        ensures full { result ≡ false → HasSentRingful self.old.nic.view app }
         ensures told { CardSawSo self.old self.new }
         ensures apps { self.new.apps ≡ self.old.apps }
     {

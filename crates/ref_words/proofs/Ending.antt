@@ -39,6 +39,7 @@ module _ (setting : Setting) (words : Words) (nic : NicSide) (apps : List AppSid
     gone = All-weaker (λ a. get_or words.phases (1 + a) 0 ≡ 1) (λ a. get_or (set words.phases 0 1) (1 + a) 0 ≡ 1) (λ a is. other a ∙ is)
         nic.view.gone was.gone;
     lies = record { pieces = was.lies.pieces; sent = was.lies.sent };
+    made = was.made;
     sides = All-weaker (IsAppPhased words.phases nic) (IsAppPhased (set words.phases 0 1) (side_ended nic))
         (λ app p. record {
           word = other app.view.app ∙ p.word;
@@ -114,5 +115,6 @@ module _ (setting : Setting) (words : Words) (nic : NicSide) (apps : List AppSid
           (eqb_tells k a))
           nic.view.gone was.gone;
       lies = was.lies;
+      made = was.made;
       sides = λ k d less. left-side can k d (omega (arith, less, length-set apps a (side_left app)));
     }

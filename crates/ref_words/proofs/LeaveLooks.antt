@@ -26,6 +26,7 @@ module _ (setting : Setting) (words : Words) (nic : NicSide) (apps : List AppSid
     ended = λ e. let s = was.ended e in record { none = record { owns = s.none.owns; pieces = s.none.pieces }; idle = s.idle };
     gone = All-push (λ k. get_or words.phases (1 + k) 0 ≡ 1) nic.view.gone a was.gone (over refl);
     lies = record { pieces = was.lies.pieces; sent = was.lies.sent };
+    made = was.made;
     sides = All-weaker (IsAppPhased words.phases nic) (IsAppPhased words.phases (side_leave_looked nic a true))
         (λ app p. record { word = p.word; left = p.left; seen = p.seen; told = p.told; lies = p.lies }) apps was.sides;
   }

@@ -11,7 +11,7 @@ use Rattle.board_face.specs.declared.views.app.AppSide.{AppSide}
 use Rattle.board_face.proofs.SideLemmas.{IsApp-at}
 use Rattle.ref_words.specs.Words.{Words}
 use Rattle.ref_words.specs.Rule.{RefRule}
-use Rattle.ref_words.specs.PhaseRule.{IsAppPhased, HasPhases, HasStopped, PhaseRule}
+use Rattle.ref_words.specs.PhaseRule.{IsAppPhased, HasPhases, HasStopped, IsMadeInPool, PhaseRule}
 
 -- ---- the card's side changed
 
@@ -27,22 +27,25 @@ module _ (phases : List ℕ) (nic : NicSide) (apps : List AppSide) (was : HasPha
   }
 
   -- not by a note that it sent
-  pub phases-card : now.view.sent ≡ nic.view.sent → (now.view.ended ≡ true → HasStopped now) → CardLiesInPool now.view → HasPhases phases now apps
-  phases-card sents stopped lies = record {
+  pub phases-card : now.view.sent ≡ nic.view.sent → (now.view.ended ≡ true → HasStopped now) → CardLiesInPool now.view → IsMadeInPool now
+      → HasPhases phases now apps
+  phases-card sents stopped lies made = record {
     word = rw ended was.word;
     ended = stopped;
     gone = rw gone was.gone;
     lies = lies;
+    made = made;
     sides = All-weaker (IsAppPhased phases nic) (IsAppPhased phases now) (others sents) apps was.sides;
   }
 
   -- and before it ended, when nobody can have seen that or been told of it
-  pub phases-open : nic.view.ended ≡ false → CardLiesInPool now.view → HasPhases phases now apps
-  phases-open running lies = record {
+  pub phases-open : nic.view.ended ≡ false → CardLiesInPool now.view → IsMadeInPool now → HasPhases phases now apps
+  phases-open running lies made = record {
     word = rw ended was.word;
     ended = λ e. absurd (false≢true (sym running ∙ (sym ended ∙ e)));
     gone = rw gone was.gone;
     lies = lies;
+    made = made;
     sides = All-weaker (IsAppPhased phases nic) (IsAppPhased phases now)
         (λ app p. record {
           word = p.word;
@@ -64,6 +67,7 @@ module _ (phases : List ℕ) (nic : NicSide) (apps : List AppSide) (was : HasPha
         idle = making ∙ stopped.idle;
       })
       (record { pieces = rw (setting, pieces) was.lies.pieces; sent = rw (setting, sents) was.lies.sent })
+      (rw (setting, making) was.made)
 
 -- ---- an application's side changed
 
@@ -79,6 +83,7 @@ module _ (phases : List ℕ) (nic : NicSide) (apps : List AppSide) (was : HasPha
     ended = was.ended;
     gone = was.gone;
     lies = was.lies;
+    made = was.made;
     sides = All-set (IsAppPhased phases nic) apps a now mine was.sides;
   }
 

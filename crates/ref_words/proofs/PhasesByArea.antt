@@ -1,6 +1,6 @@
 -- Phases stay told by each step at the words of the area.
 use Rattle.std.proofs.Common.{◌≡◌, ℕ, List, ⊎_elim, length, refl, set, sym, ◌∙◌, subst}
-use Rattle.std.specs.Prelude.{◌<◌, None, Some}
+use Rattle.std.specs.Prelude.{◌<◌, None, Some, IfSome}
 use Rattle.std.proofs.lemmas.Bool.{cases_Bool}
 use Rattle.std.proofs.lemmas.List.Elements.{All-contains, All-push}
 use Rattle.zr_kinds.specs.declared.place.Place.{Place}
@@ -34,11 +34,13 @@ module _ (setting : Setting) (words : Words) (nic : NicSide) (apps : List AppSid
       (λ going. going)
       (cases_Bool nic.view.ended)
 
-  pub piece_stored-phases : (making : Making) → nic.inside.making ≡ Some making → (place : Place) (n : ℕ)
+  pub piece_stored-phases : (making : Making) → nic.inside.making ≡ Some making → (place : Place) (n : ℕ) → making.place ≡ place
       → PhaseRule setting words (side_piece_stored nic place n) apps
-  piece_stored-phases making is place n =
+  piece_stored-phases making is place n there =
       phases-open words.phases nic apps was (side_piece_stored nic place n) refl refl (making-open making is)
       (record { pieces = was.lies.pieces; sent = was.lies.sent })
+      (subst (λ (p : Place). p.buffer < pool_buffers nic.view.setting.layout) there
+      (subst (λ m. IfSome m (λ (made : Making). made.place.buffer < pool_buffers nic.view.setting.layout)) is was.made))
 
   pub piece_placed-phases : (own : Filling) (bytes : List ℕ) → HasOwn nic.view (filled_by own (length bytes))
       → PhaseRule setting words (side_piece_placed nic own bytes) apps
@@ -49,6 +51,7 @@ module _ (setting : Setting) (words : Words) (nic : NicSide) (apps : List AppSid
         pieces = All-push (λ (p : PlacedText). p.place.buffer < pool_buffers nic.view.setting.layout) nic.view.pieces _ was.lies.pieces of_pool;
         sent = was.lies.sent;
       })
+      tt
 
   -- ---- an application
 

@@ -3,6 +3,9 @@ use Rattle.std.proofs.Common.{◌≡◌, ℕ, Bool, true, false, List, [], map, 
 use Rattle.std.proofs.lemmas.Bool.{cases_Bool}
 use Rattle.zr_kinds.specs.declared.place.Note.{Note}
 use Rattle.zr_kinds.specs.declared.ring.Rqe.{Rqe}
+use Rattle.std.specs.Prelude.{◌<◌}
+use Rattle.std.proofs.lemmas.List.Elements.{All-contains}
+use Rattle.area_layout.specs.Layout.{pool_buffers}
 use Rattle.board_face.specs.NicEvents.{took}
 use Rattle.board_face.specs.NicCalls.{IsOpen, HasOwn, HasPiece}
 use Rattle.board_face.specs.OwnBuffers.{LieInOwn}
@@ -36,17 +39,18 @@ module _ (setting : Setting) (words : Words) (nic : NicSide) (apps : List AppSid
   pub took-phases : (b : ℕ) → IsOpen nic.view → PhaseRule setting words (nic_at nic (took nic.view b)) apps
   took-phases b going =
       phases-open words.phases nic apps was (nic_at nic (took nic.view b)) refl refl going
-      (record { pieces = was.lies.pieces; sent = was.lies.sent })
+      (record { pieces = was.lies.pieces; sent = was.lies.sent }) was.made
 
   pub begun-phases : (own : Filling) (n : ℕ) → HasOwn nic.view own → PhaseRule setting words (side_begun nic own n) apps
   begun-phases own n out =
       phases-open words.phases nic apps was (side_begun nic own n) refl refl (own-open own out)
       (record { pieces = was.lies.pieces; sent = was.lies.sent })
+      (All-contains (λ (o : Filling). o.buffer < pool_buffers nic.view.setting.layout) nic.view.owns _ rule.sides.fit.of_pool out)
 
   pub shut-phases : (own : Filling) (last : Bool) → HasOwn nic.view own → PhaseRule setting words (side_shut nic own last) apps
   shut-phases own last out =
       phases-open words.phases nic apps was (side_shut nic own last) refl refl (own-open own out)
-      (record { pieces = was.lies.pieces; sent = was.lies.sent })
+      (record { pieces = was.lies.pieces; sent = was.lies.sent }) was.made
 
   pub both_lowered-phases : (a : ℕ) (entry : Rqe) (b : ℕ) (last : Bool) → PhaseRule setting words (side_both_lowered nic a entry b last) apps
   both_lowered-phases a entry b last =
@@ -97,11 +101,11 @@ module _ (setting : Setting) (words : Words) (nic : NicSide) (apps : List AppSid
       (λ over. absurd (none-in _ note.place out (ap (map (λ p. p.place)) (was.ended over).none.pieces)))
       (λ going. going)
       (cases_Bool nic.view.ended))
-      (record { pieces = own.card.pieces; sent = own.card.sent })
+      (record { pieces = own.card.pieces; sent = own.card.sent }) was.made
 
   pub sent_linear-phases : (a : ℕ) (note : Note) (bytes : List ℕ) → IsOpen nic.view → note.split ≡ false
       → PhaseRule setting words (side_sent_linear nic a note bytes) apps
   sent_linear-phases a note bytes going unsplit =
       let own = LieInOwn-sent_linear nic apps a note bytes unsplit lies in
       phases-open words.phases nic apps was (side_sent_linear nic a note bytes) refl refl going
-      (record { pieces = own.card.pieces; sent = own.card.sent })
+      (record { pieces = own.card.pieces; sent = own.card.sent }) was.made

@@ -15,6 +15,7 @@ opened-phases setting = record {
   ended = λ e. absurd (false≢true e);
   gone = All-nil _;
   lies = record { pieces = All-nil _; sent = All-nil _ };
+  made = tt;
   sides = All-new (IsAppPhased (opened_words setting).phases (new_nic setting)) setting 0 (apps_of setting)
       (λ a. record {
         word = all-alike (roles_of setting) (1 + a) 0;

@@ -84,7 +84,7 @@ module _ (laws : AreLaws) (setting : Setting) where
   card-keeps words nic apps (Runs.looks_entry a) rule may = laws.k16_flag.entry setting words nic apps a rule may
   card-keeps words nic apps (Runs.loads_entry a) rule may = laws.k16.entry setting words nic apps a rule may.0 may.1 may.2
   card-keeps words nic apps (Runs.loads_last a n) rule may = laws.k16.in_hand setting words nic apps a n rule may.0 may.1 may.2 may.3 may.4
-  card-keeps words nic apps (Runs.frees_honoured a entry b) rule may = laws.k17.honoured setting words nic apps a entry b rule may.0 may.1 may.2
+  card-keeps words nic apps (Runs.frees_honoured a entry b) rule may = laws.k17.honoured setting words nic apps a entry b rule may.0 may.1 may.2 may.3
   card-keeps words nic apps (Runs.frees_stray a entry) rule may = laws.k17.stray setting words nic apps a entry rule may.0 may.1 may.2
   card-keeps words nic apps (Runs.frees_void a entry) rule may = laws.k17.void setting words nic apps a entry rule may.0 may.1 may.2 may.3
   card-keeps words nic apps (Runs.sweeps j) rule may = (laws.k18 setting words nic apps j rule may.0 may.1).rule

@@ -15,5 +15,6 @@ pub mod FreeSteps
 pub mod FreeLaws
 pub mod RestSteps
 pub mod Runs
+pub mod Middle
 pub mod AreaLaws
 pub mod Over

@@ -1,5 +1,6 @@
 -- Phases: what the phase words say of how far the card and the applications have come, and what follows from that.
-use Rattle.std.specs.Prelude.{◌≡◌, ℕ, ◌+◌, Bool, true, if◌then◌else◌, List, [], None, slice_index, slice_set, All}
+use Rattle.std.specs.Prelude.{◌≡◌, ℕ, ◌+◌, Bool, true, ◌<◌, if◌then◌else◌, List, [], None, IfSome, slice_index, slice_set, All}
+use Rattle.area_layout.specs.Layout.{pool_buffers}
 use Rattle.board_face.specs.NicCalls.{HasNoToken}
 use Rattle.board_face.specs.AppCalls.{CanLeave}
 use Rattle.board_face.specs.Holders.{on_way}
@@ -32,13 +33,18 @@ pub record IsAppPhased (phases : List ℕ) (nic : NicSide) (app : AppSide) : Typ
   -- what it holds lies in pool buffers, and what it filled or lent in these or in its reserve
   pub lies : AppLiesInOwn app.view
 
--- The card's phase word is 1 exactly where it has ended, and so is that of each application that it saw to have left. Its pieces and
--- the notes that it sent lie in pool buffers.
+-- the piece in the making lies in a pool buffer
+abbrev pub IsMadeInPool : NicSide → Type 0
+IsMadeInPool nic = IfSome nic.inside.making (λ making. making.place.buffer < pool_buffers nic.view.setting.layout)
+
+-- The card's phase word is 1 exactly where it has ended, and so is that of each application that it saw to have left. Its pieces, that
+-- in the making too, and the notes that it sent lie in pool buffers.
 pub record HasPhases (phases : List ℕ) (nic : NicSide) (apps : List AppSide) : Type 0 where
   pub word : slice_index phases 0 ≡ phase_word nic.view.ended
   pub ended : nic.view.ended ≡ true → HasStopped nic
   pub gone : All (λ a. slice_index phases (1 + a) ≡ 1) nic.view.gone
   pub lies : CardLiesInPool nic.view
+  pub made : IsMadeInPool nic
   pub sides : All (IsAppPhased phases nic) apps
 
 -- No other words than those of the phases are read.

@@ -113,7 +113,7 @@ CardMay setting words nic (loads_last a n) =
     × (nic.inside.entry ≡ None) × (n ≡ slot_word words.refills a (takes_entry_at setting nic a) (refill_words_at nic a))
 CardMay setting words nic (frees_honoured a entry b) =
     (a < apps_of setting) × ((next_slot nic.inside.refill_slots a).seen ≡ true)
-    × (nic.inside.entry ≡ Some (record { app = a; entry = entry; judged = BothLowered b }))
+    × (nic.inside.entry ≡ Some (record { app = a; entry = entry; judged = BothLowered b })) × (nic.inside.hands ≡ [])
 CardMay setting words nic (frees_stray a entry) =
     (a < apps_of setting) × ((next_slot nic.inside.refill_slots a).seen ≡ true)
     × (nic.inside.entry ≡ Some (record { app = a; entry = entry; judged = judged_stray }))

@@ -138,11 +138,11 @@ pub record PublishNoteLaw : Type 0 where
       → BoardRule setting (with_note words a (writes_note_at setting nic a) 0 1) (side_sent_linear nic a note bytes) apps
 
 -- The reader stores the flag 0 into a slot whose words it loaded: the card dealt with the entry in hand. It gave a reference back for
--- which both counts were lowered, or it was judged a stray, or it names no buffer.
+-- which both counts were lowered, and no free buffer is in hand for it any more; or it was judged a stray, or it names no buffer.
 pub record FreeLaw : Type 0 where
   pub honoured : (setting : Setting) (words : Words) (nic : NicSide) (apps : List AppSide) (a : ℕ) (entry : Rqe) (b : ℕ)
       → BoardRule setting words nic apps → a < apps_of setting → (next_slot nic.inside.refill_slots a).seen ≡ true
-      → nic.inside.entry ≡ Some (record { app = a; entry = entry; judged = BothLowered b })
+      → nic.inside.entry ≡ Some (record { app = a; entry = entry; judged = BothLowered b }) → nic.inside.hands ≡ []
       → BoardRule setting (with_refill words a (takes_entry_at setting nic a) 0 0) (side_dealt nic a entry (Honoured b)) apps
   pub stray : (setting : Setting) (words : Words) (nic : NicSide) (apps : List AppSide) (a : ℕ) (entry : Rqe)
       → BoardRule setting words nic apps → a < apps_of setting → (next_slot nic.inside.refill_slots a).seen ≡ true

@@ -15,7 +15,7 @@ use Rattle.board_face.specs.Sides.{app_at}
 use Rattle.board_face.specs.SlotSteps.{side_gave, side_pushed, side_took_note, side_took_linear}
 use Rattle.board_face.specs.Texts.{front_place, rest_place, further}
 use Rattle.board_face.specs.AppCalls.{HasHeld, HasLoan}
-use Rattle.board_face.specs.AppEvents.{app_saw, cut, held_origin, helds_without, released, lent, has_read, told_end}
+use Rattle.board_face.specs.AppEvents.{app_saw, fell_quiet, cut, held_origin, helds_without, released, lent, has_read, told_end}
 use Rattle.board_face.specs.Returns.{loans_out}
 use Rattle.board_face.specs.declared.answers.Polled.{Polled}
 use Rattle.board_face.specs.declared.answers.Polled.TheVariants.{Note as got_note, Linear as got_linear, Empty as got_none, Ended as got_end}
@@ -24,7 +24,7 @@ use Rattle.board_face.specs.declared.views.app.Origin.TheVariants.{Note as of_no
 use Rattle.board_face.specs.declared.views.app.HeldPiece.{HeldPiece}
 use Rattle.board_face.specs.declared.views.app.LentPiece.{LentPiece}
 use Rattle.board_face.specs.declared.views.app.AppLook.{AppLook}
-use Rattle.board_face.specs.declared.views.app.AppLook.TheVariants.{NoNote}
+use Rattle.board_face.specs.declared.views.app.AppLook.TheVariants.{NoNote, NotQuiet}
 use Rattle.board_face.specs.declared.views.app.AppSide.{AppSide}
 use Rattle.board_face.proofs.ListLemmas.{All-without, eqb_same}
 use Rattle.board_face.proofs.Tallies.{weight, tally-push}
@@ -168,6 +168,20 @@ module _ (setting : Setting) (app : AppSide) (number note entry : ℕ) (raw : Op
   pub kept-saw : (look : AppLook) → AppKeeps setting (app_at app (app_saw app.view look)) number note entry raw loans filled
   kept-saw look =
       kept setting app (app_at app (app_saw app.view look)) refl number note entry note entry raw raw loans loans filled k.lies.helds k.lies.loans
+      (record { next_note = k.slots.next_note; next_entry = k.slots.next_entry; last_raw = k.slots.last_raw }) k.tokens.many.0 k.tokens.out k
+
+  -- after a look at refill slots, of which some were seen free
+  pub kept-quieted : (quiet : Bool) (slots : List ℕ) → AppKeeps setting (record {
+    view = if quiet then fell_quiet app.view else app_saw app.view NotQuiet;
+    inside = record app.inside { free_slots = slots };
+  }) number note entry raw loans filled
+  kept-quieted true slots =
+      kept setting app (record { view = fell_quiet app.view; inside = record app.inside { free_slots = slots } }) refl number note entry note entry raw
+      raw loans loans filled k.lies.helds k.lies.loans
+      (record { next_note = k.slots.next_note; next_entry = k.slots.next_entry; last_raw = k.slots.last_raw }) k.tokens.many.0 k.tokens.out k
+  kept-quieted false slots =
+      kept setting app (record { view = app_saw app.view NotQuiet; inside = record app.inside { free_slots = slots } }) refl number note entry note entry
+      raw raw loans loans filled k.lies.helds k.lies.loans
       (record { next_note = k.slots.next_note; next_entry = k.slots.next_entry; last_raw = k.slots.last_raw }) k.tokens.many.0 k.tokens.out k
 
   pub kept-read : (p : Place) (from : ℕ) (bytes : List ℕ)

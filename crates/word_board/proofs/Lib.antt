@@ -1,4 +1,6 @@
 mod Stepping
+mod Telling
+mod Implied
 mod LoansCounted
 mod SparesApart
 mod SparesKept

@@ -1,10 +1,16 @@
 -- An application's search for a buffer in the free list, word by word.
-use Rattle.std.proofs.Common.{◌≡◌, ℕ, ◌+◌, ◌<◌, ap, sym, ◌∙◌, subst}
-use Rattle.std.specs.Prelude.{Contains}
+use Rattle.std.proofs.Common.{◌≡◌, ℕ, ◌+◌, ◌<◌, List, [], ◌∷◌, ◌++◌, refl, ap, sym, ◌∙◌, subst, arith, ⊎_elim}
+use Rattle.std.specs.Prelude.{Contains, nat_eq}
+use Rattle.std.proofs.lemmas.Bool.{cases_lt}
+use Rattle.board_face.specs.Lists.{without}
+use Rattle.board_face.specs.declared.views.parts.Setting.{Setting}
+use Rattle.board_face.specs.declared.views.app.AppView.{AppView}
+use Rattle.board_face.proofs.ListLemmas.{eqb_same}
 use Rattle.board_face.specs.NicCalls.{free_words_of}
 use Rattle.board_face.specs.declared.views.app.AppSide.{AppSide}
 use Rattle.ref_words.specs.FreeSteps.{side_word_without}
 use Rattle.word_board.specs.Spares.{seen_without, FoundNone}
+use Rattle.word_board.specs.Told.{SawWithout}
 use Rattle.word_board.proofs.Quieting.{sees-more}
 
 -- The words below k have nothing for it, and nothing else was done.
@@ -27,3 +33,13 @@ IsSearching-all first now k h all = record {
     words = λ j small. h.seen j (subst (λ n. j < n) (sym all) (subst (λ x. j < free_words_of x.view.setting) h.event small));
   };
 }
+
+-- one word more was seen to have none
+pub seen-more : (setting : Setting) (v : AppView) (k : ℕ) → ((j : ℕ) → j < k → SawWithout setting v j) → SawWithout setting v k
+    → (j : ℕ) → j < k + 1 → SawWithout setting v j
+seen-more setting v k before here j small =
+    ⊎_elim (before j) (λ top. subst (SawWithout setting v) (let same : k ≡ j = omega (arith, small, top) in same) here) (cases_lt j k)
+
+-- what was picked is taken, and no buffer is in hand then
+pub hands-once : (b : ℕ) (hands : List ℕ) → hands ≡ [] → without (nat_eq b) (hands ++ b ∷ []) ≡ hands
+hands-once b hands bare = rw (bare, eqb_same b) refl

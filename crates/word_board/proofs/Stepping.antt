@@ -101,7 +101,7 @@ mod-less : (n k : ℕ) → 0 < k → k ≤ n → n < 2 ^ 64 → (n + (2 ^ 64 - k
 mod-less n k some enough small = omega arith
 
 module _ (setting : Setting) (words : Words) (b i : ℕ) (at : i ≡ pool_at setting b) (within : b < total setting.layout) where
-  found : {nic : NicSide} {apps : List AppSide} → BoardRule setting words nic apps → get_or (table_of words) i 0 ≡ pool_of words b
+  pub found : {nic : NicSide} {apps : List AppSide} → BoardRule setting words nic apps → get_or (table_of words) i 0 ≡ pool_of words b
   found rule = ap (λ x. get_or (table_of words) x 0) at ∙ pool-word setting words rule.refs.sizes b (omega (arith, within, rule.refs.sizes.pool))
 
   -- the words with n in the buffer's pool count

@@ -57,6 +57,12 @@ impl<'a> AppFace for AppSeat<'a> {
 
     ghost beside = { λ s. s.board };
 
+    ghost use Rattle.word_board.specs.Told.{AppTells, AppFinds};
+
+    ghost tells = { AppTells };
+
+    ghost finds = { AppFinds };
+
     fn places(&self) -> u32 {
         let board = self.board;
         board.words.map.places()

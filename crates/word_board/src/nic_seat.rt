@@ -58,6 +58,10 @@ impl<'a> NicFace for NicSeat<'a> {
 
     ghost beside = { λ s. s.board };
 
+    ghost use Rattle.word_board.specs.Told.{NicTells};
+
+    ghost tells = { NicTells };
+
     fn apps(&self) -> u32 {
         let board = self.board;
         let layout = board.words.map.layout();

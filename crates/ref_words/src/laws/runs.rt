@@ -1,4 +1,5 @@
 ghost use Rattle.ref_words.specs.Runs.{RunsKeepTheRule};
+ghost use Rattle.ref_words.specs.Middle.{IsInhabited};
 
 use crate::laws::area::{k11, k12};
 use crate::laws::free::{k18, k19, k20, k21};
@@ -47,4 +48,11 @@ pub fn runs_keep_the_rule()
     k23();
     k16_end();
     k24();
+}
+
+/// The rule holds of a board on which three roles are in the middle of calls.
+pub fn the_rule_is_inhabited()
+    ensures { IsInhabited }
+{
+    runs_keep_the_rule();
 }

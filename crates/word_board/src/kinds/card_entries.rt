@@ -1,4 +1,4 @@
-ghost use Rattle.std.specs.Prelude.{◌≡◌, ◌+◌, ◌<◌, [], ◌∷◌, ◌++◌, true, false, None, Some, length};
+ghost use Rattle.std.specs.Prelude.{◌≡◌, ◌+◌, ◌<◌, [], ◌∷◌, ◌++◌, true, false, None, Some, length, IfNone};
 ghost use Rattle.area_layout.specs.Layout.{judged};
 ghost use Rattle.board_face.specs.NicCalls.{apps_of};
 ghost use Rattle.board_face.specs.SlotSteps.{next_slot, side_entry_looked, side_entry_loaded, side_in_hand, side_dealt};
@@ -9,6 +9,8 @@ ghost use Rattle.ref_words.specs.Rings.{takes_entry_at};
 ghost use Rattle.ref_words.specs.SlotLaws.{refill_words_at};
 ghost use Rattle.ref_words.specs.Seated.{card_view};
 ghost use Rattle.word_board.specs.Board.{card_of, side_entry_taken};
+ghost use Rattle.board_face.specs.NicEvents.{nic_gist};
+ghost use Rattle.word_board.specs.Told.{SawRingEmpty};
 
 use crate::rule::{SharedWords, WordSeat};
 use crate::steps::{load_as, swap_as};
@@ -28,6 +30,7 @@ pub(crate) fn look_entry(words: &SharedWords, seat: &mut WordSeat, app: u32, slo
     ensures event { seat.new.me ≡ (card_view (side_entry_looked (card_of seat.old.me.0) app result), []) }
     // the card knows a next slot for each application
     ensures slots { length (card_of seat.old.me.0).inside.refill_slots ≡ apps_of words.now.map }
+    ensures told { result ≡ false → SawRingEmpty words.now.map (nic_gist (card_of seat.old.me.0).view) app }
 {
     laws::k16_flag();
     let word = words.map.refill(app, slot, 0);
@@ -106,6 +109,7 @@ pub(crate) fn free_honoured(
     requires next { slot ≡ takes_entry_at words.now.map (card_of seat.old.me.0) app }
     requires seen { (next_slot (card_of seat.old.me.0).inside.refill_slots app).seen ≡ true }
     requires in_hand { (card_of seat.old.me.0).inside.entry ≡ Some (record { app = app; entry = entry; judged = BothLowered buffer }) }
+    requires bare { (card_of seat.old.me.0).inside.hands ≡ [] }
     ensures table { seat.new.table_id ≡ seat.old.table_id }
     ensures event { seat.new.me ≡ (card_view (side_dealt (card_of seat.old.me.0) app entry (Honoured buffer)), []) }
 {
@@ -169,6 +173,7 @@ pub(crate) fn take_entry(
     ensures table { seat.new.table_id ≡ seat.old.table_id }
     ensures event { seat.new.me ≡ (card_view (side_entry_taken (card_of seat.old.me.0) app result), []) }
     ensures slots { length (card_of seat.old.me.0).inside.refill_slots ≡ apps_of words.now.map }
+    ensures told { IfNone result (SawRingEmpty words.now.map (nic_gist (card_of seat.old.me.0).view) app) }
 {
     if !look_entry(words, seat, app, slot) {
         return None;

@@ -1,4 +1,4 @@
-ghost use Rattle.std.specs.Prelude.{◌≡◌, ◌<◌, [], true, None, Some};
+ghost use Rattle.std.specs.Prelude.{◌≡◌, ◌<◌, [], true, None, Some, ◌≢◌};
 ghost use Rattle.area_layout.specs.Layout.{total, pool_buffers, judged};
 ghost use Rattle.board_face.specs.NicCalls.{DealtWith, apps_of};
 ghost use Rattle.board_face.specs.SlotSteps.{next_slot};
@@ -6,6 +6,9 @@ ghost use Rattle.board_face.specs.declared.views.nic.Judged.TheVariants.{Not};
 ghost use Rattle.ref_words.specs.Rings.{takes_entry_at};
 ghost use Rattle.ref_words.specs.Seated.{card_view};
 ghost use Rattle.word_board.specs.Board.{card_of};
+ghost use Rattle.board_face.specs.NicEvents.{nic_gist};
+ghost use Rattle.board_face.specs.declared.answers.Entry.TheVariants.{Empty as got_none};
+ghost use Rattle.word_board.specs.Told.{SawRingEmpty};
 
 use crate::found::cache_if;
 use crate::kinds::{Loaded, free_stray, free_void, honour_entry, look_user, take_entry};
@@ -45,6 +48,7 @@ fn deal_with(
       entry = None;
       refill_slots = (card_of seat.new.me.0).inside.refill_slots;
     } }
+    ensures dealt { result ≢ got_none }
 {
     if look_user(words, seat, loaded.app, loaded.entry, buffer) {
         free_stray(words, seat, loaded.app, loaded.slot, loaded.entry);
@@ -83,6 +87,7 @@ pub(crate) fn next_entry(
     ensures inside { (card_of seat.new.me.0).inside ≡ record (card_of seat.old.me.0).inside {
       refill_slots = (card_of seat.new.me.0).inside.refill_slots;
     } }
+    ensures told { result ≡ got_none → SawRingEmpty words.now.map (nic_gist (card_of seat.old.me.0).view) app }
 {
     let Some(entry) = take_entry(words, seat, app, slot) else {
         return Entry::Empty;

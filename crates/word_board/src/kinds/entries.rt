@@ -7,6 +7,8 @@ ghost use Rattle.word_rings.specs.Slots.{refill_width, entry_body};
 ghost use Rattle.ref_words.specs.Rings.{EntryFits, writes_entry_at};
 ghost use Rattle.ref_words.specs.Seated.{app_view};
 ghost use Rattle.word_board.specs.Board.{app_of};
+ghost use Rattle.board_face.specs.AppEvents.{app_gist};
+ghost use Rattle.word_board.specs.Told.{SawRefillInUse};
 
 use crate::rule::{SharedWords, WordSeat};
 use crate::steps::{load_as, swap_as};
@@ -25,6 +27,7 @@ pub(crate) fn look_refill(words: &SharedWords, seat: &mut WordSeat, app: u32, sl
     requires next { slot ≡ writes_entry_at words.now.map (app_of seat.old.me.0) }
     ensures table { seat.new.table_id ≡ seat.old.table_id }
     ensures event { seat.new.me ≡ (app_view (side_refill_looked (app_of seat.old.me.0) result), []) }
+    ensures told { result ≡ false → SawRefillInUse words.now.map (app_gist (app_of seat.old.me.0).view) }
 {
     laws::k13();
     let word = words.map.refill(app, slot, 0);
@@ -74,6 +77,7 @@ fn fill_refill(words: &SharedWords, seat: &mut WordSeat, app: u32, slot: u32, en
           else side_refill_looked (app_of seat.old.me.0) false),
       [],
     ) }
+    ensures told { result ≡ false → SawRefillInUse words.now.map (app_gist (app_of seat.old.me.0).view) }
 {
     if !look_refill(words, seat, app, slot) {
         return false;
@@ -158,6 +162,7 @@ pub(crate) fn give_entry(
           else side_refill_looked (app_of seat.old.me.0) false),
       [],
     ) }
+    ensures told { result ≡ false → SawRefillInUse words.now.map (app_gist (app_of seat.old.me.0).view) }
 {
     if !fill_refill(words, seat, app, slot, entry) {
         return false;
@@ -189,6 +194,7 @@ pub(crate) fn push_raw(
           else side_refill_looked (app_of seat.old.me.0) false),
       [],
     ) }
+    ensures told { result ≡ false → SawRefillInUse words.now.map (app_gist (app_of seat.old.me.0).view) }
 {
     if !fill_refill(words, seat, app, slot, entry) {
         return false;

@@ -1,4 +1,4 @@
-ghost use Rattle.std.specs.Prelude.{◌≡◌, ℕ, ◌/◌, ◌<◌, ◌==◌, [], true, length, Contains};
+ghost use Rattle.std.specs.Prelude.{◌≡◌, ℕ, ◌/◌, ◌<◌, ◌==◌, [], true, length, Contains, false};
 ghost use Rattle.area_layout.specs.Layout.{pool_buffers};
 ghost use Rattle.board_face.specs.AppCalls.{MaySpare};
 ghost use Rattle.board_face.specs.NicCalls.{free_words_of};
@@ -8,6 +8,8 @@ ghost use Rattle.ref_words.specs.FreeLaws.{IsSwept};
 ghost use Rattle.ref_words.specs.FreeSteps.{side_swept, side_nic_listed, side_app_listed, side_word_looked, side_bit_cleared};
 ghost use Rattle.ref_words.specs.Seated.{card_view, app_view};
 ghost use Rattle.word_board.specs.Board.{card_of, app_of};
+ghost use Rattle.board_face.specs.AppEvents.{app_gist};
+ghost use Rattle.word_board.specs.Told.{SawFree, SawUnlisted};
 
 use crate::bits::{and_as, or_as};
 use crate::rule::{SharedWords, WordSeat};
@@ -72,6 +74,7 @@ pub(crate) fn look_free_word(words: &SharedWords, seat: &mut WordSeat, word: u32
     requires within { word < free_words_of words.now.map }
     ensures table { seat.new.table_id ≡ seat.old.table_id }
     ensures event { seat.new.me ≡ (app_view (side_word_looked (app_of seat.old.me.0) word (result == 0)), []) }
+    ensures told { SawFree words.now.map (app_gist (app_of seat.old.me.0).view) word result }
 {
     laws::k20();
     let index = words.map.free(word);
@@ -89,6 +92,7 @@ pub(crate) fn pick_buffer(words: &SharedWords, seat: &mut WordSeat, buffer: u32)
     ensures table { seat.new.table_id ≡ seat.old.table_id }
     ensures event { seat.new.me ≡ (app_view (side_bit_cleared (app_of seat.old.me.0) (buffer / word_bits) buffer result), []) }
     ensures of_pool { result ≡ true → buffer < pool_buffers words.now.map.layout }
+    ensures told { result ≡ false → SawUnlisted words.now.map (app_gist (app_of seat.old.me.0).view) buffer }
 {
     laws::k21();
     let word = words.map.free(buffer / WORD_BITS);

@@ -9,6 +9,8 @@ ghost use Rattle.ref_words.specs.Rings.{NoteFits, writes_note_at};
 ghost use Rattle.ref_words.specs.SlotLaws.{note_words_at};
 ghost use Rattle.ref_words.specs.Seated.{card_view};
 ghost use Rattle.word_board.specs.Board.{card_of};
+ghost use Rattle.board_face.specs.NicEvents.{nic_gist};
+ghost use Rattle.word_board.specs.Told.{SawNoteInUse};
 
 use crate::rule::{SharedWords, WordSeat};
 use crate::steps::{load_as, swap_as};
@@ -28,6 +30,7 @@ pub(crate) fn look_note(words: &SharedWords, seat: &mut WordSeat, app: u32, slot
     ensures event { seat.new.me ≡ (card_view (side_note_looked (card_of seat.old.me.0) app result), []) }
     // the card knows a next slot for each application
     ensures slots { length (card_of seat.old.me.0).inside.note_slots ≡ apps_of words.now.map }
+    ensures told { result ≡ false → SawNoteInUse words.now.map (nic_gist (card_of seat.old.me.0).view) app }
 {
     laws::k13();
     let word = words.map.note(app, slot, 0);
@@ -82,6 +85,7 @@ fn fill_note(
       [],
     ) }
     ensures slots { length (card_of seat.old.me.0).inside.note_slots ≡ apps_of words.now.map }
+    ensures told { result ≡ false → SawNoteInUse words.now.map (nic_gist (card_of seat.old.me.0).view) app }
 {
     if !look_note(words, seat, app, slot) {
         return false;
@@ -170,6 +174,7 @@ pub(crate) fn send_note(
           else side_note_looked (card_of seat.old.me.0) app false),
       [],
     ) }
+    ensures told { result ≡ false → SawNoteInUse words.now.map (nic_gist (card_of seat.old.me.0).view) app }
 {
     let body = note_words(&note, &[], 0);
     if !fill_note(words, seat, app, slot, &body) {
@@ -202,6 +207,7 @@ pub(crate) fn send_linear(
           else side_note_looked (card_of seat.old.me.0) app false),
       [],
     ) }
+    ensures told { result ≡ false → SawNoteInUse words.now.map (nic_gist (card_of seat.old.me.0).view) app }
 {
     let body = note_words(&note, bytes, 0);
     if !fill_note(words, seat, app, slot, &body) {

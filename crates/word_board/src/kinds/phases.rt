@@ -11,6 +11,9 @@ ghost use Rattle.ref_words.specs.PhaseSteps.{side_reserve_looked, side_abandoned
 ghost use Rattle.ref_words.specs.Rings.{takes_note_at};
 ghost use Rattle.ref_words.specs.Seated.{card_view, app_view};
 ghost use Rattle.word_board.specs.Board.{card_of, app_of};
+ghost use Rattle.board_face.specs.NicEvents.{nic_gist};
+ghost use Rattle.board_face.specs.AppEvents.{app_gist};
+ghost use Rattle.word_board.specs.Told.{SawNotLeft, SawNotEnded, SawNoNote, SawReserveHeld};
 
 use crate::rule::{SharedWords, WordSeat};
 use crate::steps::{load_as, swap_as};
@@ -59,6 +62,7 @@ pub(crate) fn look_left(words: &SharedWords, seat: &mut WordSeat, app: u32) -> b
     ensures view { MatchBool result
         ((card_of seat.new.me.0).view ≡ saw_leave (card_of seat.old.me.0).view app)
         (NicOnlySaw (NotLeft app) (card_of seat.old.me.0).view (card_of seat.new.me.0).view) }
+    ensures told { result ≡ false → SawNotLeft words.now.map (nic_gist (card_of seat.old.me.0).view) app }
 {
     laws::k23();
     let word = words.map.phase(1 + app as usize);
@@ -73,6 +77,8 @@ pub(crate) fn look_end(words: &SharedWords, seat: &mut WordSeat) -> bool
     ensures table { seat.new.table_id ≡ seat.old.table_id }
     ensures event { seat.new.me ≡ (app_view (side_end_looked (app_of seat.old.me.0) result), []) }
     ensures again { (app_of seat.old.me.0).inside.end_seen ≡ true → result ≡ true }
+    ensures ended { (app_of seat.old.me.0).view.ended ≡ true → result ≡ true }
+    ensures told { result ≡ false → SawNotEnded words.now.map (app_gist (app_of seat.old.me.0).view) }
 {
     laws::k23();
     let word = words.map.phase(0);
@@ -90,6 +96,7 @@ pub(crate) fn seek_note(words: &SharedWords, seat: &mut WordSeat, app: u32, slot
     requires next { slot ≡ takes_note_at words.now.map (app_of seat.old.me.0) }
     ensures table { seat.new.table_id ≡ seat.old.table_id }
     ensures event { seat.new.me ≡ (app_view (side_note_sought (app_of seat.old.me.0) result), []) }
+    ensures told { result ≡ false → SawNoNote words.now.map (app_gist (app_of seat.old.me.0).view) }
 {
     laws::k16_end();
     let word = words.map.note(app, slot, 0);
@@ -106,6 +113,7 @@ pub(crate) fn look_reserve(words: &SharedWords, seat: &mut WordSeat, reserve: u3
     requires searched { HasSearched (app_of seat.old.me.0) }
     ensures table { seat.new.table_id ≡ seat.old.table_id }
     ensures event { seat.new.me ≡ (app_view (side_reserve_looked (app_of seat.old.me.0) result), []) }
+    ensures told { result ≡ false → SawReserveHeld words.now.map (app_gist (app_of seat.old.me.0).view) }
 {
     laws::k24();
     let word = words.map.pool(reserve);

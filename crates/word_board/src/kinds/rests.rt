@@ -1,10 +1,12 @@
-ghost use Rattle.std.specs.Prelude.{◌≡◌, ℕ, ◌<◌, [], ◌∷◌, true, if◌then◌else◌, Some, None, MatchOption, Contains};
+ghost use Rattle.std.specs.Prelude.{◌≡◌, ℕ, ◌<◌, [], ◌∷◌, true, if◌then◌else◌, Some, None, MatchOption, Contains, false};
 ghost use Rattle.board_face.specs.NicCalls.{apps_of};
 ghost use Rattle.board_face.specs.AppEvents.{app_saw, fell_quiet};
 ghost use Rattle.board_face.specs.declared.views.app.AppLook.TheVariants.{NotQuiet};
 ghost use Rattle.ref_words.specs.RestSteps.{side_raw_looked, side_any_looked, side_last_looked};
 ghost use Rattle.ref_words.specs.Seated.{app_view};
 ghost use Rattle.word_board.specs.Board.{app_of};
+ghost use Rattle.board_face.specs.AppEvents.{app_gist};
+ghost use Rattle.word_board.specs.Told.{IsToldToApp, IsRawInUse, IsOneInUse};
 
 use crate::rule::{SharedWords, WordSeat};
 use crate::steps::load_as;
@@ -21,6 +23,7 @@ pub(crate) fn look_raw(words: &SharedWords, seat: &mut WordSeat, app: u32, slot:
     requires known { (app_of seat.old.me.0).inside.raw_slot ≡ Some slot }
     ensures table { seat.new.table_id ≡ seat.old.table_id }
     ensures event { seat.new.me ≡ (app_view (side_raw_looked (app_of seat.old.me.0) result), []) }
+    ensures told { result ≡ false → IsToldToApp words.now.map (app_gist (app_of seat.old.me.0).view) (IsRawInUse words.now.map) }
 {
     laws::k13_raw();
     let word = words.map.refill(app, slot, 0);
@@ -41,6 +44,7 @@ pub(crate) fn settle(words: &SharedWords, seat: &mut WordSeat, app: u32, raw: Op
     ensures table { seat.new.table_id ≡ seat.old.table_id }
     ensures event { seat.new.me ≡ (app_view (side_raw_looked (app_of seat.old.me.0) result), []) }
     ensures still { raw ≡ None → result ≡ true }
+    ensures told { result ≡ false → IsToldToApp words.now.map (app_gist (app_of seat.old.me.0).view) (IsRawInUse words.now.map) }
 {
     let Some(slot) = raw else {
         return true;
@@ -57,6 +61,7 @@ pub(crate) fn look_any(words: &SharedWords, seat: &mut WordSeat, app: u32, slot:
     requires within { slot < words.now.map.places }
     ensures table { seat.new.table_id ≡ seat.old.table_id }
     ensures event { seat.new.me ≡ (app_view (side_any_looked (app_of seat.old.me.0) slot result), []) }
+    ensures told { result ≡ false → IsToldToApp words.now.map (app_gist (app_of seat.old.me.0).view) (IsOneInUse words.now.map) }
 {
     laws::k13_free();
     let word = words.map.refill(app, slot, 0);
@@ -74,6 +79,7 @@ pub(crate) fn look_at_last(words: &SharedWords, seat: &mut WordSeat, app: u32, s
     requires others { (k : ℕ) → k < words.now.map.places → Contains (slot ∷ (app_of seat.old.me.0).inside.free_slots) k }
     ensures table { seat.new.table_id ≡ seat.old.table_id }
     ensures event { seat.new.me ≡ (app_view (side_last_looked (app_of seat.old.me.0) slot result), []) }
+    ensures told { result ≡ false → IsToldToApp words.now.map (app_gist (app_of seat.old.me.0).view) (IsOneInUse words.now.map) }
 {
     laws::k13_free();
     let word = words.map.refill(app, slot, 0);
@@ -97,6 +103,7 @@ pub(crate) fn fall_quiet(words: &SharedWords, seat: &mut WordSeat, app: u32, pla
       }),
       [],
     ) }
+    ensures told { result ≡ false → IsToldToApp words.now.map (app_gist (app_of seat.old.me.0).view) (IsOneInUse words.now.map) }
 {
     let last = places - 1;
     for slot in 0..last {

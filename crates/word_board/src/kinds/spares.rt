@@ -9,6 +9,8 @@ ghost use Rattle.ref_words.specs.FreeSteps.{side_word_without};
 ghost use Rattle.ref_words.specs.Seated.{app_view};
 ghost use Rattle.word_board.specs.Board.{app_of};
 ghost use Rattle.word_board.specs.Spares.{Searched, FoundNone, TookListed, TookSpare, TookNoSpare};
+ghost use Rattle.board_face.specs.AppEvents.{app_gist};
+ghost use Rattle.word_board.specs.Told.{SawWithout, SawNoneListed, SawReserveHeld, IsLowestSeen, IsFirstSeen};
 
 use crate::kinds::{
     WORD_BITS, look_free_word, look_reserve, pick_buffer, take_picked, take_reserve,
@@ -28,6 +30,9 @@ fn pick_in_word(words: &SharedWords, seat: &mut WordSeat, word: u32) -> Option<u
     ensures event { MatchOption result
         (seat.new.me ≡ (app_view (side_word_without (app_of seat.old.me.0) word), []))
         (λ buffer. (seat.new.me ≡ (app_view (side_picked (app_of seat.old.me.0) buffer), [])) × (buffer < pool_buffers words.now.map.layout)) }
+    ensures told { MatchOption result
+        (SawWithout words.now.map (app_gist (app_of seat.old.me.0).view) word)
+        (λ buffer. IsLowestSeen words.now.map (app_gist (app_of seat.old.me.0).view) word buffer) }
 {
     let found = look_free_word(words, seat, word);
     if found == 0 {
@@ -53,6 +58,9 @@ fn pick_listed(words: &SharedWords, seat: &mut WordSeat, free_words: u32) -> Opt
     ensures table { seat.new.table_id ≡ seat.old.table_id }
     ensures app { seat.new.me ≡ (app_view (app_of seat.new.me.0), []) }
     ensures event { Searched (app_of seat.old.me.0) (app_of seat.new.me.0) result }
+    ensures told { MatchOption result
+        (SawNoneListed words.now.map (app_gist (app_of seat.old.me.0).view))
+        (λ buffer. IsFirstSeen words.now.map (app_gist (app_of seat.old.me.0).view) buffer) }
 {
     for word in 0..free_words {
         if let Some(buffer) = pick_in_word(words, seat, word) {
@@ -79,6 +87,9 @@ fn spare_listed(words: &SharedWords, seat: &mut WordSeat, free_words: u32) -> Op
     ensures event { MatchOption result
         (FoundNone (app_of seat.old.me.0) (app_of seat.new.me.0))
         (λ buffer. TookListed (app_of seat.old.me.0) (app_of seat.new.me.0) buffer) }
+    ensures told { MatchOption result
+        (SawNoneListed words.now.map (app_gist (app_of seat.old.me.0).view))
+        (λ buffer. IsFirstSeen words.now.map (app_gist (app_of seat.old.me.0).view) buffer) }
 {
     let buffer = pick_listed(words, seat, free_words)?;
     take_picked(words, seat, buffer);
@@ -109,6 +120,9 @@ pub(crate) fn take_spare(
     ensures event { MatchOption result
         (TookNoSpare (app_of seat.old.me.0) (app_of seat.new.me.0))
         (λ buffer. TookSpare (app_of seat.old.me.0) (app_of seat.new.me.0) buffer) }
+    ensures told { MatchOption result
+        (SawNoneListed words.now.map (app_gist (app_of seat.old.me.0).view) × SawReserveHeld words.now.map (app_gist (app_of seat.old.me.0).view))
+        (λ buffer. IsFirstSeen words.now.map (app_gist (app_of seat.old.me.0).view) buffer) }
 {
     if let Some(buffer) = spare_listed(words, seat, free_words) {
         return Some(buffer);

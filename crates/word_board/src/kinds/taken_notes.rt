@@ -10,6 +10,9 @@ ghost use Rattle.ref_words.specs.SlotLaws.{loaded_note};
 ghost use Rattle.ref_words.specs.Seated.{app_view};
 ghost use Rattle.word_board.specs.Board.{app_of, side_full_taken};
 ghost use Rattle.word_board.specs.Polls.{Polls};
+ghost use Rattle.board_face.specs.AppEvents.{app_gist};
+ghost use Rattle.board_face.specs.declared.answers.Polled.TheVariants.{Empty as got_none};
+ghost use Rattle.word_board.specs.Told.{SawNotEnded, SawNoNote};
 
 use crate::kinds::{look_end, seek_note};
 use crate::rule::{SharedWords, WordSeat};
@@ -164,6 +167,8 @@ pub(crate) fn poll(
     ensures table { seat.new.table_id ≡ seat.old.table_id }
     ensures app { seat.new.me ≡ (app_view (app_of seat.new.me.0), []) }
     ensures event { Polls (app_of seat.old.me.0) (app_of seat.new.me.0) linear.new result }
+    ensures untold { result ≡ got_none → (app_of seat.old.me.0).view.ended ≡ false }
+    ensures told { result ≡ got_none → SawNotEnded words.now.map (app_gist (app_of seat.old.me.0).view) × SawNoNote words.now.map (app_gist (app_of seat.old.me.0).view) }
 {
     let over = look_end(words, seat);
     if !seek_note(words, seat, app, slot) {

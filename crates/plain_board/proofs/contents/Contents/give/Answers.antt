@@ -6,6 +6,7 @@ use Rattle.plain_board.proofs.AppTold.{IsSound-looked}
 use Rattle.plain_board.proofs.Abandoning.{loan-there, loan-counted}
 use Rattle.plain_board.proofs.Giving.{IsSound-gave, lies, same-entry}
 use Rattle.plain_board.proofs.Writing.{told-in_use}
+use Rattle.plain_board.proofs.NotNow.{full-written}
 use Rattle.plain_board.proofs.contents.Contents.give.Goals as goal
 
 pub off_of-requires : goal.off_of-requires
@@ -65,3 +66,8 @@ invariant_of-self-2 c =
 
 pub returns-clause-others : goal.returns-clause-others
 returns-clause-others c = rw (← c.self.view_is, c.note_at-2.ensures) (others-then c.self.inside.nic c.self.inside.apps.items c.args.app _)
+
+pub returns-then-not-put_back-clause-full : goal.returns-then-not-put_back-clause-full
+returns-then-not-put_back-clause-full c =
+    let here = here-of _ c.args.app c.self.invariant.0 (rw (← c.self.view_is) at c.requires.app) in
+    rw (← c.self.view_is) (full-written _ c.args.app _ c.self.invariant.0 here c.if-not-put_back.ensures.slots.1)

@@ -4,6 +4,7 @@ use Rattle.plain_board.proofs.AppFrames.{here-of, others-then, side-then}
 use Rattle.plain_board.proofs.Popping.{front-none, front-some, rings-same}
 use Rattle.plain_board.proofs.Polling.{IsSound-no_note, told-no_note, ToldEnd-told, AppOnlySaw-none, IsSound-took_note, IsSound-took_linear, TookNote-took}
 use Rattle.plain_board.proofs.Polling.{TookLinear-took}
+use Rattle.plain_board.proofs.NotNow.{untold}
 use Rattle.plain_board.proofs.contents.Contents.poll.Goals as goal
 use Rattle.plain_board.proofs.contents.Contents.poll.Goals.{then-ended, else-ended}
 
@@ -35,6 +36,15 @@ returns-in_default-clause-told c =
     let none = front-none _ (sym c.take_front.ensures.front ∙ c.in_default.is) in
     rw (← c.self.view_is, c.note_at.ensures, side-then c.self.inside.apps.items c.args.app _ _ here)
     (told-no_note _ c.args.app _ c.self.invariant.0 here none _ refl)
+
+pub returns-in_default-clause-untold : goal.returns-in_default-clause-untold
+returns-in_default-clause-untold c =
+    let within = rw (← c.self.view_is) at c.requires.app in
+    let here = here-of _ c.args.app c.self.invariant.0 within in
+    elim c.if-ended.branch [
+      | then-ended w ↦ λ none. absurd (let ended = w.result-is in cc)
+      | else-ended w ↦ λ none. rw (← c.self.view_is) (untold _ c.args.app _ c.self.invariant.0 here w.if-ended.false _ refl)
+    ]
 
 pub returns-in_default-clause-others : goal.returns-in_default-clause-others
 returns-in_default-clause-others c = rw (← c.self.view_is, c.note_at.ensures) (others-then c.self.inside.nic c.self.inside.apps.items c.args.app _)

@@ -4,6 +4,7 @@ use Rattle.board_face.specs.declared.views.app.AppLook.TheVariants.{RefillInUse}
 use Rattle.plain_board.proofs.AppFrames.{here-of, others-then, side-then}
 use Rattle.plain_board.proofs.AppTold.{IsSound-looked}
 use Rattle.plain_board.proofs.Pushing.{IsSound-pushed, ring-length, told-full}
+use Rattle.plain_board.proofs.NotNow.{full-written}
 use Rattle.plain_board.proofs.contents.Contents.push_raw.Goals as goal
 
 pub invariant_of-self : goal.invariant_of-self
@@ -32,3 +33,8 @@ invariant_of-self-2 c =
 
 pub returns-clause-others : goal.returns-clause-others
 returns-clause-others c = rw (← c.self.view_is, c.note_at-2.ensures) (others-then c.self.inside.nic c.self.inside.apps.items c.args.app _)
+
+pub returns-then-not-put_back-clause-full : goal.returns-then-not-put_back-clause-full
+returns-then-not-put_back-clause-full c =
+    let here = here-of _ c.args.app c.self.invariant.0 (rw (← c.self.view_is) at c.requires.app) in
+    rw (← c.self.view_is) (full-written _ c.args.app _ c.self.invariant.0 here c.if-not-put_back.ensures.slots.1)

@@ -1,8 +1,9 @@
 -- It is quiet where no entry lies in the application's refill slots.
-use Rattle.std.proofs.Common.{ap}
+use Rattle.std.proofs.Common.{ap, sym, ◌∙◌}
 use Rattle.std.specs.Prelude.{◌==◌}
 use Rattle.plain_board.proofs.AppFrames.{here-of, others-then, side-then}
 use Rattle.plain_board.proofs.Quieting.{IsSound-quiet, told-quiet}
+use Rattle.plain_board.proofs.NotNow.{some-written}
 use Rattle.plain_board.proofs.contents.Contents.quiet.Goals as goal
 
 pub invariant_of-self : goal.invariant_of-self
@@ -22,3 +23,10 @@ returns-clause-told c =
 
 pub returns-clause-others : goal.returns-clause-others
 returns-clause-others c = rw (← c.self.view_is, c.note_at.ensures) (others-then c.self.inside.nic c.self.inside.apps.items c.args.app _)
+
+pub returns-clause-some : goal.returns-clause-some
+returns-clause-some c = λ no.
+    let within = rw (← c.self.view_is) at c.requires.app in
+    let here = here-of _ c.args.app c.self.invariant.0 within in
+    let many = rw c.as_slice.ensures.value at c.ring_len-quiet.ensures in
+    rw (← c.self.view_is) (some-written _ c.args.app _ c.self.invariant.0 here (sym (ap (λ n. n == 0) many) ∙ no))

@@ -7,6 +7,7 @@ use Rattle.plain_board.proofs.Still.{IsSound-saw}
 use Rattle.board_face.proofs.SideLemmas.{IsApp-at}
 use Rattle.plain_board.proofs.NotesSent.{IsSound-sent}
 use Rattle.plain_board.proofs.Seeing.{NicTold-full}
+use Rattle.plain_board.proofs.NotNow.{full-sent}
 use Rattle.plain_board.proofs.contents.Contents.send.Goals as goal
 
 pub invariant_of-self : goal.invariant_of-self
@@ -30,3 +31,9 @@ returns-then-not-put_back-clause-told c =
     let sound = c.self.invariant.0 in
     let few = within-setting _ _ c.self.invariant.0 (rw (← c.self.view_is) at c.requires.app) in
     rw (← c.self.view_is, c.note.ensures) (NicTold-full _ sound c.args.app (let many = sound.set.many in omega arith) c.if-not-put_back.ensures.slots.1)
+
+pub returns-then-not-put_back-clause-full : goal.returns-then-not-put_back-clause-full
+returns-then-not-put_back-clause-full c =
+    let sound = c.self.invariant.0 in
+    let few = within-setting _ _ c.self.invariant.0 (rw (← c.self.view_is) at c.requires.app) in
+    rw (← c.self.view_is) (full-sent _ c.args.app sound (let many = sound.set.many in omega arith) c.if-not-put_back.ensures.slots.1)

@@ -1,9 +1,10 @@
 -- It is settled where the count of entries up to the last raw one is 0.
-use Rattle.std.proofs.Common.{ap, refl, ◌∙◌}
+use Rattle.std.proofs.Common.{ap, refl, sym, ◌∙◌}
 use Rattle.std.specs.Prelude.{◌==◌}
 use Rattle.std.proofs.lemmas.List.{get_or_read}
 use Rattle.plain_board.proofs.AppFrames.{here-of, others-then, side-then}
 use Rattle.plain_board.proofs.Settling.{IsSound-settled, told-settled, still-settled, there-raw}
+use Rattle.plain_board.proofs.NotNow.{raw-pushed}
 use Rattle.plain_board.proofs.contents.Contents.settle.Goals as goal
 
 pub invariant_of-self : goal.invariant_of-self
@@ -31,3 +32,10 @@ returns-clause-still c = λ settled.
 
 pub returns-clause-others : goal.returns-clause-others
 returns-clause-others c = rw (← c.self.view_is, c.note_at.ensures) (others-then c.self.inside.nic c.self.inside.apps.items c.args.app _)
+
+pub returns-clause-raw : goal.returns-clause-raw
+returns-clause-raw c = λ no.
+    let within = rw (← c.self.view_is) at c.requires.app in
+    let here = here-of _ c.args.app c.self.invariant.0 within in
+    let raw = get_or_read c.self.inside.raw.items c.args.app c.index.result.now (there-raw _ c.args.app c.self.invariant.0 within) c.index.ensures 0 in
+    rw (← c.self.view_is) (raw-pushed _ c.args.app _ c.self.invariant.0 here (sym (ap (λ n. n == 0) raw) ∙ no))

@@ -5,6 +5,7 @@ use Rattle.board_face.proofs.TokenLemmas.{FitsBuffer-fresh}
 use Rattle.plain_board.proofs.AppFrames.{here-of, others-then, side-then}
 use Rattle.plain_board.proofs.AppTold.{IsSound-looked}
 use Rattle.plain_board.proofs.Sparing.{is_unheld, there-pool, none-count, IsSound-got_spare, GotSpare-got, told-got, told-none, AppOnlySaw-spare}
+use Rattle.plain_board.proofs.NotNow.{used-reserve, found-lowest}
 use Rattle.plain_board.proofs.contents.Contents.spare.Goals as goal
 
 -- no buffer is there
@@ -29,6 +30,13 @@ returns-in_default-clause-told c =
     let none = rw (c.as_slice.ensures.value, c.buffers.ensures.value) at c.in_default.ensures in
     rw (← c.self.view_is, c.note_at.ensures, side-then c.self.inside.apps.items c.args.app _ _ here)
     (told-none _ c.args.app _ c.self.invariant.0 here none.0 none.1)
+
+pub returns-in_default-clause-held : goal.returns-in_default-clause-held
+returns-in_default-clause-held c =
+    let within = rw (← c.self.view_is) at c.requires.app in
+    let here = here-of _ c.args.app c.self.invariant.0 within in
+    let none = rw (c.as_slice.ensures.value, c.buffers.ensures.value) at c.in_default.ensures in
+    rw (← c.self.view_is) (used-reserve _ c.args.app _ c.self.invariant.0 here none.1)
 
 pub returns-in_default-clause-others : goal.returns-in_default-clause-others
 returns-in_default-clause-others c = rw (← c.self.view_is, c.note_at.ensures) (others-then c.self.inside.nic c.self.inside.apps.items c.args.app _)
@@ -88,3 +96,10 @@ returns-clause-told c =
 
 pub returns-clause-others : goal.returns-clause-others
 returns-clause-others c = rw (← c.self.view_is, c.note_at-2.ensures) (others-then c.self.inside.nic c.self.inside.apps.items c.args.app _)
+
+pub returns-clause-lowest : goal.returns-clause-lowest
+returns-clause-lowest c =
+    let within = rw (← c.self.view_is) at c.requires.app in
+    let here = here-of _ c.args.app c.self.invariant.0 within in
+    let picked = rw (c.as_slice.ensures.value, c.buffers.ensures.value) at c.in-Some.ensures in
+    rw (← c.self.view_is, c.new.ensures) (found-lowest _ c.args.app _ c.self.invariant.0 here c.in-Some.buffer _ picked)

@@ -17,7 +17,7 @@ returns c = record {
       record {
         texts = texts.piece setting words nic apps rule.refs rule.texts place n at more refs.sides;
         refs = refs;
-        phases = phased.piece_stored-phases setting words nic apps rule.refs rule.phases _ at place n;
+        phases = phased.piece_stored-phases setting words nic apps rule.refs rule.phases _ at place n refl;
       };
   placed = λ setting words nic apps own bytes n rule out at last small.
       let refs = card.places-piece setting words nic apps rule.refs _ n

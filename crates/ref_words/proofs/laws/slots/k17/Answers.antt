@@ -5,7 +5,7 @@ use Rattle.ref_words.proofs.laws.slots.k17.Goals as goal
 
 pub returns : goal.returns
 returns c = record {
-  honoured = λ setting words nic apps a entry b rule small saw at. record {
+  honoured = λ setting words nic apps a entry b rule small saw at bare. record {
     texts = texts.texts-honoured setting words.area nic apps a rule.texts entry b at
         (dealt.honours setting words nic apps a entry rule.refs small saw b at).sides;
     refs = dealt.honours setting words nic apps a entry rule.refs small saw b at;

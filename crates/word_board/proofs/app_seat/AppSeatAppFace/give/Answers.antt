@@ -1,12 +1,14 @@
-use Rattle.std.proofs.Common.{sym, ◌∙◌, ap, subst}
+use Rattle.std.proofs.Common.{sym, ◌∙◌, ap, subst, refl}
 use Rattle.board_face.specs.AppCalls.{HasLoan}
 use Rattle.board_face.specs.AppEvents.{app_saw}
 use Rattle.board_face.specs.Sides.{app_at}
 use Rattle.board_face.specs.SlotSteps.{side_gave}
 use Rattle.board_face.specs.declared.views.app.AppLook.TheVariants.{RefillInUse}
-use Rattle.word_board.specs.Board.{app_of}
+use Rattle.word_board.specs.Board.{TheApp, app_of}
 use Rattle.word_board.specs.Hands.{AppKeeps}
 use Rattle.word_board.proofs.AppKept.{loan-lies, loan-some, kept-saw, kept-gave, sits}
+use Rattle.board_face.specs.NotNow.{HasWrittenRingful}
+use Rattle.word_board.proofs.Implied.{full-written}
 use Rattle.word_board.proofs.app_seat.AppSeatAppFace.give.Goals as goal
 
 pub off_of-requires : goal.off_of-requires
@@ -55,3 +57,8 @@ invariant_of-self-2 c =
     c.give_entry.new.seat.table_id c.self.inside.seat.table_id c.self.inside.board.now.table c.give_entry.new.seat.me
     (side_gave mine c.place-place.result) c.give_entry.ensures.table c.self.invariant.0 c.if-not-give_entry.ensures.event
     (rw (c.lower.ensures.counts, c.slot_after-self-inside.ensures, places) keeps)
+
+pub returns-then-not-give_entry-clause-full : goal.returns-then-not-give_entry-clause-full
+returns-then-not-give_entry-clause-full c =
+    subst (λ (s : TheApp). HasWrittenRingful s.side.view) c.self.view_is
+    (full-written _ (app_of c.self.inside.seat.me.0).view (c.if-not-give_entry.ensures.told refl))

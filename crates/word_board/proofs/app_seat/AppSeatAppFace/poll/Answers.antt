@@ -1,10 +1,15 @@
 use Rattle.std.proofs.Common.{◌≡◌, ◌+◌, ◌%◌, sym, ◌∙◌, ap, subst, arith}
 use Rattle.std.proofs.Common.{true, false, ⊎_elim}
 use Rattle.std.specs.Prelude.{if◌then◌else◌}
-use Rattle.word_board.specs.Board.{app_of}
+use Rattle.word_board.specs.Board.{TheApp, app_of}
 use Rattle.word_board.specs.Hands.{AppKeeps}
 use Rattle.word_board.proofs.AppKept.{note-within, is_note, none-noted, kept-polled}
 use Rattle.word_board.proofs.app_seat.AppSeatAppFace.poll.Goals.{in_default, in-Note, in-Note-2}
+use Rattle.board_face.specs.AppEvents.{app_gist}
+use Rattle.board_face.specs.Looks.{AppTold}
+use Rattle.board_face.specs.declared.views.parts.Setting.{Setting}
+use Rattle.word_board.specs.Told.{AppTells, SawNotEnded, SawNoNote}
+use Rattle.word_board.proofs.Telling.{told-polled}
 use Rattle.word_board.proofs.app_seat.AppSeatAppFace.poll.Goals as goal
 
 pub poll-polled-requires-clause-within : goal.poll-polled-requires-clause-within
@@ -53,3 +58,14 @@ invariant_of-self-else-matches c =
       c.poll-polled.ensures.app,
       noted,
     )
+
+pub returns-else-matches-clause-told : goal.returns-else-matches-clause-told
+returns-else-matches-clause-told c =
+    let mine = app_of c.self.inside.seat.me.0 in
+    let setting = ap (λ b. b.setting) c.board.view_is in
+    subst (λ (s : TheApp). AppTold (λ look. AppTells look (app_gist s.side.view) s.board) s.side.view (app_of c.poll-polled.new.seat.me.0).view)
+    c.self.view_is
+    (told-polled (λ look. AppTells look (app_gist mine.view) c.self.inside.board.now) mine (app_of c.poll-polled.new.seat.me.0)
+    c.poll-polled.new.linear c.poll-polled.result c.poll-polled.ensures.event
+    (λ none. subst (λ (s : Setting). SawNotEnded s (app_gist mine.view) × SawNoNote s (app_gist mine.view)) setting (c.poll-polled.ensures.told none))
+    tt)

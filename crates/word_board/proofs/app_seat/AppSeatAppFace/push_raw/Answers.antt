@@ -1,12 +1,14 @@
-use Rattle.std.proofs.Common.{◌<◌, ◌∙◌, ap, arith}
+use Rattle.std.proofs.Common.{◌<◌, ◌∙◌, ap, arith, refl, subst}
 use Rattle.std.specs.Prelude.{Some}
 use Rattle.board_face.specs.AppEvents.{app_saw}
 use Rattle.board_face.specs.Sides.{app_at}
 use Rattle.board_face.specs.SlotSteps.{side_pushed}
 use Rattle.board_face.specs.declared.views.app.AppLook.TheVariants.{RefillInUse}
-use Rattle.word_board.specs.Board.{app_of}
+use Rattle.word_board.specs.Board.{TheApp, app_of}
 use Rattle.word_board.specs.Hands.{AppKeeps}
 use Rattle.word_board.proofs.AppKept.{entry-within, kept-saw, kept-pushed, sits}
+use Rattle.board_face.specs.NotNow.{HasWrittenRingful}
+use Rattle.word_board.proofs.Implied.{full-written}
 use Rattle.word_board.proofs.app_seat.AppSeatAppFace.push_raw.Goals as goal
 
 pub invariant_of-self : goal.invariant_of-self
@@ -32,3 +34,8 @@ invariant_of-self-2 c =
     c.push_raw.new.seat.table_id c.self.inside.seat.table_id c.self.inside.board.now.table c.push_raw.new.seat.me
     (side_pushed mine c.args.entry) c.push_raw.ensures.table c.self.invariant.0 c.if-not-push_raw.ensures.event
     (rw (c.slot_after-self-inside.ensures, places) keeps)
+
+pub returns-then-not-push_raw-clause-full : goal.returns-then-not-push_raw-clause-full
+returns-then-not-push_raw-clause-full c =
+    subst (λ (s : TheApp). HasWrittenRingful s.side.view) c.self.view_is
+    (full-written _ (app_of c.self.inside.seat.me.0).view (c.if-not-push_raw.ensures.told refl))

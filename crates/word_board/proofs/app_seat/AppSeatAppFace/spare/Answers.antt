@@ -4,8 +4,20 @@ use Rattle.area_layout.specs.Layout.{IsLayout}
 use Rattle.board_face.proofs.TokenLemmas.{FitsBuffer-fresh}
 use Rattle.board_face.specs.declared.views.app.AppSide.{AppSide}
 use Rattle.ref_words.specs.Seated.{app_view}
-use Rattle.word_board.specs.Board.{TheBoard}
+use Rattle.word_board.specs.Board.{TheBoard, TheApp, app_of}
 use Rattle.word_board.proofs.SparesKept.{keeps-view, given-there, AppKeeps-got_spare}
+use Rattle.board_face.specs.AppEvents.{app_saw, app_gist}
+use Rattle.board_face.specs.Sides.{app_at}
+use Rattle.board_face.specs.Looks.{AppTold}
+use Rattle.board_face.specs.NotNow.{HasUsedReserve}
+use Rattle.board_face.specs.declared.views.parts.Setting.{Setting}
+use Rattle.board_face.specs.declared.views.app.AppLook.TheVariants.{NoSpare}
+use Rattle.board_face.proofs.LookLemmas.{AppTold-one}
+use Rattle.word_board.specs.Hands.{AppKeeps}
+use Rattle.word_board.specs.Told.{AppTells, SawNoneListed, SawReserveHeld, IsFirstSeen}
+use Rattle.word_board.proofs.AppKept.{kept-saw, sits}
+use Rattle.word_board.proofs.Implied.{used-reserve}
+use Rattle.word_board.proofs.Telling.{told-spare, if-none}
 use Rattle.word_board.proofs.app_seat.AppSeatAppFace.spare.Goals as goal
 
 pub new-requires : goal.new-requires
@@ -31,3 +43,47 @@ invariant_of-self-2 c =
       keeps-view _ _ (did.app ∙ ap (λ (a : AppSide). (app_view a, [])) did.event.event) _ _ _ _ _ _ _ _ _ refl c.put.ensures
           (AppKeeps-got_spare _ _ _ _ _ _ _ _ c.self.invariant.2 c.in_ok-buffer.buffer got.apart got.buffer sound),
     )
+
+-- no spare is there
+
+pub invariant_of-self : goal.invariant_of-self
+invariant_of-self c =
+    let did = c.in_err-buffer.ensures in
+    let mine = app_of c.self.inside.seat.me.0 in
+    let hand = c.self.inside.hand in
+    let setting = c.self.inside.board.now.setting in
+    let keeps = kept-saw setting mine hand.app hand.note hand.entry hand.raw hand.loans.items hand.filled.items c.self.invariant.2 NoSpare in
+    let searched = ap (λ ws. record { view = app_saw mine.view NoSpare; inside = record mine.inside { words_without = ws } })
+    (sym c.self.invariant.2.rests.searched.0) in
+    sits (λ app. AppKeeps setting app hand.app hand.note hand.entry hand.raw hand.loans.items hand.filled.items) c.take_spare.new.seat.table_id
+    c.self.inside.seat.table_id c.self.inside.board.now.table c.take_spare.new.seat.me (app_at mine (app_saw mine.view NoSpare))
+    did.table c.self.invariant.0 (did.app ∙ ap (λ (a : AppSide). (app_view a, [])) (did.event.event ∙ searched)) keeps
+
+pub returns-in_err-buffer-clause-held : goal.returns-in_err-buffer-clause-held
+returns-in_err-buffer-clause-held c =
+    if-none c.from_residual.result _
+    (subst (λ (s : TheApp). HasUsedReserve s.side.view) c.self.view_is
+    (used-reserve _ (app_of c.self.inside.seat.me.0).view c.in_err-buffer.ensures.told.1))
+
+pub returns-in_err-buffer-clause-told : goal.returns-in_err-buffer-clause-told
+returns-in_err-buffer-clause-told c =
+    let mine = app_of c.self.inside.seat.me.0 in
+    let did = c.in_err-buffer.ensures in
+    let setting = ap (λ (b : TheBoard). b.setting) c.board.view_is in
+    subst (λ (s : TheApp). AppTold (λ look. AppTells look (app_gist s.side.view) s.board) s.side.view (app_of c.take_spare.new.seat.me.0).view)
+    c.self.view_is
+    (AppTold-one (λ look. AppTells look (app_gist mine.view) c.self.inside.board.now) mine.view (app_of c.take_spare.new.seat.me.0).view NoSpare
+    (ap (λ (a : AppSide). a.view.looks) did.event.event)
+    (subst (λ (s : Setting). SawNoneListed s (app_gist mine.view) × SawReserveHeld s (app_gist mine.view)) setting did.told))
+
+-- a spare is told of
+
+pub returns-clause-told : goal.returns-clause-told
+returns-clause-told c =
+    let mine = app_of c.self.inside.seat.me.0 in
+    let did = c.in_ok-buffer.ensures in
+    let setting = ap (λ (b : TheBoard). b.setting) c.board.view_is in
+    subst (λ (s : TheApp). AppTold (λ look. AppTells look (app_gist s.side.view) s.board) s.side.view (app_of c.take_spare.new.seat.me.0).view)
+    c.self.view_is
+    (told-spare c.self.inside.board.now.setting c.self.inside.board.now mine (app_of c.take_spare.new.seat.me.0) c.in_ok-buffer.buffer refl
+    c.self.invariant.2.set did.event (subst (λ (s : Setting). IsFirstSeen s (app_gist mine.view) c.in_ok-buffer.buffer) setting did.told))

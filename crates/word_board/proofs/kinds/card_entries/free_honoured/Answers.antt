@@ -28,7 +28,7 @@ swap_as-requires-clause-allows c =
     let next : ℕ → NicSide = λ n. side_dealt mine a c.args.entry (Honoured c.args.buffer) in
     card-step setting words.table.shared.table_id.slots c.args.seat.now.id c.refill-word.result (λ _. 0) (λ _. Unit {0}) mine next
     (λ ws apps rule small.
-    let law = c.k17.ensures.honoured setting ws mine apps a c.args.entry c.args.buffer rule few c.requires.seen c.requires.in_hand in
+    let law = c.k17.ensures.honoured setting ws mine apps a c.args.entry c.args.buffer rule few c.requires.seen c.requires.in_hand c.requires.bare in
     (stores-refill setting ws a s i c.refill-word.result at few within (omega arith) rule 0 law, tt))
     c.args.seat.now.me c.requires.card
 

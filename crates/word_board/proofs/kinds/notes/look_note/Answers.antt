@@ -1,5 +1,5 @@
 use Rattle.std.proofs.Common.{◌≡◌, ℕ, ◌<◌, length, ap, sym, ◌∙◌, subst, arith}
-use Rattle.std.specs.Prelude.{◌==◌}
+use Rattle.std.specs.Prelude.{◌==◌, false}
 use Rattle.board_face.specs.NicCalls.{apps_of}
 use Rattle.board_face.specs.SlotSteps.{side_note_looked}
 use Rattle.board_face.specs.declared.views.nic.NicSide.{NicSide}
@@ -8,6 +8,9 @@ use Rattle.ref_words.specs.Words.{note_at}
 use Rattle.ref_words.specs.Rings.{writes_note_at}
 use Rattle.ref_words.specs.Rule.{BoardRule}
 use Rattle.ref_words.specs.Seated.{card_view}
+use Rattle.board_face.specs.NicEvents.{nic_gist}
+use Rattle.word_board.specs.Told.{SawNoteInUse}
+use Rattle.word_board.proofs.Telling.{tells-card}
 use Rattle.word_board.specs.Board.{card_of}
 use Rattle.word_board.proofs.Stepping.{card-step, loads, found-note}
 use Rattle.word_board.proofs.kinds.notes.look_note.Goals as goal
@@ -26,14 +29,20 @@ load_as-requires-clause-allows c =
     let few : a < apps_of setting = subst (λ k. a < apps_of k) words.keyed c.requires.app in
     let within : s < setting.places = subst (λ k. k < setting.places) next_slot_is (subst
     (λ (k : Setting). c.args.slot < k.places) words.keyed c.requires.within) in
+    let told : ℕ → Type 0 = λ n.
+    (length mine.inside.note_slots ≡ apps_of setting) × ((n == 0) ≡ false → SawNoteInUse setting (nic_gist mine.view) a) in
     let next : ℕ → NicSide = λ n. side_note_looked mine a (n == 0) in
     card-step setting words.table.shared.table_id.slots c.args.seat.now.id c.note-word.result (λ n. n)
-    (λ _. length mine.inside.note_slots ≡ apps_of setting) mine next
+    told mine next
     (λ ws apps rule small.
     let law = c.k13.ensures.note setting ws mine apps a rule few in (
       loads setting ws c.note-word.result
           (subst (λ n. BoardRule setting ws (next n) apps) (sym (found-note setting ws a s i c.note-word.result at few within (omega arith) rule)) law),
-      rule.refs.sides.slots.notes,
+      (
+        rule.refs.sides.slots.notes,
+        λ no. tells-card setting ws mine apps rule _ (subst (λ n. (n == 0) ≡ false)
+            (found-note setting ws a s i c.note-word.result at few within (omega arith) rule) no),
+      ),
     ))
     c.args.seat.now.me c.requires.card
 
@@ -43,4 +52,9 @@ returns-clause-event c = c.load_as.ensures.me
 
 pub returns-clause-slots : goal.returns-clause-slots
 returns-clause-slots c =
-    subst (λ (k : Setting). length (card_of c.args.seat.now.me.0).inside.note_slots ≡ apps_of k) (sym c.args.words.now.keyed) c.load_as.ensures.told
+    subst (λ (k : Setting). length (card_of c.args.seat.now.me.0).inside.note_slots ≡ apps_of k) (sym c.args.words.now.keyed) c.load_as.ensures.told.0
+
+pub returns-clause-told : goal.returns-clause-told
+returns-clause-told c unseen =
+    subst (λ (k : Setting). SawNoteInUse k (nic_gist (card_of c.args.seat.now.me.0).view) c.args.app) (sym c.args.words.now.keyed)
+    (c.load_as.ensures.told.1 unseen)

@@ -1,7 +1,7 @@
 use Rattle.std.proofs.Common.{◌≡◌, ℕ, ◌+◌, ◌<◌, Bool, true, false, refl, ap, sym, ◌∙◌, subst, arith}
 use Rattle.std.specs.Prelude.{◌==◌, MatchBool}
 use Rattle.board_face.specs.NicCalls.{NicOnlySaw, apps_of}
-use Rattle.board_face.specs.NicEvents.{saw_leave}
+use Rattle.board_face.specs.NicEvents.{saw_leave, nic_gist}
 use Rattle.board_face.specs.declared.views.nic.NicLook.TheVariants.{NotLeft}
 use Rattle.board_face.specs.declared.views.nic.NicSide.{NicSide}
 use Rattle.board_face.proofs.LookLemmas.{NicRose-nic_saw}
@@ -9,6 +9,9 @@ use Rattle.ref_words.specs.PhaseSteps.{side_leave_looked}
 use Rattle.ref_words.specs.Rule.{BoardRule}
 use Rattle.ref_words.specs.Seated.{card_view}
 use Rattle.ref_words.specs.Words.{phase_at}
+use Rattle.board_face.specs.declared.views.parts.Setting.{Setting}
+use Rattle.word_board.specs.Told.{SawNotLeft}
+use Rattle.word_board.proofs.Telling.{tells-card}
 use Rattle.word_board.specs.Board.{card_of}
 use Rattle.word_board.proofs.PhaseSteps.{found-phase}
 use Rattle.word_board.proofs.Stepping.{card-step, loads}
@@ -20,16 +23,18 @@ load_as-requires-clause-allows c =
     let setting = words.table.shared.key in
     let mine = card_of c.args.seat.now.me.0 in
     let a : ℕ = c.args.app in
+    let told : ℕ → Type 0 = λ n. (n == 1) ≡ false → SawNotLeft setting (nic_gist mine.view) a in
     let next : ℕ → NicSide = λ n. side_leave_looked mine a (n == 1) in
     let at : c.phase-word.result ≡ phase_at setting (1 + a) = c.phase-word.ensures.value ∙ ap (λ s. phase_at s (1 + a)) words.keyed in
     let few : a < apps_of setting = subst (λ k. a < apps_of k) words.keyed c.requires.app in
-    card-step setting words.table.shared.table_id.slots c.args.seat.now.id c.phase-word.result (λ n. n) (λ _. Unit {0}) mine next
+    card-step setting words.table.shared.table_id.slots c.args.seat.now.id c.phase-word.result (λ n. n) told mine next
     (λ ws apps rule small.
     let law = c.k23.ensures.card setting ws mine apps a rule few in (
       loads setting ws c.phase-word.result
           (subst (λ n. BoardRule setting ws (next n) apps)
           (sym (found-phase setting ws (1 + a) c.phase-word.result at (omega (arith, few)) rule)) law),
-      tt,
+      (λ no. tells-card setting ws mine apps rule _ (subst (λ n. (n == 1) ≡ false)
+          (found-phase setting ws (1 + a) c.phase-word.result at (omega (arith, few)) rule) no)),
     ))
     c.args.seat.now.me c.requires.card
 
@@ -50,3 +55,8 @@ returns-clause-view c =
     subst
     (λ me. MatchBool left ((card_of me.0).view ≡ saw_leave mine.view c.args.app) (NicOnlySaw (NotLeft c.args.app) mine.view (card_of me.0).view))
     (sym c.load_as.ensures.me) (answered mine c.args.app left)
+
+pub returns-clause-told : goal.returns-clause-told
+returns-clause-told c unseen =
+    subst (λ (s : Setting). SawNotLeft s (nic_gist (card_of c.args.seat.now.me.0).view) c.args.app) (sym c.args.words.now.keyed)
+    (c.load_as.ensures.told unseen)

@@ -1,5 +1,5 @@
 use Rattle.std.proofs.Common.{◌≡◌, ℕ, ◌<◌, set, ap, sym, ◌∙◌, subst, arith}
-use Rattle.std.specs.Prelude.{◌==◌}
+use Rattle.std.specs.Prelude.{◌==◌, false}
 use Rattle.board_face.specs.NicCalls.{apps_of}
 use Rattle.board_face.specs.declared.views.parts.Setting.{Setting}
 use Rattle.board_face.specs.declared.views.app.AppSide.{AppSide}
@@ -9,6 +9,9 @@ use Rattle.ref_words.specs.Rings.{takes_note_at}
 use Rattle.ref_words.specs.Rule.{BoardRule}
 use Rattle.ref_words.specs.Seated.{app_view}
 use Rattle.ref_words.proofs.AppNumbers.{note_sought-number}
+use Rattle.board_face.specs.AppEvents.{app_gist}
+use Rattle.word_board.specs.Told.{SawNoNote}
+use Rattle.word_board.proofs.Telling.{tells-app}
 use Rattle.word_board.specs.Board.{app_of}
 use Rattle.word_board.proofs.Stepping.{app-step, loads, found-note}
 use Rattle.word_board.proofs.kinds.phases.seek_note.Goals as goal
@@ -29,18 +32,24 @@ load_as-requires-clause-allows c =
     (λ k. c.args.app < apps_of k) words.keyed c.requires.few) in
     let within : s < setting.places = subst (λ k. k < setting.places) next_slot (subst
     (λ (k : Setting). c.args.slot < k.places) words.keyed c.requires.within) in
+    let told : ℕ → Type 0 = λ n. (n == 1) ≡ false → SawNoNote setting (app_gist mine.view) in
     let next : ℕ → AppSide = λ n. side_note_sought mine (n == 1) in
-    app-step setting words.table.shared.table_id.slots c.args.seat.now.id c.note-word.result (λ n. n) (λ _. Unit {0}) mine next
+    app-step setting words.table.shared.table_id.slots c.args.seat.now.id c.note-word.result (λ n. n) told mine next
     (λ n. note_sought-number mine (n == 1))
     (λ ws nic apps rule here small.
     let law = c.k16_end.ensures setting ws nic apps mine rule here in (
       loads setting ws c.note-word.result
           (subst (λ n. BoardRule setting ws nic (set apps a (next n)))
           (sym (found-note setting ws a s i c.note-word.result at few within (omega arith) rule)) law),
-      tt,
+      (λ no. tells-app setting ws nic apps mine rule here _ (subst (λ n. (n == 1) ≡ false) (found-note setting ws a s i c.note-word.result at few within (omega arith) rule) no)),
     ))
     c.args.seat.now.me c.requires.app
 
 pub returns-clause-event : goal.returns-clause-event
 returns-clause-event c = c.load_as.ensures.me
     ∙ ap (λ xs. (app_view (side_note_sought (app_of c.args.seat.now.me.0) (c.load_as.result == 1)), xs)) (ap (λ me. me.1) c.requires.app)
+
+pub returns-clause-told : goal.returns-clause-told
+returns-clause-told c unseen =
+    subst (λ (s : Setting). SawNoNote s (app_gist (app_of c.args.seat.now.me.0).view)) (sym c.args.words.now.keyed)
+    (c.load_as.ensures.told unseen)

@@ -1,12 +1,16 @@
 -- Behind the note the next slot is the one after it.
 use Rattle.std.proofs.Common.{◌≡◌, ◌<◌, ◌+◌, ◌%◌, false, [], get_or, set as set_at, refl, ap, sym, ◌∙◌, subst}
 use Rattle.std.specs.Prelude.{if◌then◌else◌}
-use Rattle.board_face.specs.NicEvents.{sent_linear}
+use Rattle.board_face.specs.NicEvents.{sent_linear, nic_gist}
 use Rattle.board_face.specs.SlotSteps.{side_sent_linear, side_note_looked}
 use Rattle.ref_words.specs.Seated.{card_view}
-use Rattle.word_board.specs.Board.{card_of, IsSetting}
+use Rattle.word_board.specs.Board.{TheNic, card_of, IsSetting}
 use Rattle.word_board.specs.Hands.{NicKeeps}
 use Rattle.word_board.proofs.CardKeeps.{NicKeeps-sent, note-within, few-apps, own-app}
+use Rattle.board_face.specs.NotNow.{HasSentRingful}
+use Rattle.board_face.specs.declared.views.parts.Setting.{Setting}
+use Rattle.word_board.specs.Told.{SawNoteInUse}
+use Rattle.word_board.proofs.Implied.{full-sent}
 use Rattle.word_board.proofs.nic_seat.NicSeatNicFace.send_linear.Goals as goal
 
 pub bounds-self-inside-app : goal.bounds-self-inside-app
@@ -48,3 +52,11 @@ invariant_of-self-2 c =
           (record { app = app; note = c.args.note; bytes = c.args.bytes.now }) c.slot_after.result
           (subst IsSetting set c.board.invariant) here refl refl refl refl refl slot),
     )
+
+pub returns-then-not-send_linear-clause-full : goal.returns-then-not-send_linear-clause-full
+returns-then-not-send_linear-clause-full c = λ _.
+    let setting = ap (λ b. b.setting) c.board.view_is in
+    let here = own-app _ _ _ _ c.args.app c.self.invariant.2.set c.self.view_is c.requires.app in
+    subst (λ (s : TheNic). HasSentRingful s.side.view c.args.app) c.self.view_is
+    (full-sent c.self.inside.board.now.setting (card_of c.self.inside.seat.me.0).view c.args.app here
+    (subst (λ (s : Setting). SawNoteInUse s (nic_gist (card_of c.self.inside.seat.me.0).view) c.args.app) setting (c.if-not-send_linear.ensures.told refl)))
