@@ -17,13 +17,15 @@ use Rattle.app_worker.specs.declared.turn.Turn.{Turn}
 use Rattle.app_worker.specs.declared.turn.Turn.TheVariants.{Did, Idle, Finished, Failed}
 use Rattle.zr_kinds.specs.declared.fault.Fault.TheVariants as fault
 use Rattle.app_worker.specs.declared.turn.Why.TheVariants.{NoNote, NotQuiet as not_quiet}
-use Rattle.app_worker.specs.Core.{total}
-use Rattle.app_worker.specs.State.{State, Common, Working, Bare, held_len, lent_bytes, app_steps, one_if}
+use Rattle.flow_queues.specs.Core.{total}
+use Rattle.app_worker.specs.State.{State, Common, Working, Bare, lent_bytes, app_steps, one_if}
+use Rattle.flow_queues.specs.Core.{held_len}
 use Rattle.app_worker.specs.Stages.{Leaves, ScrubsOnce}
 use Rattle.board_face.specs.Looks.{AppLooksStay}
 use Rattle.std.specs.Prelude.{MatchBool}
 use Rattle.app_worker.specs.Turns.{Answers, Because, Turns, LooksForOne, ScrubsIfQuiet, look_of, turn_after}
-use Rattle.app_worker.proofs.Moving.{looks-more, same-leaked, reaps-same, rose-before, rose-after}
+use Rattle.flow_queues.proofs.Looks.{looks-more}
+use Rattle.app_worker.proofs.Moving.{same-leaked, reaps-same, rose-before, rose-after}
 use Rattle.app_worker.proofs.Seeing.{goes-none, goes-saw, common-saw}
 use Rattle.app_worker.proofs.Noting.{TookView, common-noted, steps-noted, moves-noted, ends-kept, shelves-kept, fronts-kept}
 use Rattle.app_worker.proofs.TurnLemmas.{stands-bare, as-before, idle-for, bare-over, bare-flushes, after-busy, after-none}

@@ -14,26 +14,29 @@ use Rattle.board_face.specs.declared.views.app.AppLook.TheVariants.{NotQuiet}
 use Rattle.board_face.specs.declared.views.app.LentPiece.{LentPiece}
 use Rattle.board_face.specs.declared.views.app.TakenNote.{TakenNote}
 use Rattle.board_face.specs.declared.views.app.AppView.{AppView}
-use Rattle.app_worker.specs.declared.stack.FlowQueue.{FlowQueue}
-use Rattle.app_worker.specs.declared.stack.Lending.{Lending}
+use Rattle.flow_queues.specs.declared.queues.FlowQueue.{FlowQueue}
+use Rattle.flow_queues.specs.declared.queues.Lending.{Lending}
 use Rattle.zr_kinds.specs.declared.ring.Completion.{Completion}
 use Rattle.app_worker.specs.declared.turn.Turn.TheVariants.{Did, Finished}
-use Rattle.app_worker.specs.Core.{total, Each, own_notes, received_notes, placed_of, marks_of_waiting, lent_piece, over_read, read_out, FlowStands}
+use Rattle.flow_queues.specs.Core.{total, Each, own_notes, received_notes, placed_of, marks_of_waiting, lent_piece, over_read, read_out, FlowStands}
 use Rattle.app_worker.specs.Entries.{lies_in}
-use Rattle.app_worker.specs.State.{State, IsAtRest, Working, Common, Bare, lent_len, returned_aside, loan_entries, app_steps, one_if}
+use Rattle.app_worker.specs.State.{State, Working, Common, Bare, lent_len, returned_aside, loan_entries, app_steps, one_if}
+use Rattle.flow_queues.specs.Flows.{IsAtRest}
 use Rattle.app_worker.specs.Moves.{Goes}
-use Rattle.app_worker.specs.Letting.{FlowFacts, facts_of, LetGo}
+use Rattle.flow_queues.specs.Flows.{FlowFacts, facts_of}
+use Rattle.app_worker.specs.Letting.{LetGo}
 use Rattle.app_worker.specs.Stages.{Through, Leaves}
 use Rattle.zr_kinds.specs.declared.behaviour.Stopped.TheVariants as stop
 use Rattle.app_worker.specs.Turns.{Rests, Turns}
-use Rattle.app_worker.proofs.Placing.{values-length}
-use Rattle.app_worker.proofs.Standing.{each-map}
+use Rattle.flow_queues.proofs.Placing.{values-length}
+use Rattle.flow_queues.proofs.Standing.{each-map}
 use Rattle.app_worker.proofs.EachBoth.{each-both}
-use Rattle.app_worker.proofs.LetGone.{each-facts, total-facts}
-use Rattle.app_worker.proofs.Moving.{total-one, looks-same, same-leaked, reaps-same, reserve-same, no-write}
+use Rattle.flow_queues.proofs.Releasing.{each-facts, total-facts}
+use Rattle.app_worker.proofs.Moving.{total-one, same-leaked, reaps-same, reserve-same, no-write}
+use Rattle.flow_queues.proofs.Looks.{looks-same}
 use Rattle.app_worker.proofs.Seeing.{common-saw, goes-saw}
 use Rattle.app_worker.proofs.Measure.{one-most}
-use Rattle.app_worker.proofs.Tokens.{total-append}
+use Rattle.flow_queues.proofs.Tokens.{total-append}
 use Rattle.app_worker.proofs.Through.{goes-then}
 use Rattle.app_worker.proofs.TurnLemmas.{stands-bare, no-poll, no-rest, bare-over, bare-flushes}
 

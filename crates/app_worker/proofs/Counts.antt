@@ -6,9 +6,9 @@ use Rattle.board_face.specs.declared.views.app.Origin.{Origin}
 use Rattle.board_face.specs.declared.views.app.Origin.TheVariants.{Note as of_note, Copied as of_copy}
 use Rattle.board_face.specs.declared.views.app.LentPiece.{LentPiece}
 use Rattle.board_face.specs.declared.views.app.AppView.{AppView}
-use Rattle.app_worker.specs.Core.{total, is_copy, one_copy}
+use Rattle.flow_queues.specs.Core.{total, is_copy, one_copy}
 use Rattle.app_worker.specs.State.{State, Working, Bare, AppStands, lent_bytes, lent_len}
-use Rattle.app_worker.proofs.Copying.{unsplit-is}
+use Rattle.flow_queues.proofs.Copying.{unsplit-is}
 use Rattle.app_worker.proofs.StreamLemmas.{by-mode}
 use Rattle.app_worker.proofs.Accounts.{few-loans}
 

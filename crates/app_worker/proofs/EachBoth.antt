@@ -1,6 +1,6 @@
 -- Two facts of each element.
 use Rattle.std.proofs.Common.{List, [], ◌∷◌}
-use Rattle.app_worker.specs.Core.{Each}
+use Rattle.flow_queues.specs.Core.{Each}
 
 pub each-both : {A : Type 0} (P Q : A → Type 0) (xs : List A) → Each P xs → Each Q xs → Each (λ x. P x × Q x) xs
 each-both P Q [] first second = tt

@@ -10,12 +10,14 @@ use Rattle.board_face.specs.declared.views.app.Reading.{Reading}
 use Rattle.board_face.specs.declared.views.app.TakenNote.{TakenNote}
 use Rattle.board_face.specs.declared.views.app.LentPiece.{LentPiece}
 use Rattle.board_face.specs.declared.views.app.AppView.{AppView}
-use Rattle.app_worker.specs.declared.stack.Lending.{Lending}
-use Rattle.app_worker.specs.declared.stack.FlowQueue.{FlowQueue}
-use Rattle.app_worker.specs.Core.{total, many, Each, over_due, over_read, read_out, short_bytes, lent_piece, own_notes, BeginAt, received_notes}
-use Rattle.app_worker.specs.Core.{AreReadAt, most_at_once, is_copy, IsIn}
-use Rattle.app_worker.proofs.Indexing.{by-place}
-use Rattle.app_worker.specs.State.{State, IsIndex, place_in, Common, FlowEnds, capped, held_len, taken_len, unsplit_len, due_one, app_steps, one_if, read_of}
+use Rattle.flow_queues.specs.declared.queues.Lending.{Lending}
+use Rattle.flow_queues.specs.declared.queues.FlowQueue.{FlowQueue}
+use Rattle.flow_queues.specs.Core.{total, many, Each, over_due, over_read, read_out, short_bytes, lent_piece, own_notes, BeginAt, received_notes}
+use Rattle.flow_queues.specs.Core.{AreReadAt, most_at_once, is_copy, IsIn}
+use Rattle.flow_queues.proofs.Indexing.{by-place}
+use Rattle.app_worker.specs.State.{State, Common, FlowEnds, capped, taken_len, due_one, app_steps, one_if, read_of}
+use Rattle.flow_queues.specs.Flows.{IsIndex, place_in}
+use Rattle.flow_queues.specs.Core.{held_len, unsplit_len}
 use Rattle.app_worker.specs.State.{lent_len, loan_entries}
 use Rattle.app_worker.specs.Shelves.{kept_loans, IsShelved, AreShelved, AreOfOneLoan, ReadsFront, IsFrontShelved, AreFronts}
 use Rattle.std.proofs.Math.Nat.{mul-le-mul_left}
@@ -29,12 +31,14 @@ use Rattle.zr_kinds.specs.declared.place.Place.{Place}
 use Rattle.std.proofs.Math.Seq.{drop-append_seam, drop-length}
 use Rattle.app_worker.specs.Moves.{over_leaked}
 use Rattle.app_worker.specs.Whole.{Torn}
-use Rattle.app_worker.specs.Letting.{FlowFacts, facts_of, Abandons, LetGo}
+use Rattle.flow_queues.specs.Flows.{FlowFacts, facts_of}
+use Rattle.app_worker.specs.Letting.{Abandons, LetGo}
 use Rattle.circular_buffer.specs.Buffer.{buffer}
 use Rattle.app_worker.proofs.Measure.{read-one, read-parts, due-most}
-use Rattle.app_worker.proofs.Tokens.{total-append, in-right, in-total, is_that_loan, that-loan, is-lent-there}
-use Rattle.app_worker.proofs.Moving.{total-one, looks-same, due-is}
-use Rattle.app_worker.proofs.LetGone.{total-none, each-facts, total-facts}
+use Rattle.flow_queues.proofs.Tokens.{total-append, in-right, in-total, is_that_loan, that-loan, is-lent-there}
+use Rattle.app_worker.proofs.Moving.{total-one, due-is}
+use Rattle.flow_queues.proofs.Looks.{looks-same}
+use Rattle.flow_queues.proofs.Releasing.{total-none, each-facts, total-facts}
 
 -- what is said of a flow is said by its facts
 pub ends-facts : (taken : List TakenNote) (f g : FlowQueue) → facts_of g ≡ facts_of f → FlowEnds taken f → FlowEnds taken g

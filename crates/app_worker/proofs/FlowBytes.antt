@@ -8,20 +8,20 @@ use Rattle.zr_io.proofs.Moved.{Gained-weaker}
 use Rattle.zr_kinds.specs.CopyingReceiver.{values_from}
 use Rattle.board_face.specs.declared.views.app.Reading.{Reading}
 use Rattle.board_face.specs.declared.views.app.TakenNote.{TakenNote}
-use Rattle.app_worker.specs.Marks.{Mark}
+use Rattle.flow_queues.specs.Marks.{Mark}
 use Rattle.app_worker.specs.Shelves.{IsShelved, AreShelved}
 use Rattle.app_worker.specs.Streams.{HasCounted}
-use Rattle.app_worker.proofs.Placing.{values-length}
+use Rattle.flow_queues.proofs.Placing.{values-length}
 use Rattle.app_worker.proofs.Noting.{gained-nothing}
 use Rattle.app_worker.proofs.NoteTaken.{all-end}
 use Rattle.std.specs.Prelude.{◌==◌, false, true}
 use Rattle.board_face.proofs.ListLemmas.{not-eqb}
 use Rattle.board_face.specs.declared.views.app.AppView.{AppView}
-use Rattle.app_worker.specs.declared.stack.FlowQueue.{FlowQueue}
-use Rattle.app_worker.specs.Core.{many, Each, AreReadAt, placed_of}
+use Rattle.flow_queues.specs.declared.queues.FlowQueue.{FlowQueue}
+use Rattle.flow_queues.specs.Core.{many, Each, AreReadAt, placed_of}
 use Rattle.app_worker.specs.State.{State, AppStands, Bare, Working, FlowEnds, bytes_of}
 use Rattle.app_worker.specs.Kept.{flow_bytes}
-use Rattle.app_worker.proofs.Standing.{number-is, number-not}
+use Rattle.flow_queues.proofs.Standing.{number-is, number-not}
 use Rattle.app_worker.proofs.StreamLemmas.{by-mode}
 
 -- a flow that is there is counted

@@ -9,22 +9,23 @@ use Rattle.app_worker.specs.declared.stack.Stray.{Stray}
 use Rattle.board_face.specs.AppEvents.{reserve_of}
 use Rattle.board_face.specs.declared.views.parts.Setting.{Setting}
 use Rattle.board_face.specs.declared.views.app.LentPiece.{LentPiece}
-use Rattle.app_worker.specs.declared.stack.Lending.{Lending}
+use Rattle.flow_queues.specs.declared.queues.Lending.{Lending}
 use Rattle.zr_kinds.specs.declared.behaviour.Stopped.TheVariants as stop
 use Rattle.zr_kinds.specs.declared.behaviour.Stopped.{Stopped}
-use Rattle.board_face.specs.Looks.{AppLooksStay, AppRose, app_looks, times, same_app_look}
+use Rattle.board_face.specs.Looks.{AppLooksStay, AppRose}
 use Rattle.board_face.specs.declared.views.app.AppLook.{AppLook}
 use Rattle.board_face.specs.declared.views.app.AppView.{AppView}
 use Rattle.board_face.specs.declared.views.app.TakenNote.{TakenNote}
-use Rattle.app_worker.specs.Core.{total, Each, over_due, read_out}
+use Rattle.flow_queues.specs.Core.{total, Each, over_due, read_out}
 use Rattle.zr_kinds.specs.declared.place.Place.{Place}
 use Rattle.zr_kinds.specs.declared.ring.Completion.{Completion}
 use Rattle.app_worker.specs.State.{State, TellsOf, due_one, returned_aside, raw_entries, loan_entries}
 use Rattle.app_worker.specs.Entries.{lies_in}
 use Rattle.app_worker.specs.Moves.{Moves, Reaps, KeepsLeaked, KeptSince, reads_of, reserve_loans, over_lent, over_gone, over_leaked}
 use Rattle.std.proofs.lemmas.Bool.{cases_Bool}
-use Rattle.app_worker.proofs.Tokens.{total-append}
-use Rattle.app_worker.proofs.Standing.{each-join}
+use Rattle.flow_queues.proofs.Tokens.{total-append}
+use Rattle.flow_queues.proofs.Standing.{each-join}
+use Rattle.flow_queues.proofs.Looks.{looks-same}
 
 pub total-one : {A : Type 0} (xs : List A) → total (λ _. 1) xs ≡ length xs
 total-one [] = refl
@@ -36,18 +37,6 @@ due-is taken None = refl
 due-is taken (Some l) = refl
 
 -- ---- looks
-
-pub looks-same : (old new : AppView) → new.looks ≡ old.looks → AppLooksStay old new
-looks-same old new same = record {
-  later = λ look. (let e : app_looks new look
-      ≡ app_looks old look = ap (times same_app_look look) same in omega (arith, e));
-}
-
-pub looks-more : (old new : AppView) (seen : AppLook) → new.looks ≡ seen ∷ old.looks → AppLooksStay old new
-looks-more old new seen more = record {
-  later = λ look. (let e : app_looks new look
-      ≡ times same_app_look look (seen ∷ old.looks) = ap (times same_app_look look) more in omega (arith, e));
-}
 
 pub looks-trans : (u v w : AppView) → AppLooksStay u v → AppLooksStay v w → AppLooksStay u w
 looks-trans u v w first second = record { later = λ look. omega (arith, first.later look, second.later look) }

@@ -1,44 +1,44 @@
 -- A note is taken: by each way that it goes.
-use Rattle.std.proofs.Common.{◌≡◌, ℕ, ◌+◌, ◌<◌, ◌≤◌, true, false, List, [], ◌∷◌, ◌++◌, Some, length, set, get_or}
+use Rattle.std.proofs.Common.{◌≡◌, ℕ, ◌+◌, ◌<◌, ◌≤◌, false, List, [], ◌∷◌, ◌++◌, length, set, get_or}
 use Rattle.std.proofs.Common.{refl, sym, ap, subst, ◌∙◌, arith, inl, inr, take, length-append}
 use Rattle.zr_kinds.specs.declared.place.Place.{Place}
 use Rattle.zr_kinds.specs.declared.place.Note.{Note}
-use Rattle.zr_kinds.specs.CopyingReceiver.{Placed}
 use Rattle.tcp_reorder.specs.Queue.{Queue}
-use Rattle.tcp_reorder.specs.Values.{Holds}
 use Rattle.board_face.specs.AppCalls.{TookNote, TookLinear}
 use Rattle.board_face.specs.AppEvents.{released, reserve_of}
 use Rattle.board_face.specs.declared.views.parts.Setting.{Setting}
 use Rattle.board_face.specs.declared.views.app.TakenNote.{TakenNote}
 use Rattle.board_face.specs.declared.views.app.AppView.{AppView}
-use Rattle.app_worker.specs.declared.stack.Waiting.{Waiting}
-use Rattle.app_worker.specs.declared.stack.FlowQueue.{FlowQueue}
-use Rattle.app_worker.specs.Marks.{Mark}
-use Rattle.app_worker.specs.Core.{total, Each, LieApart, Stands, FlowStands, many, over_kept, short_bytes, held_piece, IsOfNote, marks_of_waiting}
-use Rattle.app_worker.specs.Core.{received_note, own_notes}
+use Rattle.flow_queues.specs.declared.queues.Waiting.{Waiting}
+use Rattle.flow_queues.specs.declared.queues.FlowQueue.{FlowQueue}
+use Rattle.flow_queues.specs.Core.{total, Each, LieApart, Stands, FlowStands, many, short_bytes, held_piece}
+use Rattle.flow_queues.specs.Core.{own_notes}
 use Rattle.app_worker.proofs.Moving.{aside-same}
-use Rattle.app_worker.specs.State.{State, read_of, TellsOf, LiesOutside, IsAtRest, RestBut, IsIndex, Working, Common, FlowEnds, held_len, unsplit_len, lent_bytes, lent_len}
+use Rattle.app_worker.specs.State.{State, read_of, TellsOf, LiesOutside, Working, Common, FlowEnds, lent_bytes, lent_len}
+use Rattle.flow_queues.specs.Flows.{IsAtRest, RestBut, IsIndex}
+use Rattle.flow_queues.specs.Core.{held_len, unsplit_len}
 use Rattle.board_face.specs.declared.views.app.HeldPiece.{HeldPiece}
-use Rattle.std.specs.Prelude.{slice_get}
-use Rattle.app_worker.specs.Steps.{OnlyHelds, whole_piece}
+use Rattle.flow_queues.specs.Pieces.{whole_piece}
 use Rattle.app_worker.specs.Moves.{reads_of, reserve_loans}
 use Rattle.app_worker.specs.Flushing.{loans_so_far}
 use Rattle.app_worker.proofs.Flushing.{flushes-same}
-use Rattle.app_worker.specs.Whole.{fresh_flow, IsChosen, TookOne, TookNone, Torn}
+use Rattle.flow_queues.specs.Flows.{fresh_flow, IsChosen}
+use Rattle.app_worker.specs.Whole.{TookOne, TookNone, Torn}
 use Rattle.zr_kinds.specs.declared.ring.Completion.{Completion}
-use Rattle.app_worker.specs.declared.stack.Lending.{Lending}
+use Rattle.flow_queues.specs.declared.queues.Lending.{Lending}
 use Rattle.app_worker.specs.Entries.{Gives}
 use Rattle.app_worker.proofs.Written.{gives-same}
-use Rattle.app_worker.proofs.Tokens.{is-released}
-use Rattle.app_worker.proofs.Standing.{each-map}
-use Rattle.app_worker.proofs.Took.{Took, is-took, taken_note, entered-tokens, entered-stands, kept-tokens, set-last}
-use Rattle.app_worker.proofs.Standing2.{taken-last}
+use Rattle.flow_queues.proofs.Tokens.{is-released}
+use Rattle.flow_queues.proofs.Standing.{each-map}
+use Rattle.flow_queues.proofs.Took.{Took, is-took, taken_note, kept-tokens, set-last}
 use Rattle.app_worker.proofs.Oldest.{ends-of}
-use Rattle.app_worker.proofs.Indexing.{index-set}
-use Rattle.app_worker.proofs.Resting.{rest-all, rest-set, rest-push}
+use Rattle.flow_queues.proofs.Indexing.{index-set}
+use Rattle.flow_queues.proofs.Resting.{rest-all, rest-set, rest-push}
 use Rattle.app_worker.proofs.Noting.{Chosen, is-chosen, TookView, TookBytes, with_note, bytes-noted, grow-noted, total-noted, many-noted}
 use Rattle.app_worker.proofs.Noting.{common-noted, steps-noted, moves-noted, ends-kept}
 use Rattle.app_worker.proofs.Noting.{shelves-kept, ends-noted, shelves-noted}
+use Rattle.flow_queues.specs.Taking.{Changes, EntersPiece, EntersPayload, LosesPiece, LosesPayload}
+use Rattle.flow_queues.specs.Core.{HasTokens}
 
 -- what was appended of each flow has its place
 pub all-end : (st : State) (v : AppView) → Working st v → Each (FlowEnds v.taken) st.flows
@@ -109,7 +109,6 @@ module _ (was : State) (old new : AppView) (t : TakenNote) (works : Working was 
 
   module _ (flows : List FlowQueue) (i : ℕ) (own : FlowQueue) (q : Queue Waiting) (chosen : IsChosen was.flows flows t.note i)
       (within : i < length flows) (value : own ≡ get_or flows i own) (base : q.base ≡ own.queue.base)
-      (moved : (f : HeldPiece → ℕ) → total f new.helds + over_kept f own.queue ≡ total f old.helds + over_kept f q)
       (few : total held_len new.helds + short_bytes q ≤ total held_len old.helds + short_bytes own.queue + t.note.place.len)
       (short : short_bytes q ≤ short_bytes own.queue + unsplit_len t) (index : List (ℕ × ℕ)) where
     put-in : Chosen was.flows t.note own (λ x. set flows i x)
@@ -127,14 +126,13 @@ module _ (was : State) (old new : AppView) (t : TakenNote) (works : Working was 
         record { kept = omega (arith, sum, few); short = omega (arith, sum, short) }
 
     -- there was no memory for a part of it
-    pub torn-taken : (notes : ℕ) → IsIndex index flows
-        → TookNone was (with_note was notes (set flows i (record own { queue = q })) index i) old new
-    torn-taken notes is_index =
+    pub torn-taken : IsIndex index flows → HasTokens (set flows i (record own { queue = q })) (was.unread ++ was.posted.entries) (read_of was) new
+        → TookNone was (with_note was was.notes (set flows i (record own { queue = q })) index was.active) old new
+    torn-taken is_index tokens =
         let now : List FlowQueue = set flows i (record own { queue = q }) in
         record {
           torn = record {
-            tokens = entered-tokens was.notes (was.unread ++ was.posted.entries) (read_of was) old new t view lie was.notes refl was.flows flows i own q
-                chosen within value works.stands moved;
+            tokens = tokens;
             flows = ends-noted was.flows old new t view-in (all-end was old works) known-in own (λ x. set flows i x) put-in q base;
             distinct = λ n. (many-noted was.flows t.note own (λ x. set flows i x) q base put-in n).1 (works.stands.distinct n);
             index = index-set index flows i own (record own { queue = q }) within value refl is_index;
@@ -143,8 +141,8 @@ module _ (was : State) (old new : AppView) (t : TakenNote) (works : Working was 
             due_lent = due-taken;
             within_lent = omega (arith, bytes-in, within-taken);
           };
-          common = common-noted was old new t view-in notes i index now bytes-in few-in common;
-          moves = moves-noted was old new t view-in notes i index now (grow-noted was.flows t.note own (λ x. set flows i x) q base put-in);
+          common = common-noted was old new t view-in was.notes was.active index now bytes-in few-in common;
+          moves = moves-noted was old new t view-in was.notes was.active index now (grow-noted was.flows t.note own (λ x. set flows i x) q base put-in);
           shelved = shelves-noted was.flows old new t view-in (all-end was old works) known-in own (λ x. set flows i x) put-in q base;
           note = t;
           taken = ap (λ (v : AppView). v.taken) view;
@@ -154,20 +152,11 @@ module _ (was : State) (old new : AppView) (t : TakenNote) (works : Working was 
 
     -- what the flow wants of it entered
     pub entered-taken : (notes : ℕ) → IsIndex index flows → notes ≡ was.notes + 1 → Each IsAtRest was.flows → was.ended ≡ false
-        → q.popped ≡ own.queue.popped
-        → ((placed : Placed Mark) → Holds marks_of_waiting own.queue placed
-        → Holds marks_of_waiting q (received_note own.queue.base placed (record { number = was.notes; note = t.note })))
-        → (slice_get (old.taken ++ t ∷ []) was.notes ≡ Some t → Each (λ k. IsOfNote (old.taken ++ t ∷ []) k.piece) own.queue.kept
-        → Each (λ k. IsOfNote (old.taken ++ t ∷ []) k.piece) q.kept)
+        → Stands (was.notes + 1) (set flows i (record own { queue = q })) (was.unread ++ was.posted.entries) (read_of was) new
         → TookOne was (with_note was notes (set flows i (record own { queue = q })) index i) old new
-    entered-taken notes is_index count rest more popped enters keeps =
+    entered-taken notes is_index count rest more stands =
         let x : FlowQueue = record own { queue = q } in
         let now : List FlowQueue = set flows i x in
-        let there : slice_get (old.taken ++ t ∷ []) was.notes ≡ Some t = ap (slice_get (old.taken ++ t ∷ [])) works.stands.notes
-        ∙ taken-last old.taken t in
-        let stands : Stands (was.notes + 1) now (was.unread ++ was.posted.entries) (read_of was) new =
-        entered-stands was.notes (was.unread ++ was.posted.entries) (read_of was) old new t view lie was.notes refl was.flows flows i own q chosen within
-        value works.stands moved base popped enters (keeps there) in
         let setting : new.setting ≡ old.setting = ap (λ (v : AppView). v.setting) view in
         record {
           working = record {
@@ -227,36 +216,34 @@ module _ (was : State) (old new : AppView) (linear : List ℕ) (note : Note) (to
   pub short-none : TookNone was was old new
   short-none = none-taken was old new short_note works common short-view short-apart (λ f. ap (total f) short-helds)
 
-  module _ (flows : List FlowQueue) (i : ℕ) (own : FlowQueue) (q : Queue Waiting) (chosen : IsChosen was.flows flows note i)
-      (within : i < length flows) (value : own ≡ get_or flows i own) (base : q.base ≡ own.queue.base)
-      (over : (f : HeldPiece → ℕ) → over_kept f q ≡ over_kept f own.queue) (short : short_bytes q ≤ short_bytes own.queue + note.total)
-      (index : List (ℕ × ℕ)) where
-    short-moved : (f : HeldPiece → ℕ) → total f new.helds + over_kept f own.queue ≡ total f old.helds + over_kept f q
-    short-moved f = omega (arith, ap (total f) short-helds, over f)
+  module _ (now : List FlowQueue) (index : List (ℕ × ℕ)) (i : ℕ) (change : Changes was.flows now index note i)
+      (some : EntersPayload change.own.queue change.queue note) where
+    short-few : total held_len new.helds + short_bytes change.queue ≤ total held_len old.helds + short_bytes change.own.queue + note.place.len
+    short-few = omega (arith, ap (total held_len) short-helds, some.short, ap (λ (p : Place). p.len) took.fields.place)
 
-    short-few : total held_len new.helds + short_bytes q ≤ total held_len old.helds + short_bytes own.queue + note.place.len
-    short-few = omega (arith, ap (total held_len) short-helds, short, ap (λ (p : Place). p.len) took.fields.place)
+    short-short : short_bytes change.queue ≤ short_bytes change.own.queue + unsplit_len short_note
+    short-short = rw took.fields.split some.short
 
-    short-short : short_bytes q ≤ short_bytes own.queue + unsplit_len short_note
-    short-short = rw took.fields.split short
+    pub short-torn : HasTokens now (was.unread ++ was.posted.entries) (read_of was) new
+        → TookNone was (with_note was was.notes now index was.active) old new
+    short-torn tokens = subst (λ fs. TookNone was (with_note was was.notes fs index was.active) old new) (sym change.is)
+        (torn-taken was old new short_note works common short-view short-apart change.flows i change.own change.queue change.chosen change.within
+        change.there change.base short-few short-short index change.index_is
+        (subst (λ fs. HasTokens fs (was.unread ++ was.posted.entries) (read_of was) new) change.is tokens))
 
-    pub short-torn : (notes : ℕ) → IsIndex index flows
-        → TookNone was (with_note was notes (set flows i (record own { queue = q })) index i) old new
-    short-torn notes is_index = torn-taken was old new short_note works common short-view short-apart flows i own q chosen within value base short-moved
-        short-few
-        short-short index notes is_index
+    pub short-entered : (notes : ℕ) → notes ≡ was.notes + 1 → Each IsAtRest was.flows → was.ended ≡ false
+        → Stands (was.notes + 1) now (was.unread ++ was.posted.entries) (read_of was) new
+        → TookOne was (with_note was notes now index i) old new
+    short-entered notes count rest more stands = subst (λ fs. TookOne was (with_note was notes fs index i) old new) (sym change.is)
+        (entered-taken was old new short_note works common short-view short-apart change.flows i change.own change.queue change.chosen change.within
+        change.there change.base short-few short-short index notes change.index_is count rest more
+        (subst (λ fs. Stands (was.notes + 1) fs (was.unread ++ was.posted.entries) (read_of was) new) change.is stands))
 
-    pub short-entered : (notes : ℕ) → IsIndex index flows → notes ≡ was.notes + 1 → Each IsAtRest was.flows → was.ended ≡ false
-        → q.popped ≡ own.queue.popped
-        → ((placed : Placed Mark) → Holds marks_of_waiting own.queue placed
-        → Holds marks_of_waiting q (received_note own.queue.base placed (record { number = was.notes; note = note })))
-        → ((taken : List TakenNote) (t : TakenNote) → slice_get taken was.notes ≡ Some t → t.note.split ≡ false → t.bytes ≡ take note.total linear
-        → Each (λ k. IsOfNote taken k.piece) own.queue.kept → Each (λ k. IsOfNote taken k.piece) q.kept)
-        → TookOne was (with_note was notes (set flows i (record own { queue = q })) index i) old new
-    short-entered notes is_index count rest more popped enters keeps =
-        entered-taken was old new short_note works common short-view short-apart flows i own q chosen within value base short-moved short-few
-        short-short index notes is_index count rest more popped enters
-        (λ there each. keeps (old.taken ++ short_note ∷ []) short_note there took.fields.split refl each)
+  -- it is lost, or some of it
+  pub short-lost : (now : List FlowQueue) (index : List (ℕ × ℕ)) → LosesPayload was.flows now was.index index note
+      → HasTokens now (was.unread ++ was.posted.entries) (read_of was) new → TookNone was (with_note was was.notes now index was.active) old new
+  short-lost now index (inl none) tokens = rw (none.0, none.1) short-none
+  short-lost now index (inr part) tokens = short-torn now index part.place part.change part.some tokens
 
 -- ---- a piece
 
@@ -272,36 +259,34 @@ module _ (was : State) (old mid : AppView) (note : Note) (held : Place) (took : 
       rw is (none-taken was old (released mid held) (taken_note note) works common (rw took.event refl) gone.apart
       (λ f. omega (arith, gone.moved f, took-piece.moved f)))
 
-  module _ (new : AppView) (flows : List FlowQueue) (i : ℕ) (own : FlowQueue) (q : Queue Waiting) (chosen : IsChosen was.flows flows note i)
-      (within : i < length flows) (value : own ≡ get_or flows i own)
-      (only : OnlyHelds mid new (λ f. f (held_piece (whole_piece was.notes held)) + over_kept f own.queue) (λ f. over_kept f q))
-      (fewer : total held_len new.helds ≤ total held_len mid.helds) (base : q.base ≡ own.queue.base)
-      (short : short_bytes q ≡ short_bytes own.queue) (index : List (ℕ × ℕ)) where
+  module _ (new : AppView) (now : List FlowQueue) (index : List (ℕ × ℕ)) (i : ℕ) (change : Changes was.flows now index note i)
+      (some : EntersPiece mid new change.own.queue change.queue (whole_piece was.notes held)) where
     piece-view : new ≡ record old { taken = old.taken ++ taken_note note ∷ []; helds = new.helds }
-    piece-view = only.view ∙ ap (λ (v : AppView). record v { helds = new.helds }) took.event
+    piece-view = some.only.view ∙ ap (λ (v : AppView). record v { helds = new.helds }) took.event
 
-    piece-moved : (f : HeldPiece → ℕ) → total f new.helds + over_kept f own.queue ≡ total f old.helds + over_kept f q
-    piece-moved f = omega (arith, only.moved f, took-piece.moved f)
+    piece-few : total held_len new.helds + short_bytes change.queue ≤ total held_len old.helds + short_bytes change.own.queue + note.place.len
+    piece-few = omega (arith, some.fewer, took-piece.moved held_len, some.short, ap (λ (p : Place). p.len) took.place)
 
-    piece-few : total held_len new.helds + short_bytes q ≤ total held_len old.helds + short_bytes own.queue + note.place.len
-    piece-few = omega (arith, fewer, took-piece.moved held_len, short, ap (λ (p : Place). p.len) took.place)
+    piece-short : short_bytes change.queue ≤ short_bytes change.own.queue + unsplit_len (taken_note note)
+    piece-short = omega (arith, some.short)
 
-    piece-short : short_bytes q ≤ short_bytes own.queue + unsplit_len (taken_note note)
-    piece-short = omega (arith, short)
+    pub piece-torn : HasTokens now (was.unread ++ was.posted.entries) (read_of was) new
+        → TookNone was (with_note was was.notes now index was.active) old new
+    piece-torn tokens = subst (λ fs. TookNone was (with_note was was.notes fs index was.active) old new) (sym change.is)
+        (torn-taken was old new (taken_note note) works common piece-view some.only.apart change.flows i change.own change.queue change.chosen
+        change.within change.there change.base piece-few piece-short index change.index_is
+        (subst (λ fs. HasTokens fs (was.unread ++ was.posted.entries) (read_of was) new) change.is tokens))
 
-    pub piece-torn : (notes : ℕ) → IsIndex index flows
-        → TookNone was (with_note was notes (set flows i (record own { queue = q })) index i) old new
-    piece-torn notes is_index = torn-taken was old new (taken_note note) works common piece-view only.apart flows i own q chosen within value base piece-moved
-        piece-few piece-short index notes is_index
+    pub piece-entered : (notes : ℕ) → notes ≡ was.notes + 1 → Each IsAtRest was.flows → was.ended ≡ false
+        → Stands (was.notes + 1) now (was.unread ++ was.posted.entries) (read_of was) new
+        → TookOne was (with_note was notes now index i) old new
+    piece-entered notes count rest more stands = subst (λ fs. TookOne was (with_note was notes fs index i) old new) (sym change.is)
+        (entered-taken was old new (taken_note note) works common piece-view some.only.apart change.flows i change.own change.queue change.chosen
+        change.within change.there change.base piece-few piece-short index notes change.index_is count rest more
+        (subst (λ fs. Stands (was.notes + 1) fs (was.unread ++ was.posted.entries) (read_of was) new) change.is stands))
 
-    pub piece-entered : (notes : ℕ) → IsIndex index flows → notes ≡ was.notes + 1 → Each IsAtRest was.flows → was.ended ≡ false
-        → q.popped ≡ own.queue.popped
-        → ((placed : Placed Mark) → Holds marks_of_waiting own.queue placed
-        → Holds marks_of_waiting q (received_note own.queue.base placed (record { number = was.notes; note = note })))
-        → ((taken : List TakenNote) (t : TakenNote) → slice_get taken was.notes ≡ Some t → t.note.split ≡ true
-        → Each (λ k. IsOfNote taken k.piece) own.queue.kept → Each (λ k. IsOfNote taken k.piece) q.kept)
-        → TookOne was (with_note was notes (set flows i (record own { queue = q })) index i) old new
-    piece-entered notes is_index count rest more popped enters keeps =
-        entered-taken was old new (taken_note note) works common piece-view only.apart flows i own q chosen within value base piece-moved
-        piece-few piece-short index notes is_index count rest more popped enters
-        (λ there each. keeps (old.taken ++ taken_note note ∷ []) (taken_note note) there took.fields.split each)
+  -- it is lost, or some of it
+  pub piece-lost : (new : AppView) (now : List FlowQueue) (index : List (ℕ × ℕ)) → LosesPiece mid new was.flows now was.index index note was.notes held
+      → HasTokens now (was.unread ++ was.posted.entries) (read_of was) new → TookNone was (with_note was was.notes now index was.active) old new
+  piece-lost new now index (inl none) tokens = rw (none.0, none.1) (released-taken new none.2)
+  piece-lost new now index (inr part) tokens = piece-torn new now index part.place part.change part.some tokens

@@ -11,19 +11,19 @@ use Rattle.std.proofs.KnownBytes.{Keeps-trans}
 use Rattle.zr_kinds.specs.CopyingReceiver.{values_from}
 use Rattle.zr_io.specs.Moved.{Gained, Rose}
 use Rattle.zr_io.proofs.Moved.{Gained-weaker, Gained-then}
-use Rattle.app_worker.specs.Marks.{Mark, marks_from}
+use Rattle.flow_queues.specs.Marks.{Mark, marks_from}
 use Rattle.board_face.specs.declared.views.parts.Setting.{Setting}
 use Rattle.board_face.specs.declared.views.app.TakenNote.{TakenNote}
-use Rattle.board_face.specs.declared.views.app.LentPiece.{LentPiece}
 use Rattle.board_face.specs.declared.views.app.AppView.{AppView}
-use Rattle.app_worker.specs.declared.stack.Lending.{Lending}
-use Rattle.app_worker.specs.declared.stack.FlowQueue.{FlowQueue}
-use Rattle.app_worker.specs.Core.{total, is_copy, Each, Stands, FlowStands, HasTokens, OnlyReads, IsReadOf, AreReadAt, placed_of, marks_of_loan, many}
-use Rattle.app_worker.specs.Core.{short_bytes, IsIn, lent_piece}
-use Rattle.app_worker.specs.Core.{read_out}
+use Rattle.flow_queues.specs.declared.queues.Lending.{Lending}
+use Rattle.flow_queues.specs.declared.queues.FlowQueue.{FlowQueue}
+use Rattle.flow_queues.specs.Core.{total, is_copy, Each, Stands, FlowStands, HasTokens, OnlyReads, IsReadOf, AreReadAt, placed_of, marks_of_loan, many}
+use Rattle.flow_queues.specs.Core.{short_bytes, IsIn, lent_piece}
+use Rattle.flow_queues.specs.Core.{read_out}
 use Rattle.zr_kinds.specs.declared.behaviour.Stopped.{Stopped}
 use Rattle.zr_kinds.specs.declared.behaviour.Stopped.TheVariants as stop
-use Rattle.app_worker.specs.State.{State, read_of, TellsOf, LiesOutside, Working, Common, Quits, FlowEnds, capped, held_len, taken_len, unsplit_len, due_one}
+use Rattle.app_worker.specs.State.{State, read_of, TellsOf, LiesOutside, Working, Common, Quits, FlowEnds, capped, taken_len, due_one}
+use Rattle.flow_queues.specs.Core.{held_len, unsplit_len}
 use Rattle.app_worker.specs.State.{lent_len, loan_len, bytes_if, bytes_of, app_steps, one_if, loan_entries}
 use Rattle.board_face.specs.AppEvents.{reserve_of}
 use Rattle.app_worker.specs.Shelves.{kept_loans, IsShelved, AreShelved, AreOfOneLoan, ReadsFront, IsFrontShelved, AreFronts}
@@ -31,22 +31,23 @@ use Rattle.app_worker.specs.Moves.{Moves, KeptSince, reads_of, reserve_loans}
 use Rattle.app_worker.specs.Flushing.{Flushes, loans_so_far}
 use Rattle.std.proofs.lemmas.Bool.{cases_Bool}
 use Rattle.app_worker.specs.Whole.{Torn, ReadOne, ReadQuit, ReadFailed, Appended}
-use Rattle.app_worker.proofs.Standing.{At, split-at, each-right, each-changed, many-same, total-changed, parts-alike, is_number, number-is}
+use Rattle.flow_queues.proofs.Standing.{At, split-at, each-right, each-changed, many-same, total-changed, parts-alike, is_number, number-is}
 use Rattle.app_worker.proofs.Standing2.{IsNext, is-next, stands-read, tokens-read, appended, own-stands, oldest-out}
 use Rattle.app_worker.proofs.Shelved.{shelved-reaped, shelved-other}
-use Rattle.app_worker.proofs.Tokens.{total-append, in-left}
-use Rattle.app_worker.proofs.Entering.{marks-length}
+use Rattle.flow_queues.proofs.Tokens.{total-append, in-left}
+use Rattle.flow_queues.proofs.Entering.{marks-length}
 use Rattle.app_worker.proofs.ReadLemmas.{all-grow, read-append, marks-split}
-use Rattle.app_worker.proofs.Placing.{values-split, values-length}
+use Rattle.flow_queues.proofs.Placing.{values-split, values-length}
 use Rattle.app_worker.proofs.EachBoth.{each-both}
-use Rattle.app_worker.proofs.Moving.{total-one, looks-same, no-write, aside-same, leaked-aside, same-leaked, strays-same, entries-same, names-same, most-same}
+use Rattle.app_worker.proofs.Moving.{total-one, no-write, aside-same, leaked-aside, same-leaked, strays-same, entries-same, names-same, most-same}
+use Rattle.flow_queues.proofs.Looks.{looks-same}
 use Rattle.app_worker.proofs.Moving.{abandons-same, lent-same}
-use Rattle.app_worker.proofs.Indexing.{index-set}
+use Rattle.flow_queues.proofs.Indexing.{index-set}
 use Rattle.app_worker.proofs.Accounts.{sound-same}
 use Rattle.app_worker.proofs.Origins.{origins-same}
 use Rattle.app_worker.specs.Entries.{Gives}
 use Rattle.app_worker.proofs.Written.{gives-same, blocks-same}
-use Rattle.app_worker.proofs.Resting.{rest-same, each-same}
+use Rattle.flow_queues.proofs.Resting.{rest-same, each-same}
 
 pub front-of : {A : Type 0} (xs : List A) (x : A) → slice_get xs 0 ≡ Some x → xs ≡ x ∷ drop 1 xs
 front-of [] x is = absurd (cc)

@@ -6,11 +6,11 @@ use Rattle.zr_kinds.specs.declared.ring.Completion.{Completion}
 use Rattle.board_face.specs.declared.views.app.LentPiece.{LentPiece}
 use Rattle.board_face.specs.declared.views.app.TakenNote.{TakenNote}
 use Rattle.board_face.specs.declared.views.app.AppView.{AppView}
-use Rattle.app_worker.specs.declared.stack.Lending.{Lending}
-use Rattle.app_worker.specs.Core.{total, Each, IsIn, IsOfTaken, lent_piece, over_read}
-use Rattle.app_worker.proofs.Tokens.{in-total, is_that_loan, that-loan, is-lent-there}
-use Rattle.app_worker.proofs.Standing.{each-map, each-join}
-use Rattle.app_worker.proofs.Standing2.{lent-still}
+use Rattle.flow_queues.specs.declared.queues.Lending.{Lending}
+use Rattle.flow_queues.specs.Core.{total, Each, IsIn, IsOfTaken, lent_piece, over_read}
+use Rattle.flow_queues.proofs.Tokens.{in-total, is_that_loan, that-loan, is-lent-there}
+use Rattle.flow_queues.proofs.Standing.{each-map, each-join}
+use Rattle.flow_queues.proofs.NotesStay.{lent-still}
 
 pub origins-same : (old new : AppView) → new.returned ≡ old.returned → new.taken ≡ old.taken → Each (IsOfTaken old.taken) old.returned
     → Each (IsOfTaken new.taken) new.returned

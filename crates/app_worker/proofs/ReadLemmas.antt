@@ -17,10 +17,11 @@ use Rattle.board_face.specs.declared.views.app.TakenNote.{TakenNote}
 use Rattle.board_face.specs.declared.views.app.Reading.{Reading}
 use Rattle.board_face.specs.declared.views.app.LentPiece.{LentPiece}
 use Rattle.board_face.specs.declared.views.app.AppView.{AppView}
-use Rattle.app_worker.specs.declared.stack.Lending.{Lending}
-use Rattle.app_worker.specs.Marks.{Mark, marks_from}
-use Rattle.app_worker.specs.Core.{IsIn, LieApart, lent_piece, origin_in, IsReadAt, IsByteAt, AreReadAt, OnlyReads, IsReadOf, most_at_once}
-use Rattle.app_worker.proofs.Tokens.{in-left, in-right, loan-origin}
+use Rattle.flow_queues.specs.declared.queues.Lending.{Lending}
+use Rattle.flow_queues.specs.Marks.{Mark, marks_from}
+use Rattle.flow_queues.specs.Core.{IsIn, LieApart, lent_piece, origin_in, IsReadAt, IsByteAt, AreReadAt, OnlyReads, IsReadOf, most_at_once}
+use Rattle.flow_queues.proofs.Tokens.{in-left, in-right, loan-origin}
+use Rattle.flow_queues.proofs.NotesStay.{taken-still, note-there}
 
 read-grows : (reads more : List Reading) (mark : Mark) (byte : ℕ) → IsReadAt reads mark byte → IsReadAt (reads ++ more) mark byte
 read-grows reads more mark byte at = record {
@@ -53,11 +54,6 @@ all-grow taken reads more [] (b ∷ bs) are = absurd are
 all-grow taken reads more (m ∷ ms) [] are = absurd are
 
 -- a note that was taken is the same among more
-pub taken-still : (taken : List TakenNote) (t x : TakenNote) (k : ℕ) → slice_get taken k ≡ Some x → slice_get (taken ++ t ∷ []) k ≡ Some x
-taken-still [] t x k is = absurd (cc)
-taken-still (u ∷ us) t x zero is = is
-taken-still (u ∷ us) t x (suc k) is = taken-still us t x k is
-
 -- and so is what stands at marks
 pub all-noted : (taken : List TakenNote) (t : TakenNote) (reads : List Reading) (marks : List Mark) (bytes : List ℕ) → AreReadAt taken reads marks bytes
     → AreReadAt (taken ++ t ∷ []) reads marks bytes
@@ -174,11 +170,6 @@ drop-both (suc a) (suc b) [] = let e : suc (a + suc b) ≡ suc a + suc b = omega
 drop-both (suc a) b (y ∷ ys) = let e : suc (a + b) ≡ suc a + b = omega arith in drop-both a b ys ∙ ap (λ n. drop n (y ∷ ys)) e
 
 -- the note of this number
-pub note-there : (taken : List TakenNote) (k : ℕ) → k < length taken → (t : TakenNote) × (slice_get taken k ≡ Some t)
-note-there [] k below = absurd (omega arith)
-note-there (t ∷ ts) zero below = (t, refl)
-note-there (t ∷ ts) (suc k) below = note-there ts k (omega arith)
-
 pub only-none : (v : AppView) → OnlyReads v v
 only-none v = record { view = refl; more = []; are = sym (append-nil v.reads) }
 

@@ -10,16 +10,16 @@ use Rattle.zr_io.specs.Moved.{Gained}
 use Rattle.zr_io.proofs.Moved.{Gained-then, Gained-weaker}
 use Rattle.board_face.specs.declared.views.app.TakenNote.{TakenNote}
 use Rattle.board_face.specs.declared.views.app.AppView.{AppView}
-use Rattle.app_worker.specs.declared.stack.Lending.{Lending}
-use Rattle.app_worker.specs.declared.stack.FlowQueue.{FlowQueue}
-use Rattle.app_worker.specs.Marks.{Mark}
-use Rattle.app_worker.specs.Core.{AreReadAt, OnlyReads, FlowStands, Stands, Each, many, placed_of}
+use Rattle.flow_queues.specs.declared.queues.Lending.{Lending}
+use Rattle.flow_queues.specs.declared.queues.FlowQueue.{FlowQueue}
+use Rattle.flow_queues.specs.Marks.{Mark}
+use Rattle.flow_queues.specs.Core.{AreReadAt, OnlyReads, FlowStands, Stands, Each, many, placed_of}
 use Rattle.app_worker.specs.Whole.{Appended}
 use Rattle.app_worker.specs.Shelves.{IsShelved, AreShelved}
-use Rattle.app_worker.proofs.Tokens.{total-append}
+use Rattle.flow_queues.proofs.Tokens.{total-append}
 use Rattle.app_worker.proofs.ReadLemmas.{all-grow, read-append}
-use Rattle.app_worker.proofs.Placing.{values-split}
-use Rattle.app_worker.proofs.Standing.{is_number, each-right, each-changed, many-same, number-is}
+use Rattle.flow_queues.proofs.Placing.{values-split}
+use Rattle.flow_queues.proofs.Standing.{is_number, each-right, each-changed, many-same, number-is}
 use Rattle.app_worker.proofs.Standing2.{IsNext, is-next, own-stands}
 
 gained-kept : (a b c : Option (List ℕ)) (P : List ℕ → Type 0) → Gained a b P → Keeps b c → Gained a c P

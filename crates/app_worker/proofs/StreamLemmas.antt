@@ -13,17 +13,17 @@ use Rattle.zr_kinds.proofs.LeastMissing.{next_missing-least, same_least}
 use Rattle.tcp_reorder.proofs.Holding.{brought-past}
 use Rattle.board_face.specs.declared.views.app.TakenNote.{TakenNote}
 use Rattle.board_face.specs.declared.views.app.AppView.{AppView}
-use Rattle.app_worker.specs.declared.stack.FlowQueue.{FlowQueue}
-use Rattle.app_worker.specs.Marks.{Mark, Numbered, numbered, Frame, received_frame, received_frames, frames_of, base_of, placed_marks, marks_of, marks_of_note}
-use Rattle.app_worker.specs.Marks.{AreWholeFrames}
-use Rattle.app_worker.specs.Core.{Each, many, own_notes, BeginAt, placed_of, received_note, received_notes, AreReadAt}
+use Rattle.flow_queues.specs.declared.queues.FlowQueue.{FlowQueue}
+use Rattle.flow_queues.specs.Marks.{Mark, Numbered, numbered, Frame, received_frame, received_frames, frames_of, base_of, placed_marks, marks_of, marks_of_note}
+use Rattle.flow_queues.specs.Marks.{AreWholeFrames}
+use Rattle.flow_queues.specs.Core.{Each, many, own_notes, BeginAt, placed_of, received_note, received_notes, AreReadAt}
 use Rattle.app_worker.specs.State.{State, Working, Bare, AppStands, FlowEnds, app_steps, furthest}
 use Rattle.app_worker.proofs.Measure.{working-within, bare-within}
 use Rattle.app_worker.specs.Shelves.{kept_loans, IsShelved, AreShelved, ReadsFront, IsFrontShelved, AreFronts}
 use Rattle.app_worker.specs.Streams.{IsFront, HasFronts, HasAll}
-use Rattle.app_worker.proofs.InParts.{AreSame, none_some}
-use Rattle.app_worker.proofs.Placing.{values-split}
-use Rattle.app_worker.proofs.WholeFrames.{StandWhole, whole-own, placed-same}
+use Rattle.flow_queues.proofs.InParts.{AreSame, none_some}
+use Rattle.flow_queues.proofs.Placing.{values-split}
+use Rattle.flow_queues.proofs.WholeFrames.{StandWhole, whole-own, placed-same}
 use Rattle.app_worker.proofs.Noting.{gained-nothing}
 use Rattle.app_worker.proofs.EachBoth.{each-both}
 use Rattle.app_worker.proofs.NoteTaken.{all-end}

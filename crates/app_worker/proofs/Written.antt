@@ -14,9 +14,9 @@ use Rattle.board_face.specs.declared.views.app.AppView.{AppView}
 use Rattle.app_worker.specs.declared.stack.Stray.{Stray}
 use Rattle.app_worker.specs.Entries.{loans_of, lies_in, Gives, WasLive, AreBlocks, none, loan, raw, dropped}
 use Rattle.app_worker.specs.Steps.{raw_copies}
-use Rattle.app_worker.specs.Core.{total}
+use Rattle.flow_queues.specs.Core.{total}
 use Rattle.app_worker.specs.State.{loan_entries}
-use Rattle.app_worker.proofs.Tokens.{total-append}
+use Rattle.flow_queues.proofs.Tokens.{total-append}
 
 -- ---- those of loans
 

@@ -7,7 +7,7 @@ use Rattle.board_face.specs.AppEvents.{entry_of}
 use Rattle.board_face.specs.declared.views.app.LentPiece.{LentPiece}
 use Rattle.board_face.specs.declared.views.app.WrittenEntry.{WrittenEntry}
 use Rattle.board_face.specs.declared.views.app.AppView.{AppView}
-use Rattle.app_worker.specs.Core.{total}
+use Rattle.flow_queues.specs.Core.{total}
 
 -- those that gave loans back
 abbrev pub loans_of : List WrittenEntry → List Rqe

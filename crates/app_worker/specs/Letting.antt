@@ -3,22 +3,14 @@ use Rattle.std.specs.Prelude.{◌≡◌, ℕ, ◌+◌, ◌<◌, ◌≤◌, true,
 use Rattle.circular_buffer.specs.Buffer.{buffer}
 use Rattle.board_face.specs.declared.views.app.LentPiece.{LentPiece}
 use Rattle.board_face.specs.declared.views.app.AppView.{AppView}
-use Rattle.app_worker.specs.declared.stack.FlowQueue.{FlowQueue}
 use Rattle.app_worker.specs.Entries.{Gives}
-use Rattle.app_worker.specs.Core.{total, LieApart, Each, many}
-use Rattle.app_worker.specs.State.{IsIndex, State, Common, FlowEnds, app_steps, lent_bytes, loan_entries}
+use Rattle.flow_queues.specs.Core.{total, LieApart, Each, many}
+use Rattle.flow_queues.specs.Flows.{IsIndex}
+use Rattle.app_worker.specs.State.{State, Common, FlowEnds, app_steps, lent_bytes, loan_entries}
 use Rattle.app_worker.specs.Shelves.{AreFronts}
 use Rattle.app_worker.specs.Moves.{Moves}
 use Rattle.app_worker.specs.Whole.{KeepsShelves}
-
--- what stays known of a flow
-pub record FlowFacts : Type 0 where
-  pub number : ℕ
-  pub base : ℕ
-  pub bytes : ℕ
-
-abbrev pub facts_of : FlowQueue → FlowFacts
-facts_of f = record { number = f.number; base = f.queue.base; bytes = f.bytes }
+use Rattle.flow_queues.specs.Flows.{facts_of}
 
 -- tokens went, and nothing else changed
 pub record OnlyTokens (old new : AppView) : Type 0 where

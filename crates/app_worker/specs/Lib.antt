@@ -1,5 +1,5 @@
-pub mod Marks
-pub mod Core
+pub use Rattle.flow_queues.specs.Marks
+pub use Rattle.flow_queues.specs.Core
 pub mod Steps
 pub mod Entries
 pub mod State

@@ -6,8 +6,8 @@ use Rattle.zr_kinds.specs.declared.behaviour.Stopped.TheVariants as stop
 use Rattle.board_face.specs.Looks.{AppLooksStay}
 use Rattle.board_face.specs.declared.views.app.AppView.{AppView}
 use Rattle.board_face.specs.AppEvents.{reserve_of}
-use Rattle.app_worker.specs.declared.stack.Lending.{Lending}
-use Rattle.app_worker.specs.Core.{total, Each}
+use Rattle.flow_queues.specs.declared.queues.Lending.{Lending}
+use Rattle.flow_queues.specs.Core.{total, Each}
 use Rattle.app_worker.specs.Entries.{lies_in}
 use Rattle.app_worker.specs.State.{State, TellsOf, read_of, loan_entries, bytes_of, due_one, app_steps}
 use Rattle.app_worker.specs.Shelves.{AreShelved, AreFronts}

@@ -7,10 +7,10 @@ use Rattle.board_face.specs.declared.views.app.LentPiece.{LentPiece}
 use Rattle.board_face.specs.declared.views.app.Reading.{Reading}
 use Rattle.board_face.specs.declared.views.app.TakenNote.{TakenNote}
 use Rattle.board_face.specs.declared.views.app.AppView.{AppView}
-use Rattle.app_worker.specs.declared.stack.FlowQueue.{FlowQueue}
-use Rattle.app_worker.specs.declared.stack.Lending.{Lending}
-use Rattle.app_worker.specs.Marks.{Mark, marks_from}
-use Rattle.app_worker.specs.Core.{Each, many, IsIn, lent_piece, AreReadAt, placed_of, most_at_once}
+use Rattle.flow_queues.specs.declared.queues.FlowQueue.{FlowQueue}
+use Rattle.flow_queues.specs.declared.queues.Lending.{Lending}
+use Rattle.flow_queues.specs.Marks.{Mark, marks_from}
+use Rattle.flow_queues.specs.Core.{Each, many, IsIn, lent_piece, AreReadAt, placed_of, most_at_once}
 use Rattle.app_worker.specs.State.{loan_entries}
 
 -- since `first`, a flow's shelf gained the bytes at its first marks, as many as are counted

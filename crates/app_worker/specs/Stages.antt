@@ -14,9 +14,10 @@ use Rattle.app_worker.specs.declared.stages.Drained.TheVariants.{Nothing as read
 use Rattle.app_worker.specs.declared.stages.Lent.{Lent}
 use Rattle.app_worker.specs.declared.stages.Lent.TheVariants.{Nothing as none_in_order, Did as lent_some, Stuck, NoSpare as NoSpareHad}
 use Rattle.app_worker.specs.declared.stages.Lent.TheVariants.{Quit as lending_quit, Failed as lending_failed}
-use Rattle.app_worker.specs.Core.{Each}
-use Rattle.app_worker.specs.State.{State, IsAtRest, LiesOutside, Working, Common, Bare, app_steps}
-use Rattle.app_worker.specs.Steps.{SawNoSpare}
+use Rattle.flow_queues.specs.Core.{Each}
+use Rattle.app_worker.specs.State.{State, LiesOutside, Working, Common, Bare, app_steps}
+use Rattle.flow_queues.specs.Flows.{IsAtRest}
+use Rattle.flow_queues.specs.Lent.{SawNoSpare}
 use Rattle.app_worker.specs.Moves.{Goes}
 use Rattle.app_worker.specs.Flushing.{Flushes}
 use Rattle.app_worker.specs.Whole.{Lends, HasNext, HasCopyNext, IsDue}

@@ -1,11 +1,9 @@
 -- What an application keeps between its turns, as plain data, and how that stands to what its face has seen.
 use mir.Syntax.{w32}
 use Rattle.std.specs.Int.{cast_signed}
-use Rattle.std.specs.Prelude.{◌≡◌, ◌≢◌, ◌↔◌, ℕ, zero, suc, ◌+◌, ◌-◌, ◌*◌, ◌^◌, ◌<◌, ◌≤◌, ◌==◌, min}
+use Rattle.std.specs.Prelude.{◌≡◌, ◌≢◌, ◌↔◌, ℕ, ◌+◌, ◌-◌, ◌*◌, ◌^◌, ◌<◌, ◌≤◌, ◌==◌, min}
 use Rattle.std.specs.Prelude.{Bool, true, false, if◌then◌else◌}
-use Rattle.std.specs.Prelude.{List, [], ◌∷◌, ◌++◌, length, take, drop, Option, Some, None, MatchBool, MatchOption, IsSome, slice_index_or}
-use Rattle.std.specs.Map.{lookup}
-use Rattle.std.specs.Ordering.{is_eq, nat_cmp}
+use Rattle.std.specs.Prelude.{List, [], ◌++◌, length, take, drop, Option, Some, None, MatchBool, IsSome}
 use Rattle.zr_kinds.specs.declared.behaviour.Behaviour.{Behaviour}
 use Rattle.zr_kinds.specs.declared.behaviour.Stopped.{Stopped}
 use Rattle.zr_kinds.specs.declared.behaviour.Stopped.TheVariants.{No, Quit}
@@ -14,17 +12,17 @@ use Rattle.zr_kinds.specs.CopyingReceiver.{next_missing}
 use Rattle.area_layout.specs.Layout.{Shape, off_of, judged}
 use Rattle.circular_buffer.specs.Buffer.{Buffer}
 use Rattle.completion_ring.specs.Ring.{Ring}
-use Rattle.tcp_reorder.specs.Queue.{next_of}
 use Rattle.board_face.specs.AppEvents.{reserve_of}
-use Rattle.board_face.specs.declared.views.app.HeldPiece.{HeldPiece}
 use Rattle.board_face.specs.declared.views.app.LentPiece.{LentPiece}
 use Rattle.board_face.specs.declared.views.app.TakenNote.{TakenNote}
 use Rattle.board_face.specs.declared.views.app.AppView.{AppView}
-use Rattle.app_worker.specs.declared.stack.Lending.{Lending}
+use Rattle.flow_queues.specs.declared.queues.Lending.{Lending}
 use Rattle.app_worker.specs.declared.stack.Stray.{Stray}
-use Rattle.app_worker.specs.declared.stack.FlowQueue.{FlowQueue}
+use Rattle.flow_queues.specs.declared.queues.FlowQueue.{FlowQueue}
 use Rattle.app_worker.specs.Entries.{Gives, lies_in, WasLive, AreBlocks}
-use Rattle.app_worker.specs.Core.{total, is_odd, is_copy, IsOfTaken, Each, many, read_out, own_notes, BeginAt, placed_of, short_bytes, Stands}
+use Rattle.flow_queues.specs.Core.{total, is_odd, is_copy, IsOfTaken, Each, many, read_out, own_notes, BeginAt, placed_of, short_bytes, Stands}
+use Rattle.flow_queues.specs.Flows.{IsAtRest, RestBut, IsIndex}
+use Rattle.flow_queues.specs.Core.{unsplit_len, held_len}
 
 pub record State : Type 0 where
   pub app : ℕ
@@ -59,25 +57,6 @@ pub record State : Type 0 where
   pub copied : ℕ
   -- all that is unread is to be read, since a loan in the reserve was posted
   pub flush : Bool
-
--- no piece of the flow is in order
-abbrev pub IsAtRest : FlowQueue → Type 0
-IsAtRest f = f.queue.popped ≡ next_of f.queue
-
--- nor is one of any flow but that at this place
-abbrev pub RestBut : ℕ → List FlowQueue → Type 0
-RestBut place [] = Unit {0}
-RestBut zero (f ∷ fs) = Each IsAtRest fs
-RestBut (suc before) (f ∷ fs) = IsAtRest f × RestBut before fs
-
--- what an index has of a number
-abbrev pub place_in : List (ℕ × ℕ) → ℕ → Option ℕ
-place_in index number = lookup (λ k. is_eq (nat_cmp number k)) index
-
--- the index tells the place of each flow
-abbrev pub IsIndex : List (ℕ × ℕ) → List FlowQueue → Type 0
-IsIndex index flows = (number : ℕ) → MatchOption (place_in index number) (many number flows ≡ 0)
-    (λ i. (i < length flows) × ((d : FlowQueue) → (slice_index_or flows i d).number ≡ number))
 
 -- ---- while it goes on
 
@@ -189,13 +168,6 @@ capped n = min n (2 ^ 64 - 1)
 
 abbrev pub taken_len : TakenNote → ℕ
 taken_len t = t.note.place.len
-
--- how many bytes came with the note
-abbrev pub unsplit_len : TakenNote → ℕ
-unsplit_len t = if t.note.split then 0 else t.note.total
-
-abbrev pub held_len : HeldPiece → ℕ
-held_len h = h.place.len
 
 -- It quits exactly where it has written so many bytes, and writes no more.
 abbrev pub Quits : Option ℕ → ℕ → Stopped → Type 0

@@ -4,9 +4,9 @@ use Rattle.zr_io.specs.Moved.{Gained}
 use Rattle.board_face.specs.declared.views.app.Reading.{Reading}
 use Rattle.board_face.specs.declared.views.app.TakenNote.{TakenNote}
 use Rattle.board_face.specs.declared.views.app.AppView.{AppView}
-use Rattle.app_worker.specs.declared.stack.FlowQueue.{FlowQueue}
-use Rattle.app_worker.specs.Marks.{Mark, marks_of}
-use Rattle.app_worker.specs.Core.{AreReadAt}
+use Rattle.flow_queues.specs.declared.queues.FlowQueue.{FlowQueue}
+use Rattle.flow_queues.specs.Marks.{Mark, marks_of}
+use Rattle.flow_queues.specs.Core.{AreReadAt}
 use Rattle.app_worker.specs.Kept.{flow_bytes}
 
 -- these are the bytes at the first of these marks, one at each

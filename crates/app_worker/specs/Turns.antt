@@ -13,8 +13,9 @@ use Rattle.app_worker.specs.declared.turn.Turn.{Turn}
 use Rattle.app_worker.specs.declared.turn.Turn.TheVariants.{Did, Idle, Finished, Failed}
 use Rattle.app_worker.specs.declared.turn.Why.{Why}
 use Rattle.app_worker.specs.declared.turn.Why.TheVariants.{NoNote, RefillFull, Unsettled, ReserveHeld, NotQuiet}
-use Rattle.app_worker.specs.Core.{Each}
-use Rattle.app_worker.specs.State.{State, IsAtRest, Working, Common, Bare, AppStands, app_steps}
+use Rattle.flow_queues.specs.Core.{Each}
+use Rattle.app_worker.specs.State.{State, Working, Common, Bare, AppStands, app_steps}
+use Rattle.flow_queues.specs.Flows.{IsAtRest}
 use Rattle.app_worker.specs.Moves.{Moves, Goes}
 use Rattle.app_worker.specs.Flushing.{Flushes}
 use Rattle.app_worker.specs.Whole.{HasNext, HasCopyNext, IsDue}

@@ -1,8 +1,7 @@
 -- What the steps of a turn do to all that an application keeps.
 use Rattle.std.specs.Prelude.{◌≡◌, ◌≢◌, ℕ, ◌+◌, ◌<◌, ◌≤◌, Bool, true, false, List, [], ◌∷◌, ◌++◌, length}
-use Rattle.std.specs.Prelude.{◌⊎◌, slice_get, slice_index_or, Option, None, Some}
+use Rattle.std.specs.Prelude.{◌⊎◌, slice_get, Option, None, Some}
 use Rattle.std.specs.Io.KnownBytes.{Keeps}
-use Rattle.zr_kinds.specs.declared.place.Note.{Note}
 use Rattle.zr_kinds.specs.declared.behaviour.Stopped.TheVariants as stop
 use Rattle.zr_kinds.specs.CopyingReceiver.{values_from}
 use Rattle.zr_io.specs.Moved.{Gained, Rose}
@@ -13,7 +12,7 @@ use Rattle.board_face.specs.AppCalls.{AppOnlySaw, ToldEnd}
 use Rattle.board_face.specs.declared.views.app.AppLook.TheVariants.{NoNote as no_note, RawOnItsWay, RefillInUse}
 use Rattle.board_face.specs.declared.views.app.TakenNote.{TakenNote}
 use Rattle.board_face.specs.declared.views.app.AppView.{AppView}
-use Rattle.app_worker.specs.declared.stack.FlowQueue.{FlowQueue}
+use Rattle.flow_queues.specs.declared.queues.FlowQueue.{FlowQueue}
 use Rattle.app_worker.specs.declared.stack.Delivery.{Delivery}
 use Rattle.app_worker.specs.declared.stack.Delivery.TheVariants.{Did as lent_it, NoneInOrder, Full, Unsettled, ReserveHeld}
 use Rattle.app_worker.specs.declared.turning.Read.{Read}
@@ -25,10 +24,11 @@ use Rattle.app_worker.specs.declared.straying.Gave.TheVariants.{Nothing as nothi
 use Rattle.app_worker.specs.declared.turning.Taken.{Taken}
 use Rattle.app_worker.specs.declared.turning.Taken.TheVariants.{Did as took, NoNote, Ended, Memory}
 use Rattle.app_worker.specs.Entries.{Gives as GivesAll}
-use Rattle.app_worker.specs.Core.{total, HasTokens, Each, many, AreReadAt, placed_of}
-use Rattle.app_worker.specs.State.{IsIndex, State, read_of, IsAtRest, Working, Common, FlowEnds, app_steps, lent_bytes}
+use Rattle.flow_queues.specs.Core.{total, HasTokens, Each, many, AreReadAt, placed_of}
+use Rattle.flow_queues.specs.Flows.{IsIndex, IsAtRest}
+use Rattle.app_worker.specs.State.{State, read_of, Working, Common, FlowEnds, app_steps, lent_bytes}
 use Rattle.app_worker.specs.Shelves.{AreShelved, AreFronts}
-use Rattle.app_worker.specs.Steps.{IsNext, SawNoSpare}
+use Rattle.flow_queues.specs.Lent.{IsNext, SawNoSpare}
 use Rattle.app_worker.specs.Moves.{Moves, Goes}
 use Rattle.app_worker.specs.Flushing.{Flushes}
 
@@ -37,18 +37,6 @@ pub record Appended (flow : FlowQueue) (taken : List TakenNote) (new : AppView) 
   pub gained : Gained (kept flow.number) (kept_now flow.number)
       (λ bytes. AreReadAt taken new.reads (values_from (placed_of flow taken).at len flow.bytes) bytes)
   pub others : (other : ℕ) → other ≢ flow.number → Keeps (kept other) (kept_now other)
-
--- ---- the queue of a note's flow
-
--- one that keeps nothing
-abbrev pub fresh_flow : Note → FlowQueue
-fresh_flow note = record { number = note.flow; queue = record { base = note.base; popped = 0; kept = [] }; bytes = 0 }
-
--- it was there, or there was none and one was put behind the others
-abbrev pub IsChosen : List FlowQueue → List FlowQueue → Note → ℕ → Type 0
-IsChosen was now note i =
-    ((now ≡ was) × ((d : FlowQueue) → (slice_index_or now i d).number ≡ note.flow))
-    ⊎ ((many note.flow was ≡ 0) × (now ≡ was ++ fresh_flow note ∷ []) × (i ≡ length was))
 
 -- ---- lending
 

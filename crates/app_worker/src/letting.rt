@@ -1,53 +1,19 @@
 //! All that an application has out is given up.
-ghost use Rattle.std.specs.Prelude.{◌≡◌, false, true, ℕ, ◌+◌, ◌<◌, ◌≤◌, [], map, length, IfSome, None};
+ghost use Rattle.std.specs.Prelude.{◌≡◌, false, true, ℕ, ◌<◌, ◌≤◌, [], None};
 ghost use Rattle.circular_buffer.specs.Buffer.{buffer};
-ghost use Rattle.board_face.specs.declared.views.app.HeldPiece.{HeldPiece};
 ghost use Rattle.board_face.specs.declared.views.app.LentPiece.{LentPiece};
 ghost use Rattle.board_face.specs.AppCalls.{IsHere};
-ghost use Rattle.app_worker.specs.Core.{LieApart, total, over_kept, short_bytes, lent_piece, over_due, over_read};
-ghost use Rattle.app_worker.specs.Steps.{OnlyHelds};
+ghost use Rattle.flow_queues.specs.Core.{LieApart, total, lent_piece, over_due, over_read};
 ghost use Rattle.app_worker.specs.State.{Common};
 ghost use Rattle.app_worker.specs.StateOf.{state_of};
 ghost use Rattle.app_worker.specs.Whole.{Torn};
-ghost use Rattle.app_worker.specs.Letting.{facts_of, Abandons, LetGo};
+ghost use Rattle.app_worker.specs.Letting.{Abandons, LetGo};
 
-use crate::stack::{FlowQueue, Lending, Stack, Waiting, give_back};
+use crate::stack::Stack;
 use board_face::AppFace;
 use circular_buffer::HeapCircularBuffer;
-use tcp_reorder::RecvQueue;
+use flow_queues::{Lending, release_all};
 use zr_kinds::Completion;
-
-/// Gives up all pieces of a queue.
-fn release_kept<F: AppFace>(face: &mut F, queue: &mut RecvQueue<Waiting>)
-    requires here { IsHere (F.seen face.old) }
-    requires apart { LieApart (F.seen face.old) }
-    requires out { (f : HeldPiece → ℕ) → over_kept f queue.old ≤ total f (F.seen face.old).helds }
-    ensures only { OnlyHelds (F.seen face.old) (F.seen face.new) (λ f. over_kept f queue.old) (λ f. 0) }
-    ensures empty { queue.new.kept ≡ [] }
-    ensures base { queue.new.base ≡ queue.old.base }
-    ensures beside { F.beside face.new ≡ F.beside face.old }
-{
-    while let Some((waiting, _)) = queue.pull() {
-        give_back(face, waiting);
-    }
-}
-
-/// Gives up all pieces of all flows.
-fn release_all<F: AppFace>(face: &mut F, flows: &mut Vec<FlowQueue>)
-    requires here { IsHere (F.seen face.old) }
-    requires apart { LieApart (F.seen face.old) }
-    requires out { (f : HeldPiece → ℕ) → total f (F.seen face.old).helds ≡ total (λ flow. over_kept f flow.queue) flows.old.items }
-    ensures view { F.seen face.new ≡ record (F.seen face.old) { helds = [] } }
-    ensures facts { map facts_of flows.new.items ≡ map facts_of flows.old.items }
-    ensures short { total (λ f. short_bytes f.queue) flows.new.items ≡ 0 }
-    ensures beside { F.beside face.new ≡ F.beside face.old }
-{
-    let mut i = 0;
-    while i < flows.len() {
-        release_kept(face, &mut flows[i].queue);
-        i += 1;
-    }
-}
 
 /// Abandons loans.
 fn abandon_all<F: AppFace>(face: &mut F, unread: &mut HeapCircularBuffer<(Completion, Lending)>)

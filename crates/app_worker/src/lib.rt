@@ -4,7 +4,6 @@
 mod lending;
 mod letting;
 mod reading;
-mod short;
 mod stack;
 mod stages;
 mod state;

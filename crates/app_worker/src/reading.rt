@@ -5,14 +5,15 @@ ghost use Rattle.area_layout.specs.Layout.{judged};
 ghost use Rattle.std.specs.Io.KnownBytes.{Keeps};
 ghost use Rattle.zr_io.specs.Moved.{Gained, Rose};
 ghost use Rattle.board_face.specs.AppCalls.{IsHere, IsLive, AppOnlySaw};
-ghost use Rattle.app_worker.specs.Core.{LieApart, IsIn, lent_piece, OnlyReads, IsReadOf};
+ghost use Rattle.flow_queues.specs.Core.{LieApart, IsIn, lent_piece, OnlyReads, IsReadOf};
 ghost use Rattle.board_face.specs.AppEvents.{app_gist, pushed_raw};
 ghost use Rattle.board_face.specs.declared.views.app.AppLook.TheVariants.{RefillInUse};
 ghost use Rattle.app_worker.specs.Steps.{Given, KeptDue, NotKept, Pushes};
 
-use crate::stack::{Lending, Stray};
+use crate::stack::Stray;
 use board_face::AppFace;
 use circular_buffer::HeapCircularBuffer;
+use flow_queues::Lending;
 use zr_io::{Failed, Shelf};
 use zr_kinds::Rqe;
 

@@ -1,25 +1,25 @@
 //! The steps of a turn, over all that an application keeps.
-ghost use Rattle.std.specs.Prelude.{◌≡◌, ◌≢◌, false, true, ℕ, ◌+◌, ◌-◌, ◌<◌, ◌≤◌, [], List, Option, None, length, MatchResult};
-ghost use Rattle.std.specs.Prelude.{◌^◌, OnOk, IfSome, ◌⊎◌};
+ghost use Rattle.std.specs.Prelude.{◌≡◌, ◌≢◌, false, true, ℕ, ◌-◌, ◌<◌, ◌≤◌, [], List, Option, None, length};
+ghost use Rattle.std.specs.Prelude.{◌^◌, IfSome, ◌⊎◌};
 ghost use Rattle.board_face.specs.AppCalls.{IsHere, TookLinear};
 ghost use Rattle.board_face.specs.Texts.{IsLinearNote};
 ghost use Rattle.board_face.specs.declared.views.app.AppView.{AppView};
 ghost use Rattle.board_face.specs.AppEvents.{app_gist};
 ghost use Rattle.board_face.specs.declared.views.app.AppLook.TheVariants.{RawOnItsWay, NoNote as no_note, NoSpare, RefillInUse};
-ghost use Rattle.app_worker.specs.Core.{Each};
-ghost use Rattle.app_worker.specs.State.{Working, Common, IsAtRest, IsIndex, place_in, wanted_of};
+ghost use Rattle.flow_queues.specs.Core.{Each};
+ghost use Rattle.app_worker.specs.State.{Working, Common, wanted_of};
+ghost use Rattle.flow_queues.specs.Flows.{IsAtRest, IsIndex};
 ghost use Rattle.app_worker.specs.StateOf.{state_of};
 ghost use Rattle.app_worker.specs.Moves.{Goes};
-ghost use Rattle.app_worker.specs.Whole.{Lends, Gives, Takes, Reads, IsChosen};
+ghost use Rattle.app_worker.specs.Whole.{Lends, Gives, Takes, Reads};
 
+use crate::lending::deliver;
 use crate::reading::{give_due, keep_due, read_loan};
-use crate::short::enter_short;
-use crate::stack::{Delivery, FlowQueue, Lending, Stack, Wanting, deliver, enter};
+use crate::stack::{Delivery, Stack};
 use board_face::{AppFace, Polled};
 use circular_buffer::HeapCircularBuffer;
+use flow_queues::{Lending, find, take_payload, take_piece};
 use std::alloc::Global;
-use std::collections::BTreeMap;
-use tcp_reorder::RecvQueue;
 use zr_io::{Failed, Shelf};
 use zr_kinds::{Completion, Note, Stopped};
 
@@ -89,13 +89,6 @@ pub fn give_one<F: AppFace>(face: &mut F, st: &mut Stack) -> bool
         return true;
     }
     give_due(face, &mut st.due, st.how.stray, &mut st.stray)
-}
-
-/// The place of the flow with this number.
-pub fn find(index: &BTreeMap<u64, usize>, number: u64) -> Option<usize>
-    ensures { result ≡ place_in index.now.entries number }
-{
-    index.get(&number).copied()
 }
 
 /// Whether all that is unread is to be read, once the oldest was taken out: no more once nothing is unread.
@@ -169,38 +162,6 @@ pub fn read_one<F: AppFace, T: Shelf>(face: &mut F, st: &mut Stack, shelf: &mut 
     Read::Did
 }
 
-/// The place of the queue of a note's flow, which is made where there is none.
-fn place_for(
-    alloc: Global,
-    flows: &mut Vec<FlowQueue>,
-    index: &mut BTreeMap<u64, usize>,
-    note: &Note,
-) -> Result<usize, Wanting>
-    requires { IsIndex index.old.entries flows.old.items }
-    ensures chosen { MatchResult result (λ i. (i < length flows.new.items) × IsChosen flows.old.items flows.new.items note.now i)
-        (λ _. (flows.new.items ≡ flows.old.items) × (index.new.entries ≡ index.old.entries)) }
-    ensures index { OnOk result (IsIndex index.new.entries flows.new.items) }
-{
-    let number = u64::from(note.flow);
-    if let Some(i) = find(index, number) {
-        return Ok(i);
-    }
-    let i = flows.len();
-    let own = FlowQueue {
-        number: note.flow,
-        queue: RecvQueue::new(alloc, note.base),
-        bytes: 0,
-    };
-    if flows.push(own).is_err() {
-        return Err(Wanting);
-    }
-    if index.insert(number, i).is_err() {
-        flows.pop();
-        return Err(Wanting);
-    }
-    Ok(i)
-}
-
 /// A short payload was taken, the first bytes of these. What its flow wants of it enters the flow's queue.
 fn take_short(alloc: Global, st: &mut Stack, note: &Note, linear: &[u8]) -> Taken
     requires fields { IsLinearNote note.now }
@@ -214,16 +175,14 @@ fn take_short(alloc: Global, st: &mut Stack, note: &Note, linear: &[u8]) -> Take
     let Some(notes) = number.checked_add(1) else {
         return Taken::Memory;
     };
-    let Ok(i) = place_for(alloc, &mut st.flows, &mut st.index, note) else {
+    let payload = &linear[..note.total as usize];
+    let taken = take_payload(alloc, &mut st.flows, &mut st.index, note, number, payload);
+    let Ok(i) = taken else {
         return Taken::Memory;
     };
     st.notes = notes;
     st.active = i;
-    let payload = &linear[..note.total as usize];
-    match enter_short(alloc, &mut st.flows[i].queue, note, number, payload) {
-        Ok(()) => Taken::Did,
-        Err(Wanting) => Taken::Memory,
-    }
+    Taken::Did
 }
 
 /// Takes a note. What its flow wants of it enters the flow's queue, and the rest of a piece is given up.
@@ -249,14 +208,19 @@ pub fn take_note<F: AppFace>(alloc: Global, face: &mut F, st: &mut Stack) -> Tak
         face.release(held);
         return Taken::Memory;
     };
-    let Ok(i) = place_for(alloc, &mut st.flows, &mut st.index, &note) else {
-        face.release(held);
+    let taken = take_piece(
+        alloc,
+        face,
+        &mut st.flows,
+        &mut st.index,
+        &note,
+        number,
+        held,
+    );
+    let Ok(i) = taken else {
         return Taken::Memory;
     };
     st.notes = notes;
     st.active = i;
-    match enter(face, &mut st.flows[i].queue, &note, number, held) {
-        Ok(()) => Taken::Did,
-        Err(Wanting) => Taken::Memory,
-    }
+    Taken::Did
 }

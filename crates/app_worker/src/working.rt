@@ -6,8 +6,9 @@ ghost use Rattle.app_worker.specs.declared.turn.Why.{Why};
 ghost use Rattle.app_worker.specs.declared.turn.Turn.{Turn};
 ghost use Rattle.app_worker.specs.declared.turn.Turn.TheVariants.{Did, Idle, Failed, Finished};
 ghost use Rattle.zr_kinds.specs.declared.fault.Fault.TheVariants.{Write};
-ghost use Rattle.app_worker.specs.Core.{Each};
-ghost use Rattle.app_worker.specs.State.{Working, Common, Bare, AppStands, IsAtRest};
+ghost use Rattle.flow_queues.specs.Core.{Each};
+ghost use Rattle.app_worker.specs.State.{Working, Common, Bare, AppStands};
+ghost use Rattle.flow_queues.specs.Flows.{IsAtRest};
 ghost use Rattle.app_worker.specs.StateOf.{state_of};
 ghost use Rattle.app_worker.specs.Turns.{Passes, ScrubsIfQuiet, Turns, look_of, turn_after};
 

@@ -1,6 +1,6 @@
 -- Those that were taken out are abandoned.
 use Rattle.std.specs.Prelude.{◌≡◌, length}
-use Rattle.app_worker.specs.Core.{total, lent_piece}
+use Rattle.flow_queues.specs.Core.{total, lent_piece}
 use Rattle.app_worker.proofs.LetGone.{AbandonsSome}
 use Rattle.app_worker.proofs.letting.abandon_all.Given as goal
 

@@ -2,9 +2,9 @@ use Rattle.std.proofs.Common.{rules, ◌≡◌, ℕ, ◌+◌, List, ◌∷◌, d
 use Rattle.circular_buffer.specs.Buffer.{Buffer}
 use Rattle.board_face.specs.declared.views.app.LentPiece.{LentPiece}
 use Rattle.board_face.specs.declared.views.app.AppView.{AppView}
-use Rattle.app_worker.specs.declared.stack.Lending.{Lending}
-use Rattle.app_worker.specs.Core.{lent_piece, over_read}
-use Rattle.app_worker.proofs.Tokens.{in-contains}
+use Rattle.flow_queues.specs.declared.queues.Lending.{Lending}
+use Rattle.flow_queues.specs.Core.{lent_piece, over_read}
+use Rattle.flow_queues.proofs.Tokens.{in-contains}
 use Rattle.app_worker.proofs.Oldest.{front-of}
 use Rattle.app_worker.proofs.LetGone.{AbandonsSome, abandons-none, abandons-one, first-lent}
 use Rattle.app_worker.proofs.letting.abandon_leaked.Goals as goal

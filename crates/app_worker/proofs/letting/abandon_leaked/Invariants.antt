@@ -1,6 +1,6 @@
 -- Those that were taken out are abandoned.
 use Rattle.std.specs.Prelude.{◌≡◌, length}
-use Rattle.app_worker.specs.Core.{over_read}
+use Rattle.flow_queues.specs.Core.{over_read}
 use Rattle.app_worker.proofs.LetGone.{AbandonsSome}
 use Rattle.app_worker.proofs.letting.abandon_leaked.Given as goal
 

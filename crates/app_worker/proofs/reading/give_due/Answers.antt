@@ -8,10 +8,10 @@ use Rattle.board_face.specs.AppEvents.{gave}
 use Rattle.board_face.specs.declared.views.app.AppView.{AppView}
 use Rattle.zr_kinds.specs.declared.ring.Rqe.{Rqe}
 use Rattle.app_worker.specs.declared.stack.Stray.{Stray}
-use Rattle.app_worker.specs.declared.stack.Lending.{Lending}
-use Rattle.app_worker.specs.Core.{IsIn, lent_piece}
+use Rattle.flow_queues.specs.declared.queues.Lending.{Lending}
+use Rattle.flow_queues.specs.Core.{IsIn, lent_piece}
 use Rattle.app_worker.specs.Steps.{Gave, IsToFollow}
-use Rattle.app_worker.proofs.Tokens.{in-contains, is-given, loan-lies, loan-some}
+use Rattle.flow_queues.proofs.Tokens.{in-contains, is-given, loan-lies, loan-some}
 use Rattle.app_worker.proofs.reading.give_due.Goals as goal
 
 pub give-requires-clause-out : goal.give-requires-clause-out

@@ -6,9 +6,9 @@ use Rattle.std.proofs.lemmas.List.{length-drop}
 use Rattle.zr_io.specs.Moved.{Gained}
 use Rattle.board_face.specs.AppEvents.{has_read}
 use Rattle.board_face.specs.declared.views.app.AppView.{AppView}
-use Rattle.app_worker.specs.declared.stack.Lending.{Lending}
-use Rattle.app_worker.specs.Core.{IsIn, LieApart, lent_piece}
-use Rattle.app_worker.proofs.Tokens.{in-contains}
+use Rattle.flow_queues.specs.declared.queues.Lending.{Lending}
+use Rattle.flow_queues.specs.Core.{IsIn, LieApart, lent_piece}
+use Rattle.flow_queues.proofs.Tokens.{in-contains}
 use Rattle.app_worker.proofs.ReadLemmas.{IsReadTo, still-apart, still-out, only-then, only-read, one-more, some-more}
 use Rattle.app_worker.proofs.reading.read_loan.Goals as goal
 

@@ -3,7 +3,7 @@ use Rattle.std.specs.Prelude.{Result, Ok, Err, IsOk, OnOk}
 use Rattle.zr_kinds.specs.declared.ring.Completion.{Completion}
 use Rattle.completion_ring.specs.Ring.{Ring, ring}
 use Rattle.circular_buffer.specs.Buffer.{Buffer, buffer}
-use Rattle.app_worker.specs.declared.stack.Lending.{Lending}
+use Rattle.flow_queues.specs.declared.queues.Lending.{Lending}
 use Rattle.app_worker.specs.State.{State}
 use Rattle.app_worker.proofs.stages.reap_all.Goals as goal
 

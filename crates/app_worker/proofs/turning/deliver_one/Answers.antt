@@ -1,16 +1,16 @@
 use Rattle.std.proofs.Common.{rules, ◌≡◌, ◌≢◌, ◌<◌, ◌+◌, ◌-◌, ◌^◌, min, List, length, refl, subst, ap, arith, ◌++◌, ◌∷◌}
 use Rattle.board_face.specs.declared.views.app.AppView.{AppView}
 use Rattle.app_worker.specs.declared.stack.Delivery.TheVariants.{Did}
-use Rattle.app_worker.specs.declared.stack.FlowQueue.{FlowQueue}
-use Rattle.app_worker.specs.Core.{Stands, FlowStands, short_bytes, total}
+use Rattle.flow_queues.specs.declared.queues.FlowQueue.{FlowQueue}
+use Rattle.flow_queues.specs.Core.{Stands, FlowStands, short_bytes, total}
 use Rattle.app_worker.specs.State.{State, read_of}
 use Rattle.app_worker.specs.StateOf.{state_of}
-use Rattle.app_worker.proofs.Tokens.{total-append}
-use Rattle.app_worker.proofs.Standing.{At, split-at, flow-out}
+use Rattle.flow_queues.proofs.Tokens.{total-append}
+use Rattle.flow_queues.proofs.Standing.{At, split-at, flow-out}
 use Rattle.app_worker.proofs.Standing2.{own-stands}
 use Rattle.app_worker.proofs.Delivering.{lent-bundle, none-lent}
 use Rattle.app_worker.proofs.Moving.{no-write}
-use Rattle.app_worker.proofs.Resting.{rest-none}
+use Rattle.flow_queues.proofs.Resting.{rest-none}
 use Rattle.app_worker.proofs.Seeing.{goes-none}
 use Rattle.app_worker.proofs.turning.deliver_one.Goals as goal
 

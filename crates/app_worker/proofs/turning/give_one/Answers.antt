@@ -1,7 +1,7 @@
 use Rattle.std.proofs.Common.{rules, ◌≡◌, ◌≢◌, ◌≤◌, refl, subst, ◌++◌, ◌∙◌, Some, length}
 use Rattle.board_face.specs.AppEvents.{reserve_of}
 use Rattle.board_face.specs.declared.views.app.AppView.{AppView}
-use Rattle.app_worker.specs.declared.stack.Lending.{Lending}
+use Rattle.flow_queues.specs.declared.queues.Lending.{Lending}
 use Rattle.app_worker.specs.Steps.{KeptDue, NotKept, Given}
 use Rattle.app_worker.specs.State.{State}
 use Rattle.app_worker.specs.StateOf.{state_of}

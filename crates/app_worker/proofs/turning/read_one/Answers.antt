@@ -5,14 +5,14 @@ use Rattle.std.proofs.Common.{◌++◌, ◌∷◌, ◌≤◌, Some}
 use Rattle.zr_kinds.specs.declared.ring.Completion.{Completion}
 use Rattle.zr_io.specs.Moved.{Gained}
 use Rattle.circular_buffer.specs.Buffer.{Buffer}
-use Rattle.app_worker.specs.declared.stack.Lending.{Lending}
-use Rattle.app_worker.specs.declared.stack.FlowQueue.{FlowQueue}
-use Rattle.app_worker.specs.Core.{Stands, IsReadOf}
+use Rattle.flow_queues.specs.declared.queues.Lending.{Lending}
+use Rattle.flow_queues.specs.declared.queues.FlowQueue.{FlowQueue}
+use Rattle.flow_queues.specs.Core.{Stands, IsReadOf}
 use Rattle.zr_kinds.specs.declared.behaviour.Stopped.TheVariants as stop
 use Rattle.app_worker.specs.State.{State, read_of, Quits, wanted_of}
 use Rattle.app_worker.specs.StateOf.{state_of}
 use Rattle.app_worker.proofs.Standing2.{oldest-out}
-use Rattle.app_worker.proofs.Indexing.{found-at}
+use Rattle.flow_queues.proofs.Indexing.{found-at}
 use Rattle.app_worker.proofs.Oldest.{front-of, oldest-read, oldest-quit, oldest-failed}
 use Rattle.app_worker.proofs.Quitting.{wanted-part, quits-short, quits-not, quits-now}
 use Rattle.app_worker.proofs.turning.read_one.Goals as goal

@@ -1,0 +1,6 @@
+pub mod Marks
+pub mod Core
+pub mod Pieces
+pub mod Flows
+pub mod Lent
+pub mod Taking
