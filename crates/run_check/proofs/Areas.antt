@@ -1,12 +1,8 @@
 -- What is tested of areas.
-use Rattle.std.proofs.Common.{◌≡◌, ℕ, ◌<◌, ◌≤◌, List, length, All, Bool, true, false, IsTrue, arith, refl, suc, [], ◌∷◌, ◌+◌, if◌then◌else◌, ltb, ◌-◌}
-use Rattle.std.proofs.lemmas.Bool.Decides.{nat_tests}
+use Rattle.std.proofs.Common.{ℕ, ◌<◌, ◌≤◌, List, length, All, Bool, true, false, IsTrue, arith, refl, suc, [], ◌∷◌, if◌then◌else◌, ltb, ◌-◌}
 use Rattle.std.specs.Bool.{MatchBool}
 use Rattle.std.specs.List.{AllWithin, HoldsAt}
-use Rattle.run_records.specs.declared.event.Event.{Event}
-use Rattle.run_records.specs.declared.event.Event.TheVariants as event
-use Rattle.run_records.specs.Setting.{IsArea, IsSetting, Setting, first_size, size_among, size_of_buffer}
-use Rattle.run_records.specs.Holders.{is_in_range}
+use Rattle.run_records.specs.Setting.{IsArea, first_size, size_among, size_of_buffer}
 
 pub each_from_cases : (r : Bool) (areas : List (ℕ × ℕ))
     → MatchBool r (AllWithin IsArea areas 0 (length areas)) ((k : ℕ) × (k < length areas) × HoldsAt (λ area. IsArea area → ⊥) areas k)
@@ -31,9 +27,3 @@ first_most (area ∷ areas) each = let first : IsArea area = each 0 area (omega 
 
 pub size_most : (areas : List (ℕ × ℕ)) (b : ℕ) → All IsArea areas → size_of_buffer areas b ≤ 65536
 size_most areas b each = among_most areas (first_size areas) b (first_most areas each) each
-
-pub cut_fits : (s : Setting) (e : Event) (a b o l m p : ℕ) → IsSetting s → e ≡ event.Cut a b o l m p → IsTrue (is_in_range s e) → o + l ≤ 65536
-cut_fits s e a b o l m p sound is ranged =
-    let most = size_most s.areas b sound.areas.each in
-    let here : IsTrue (is_in_range s (event.Cut a b o l m p)) = rw is at ranged in
-    grind (arith, nat_tests, most, here)

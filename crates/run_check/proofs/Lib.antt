@@ -1,10 +1,12 @@
+pub mod Alike
 pub mod AllOf
 pub mod Areas
-pub mod Becoming
+pub mod Events
 pub mod Coming
 pub mod Numerals
 pub mod Powers
 pub mod Parting
+pub mod Placing
 pub mod LineText
 pub mod SettingText
 pub mod Going
@@ -12,3 +14,6 @@ pub mod Judging
 pub mod Short
 pub mod Ending
 pub mod Telling
+pub mod Weighing
+pub mod Viewing
+pub mod Changing

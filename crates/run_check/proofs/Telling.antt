@@ -1,9 +1,8 @@
 -- The same where the source may tell its bytes or not.
-use Rattle.std.proofs.Common.{◌≡◌, ◌∙◌, ℕ, ◌+◌, ◌++◌, ◌≤◌, List, [], ◌∷◌, length, Bool, true, false, sym, ap, subst, arith, ◌⊎◌, Option, Some, None, Result, Ok, Err, IsTrue, IfSome, IfOk, rules}
+use Rattle.std.proofs.Common.{◌≡◌, ◌∙◌, ℕ, ◌+◌, ◌++◌, ◌≤◌, List, [], ◌∷◌, length, Bool, true, false, sym, ap, subst, arith, ◌⊎◌, ⊎_elim, inl, inr, Option, Some, None, Result, Ok, Err, IsTrue, IfSome, IfOk, rules}
 use Rattle.std.specs.Str.{bytes_eq}
 use Rattle.std.proofs.lemmas.Slice.Eq.{bytes_eq-Decides}
 use Rattle.std.proofs.Common.{append_assoc, append-nil}
-use Rattle.std.proofs.Math.Path.{fun_ext}
 use Rattle.std.specs.Prelude.{codes}
 use Rattle.std.specs.Io.KnownBytes.{Consumes}
 use Rattle.run_records.specs.declared.event.Event.{Event}
@@ -13,7 +12,10 @@ use Rattle.run_records.specs.RunText.{Text, last_line, run_line}
 use Rattle.run_check.specs.declared.checking.Checked.{Checked}
 use Rattle.run_check.specs.declared.checking.Checked.TheVariants.{Yes, No}
 use Rattle.run_check.specs.Coming.{HasNoLine, IsOneLine, ahead}
-use Rattle.run_check.specs.Holding.{EndsRecord, LineChanges}
+use Rattle.std.proofs.lemmas.List.{nil_from_length}
+use Rattle.run_check.specs.Holding.{EndsRecord, LineChanges, SameHoldings, weight}
+use Rattle.run_check.proofs.Alike.{after_none, after_some}
+use Rattle.run_check.proofs.Weighing.{length-same, same-sym, same-trans}
 use Rattle.run_check.specs.Judged.{Judges}
 use Rattle.run_check.specs.Reading.{IsSettingOf, event_of, setting_of}
 use Rattle.run_check.proofs.Judging.{same_line}
@@ -30,34 +32,42 @@ ComesTo s (Some start) (Some rest) h count = HasCome s start rest h count
 abbrev pub AnswersFor : Setting → Option (List ℕ) → Checked → Type 0
 AnswersFor s start answer = IfSome start (λ rest. Judges (behind_first s rest) answer)
 
-pub comes_first : (s : Setting) (start : Option (List ℕ)) (h : Holdings) → IsSetting s → no_holdings ≡ h → ComesTo s start start h 0
-comes_first s None h sound none = tt
-comes_first s (Some start) h sound none = subst (λ k. HasCome s start start k 0) none (come_first s start sound)
+-- the code's holders are the same as those after the events that were read
+abbrev pub ComesWith : Setting → Option (List ℕ) → Option (List ℕ) → Holdings → ℕ → Type 0
+ComesWith s start now kept count = (h : Holdings) × ComesTo s start now h count × SameHoldings h kept
 
-pub answers_no_line : (s : Setting) (start now : Option (List ℕ)) (h : Holdings) (count : ℕ) → ComesTo s start now h count → IfSome now HasNoLine
+pub comes_first : (s : Setting) (start : Option (List ℕ)) (kept : Holdings) → IsSetting s → ((b : ℕ) → kept b ≡ []) → ComesWith s start start kept 0
+comes_first s None kept sound none = (no_holdings, tt, λ b f. ap (weight f) (sym (none b)))
+comes_first s (Some start) kept sound none = (no_holdings, come_first s start sound, λ b f. ap (weight f) (sym (none b)))
+
+-- none here is none there
+none_alike : (one other : Holdings) → SameHoldings one other → ((b : ℕ) → one b ≡ []) → (b : ℕ) → other b ≡ []
+none_alike one other same none b = nil_from_length (other b) (sym (length-same (one b) (other b) (same b)) ∙ ap length (none b))
+
+answers_no_line_at : (s : Setting) (start now : Option (List ℕ)) (h : Holdings) (count : ℕ) → ComesTo s start now h count → IfSome now HasNoLine
     → AnswersFor s start (No (count + 2))
-answers_no_line s None now h count come none = tt
-answers_no_line s (Some start) None h count come none = absurd come
-answers_no_line s (Some start) (Some rest) h count come none = no_line s start rest h count come none
+answers_no_line_at s None now h count come none = tt
+answers_no_line_at s (Some start) None h count come none = absurd come
+answers_no_line_at s (Some start) (Some rest) h count come none = no_line s start rest h count come none
 
-pub answers_early : (s : Setting) (start now later : Option (List ℕ)) (h : Holdings) (count : ℕ) (line : Text) → ComesTo s start now h count
+answers_early_at : (s : Setting) (start now later : Option (List ℕ)) (h : Holdings) (count : ℕ) (line : Text) → ComesTo s start now h count
     → Consumes now later (line ++ 10 ∷ []) → IsOneLine line → line ≡ codes "end" → (((b : ℕ) → h b ≡ []) → ⊥) → AnswersFor s start (No (count + 2))
-answers_early s None now later h count line come took one end some = tt
-answers_early s (Some start) None later h count line come took one end some = absurd come
-answers_early s (Some start) (Some rest) None h count line come took one end some = absurd took
-answers_early s (Some start) (Some rest) (Some later) h count line come took one end some =
+answers_early_at s None now later h count line come took one end some = tt
+answers_early_at s (Some start) None later h count line come took one end some = absurd come
+answers_early_at s (Some start) (Some rest) None h count line come took one end some = absurd took
+answers_early_at s (Some start) (Some rest) (Some later) h count line come took one end some =
     early_end s start rest later h count come (took ∙ ap (λ l. (l ++ 10 ∷ []) ++ later) end) (subst IsOneLine end one) some
 
-pub answers_bad : (s : Setting) (start now later : Option (List ℕ)) (h : Holdings) (count : ℕ) (line : Text) → ComesTo s start now h count
+answers_bad_at : (s : Setting) (start now later : Option (List ℕ)) (h : Holdings) (count : ℕ) (line : Text) → ComesTo s start now h count
     → Consumes now later (line ++ 10 ∷ []) → IsOneLine line → (line ≡ codes "end" → ⊥) → (line ≡ codes "more" → ⊥)
     → ((e : Event) → event_of line ≡ Some e → after s h e ≡ None) ⊎ (1000000 ≤ count) → AnswersFor s start (No (count + 2))
-answers_bad s None now later h count line come took one no_end no_more why = tt
-answers_bad s (Some start) None later h count line come took one no_end no_more why = absurd come
-answers_bad s (Some start) (Some rest) None h count line come took one no_end no_more why = absurd took
-answers_bad s (Some start) (Some rest) (Some later) h count line come took one no_end no_more why =
+answers_bad_at s None now later h count line come took one no_end no_more why = tt
+answers_bad_at s (Some start) None later h count line come took one no_end no_more why = absurd come
+answers_bad_at s (Some start) (Some rest) None h count line come took one no_end no_more why = absurd took
+answers_bad_at s (Some start) (Some rest) (Some later) h count line come took one no_end no_more why =
     bad_event s start rest later h count line come took one no_end no_more why
 
-pub answers_last : (s : Setting) (start now later : Option (List ℕ)) (h : Holdings) (count : ℕ) (line : Text) (whole : Bool) (answer : Checked)
+answers_last : (s : Setting) (start now later : Option (List ℕ)) (h : Holdings) (count : ℕ) (line : Text) (whole : Bool) (answer : Checked)
     → ComesTo s start now h count → Consumes now later (line ++ 10 ∷ []) → line ≡ last_line whole → (IsTrue whole → (b : ℕ) → h b ≡ [])
     → EndsRecord later (count + 2) answer → AnswersFor s start answer
 answers_last s None now later h count line whole answer come took last none ends = tt
@@ -73,13 +83,37 @@ answers_last s (Some start) (Some rest) (Some later) h count line whole (No bad)
     three : count + 2 + 1 ≡ count + 3
     three = omega arith
 
-pub comes_more : (s : Setting) (start now later : Option (List ℕ)) (h then : Holdings) (count : ℕ) (line : Text) → ComesTo s start now h count
-    → Consumes now later (line ++ 10 ∷ []) → count + 1 ≤ 1000000 → LineChanges s h line then true → ComesTo s start later then (count + 1)
-comes_more s None now later h then count line come took room changes = tt
-comes_more s (Some start) None later h then count line come took room changes = absurd come
-comes_more s (Some start) (Some rest) None h then count line come took room changes = absurd took
-comes_more s (Some start) (Some rest) (Some later) h then count line come took room (e, read, (held, follows, same)) =
-    come_more s start rest later h then count line e come room took read (follows ∙ ap Some (fun_ext same))
+pub answers_no_line : (s : Setting) (start now : Option (List ℕ)) (kept : Holdings) (count : ℕ) → ComesWith s start now kept count → IfSome now HasNoLine
+    → AnswersFor s start (No (count + 2))
+answers_no_line s start now kept count (h, come, same) none = answers_no_line_at s start now h count come none
+
+pub answers_early : (s : Setting) (start now later : Option (List ℕ)) (kept : Holdings) (count : ℕ) (line : Text) → ComesWith s start now kept count
+    → Consumes now later (line ++ 10 ∷ []) → IsOneLine line → line ≡ codes "end" → (((b : ℕ) → kept b ≡ []) → ⊥) → AnswersFor s start (No (count + 2))
+answers_early s start now later kept count line (h, come, same) took one end some =
+    answers_early_at s start now later h count line come took one end (λ none. some (none_alike h kept same none))
+
+pub answers_bad : (s : Setting) (start now later : Option (List ℕ)) (kept : Holdings) (count : ℕ) (line : Text) → ComesWith s start now kept count
+    → Consumes now later (line ++ 10 ∷ []) → IsOneLine line → (line ≡ codes "end" → ⊥) → (line ≡ codes "more" → ⊥)
+    → ((e : Event) → event_of line ≡ Some e → after s kept e ≡ None) ⊎ (1000000 ≤ count) → AnswersFor s start (No (count + 2))
+answers_bad s start now later kept count line (h, come, same) took one no_end no_more why =
+    answers_bad_at s start now later h count line come took one no_end no_more
+    (⊎_elim (λ unfit. inl (λ e read. after_none s h kept e same (unfit e read))) (λ full. inr full) why)
+
+pub comes_more : (s : Setting) (start now later : Option (List ℕ)) (kept new : Holdings) (count : ℕ) (line : Text) → ComesWith s start now kept count
+    → Consumes now later (line ++ 10 ∷ []) → count + 1 ≤ 1000000 → LineChanges s kept line new true → ComesWith s start later new (count + 1)
+comes_more s start now later kept new count line (h, come, same) took room (e, read, (held, follows, alike)) =
+    let found = after_some s h kept held e same follows in (
+      found.0,
+      come_at start now later come took found.0 found.1,
+      λ b. same-trans (found.0 b) (held b) (new b) (found.2 b) (alike b),
+    )
+  where
+    come_at : (start now later : Option (List ℕ)) → ComesTo s start now h count → Consumes now later (line ++ 10 ∷ []) → (then : Holdings)
+        → after s h e ≡ Some then → ComesTo s start later then (count + 1)
+    come_at None now later come took then is = tt
+    come_at (Some start) None later come took then is = absurd come
+    come_at (Some start) (Some rest) None come took then is = absurd took
+    come_at (Some start) (Some rest) (Some later) come took then is = come_more s start rest later h then count line e come room took read is
 
 -- the same of a check's answer, where it has one
 abbrev pub AnswersIfOk : {E : Type 0} → Setting → Option (List ℕ) → Result Checked E → Type 0
@@ -93,12 +127,13 @@ answer_ok : (E : Type 0) (s : Setting) (start : Option (List ℕ)) (answer : Che
 answer_ok E s None answer h = tt
 answer_ok E s (Some start) answer h = h
 
-pub answers_ends : (E : Type 0) (s : Setting) (start now later : Option (List ℕ)) (h : Holdings) (count : ℕ) (line : Text) (whole : Bool)
-    (result : Result Checked E) → ComesTo s start now h count → Consumes now later (line ++ 10 ∷ []) → line ≡ last_line whole
-    → (IsTrue whole → (b : ℕ) → h b ≡ []) → IfOk result (EndsRecord later (count + 2)) → AnswersIfOk s start result
-answers_ends E s start now later h count line whole (Err e) come took last none ends = no_answer E s start e
-answers_ends E s start now later h count line whole (Ok answer) come took last none ends =
-    answer_ok E s start answer (answers_last s start now later h count line whole answer come took last none ends)
+pub answers_ends : (E : Type 0) (s : Setting) (start now later : Option (List ℕ)) (kept : Holdings) (count : ℕ) (line : Text) (whole : Bool)
+    (result : Result Checked E) → ComesWith s start now kept count → Consumes now later (line ++ 10 ∷ []) → line ≡ last_line whole
+    → (IsTrue whole → (b : ℕ) → kept b ≡ []) → IfOk result (EndsRecord later (count + 2)) → AnswersIfOk s start result
+answers_ends E s start now later kept count line whole (Err e) come took last none ends = no_answer E s start e
+answers_ends E s start now later kept count line whole (Ok answer) (h, come, same) took last none ends =
+    answer_ok E s start answer (answers_last s start now later h count line whole answer come took last
+    (λ t. none_alike kept h (λ b. same-sym (h b) (kept b) (same b)) (none t)) ends)
 
 pub not_text : (name other : Text) → bytes_eq name other ≡ false → name ≡ other → ⊥
 not_text name other differ same = search (rules, bytes_eq-Decides)

@@ -1,12 +1,12 @@
 -- What the code keeps of the holders, and how it changes them.
-use Rattle.std.specs.Prelude.{◌≡◌, ℕ, Bool, true, false, List, [], map, Option, Some, None, slice_index_or, nat_lt, ◌&&◌, ◌==◌, ◌%◌}
+use Rattle.std.specs.Prelude.{◌≡◌, ℕ, Bool, true, false, List, [], ◌∷◌, Option, Some, None, slice_index_or, nat_lt, ◌&&◌, ◌==◌, ◌%◌}
 use Rattle.std.specs.List.{list_any, list_all}
-use Rattle.std.specs.Global.{Vec}
 use Rattle.run_records.specs.declared.event.Event.{Event}
+use Rattle.run_records.specs.declared.event.Event.TheVariants as event
 use Rattle.run_records.specs.declared.holding.Holding.{Holding}
 use Rattle.run_records.specs.declared.holding.Holding.TheVariants as holding
 use Rattle.std.specs.Io.KnownBytes.{IsAtEnd}
-use Rattle.std.specs.Prelude.{◌+◌, IfSome}
+use Rattle.std.specs.Prelude.{◌+◌, ◌<◌, IfSome}
 use Rattle.run_records.specs.RunText.{Text}
 use Rattle.run_records.specs.Setting.{Setting}
 use Rattle.run_check.specs.Reading.{event_of}
@@ -15,20 +15,53 @@ use Rattle.run_check.specs.declared.checking.Checked.TheVariants.{Yes, No}
 use Rattle.run_records.specs.Holders.{Holdings, after, is_apart, is_same}
 
 -- the holders of each buffer, of which a number past the last has none
-abbrev pub holdings_of : List (Vec Holding) → Holdings
-holdings_of buffers = λ buffer. slice_index_or (map (λ held. held.items) buffers) buffer []
+abbrev pub holdings_of : List (List Holding) → Holdings
+holdings_of buffers = λ buffer. slice_index_or buffers buffer []
 
--- `true`: the list is what it becomes; `false`: it becomes nothing
+-- what holders weigh together
+abbrev pub weight : (Holding → ℕ) → List Holding → ℕ
+weight weigh [] = 0
+weight weigh (first ∷ held) = weigh first + weight weigh held
+
+-- the same holders, each as often, in any order: they weigh the same, whatever each weighs
+abbrev pub SameHolders : List Holding → List Holding → Type 0
+SameHolders one other = (weigh : Holding → ℕ) → weight weigh one ≡ weight weigh other
+
+abbrev pub SameHoldings : Holdings → Holdings → Type 0
+SameHoldings one other = (buffer : ℕ) → SameHolders (one buffer) (other buffer)
+
+-- `true`: these are the holders that it becomes; `false`: it becomes nothing
 abbrev pub Changes : Option (List Holding) → List Holding → Bool → Type 0
-Changes becoming now true = becoming ≡ Some now
+Changes becoming now true = (then : List Holding) × (becoming ≡ Some then) × SameHolders then now
 Changes becoming now false = becoming ≡ None
 
 abbrev pub HasChanged : Setting → Holdings → Event → Holdings → Bool → Type 0
-HasChanged setting old e new true = (then : Holdings) × (after setting old e ≡ Some then) × ((buffer : ℕ) → then buffer ≡ new buffer)
+HasChanged setting old e new true = (then : Holdings) × (after setting old e ≡ Some then) × SameHoldings then new
 HasChanged setting old e new false = after setting old e ≡ None
 
 abbrev pub can_place : List Holding → ℕ → ℕ → Bool
 can_place held offset len = list_any (is_same holding.Own) held && nat_lt 0 len && (offset % 64 == 0) && list_all (is_apart offset len) held
+
+-- the offset and the length of the bytes that an event names
+abbrev pub bytes_of : Event → ℕ × ℕ
+bytes_of (event.Place b o l p) = (o, l)
+bytes_of (event.Sent a b o l) = (o, l)
+bytes_of (event.Held a b o l) = (o, l)
+bytes_of (event.Cut a b o l m p) = (o, l)
+bytes_of (event.Lend a b o l p u) = (o, l)
+bytes_of (event.Back a b o l u) = (o, l)
+bytes_of (event.Free a b o l p) = (o, l)
+bytes_of (event.Own a b l p u) = (0, l)
+bytes_of other = (0, 0)
+
+-- an application whose user count changes is one of eight
+abbrev pub HasSmallApp : Event → Type 0
+HasSmallApp (event.Lend a b o l p u) = a < 8
+HasSmallApp (event.Back a b o l u) = a < 8
+HasSmallApp (event.Honour a b p u) = a < 8
+HasSmallApp (event.Own a b l p u) = a < 8
+HasSmallApp (event.Scrub a b p u) = a < 8
+HasSmallApp other = Unit {0}
 
 -- `true`: the line says an event that changes the holders; `false`: it says none that may come
 abbrev pub LineChanges : Setting → Holdings → Text → Holdings → Bool → Type 0

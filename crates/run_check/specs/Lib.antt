@@ -1,4 +1,6 @@
+pub mod Buffer
 pub mod Judged
 pub mod Reading
 pub mod Coming
 pub mod Holding
+pub mod Places

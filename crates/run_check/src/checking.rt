@@ -1,4 +1,4 @@
-ghost use Rattle.std.specs.Prelude.{◌≡◌, ◌+◌, ◌^◌, ◌<◌, [], ◌∷◌, ◌++◌, IfOk, IfErr, IfSome, length};
+ghost use Rattle.std.specs.Prelude.{◌≡◌, ℕ, ◌+◌, ◌^◌, ◌<◌, [], ◌∷◌, ◌++◌, IfOk, IfErr, IfSome, length};
 ghost use Rattle.zr_kinds.specs.declared.fault.Fault.TheVariants as fault;
 ghost use Rattle.run_records.specs.Setting.{total_buffers};
 ghost use Rattle.run_records.specs.RunText.{run_line, text_of_lines};
@@ -92,7 +92,8 @@ fn change(
     holders: &mut Holders,
     line: &[u8],
 ) -> Result<bool, Fault>
-    requires { length holders.old.buffers.items ≡ total_buffers setting.now }
+    requires total { length holders.old.buffers.items ≡ total_buffers setting.now }
+    requires few { (buffer : ℕ) → length (holdings_of holders.old.buffers.items buffer) + 1 < 2 ^ 32 }
     ensures changes { IfOk result (LineChanges setting.now (holdings_of holders.old.buffers.items) line.now (holdings_of holders.new.buffers.items)) }
     ensures count { IfOk result (λ _. length holders.new.buffers.items ≡ total_buffers setting.now) }
     ensures memory { IfErr result (λ f. f ≡ fault.Memory) }

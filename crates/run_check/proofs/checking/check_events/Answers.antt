@@ -1,5 +1,5 @@
 -- No line, the end with holders, the end, more, an event too many, and one that may not come; and one more event.
-use Rattle.std.proofs.Common.{◌≡◌, ◌∙◌, true, false, sym, ap, subst, inl, inr, arith}
+use Rattle.std.proofs.Common.{◌≡◌, ◌∙◌, length, refl, true, false, sym, ap, subst, inl, inr, arith}
 use Rattle.std.specs.Prelude.{codes}
 use Rattle.std.proofs.lemmas.Bool.{false≢true}
 use Rattle.zr_kinds.specs.declared.fault.Fault.{Fault}
@@ -7,7 +7,9 @@ use Rattle.run_check.specs.Coming.{ReadsLine, ahead}
 use Rattle.run_check.specs.Holding.{LineChanges, holdings_of}
 use Rattle.run_check.specs.Reading.{event_of}
 use Rattle.run_check.proofs.SettingText.{same_text}
-use Rattle.run_check.proofs.Telling.{answers_bad, answers_early, answers_ends, answers_no_line, comes_more, not_text}
+use Rattle.run_check.proofs.Telling.{answers_bad, answers_early, answers_ends, answers_no_line, comes_first, comes_more, not_text}
+use Rattle.run_check.proofs.Alike.{after-few}
+use Rattle.run_check.proofs.Weighing.{length-same}
 use Rattle.run_check.proofs.checking.check_events.Goals as goal
 
 pub returns-then-not-branch-clause-judges : goal.returns-then-not-branch-clause-judges
@@ -81,8 +83,24 @@ loop-events-preserved g c =
     let here : LineChanges c.args.setting.now (holdings_of c.loop-events.holders.buffers.items) c.read.new.self.line.items (holdings_of c.change.new.holders.buffers.items) true =
     (some.0, ap event_of (sym c.line-in-loop-events-2.ensures) ∙ some.1, some.2) in
     let cause = c.in_ok-read.ensures.cause in
+    let after = some.2 in
     record {
       count = c.in_ok-change.ensures.count;
+      few = λ b. omega (
+        arith,
+        c.loop-events.invariant.few b,
+        after-few c.args.setting.now (holdings_of c.loop-events.holders.buffers.items) some.0 after.0 after.1 b,
+        length-same (after.0 b) (holdings_of c.change.new.holders.buffers.items b) (after.2 b),
+      );
       still = cause ∙ c.loop-events.invariant.still;
       come = comes_more c.args.setting.now (ahead c.args.lines.now.bytes (g.S.Source.left c.args.source.now)) (ahead c.loop-events.lines.bytes (g.S.Source.left c.loop-events.source)) (ahead c.read.new.self.bytes (g.S.Source.left c.read.new.source)) (holdings_of c.loop-events.holders.buffers.items) (holdings_of c.change.new.holders.buffers.items) c.loop-events.events c.read.new.self.line.items c.loop-events.invariant.come took.0 (omega arith) here;
     }
+
+pub loop-events-init : goal.loop-events-init
+loop-events-init g c = record {
+  count = c.in-Ok.ensures.count ∙ c.total_buffers.ensures.value;
+  few = λ b. omega (arith, ap length (c.in-Ok.ensures.none b));
+  still = refl;
+  come = comes_first c.args.setting.now (ahead c.args.lines.now.bytes (g.S.Source.left c.args.source.now)) (holdings_of c.in-Ok.holders.buffers.items)
+      c.total_buffers.ensures.sound c.in-Ok.ensures.none;
+}

@@ -1,11 +1,32 @@
-use Rattle.std.proofs.Common.{arith}
-use Rattle.run_check.proofs.Areas.{cut_fits}
+use Rattle.std.proofs.Common.{◌≡◌, ◌∙◌, ap, arith, refl}
+use Rattle.run_check.specs.Holding.{bytes_of}
+use Rattle.run_check.proofs.Events.{bytes_near}
 use Rattle.run_check.proofs.holders.change.Goals as goal
 
-pub overflow_add-second : goal.overflow_add-second
-overflow_add-second c =
+pub place-requires-clause-fits : goal.place-requires-clause-fits
+place-requires-clause-fits c =
     omega (
       arith,
-      cut_fits c.args.setting.now c.args.event c.in-Cut.app c.in-Cut.buffer c.in-Cut.offset c.in-Cut.len c.in-Cut.at c.in-Cut.pool
-          c.requires.sound c.in-Cut.is c.requires.ranged,
+      bytes_near c.args.setting.now c.args.event c.requires.sound c.requires.ranged,
+      ap (λ bytes. bytes.0) c.bytes_of-offset.ensures,
+      ap (λ bytes. bytes.1) c.bytes_of-offset.ensures,
     )
+
+pub cut-requires-clause-fits : goal.cut-requires-clause-fits
+cut-requires-clause-fits c =
+    omega (
+      arith,
+      bytes_near c.args.setting.now c.args.event c.requires.sound c.requires.ranged,
+      ap (λ bytes. bytes.0) c.bytes_of-offset.ensures,
+      ap (λ bytes. bytes.1) c.bytes_of-offset.ensures,
+    )
+
+pub returns-in-Place : goal.returns-in-Place
+returns-in-Place c =
+    let bytes : c.bytes_of-offset.result ≡ (c.in-Place.offset, c.in-Place.len) = c.bytes_of-offset.ensures ∙ ap bytes_of c.in-Place.is in
+    let offset : c.bytes_of-offset.result.0 ≡ c.in-Place.offset = ap (λ b. b.0) bytes in
+    let len : c.bytes_of-offset.result.1 ≡ c.in-Place.len = ap (λ b. b.1) bytes in
+    rw (c.in-Place.is, ← offset, ← len) c.place.ensures
+
+pub returns-in-Stray : goal.returns-in-Stray
+returns-in-Stray c = rw c.in-Stray.is (c.args.held.now, refl, λ weigh. refl)

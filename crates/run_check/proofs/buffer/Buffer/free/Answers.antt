@@ -1,0 +1,24 @@
+use Rattle.std.proofs.Common.{◌≡◌, [], ◌∙◌, true, sym}
+use Rattle.std.specs.List.{list_any}
+use Rattle.run_records.specs.declared.holding.Holding.TheVariants as holding
+use Rattle.run_records.specs.Holders.{is_same}
+use Rattle.run_check.specs.declared.places.Hand.TheVariants as hand
+use Rattle.run_check.specs.Places.{all_placed}
+use Rattle.run_check.proofs.Changing.{by_flag, freed, none_there_then, not_changed}
+use Rattle.run_check.proofs.buffer.Buffer.free.Goals as goal
+
+pub invariant_of-self : goal.invariant_of-self
+invariant_of-self c =
+    let there : list_any (is_same (holding.Held c.args.app c.args.offset c.args.len)) (all_placed c.self.inside.places.entries) ≡ true = sym c.is_there-there.ensures ∙ c.if-there.true in
+    (freed c.self.inside c.args.self.now c.self.invariant c.self.view_is (hand.App c.args.app) c.args.offset c.args.len c.remove.new.self there c.remove.ensures.entries tt).sound
+
+pub returns-then-there : goal.returns-then-there
+returns-then-there c =
+    let there : list_any (is_same (holding.Held c.args.app c.args.offset c.args.len)) (all_placed c.self.inside.places.entries) ≡ true = sym c.is_there-there.ensures ∙ c.if-there.true in
+    by_flag _ _ _ c.if-there.true
+    (freed c.self.inside c.args.self.now c.self.invariant c.self.view_is (hand.App c.args.app) c.args.offset c.args.len c.remove.new.self there c.remove.ensures.entries tt).changes
+
+pub returns-else-there : goal.returns-else-there
+returns-else-there c =
+    not_changed (holding.Held c.args.app c.args.offset c.args.len) [] c.args.self.now _ c.if-there.false
+    (none_there_then c.self.inside c.args.self.now c.self.invariant c.self.view_is (hand.App c.args.app) c.args.offset c.args.len (sym c.is_there-there.ensures ∙ c.if-there.false))

@@ -1,0 +1,39 @@
+-- The holders of a buffer, as the code keeps them.
+use Rattle.std.specs.Prelude.{◌≡◌, ℕ, ◌+◌, ◌<◌, List, [], ◌∷◌, ◌++◌, length, count_by, slice_index, replicate}
+use Rattle.run_records.specs.declared.holding.Holding.{Holding}
+use Rattle.run_records.specs.declared.holding.Holding.TheVariants as holding
+use Rattle.run_records.specs.Holders.{is_user}
+use Rattle.run_check.specs.declared.buffer.Keeper.{Keeper}
+use Rattle.run_check.specs.declared.buffer.Keeper.TheVariants as keeper
+use Rattle.run_check.specs.declared.buffer.Buffer.TheInside.{Inside}
+use Rattle.run_check.specs.declared.places.Place.{Place}
+use Rattle.run_check.specs.Places.{AreApart, all_placed}
+
+abbrev pub kept_by : Keeper → List Holding
+kept_by keeper.Nobody = []
+kept_by keeper.Card = holding.Own ∷ []
+kept_by (keeper.App app) = holding.Spare app ∷ []
+
+-- the owed loans of each application from this number on
+abbrev pub owed_from : ℕ → List ℕ → List Holding
+owed_from app [] = []
+owed_from app (count ∷ counts) = replicate count (holding.Owed app) ++ owed_from (app + 1) counts
+
+abbrev pub holders_in : Inside → List Holding
+holders_in buffer = kept_by buffer.keeper ++ (all_placed buffer.places.entries ++ owed_from 0 buffer.owed)
+
+-- who has a spare buffer has it alone
+abbrev pub LeavesNoPlace : Keeper → List (ℕ × Place) → Type 0
+LeavesNoPlace keeper.Nobody entries = Unit {0}
+LeavesNoPlace keeper.Card entries = Unit {0}
+LeavesNoPlace (keeper.App app) entries = entries ≡ []
+
+-- the counts are those of the holders
+pub record AreCounted (count : ℕ) (users : List ℕ) (held : List Holding) : Type 0 where
+  pub pool : count ≡ length held
+  pub user : (app : ℕ) → app < 8 → slice_index users app ≡ count_by (is_user app) held
+
+pub record IsSoundBuffer (buffer : Inside) : Type 0 where
+  pub apart : AreApart 0 buffer.places.entries
+  pub alone : LeavesNoPlace buffer.keeper buffer.places.entries
+  pub counted : AreCounted buffer.count buffer.users (holders_in buffer)
