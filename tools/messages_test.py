@@ -23,6 +23,7 @@ import tempfile
 import time
 
 import frames
+import pcapng_rows
 
 TOP = pathlib.Path(__file__).resolve().parent.parent
 PROGRAM = pathlib.Path(os.environ.get("ZCRX", TOP / "crates/zcrx_cli/out/zcrx_cli")).resolve()
@@ -65,17 +66,33 @@ def replay(name, given, status, *texts, **options):
 def readings():
     replay("whole", HELLO, 0)
     replay("empty", b"", 6, "status 6: standard input is empty")
-    replay("cut", HELLO[:-1], 6, "status 6: the capture ends within")
+    replay("cut", HELLO[:-1], 6, "status 6: the capture ends within", "(at record 1, behind 24 bytes)")
+    replay("second record", HELLO + bytes(15), 6, "(at record 2, behind 99 bytes)")
+    replay("cut header", HELLO[:23], 6, "was replayed\n")
     replay("text", b"GET / HTTP/1.1\r\n", 3, "status 3: standard input is text")
     replay("gzip", gzip.compress(HELLO), 3, "status 3: standard input is compressed", "gzip -dc")
-    replay("binary", b"\x00\x01\x02\x03" * 8, 3, "status 3: standard input is no pcap capture")
+    replay("binary", b"\x00\x01\x02\x03" * 8, 3, "status 3: standard input is no pcap or pcapng capture")
     replay("version", HELLO[:4] + b"\x03" + HELLO[5:], 4, "status 4: the capture's major version")
-    replay("link type", HELLO[:20] + b"\x71" + HELLO[21:], 5, "status 5: the capture isn't of Ethernet", "'any'")
-    replay("long record", HELLO + BIG_RECORD, 7, "status 7: a record states more than 262144 bytes")
+    replay("link type", HELLO[:20] + b"\x71" + HELLO[21:], 5, "status 5: the capture, or an interface", "isn't of Ethernet", "'any'")
+    replay("long record", HELLO + BIG_RECORD, 7, "status 7: a record states more than 262144 bytes", "(at record 2, behind 99 bytes)")
     replay("closed input", None, 8, "status 8: standard input", preexec_fn=lambda: os.close(0))
     replay("flows", many_flows(), 10, "status 10: there are more than 65535 flows")
     records = frames.FILE_HEADER + bytes(16) * MANY_RECORDS
     replay("records", records, 11, "status 11: there are more than 16777216 records")
+
+
+def blocks():
+    """Captures of blocks, and at which block each fault lies."""
+    small = pcapng_rows.SMALL
+    packet, last = 48, len(small) - 20
+    replay("blocks", small, 0)
+    replay("section cut", small[:27], 6, "status 6: the capture ends within", "(at the block behind 0 bytes)")
+    replay("packet cut", small[:-21], 6, "status 6", f"(at the block behind {packet} bytes)")
+    replay("last block", small[:-1] + b"\x01", 13, "status 13: a block of the pcapng capture", f"(at the block behind {last} bytes)")
+    replay("eight bytes", small + struct.pack("<2I", 6, 6), 13, f"(at the block behind {len(small)} bytes)")
+    replay("section version", small + small[:12] + b"\x02" + small[13:], 4, f"(at the block behind {len(small)} bytes)")
+    replay("interface", small[:36] + b"\x71" + small[37:], 5, "status 5", f"(at the block behind {packet} bytes)")
+    replay("long packet", small[:packet + 22] + b"\x04" + small[packet + 23:], 7, "status 7", f"(at the block behind {packet} bytes)")
 
 
 def records():
@@ -199,7 +216,7 @@ def progress():
 
 
 def main():
-    for part in (readings, records, memory, writing, usage, without_errors, progress):
+    for part in (readings, blocks, records, memory, writing, usage, without_errors, progress):
         part()
     for line in wrong:
         print(line)

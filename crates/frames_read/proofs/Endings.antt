@@ -2,17 +2,18 @@
 use Rattle.std.proofs.Common.{◌≡◌, ◌≢◌, ℕ, List, [], ◌∷◌, ◌++◌, length, Option, None, Some, refl, sym, ap, subst, ◌∙◌}
 use Rattle.std.proofs.Common.{⊎_elim, inl, inr, append_assoc, append-nil, arith}
 use Rattle.std.specs.Prelude.{IfSome, ◌==◌}
-use Rattle.std.specs.Io.KnownBytes.{Keeps, IsAtEnd}
+use Rattle.std.specs.Io.KnownBytes.{IsAtEnd}
 use Rattle.std.proofs.lemmas.Bool.{cond_both}
 use Rattle.zr_kinds.specs.declared.fault.Fault.{Fault}
 use Rattle.zr_kinds.specs.declared.fault.Fault.TheVariants.{Memory, Usage, NotPcap, Version, LinkType, Cut, LongRecord, Read, Write, TooManyFlows}
 use Rattle.zr_kinds.specs.declared.fault.Fault.TheVariants.{TooManyFrames, BadBlock, BadRun}
 use Rattle.zr_io.specs.Moved.{Rose, Took}
-use Rattle.zr_io.proofs.Moved.{Took-nothing, Took-then, Took-weaker, Rose-earlier}
-use Rattle.pcap_reader.specs.declared.order.ByteOrder.{ByteOrder}
-use Rattle.pcap_reader.specs.Records.{Captured, Records, no_record, with_record, records_in, records_of}
-use Rattle.pcap_reader.specs.Capture.{ShowsFault, TakenShows, IsOpeningFault, IsRecordFault, WantsMemory}
-use Rattle.pcap_reader.proofs.RecordLaws.{records_in-bodiless}
+use Rattle.zr_io.proofs.Moved.{Took-then, Took-weaker, Rose-earlier}
+use Rattle.pcap_reader.specs.Records.{Captured, Records, no_record, with_record}
+use Rattle.pcap_reader.specs.Capture.{ShowsFault, TakenShows}
+use Rattle.pcapng_reader.specs.Records.{Going, records_from, records_of}
+use Rattle.pcapng_reader.specs.Capture.{IsOpeningFault, IsRecordFault, WantsMemory}
+use Rattle.pcapng_reader.proofs.Goings.{wanting-cut}
 use Rattle.flow_table.specs.Steered.{Steered}
 use Rattle.flow_table.specs.Flows.{Flow, flows_of, number_of_flow}
 use Rattle.frames_read.specs.Ending.{Ended, ended_after, steered_in, steered_next, flow_ending, ending_at, frames_of, ended_of}
@@ -28,16 +29,17 @@ all-rest None left P R Q took shows join = tt
 all-rest (Some xs) None P R Q took shows join = absurd took
 all-rest (Some xs) (Some ys) P R Q (bs, e, p) shows join = subst Q (sym e) (join bs ys p shows)
 
-at_end-some : (left : Option (List ℕ)) → IsAtEnd left → IfSome left (λ rest. rest ≡ [])
-at_end-some None at_end = tt
-at_end-some (Some xs) at_end = at_end
+-- bytes of which the last were taken now, where the source is at its end
+all-taken : (left later : Option (List ℕ)) (P : List ℕ → Type 0) → Took left later P → IfSome left (λ _. IsAtEnd later) → IfSome left P
+all-taken None later P took at_end = tt
+all-taken (Some xs) None P took at_end = absurd took
+all-taken (Some xs) (Some ys) P (bs, e, p) at_end = subst P (sym (append-nil bs) ∙ ap (λ l. bs ++ l) (sym at_end) ∙ sym e) p
 
-at_end-kept : (left0 left later : Option (List ℕ)) (P : List ℕ → Type 0) → Took left0 left P → IsAtEnd left → Keeps left later
+read_to_end : (left0 left later : Option (List ℕ)) (P : List ℕ → Type 0) → Took left0 left P → IfSome left (λ _. IsAtEnd later)
     → IsReadToEnd left0 later
-at_end-kept None left later P took at_end kept = tt
-at_end-kept (Some all) None later P took at_end kept = absurd took
-at_end-kept (Some all) (Some xs) None P took at_end kept = absurd kept
-at_end-kept (Some all) (Some xs) (Some ys) P took at_end kept = kept ∙ at_end
+read_to_end None left later P took at_end = tt
+read_to_end (Some all) None later P took at_end = absurd took
+read_to_end (Some all) (Some xs) later P took at_end = at_end
 
 anything : (left : Option (List ℕ)) → IfSome left (λ rest. Unit {0})
 anything None = tt
@@ -90,23 +92,24 @@ frame_cases P flows frames BadRun is = absurd is
 
 -- ---- which faults a record shows
 
-record_cases : (P : Fault → Type 0) → P Memory → P Cut → P LongRecord → P Read → (fault : Fault) → IsRecordFault fault → P fault
-record_cases P memory cut long_record read Memory is = memory
-record_cases P memory cut long_record read Cut is = cut
-record_cases P memory cut long_record read LongRecord is = long_record
-record_cases P memory cut long_record read Read is = read
-record_cases P memory cut long_record read Usage is = absurd is
-record_cases P memory cut long_record read NotPcap is = absurd is
-record_cases P memory cut long_record read Version is = absurd is
-record_cases P memory cut long_record read LinkType is = absurd is
-record_cases P memory cut long_record read Write is = absurd is
-record_cases P memory cut long_record read TooManyFlows is = absurd is
-record_cases P memory cut long_record read TooManyFrames is = absurd is
-record_cases P memory cut long_record read BadBlock is = absurd is
-record_cases P memory cut long_record read BadRun is = absurd is
+record_cases : (P : Fault → Type 0) → P Memory → P Version → P LinkType → P Cut → P LongRecord → P Read → P BadBlock
+    → (fault : Fault) → IsRecordFault fault → P fault
+record_cases P memory version link_type cut long_record read bad_block Memory is = memory
+record_cases P memory version link_type cut long_record read bad_block Version is = version
+record_cases P memory version link_type cut long_record read bad_block LinkType is = link_type
+record_cases P memory version link_type cut long_record read bad_block Cut is = cut
+record_cases P memory version link_type cut long_record read bad_block LongRecord is = long_record
+record_cases P memory version link_type cut long_record read bad_block Read is = read
+record_cases P memory version link_type cut long_record read bad_block BadBlock is = bad_block
+record_cases P memory version link_type cut long_record read bad_block Usage is = absurd is
+record_cases P memory version link_type cut long_record read bad_block NotPcap is = absurd is
+record_cases P memory version link_type cut long_record read bad_block Write is = absurd is
+record_cases P memory version link_type cut long_record read bad_block TooManyFlows is = absurd is
+record_cases P memory version link_type cut long_record read bad_block TooManyFrames is = absurd is
+record_cases P memory version link_type cut long_record read bad_block BadRun is = absurd is
 
 kind-fault : (fault : Fault) → IsRecordFault fault → IsEnding (Some fault)
-kind-fault = record_cases (λ fault. IsEnding (Some fault)) tt tt tt tt
+kind-fault = record_cases (λ fault. IsEnding (Some fault)) tt tt tt tt tt tt tt
 
 -- the ending that nothing of the next record leads to
 abbrev Leads : Ended → List (List ℕ) → Records → Type 0
@@ -115,82 +118,85 @@ Leads ended before records = (end : Option Fault) → records ≡ no_record end 
 shown-fault : (ended : Ended) (before : List (List ℕ)) (records : Records) → Leads ended before records → (fault : Fault) → IsRecordFault fault
     → ShowsFault records fault → ShowsEnding ended before (Some fault)
 shown-fault ended before records leads = record_cases (λ fault. ShowsFault records fault → ShowsEnding ended before (Some fault))
-    (λ shows. tt) (λ shows. leads (Some Cut) shows) (λ shows. leads (Some LongRecord) shows) (λ shows. tt)
-
--- a header alone is a record that breaks off
-header-cut : (order : ByteOrder) (header : List ℕ) → WantsMemory order header → records_in order header ≡ no_record (Some Cut)
-header-cut order header (whole, some, short) = ap (records_in order) (sym (append-nil header)) ∙ records_in-bodiless order header [] whole short some
+    (λ shows. tt) (λ shows. leads (Some Version) shows) (λ shows. leads (Some LinkType) shows) (λ shows. leads (Some Cut) shows)
+    (λ shows. leads (Some LongRecord) shows) (λ shows. tt) (λ shows. leads (Some BadBlock) shows)
 
 -- ---- the turns
 
-module _ {order : ByteOrder} {left0 left : Option (List ℕ)} {faults0 faults : ℕ} {ports : List ℕ} {records : List Captured}
-    (read : HasRead order left0 left faults0 faults ports records) where
-  pub goes_on : (later : Option (List ℕ)) (now : ℕ) (frame : List ℕ) (original : ℕ)
-      → Took left later (λ taken. (rest : List ℕ) → records_in order (taken ++ rest) ≡ with_record frame original (records_in order rest))
+module _ {going : Going} {left0 left : Option (List ℕ)} {faults0 faults : ℕ} {ports : List ℕ} {records : List Captured}
+    (read : HasRead going left0 left faults0 faults ports records) where
+  pub goes_on : (going_now : Going) (later : Option (List ℕ)) (now : ℕ) (frame : List ℕ) (original : ℕ)
+      → Took left later (λ taken. (rest : List ℕ) → records_from going (taken ++ rest) ≡ with_record frame original (records_from going_now rest))
       → now ≡ faults → ending_at ports (frames_of records) frame ≡ None
-      → HasRead order left0 later faults0 now ports (records ++ record { frame = frame; original = original } ∷ [])
-  goes_on later now frame original took same goes =
+      → HasRead going_now left0 later faults0 now ports (records ++ record { frame = frame; original = original } ∷ [])
+  goes_on going_now later now frame original took same goes =
       let found : Captured = record { frame = frame; original = original } in
       let frames : frames_of (records ++ found ∷ []) ≡ frames_of records ++ frame ∷ [] = frames-append records (found ∷ []) in
       record {
-        taken = Took-then left0 left later (Holds order records) _ (Holds order (records ++ found ∷ []))
-            (λ xs ys holds shows. Holds-more order records frame original xs ys holds shows) read.taken took;
+        taken = Took-then left0 left later (Holds going records) _ (Holds going_now (records ++ found ∷ []))
+            (λ xs ys holds shows. Holds-more going going_now records frame original xs ys holds shows) read.taken took;
         still = same ∙ read.still;
         through = subst (λ all. GoesThrough ports all) (sym frames) (GoesThrough-more ports (frames_of records) frame read.through goes);
       }
 
-module _ (Wants : List (List ℕ) → List ℕ → Type 0) {order : ByteOrder} {left0 left : Option (List ℕ)} {faults0 faults : ℕ} {ports : List ℕ}
+module _ (Wants : List (List ℕ) → List ℕ → Type 0) {going : Going} {left0 left : Option (List ℕ)} {faults0 faults : ℕ} {ports : List ℕ}
     {records : List Captured}
-    (read : HasRead order left0 left faults0 faults ports records) where
+    (read : HasRead going left0 left faults0 faults ports records) where
+  leads-behind : (xs ys : List ℕ) → Holds going records xs → Leads (ended_of ports (xs ++ ys)) (frames_of records) (records_from going ys)
+  leads-behind xs ys holds end shown = ended_of-fault ports going records read.through xs ys end holds shown
+
   -- the bytes ended
-  pub ends-without : (later : Option (List ℕ)) (now : ℕ) → now ≡ faults → IsAtEnd left → Keeps left later
+  pub ends-without : (later : Option (List ℕ)) (now : ℕ) → now ≡ faults → IfSome left (λ _. IsAtEnd later)
+      → Took left later (λ taken. records_from going taken ≡ no_record None)
       → HasEnded Wants left0 later faults0 now ports (frames_of records) None
-  ends-without later now same at_end kept =
-      let ends : (xs ys : List ℕ) → Holds order records xs → ys ≡ []
+  ends-without later now same at_end took =
+      let ends : (xs ys : List ℕ) → Holds going records xs → records_from going ys ≡ no_record None
       → ended_of ports (xs ++ ys) ≡ record { before = frames_of records; fault = None } =
-      λ xs ys holds none. ap (λ bytes. ended_of ports (xs ++ bytes)) none ∙ ap (ended_of ports) (append-nil xs)
-      ∙ ended_of-end ports order records read.through xs holds in
+      λ xs ys holds none. leads-behind xs ys holds None none in
       record {
-        taken = Took-then left0 left later (Holds order records) (λ ys. ys ≡ []) _ ends read.taken (Took-nothing left later (λ ys. ys ≡ []) kept refl);
-        shown = all-rest left0 left (Holds order records) (λ rest. rest ≡ []) _ read.taken (at_end-some left at_end) ends;
-        at_end = λ _. at_end-kept left0 left later (Holds order records) read.taken at_end kept;
+        taken = Took-then left0 left later (Holds going records) (λ ys. records_from going ys ≡ no_record None) _ ends read.taken took;
+        shown = all-rest left0 left (Holds going records) (λ rest. records_from going rest ≡ no_record None) _ read.taken
+            (all-taken left later _ took at_end) ends;
+        at_end = λ _. read_to_end left0 left later (Holds going records) read.taken at_end;
         kind = tt;
         cause = λ is. absurd (cc);
         still = λ _. same ∙ read.still;
       }
 
-  leads-behind : (xs ys : List ℕ) → Holds order records xs → Leads (ended_of ports (xs ++ ys)) (frames_of records) (records_in order ys)
-  leads-behind xs ys holds end shown = ended_of-fault ports order records read.through xs ys end holds shown
+  -- what was taken shows the fault
+  taken-shown : (later : Option (List ℕ)) (fault : Fault) → Took left later (λ taken. records_from going taken ≡ no_record (Some fault))
+      → Took left0 later (λ taken. ended_of ports taken ≡ record { before = frames_of records; fault = Some fault })
+  taken-shown later fault took = Took-then left0 left later (Holds going records) (λ ys. records_from going ys ≡ no_record (Some fault)) _
+      (λ xs ys holds shown. leads-behind xs ys holds (Some fault) shown) read.taken took
 
-  taken-by : (later : Option (List ℕ)) (fault : Fault) → IsRecordFault fault → Took left later (λ taken. TakenShows (records_in order taken) fault)
-      → (fault ≡ Memory → Took left later (WantsMemory order))
+  taken-by : (later : Option (List ℕ)) (fault : Fault) → IsRecordFault fault → Took left later (λ taken. TakenShows (records_from going taken) fault)
+      → (fault ≡ Memory → Took left later (WantsMemory going))
       → Took left0 later (λ taken. TakenEnds Wants (ended_of ports taken) (frames_of records) (Some fault))
-  taken-by later = record_cases (λ fault. Took left later (λ taken. TakenShows (records_in order taken) fault)
-      → (fault ≡ Memory → Took left later (WantsMemory order))
+  taken-by later = record_cases (λ fault. Took left later (λ taken. TakenShows (records_from going taken) fault)
+      → (fault ≡ Memory → Took left later (WantsMemory going))
       → Took left0 later (λ taken. TakenEnds Wants (ended_of ports taken) (frames_of records) (Some fault)))
-      (λ took wants. Took-then left0 left later (Holds order records) (WantsMemory order)
+      (λ took wants. Took-then left0 left later (Holds going records) (WantsMemory going)
       (λ taken. TakenEnds Wants (ended_of ports taken) (frames_of records) (Some Memory))
-      (λ xs ys holds header. inl (leads-behind xs ys holds (Some Cut) (header-cut order ys header))) read.taken (wants refl))
-      (λ took wants. Took-then left0 left later (Holds order records) (λ ys. TakenShows (records_in order ys) Cut)
-      (λ taken. TakenEnds Wants (ended_of ports taken) (frames_of records) (Some Cut))
-      (λ xs ys holds shown. leads-behind xs ys holds (Some Cut) shown) read.taken took)
-      (λ took wants. Took-then left0 left later (Holds order records) (λ ys. TakenShows (records_in order ys) LongRecord)
-      (λ taken. TakenEnds Wants (ended_of ports taken) (frames_of records) (Some LongRecord))
-      (λ xs ys holds shown. leads-behind xs ys holds (Some LongRecord) shown) read.taken took)
-      (λ took wants. Took-then left0 left later (Holds order records) (λ ys. TakenShows (records_in order ys) Read)
+      (λ xs ys holds wanted. inl (leads-behind xs ys holds (Some Cut) (wanting-cut going ys wanted))) read.taken (wants refl))
+      (λ took wants. taken-shown later Version took)
+      (λ took wants. taken-shown later LinkType took)
+      (λ took wants. taken-shown later Cut took)
+      (λ took wants. taken-shown later LongRecord took)
+      (λ took wants. Took-then left0 left later (Holds going records) (λ ys. TakenShows (records_from going ys) Read)
       (λ taken. TakenEnds Wants (ended_of ports taken) (frames_of records) (Some Read))
       (λ xs ys holds shown. ⊎_elim (λ none. inl (leads-behind xs ys holds None none))
       (λ cut. inr (leads-behind xs ys holds (Some Cut) cut)) shown) read.taken took)
+      (λ took wants. taken-shown later BadBlock took)
 
   -- a fault of the capture, a failed read, or want of memory for a record
   pub ends-by : (later : Option (List ℕ)) (now : ℕ) (fault : Fault) → IsRecordFault fault
-      → IfSome left (λ all. ShowsFault (records_in order all) fault) → Took left later (λ taken. TakenShows (records_in order taken) fault)
-      → (fault ≡ Memory → Took left later (WantsMemory order)) → (fault ≡ Read → Rose faults now) → (fault ≢ Read → now ≡ faults)
+      → IfSome left (λ all. ShowsFault (records_from going all) fault) → Took left later (λ taken. TakenShows (records_from going taken) fault)
+      → (fault ≡ Memory → Took left later (WantsMemory going)) → (fault ≡ Read → Rose faults now) → (fault ≢ Read → now ≡ faults)
       → HasEnded Wants left0 later faults0 now ports (frames_of records) (Some fault)
   ends-by later now fault is shows took wants cause same = record {
     taken = taken-by later fault is took wants;
-    shown = all-rest left0 left (Holds order records) (λ rest. ShowsFault (records_in order rest) fault) _ read.taken shows
-        (λ xs rest holds shown. shown-fault (ended_of ports (xs ++ rest)) (frames_of records) (records_in order rest)
+    shown = all-rest left0 left (Holds going records) (λ rest. ShowsFault (records_from going rest) fault) _ read.taken shows
+        (λ xs rest holds shown. shown-fault (ended_of ports (xs ++ rest)) (frames_of records) (records_from going rest)
         (leads-behind xs rest holds) fault is shown);
     at_end = λ none. absurd (cc);
     kind = kind-fault fault is;
@@ -199,17 +205,17 @@ module _ (Wants : List (List ℕ) → List ℕ → Type 0) {order : ByteOrder} {
   }
 
   -- a frame that ends it
-  pub ends-at : (later : Option (List ℕ)) (now : ℕ) → now ≡ faults → (frame : List ℕ) (original : ℕ) (fault : Fault)
-      → Took left later (λ taken. (rest : List ℕ) → records_in order (taken ++ rest) ≡ with_record frame original (records_in order rest))
+  pub ends-at : (going_now : Going) (later : Option (List ℕ)) (now : ℕ) → now ≡ faults → (frame : List ℕ) (original : ℕ) (fault : Fault)
+      → Took left later (λ taken. (rest : List ℕ) → records_from going (taken ++ rest) ≡ with_record frame original (records_from going_now rest))
       → ending_at ports (frames_of records) frame ≡ Some fault → HasEnded Wants left0 later faults0 now ports (frames_of records) (Some fault)
-  ends-at later now same frame original fault took is =
+  ends-at going_now later now same frame original fault took is =
       let Ends : List ℕ → Type 0 = λ taken. (rest : List ℕ)
       → ended_of ports (taken ++ rest) ≡ record { before = frames_of records; fault = Some fault } in
       let both : Took left0 later Ends =
-      Took-then left0 left later (Holds order records) (λ taken. (rest : List ℕ)
-      → records_in order (taken ++ rest) ≡ with_record frame original (records_in order rest)) Ends
+      Took-then left0 left later (Holds going records) (λ taken. (rest : List ℕ)
+      → records_from going (taken ++ rest) ≡ with_record frame original (records_from going_now rest)) Ends
       (λ xs ys holds shows. λ rest. ap (ended_of ports) (append_assoc xs ys rest)
-      ∙ ended_of-frame ports order records read.through xs ys rest frame original fault holds shows is)
+      ∙ ended_of-frame ports going records read.through going_now xs ys rest frame original fault holds shows is)
       read.taken took in
       let by : IsFrameEnding fault = frame-kind ports (frames_of records) frame fault is in
       record {
@@ -228,22 +234,22 @@ module _ (Wants : List (List ℕ) → List ℕ → Type 0) {order : ByteOrder} {
       }
 
   -- no memory for what the frame wants
-  pub ends-wanting : (later : Option (List ℕ)) (now : ℕ) (frame : List ℕ) (original : ℕ)
-      → Took left later (λ taken. (rest : List ℕ) → records_in order (taken ++ rest) ≡ with_record frame original (records_in order rest))
+  pub ends-wanting : (going_now : Going) (later : Option (List ℕ)) (now : ℕ) (frame : List ℕ) (original : ℕ)
+      → Took left later (λ taken. (rest : List ℕ) → records_from going (taken ++ rest) ≡ with_record frame original (records_from going_now rest))
       → now ≡ faults → ending_at ports (frames_of records) frame ≡ None → Wants (frames_of records) frame
       → HasEnded Wants left0 later faults0 now ports (frames_of records) (Some Memory)
-  ends-wanting later now frame original took same goes begins =
+  ends-wanting going_now later now frame original took same goes begins =
       let found : Captured = record { frame = frame; original = original } in
-      let more : HasRead order left0 later faults0 now ports (records ++ found ∷ []) = goes_on read later now frame original took same goes in
+      let more : HasRead going_now left0 later faults0 now ports (records ++ found ∷ []) = goes_on read going_now later now frame original took same goes in
       record {
-        taken = Took-weaker left0 later (Holds order (records ++ found ∷ [])) (λ taken. LacksMemory Wants (ended_of ports taken) (frames_of records))
+        taken = Took-weaker left0 later (Holds going_now (records ++ found ∷ [])) (λ taken. LacksMemory Wants (ended_of ports taken) (frames_of records))
             (λ taken holds. inr (
               frame,
               begins,
-              ended_of-end ports order (records ++ found ∷ []) more.through taken holds
+              ended_of-end ports going_now (records ++ found ∷ []) more.through taken holds
                   ∙ ap (λ frames. record { before = frames; fault = None }) (frames-append records (found ∷ [])),
             )) more.taken;
-        shown = all-rest left0 later (Holds order (records ++ found ∷ [])) (λ rest. Unit {0}) _ more.taken (anything later) (λ taken rest _ _. tt);
+        shown = all-rest left0 later (Holds going_now (records ++ found ∷ [])) (λ rest. Unit {0}) _ more.taken (anything later) (λ taken rest _ _. tt);
         at_end = λ none. absurd (cc);
         kind = tt;
         cause = λ failed. absurd (cc);
@@ -252,20 +258,21 @@ module _ (Wants : List (List ℕ) → List ℕ → Type 0) {order : ByteOrder} {
 
 -- ---- before the first record
 
-opening_cases : (P : Fault → Type 0) → P NotPcap → P Version → P LinkType → P Cut → P Read → (fault : Fault) → IsOpeningFault fault → P fault
-opening_cases P not_pcap version link_type cut read NotPcap is = not_pcap
-opening_cases P not_pcap version link_type cut read Version is = version
-opening_cases P not_pcap version link_type cut read LinkType is = link_type
-opening_cases P not_pcap version link_type cut read Cut is = cut
-opening_cases P not_pcap version link_type cut read Read is = read
-opening_cases P not_pcap version link_type cut read Memory is = absurd is
-opening_cases P not_pcap version link_type cut read Usage is = absurd is
-opening_cases P not_pcap version link_type cut read LongRecord is = absurd is
-opening_cases P not_pcap version link_type cut read Write is = absurd is
-opening_cases P not_pcap version link_type cut read TooManyFlows is = absurd is
-opening_cases P not_pcap version link_type cut read TooManyFrames is = absurd is
-opening_cases P not_pcap version link_type cut read BadBlock is = absurd is
-opening_cases P not_pcap version link_type cut read BadRun is = absurd is
+opening_cases : (P : Fault → Type 0) → P NotPcap → P Version → P LinkType → P Cut → P Read → P BadBlock → (fault : Fault) → IsOpeningFault fault
+    → P fault
+opening_cases P not_pcap version link_type cut read bad_block NotPcap is = not_pcap
+opening_cases P not_pcap version link_type cut read bad_block Version is = version
+opening_cases P not_pcap version link_type cut read bad_block LinkType is = link_type
+opening_cases P not_pcap version link_type cut read bad_block Cut is = cut
+opening_cases P not_pcap version link_type cut read bad_block Read is = read
+opening_cases P not_pcap version link_type cut read bad_block BadBlock is = bad_block
+opening_cases P not_pcap version link_type cut read bad_block Memory is = absurd is
+opening_cases P not_pcap version link_type cut read bad_block Usage is = absurd is
+opening_cases P not_pcap version link_type cut read bad_block LongRecord is = absurd is
+opening_cases P not_pcap version link_type cut read bad_block Write is = absurd is
+opening_cases P not_pcap version link_type cut read bad_block TooManyFlows is = absurd is
+opening_cases P not_pcap version link_type cut read bad_block TooManyFrames is = absurd is
+opening_cases P not_pcap version link_type cut read bad_block BadRun is = absurd is
 
 opening-ends : (ports : List ℕ) (bytes : List ℕ) → Leads (ended_of ports bytes) [] (records_of bytes)
 unfolding ended_of
@@ -277,7 +284,7 @@ shown-opening ports all =
     let leads : Leads (ended_of ports all) [] (records_of all) = opening-ends ports all in
     opening_cases (λ fault. ShowsFault (records_of all) fault → ShowsEnding (ended_of ports all) [] (Some fault))
     (λ shows. leads (Some NotPcap) shows) (λ shows. leads (Some Version) shows) (λ shows. leads (Some LinkType) shows) (λ shows. leads (Some Cut) shows)
-    (λ shows. tt)
+    (λ shows. tt) (λ shows. leads (Some BadBlock) shows)
 
 taken-opening : (Wants : List (List ℕ) → List ℕ → Type 0) (ports : List ℕ) (taken : List ℕ) (fault : Fault) → IsOpeningFault fault
     → TakenShows (records_of taken) fault
@@ -287,8 +294,9 @@ taken-opening Wants ports taken =
     opening_cases (λ fault. TakenShows (records_of taken) fault → TakenEnds Wants (ended_of ports taken) [] (Some fault))
     (λ shows. leads (Some NotPcap) shows) (λ shows. leads (Some Version) shows) (λ shows. leads (Some LinkType) shows) (λ shows. leads (Some Cut) shows)
     (λ shows. ⊎_elim (λ none. inl (leads None none)) (λ cut. inr (leads (Some Cut) cut)) shows)
+    (λ shows. leads (Some BadBlock) shows)
 
--- the file header was refused
+-- the file header, or the first section header, was refused
 pub ends-opening : (Wants : List (List ℕ) → List ℕ → Type 0) (left0 left : Option (List ℕ)) (faults0 faults : ℕ) (ports : List ℕ)
     (fault : Fault) → IsOpeningFault fault
     → IfSome left0 (λ all. ShowsFault (records_of all) fault) → Took left0 left (λ taken. TakenShows (records_of taken) fault)
@@ -299,16 +307,16 @@ ends-opening Wants left0 left faults0 faults ports fault is shows took cause sam
   shown = some-weaker left0 (λ all. ShowsFault (records_of all) fault) (λ all. ShowsEnding (ended_of ports all) [] (Some fault)) shows
       (λ all shown. shown-opening ports all fault is shown);
   at_end = λ none. absurd (cc);
-  kind = opening_cases (λ fault. IsEnding (Some fault)) tt tt tt tt tt fault is;
+  kind = opening_cases (λ fault. IsEnding (Some fault)) tt tt tt tt tt tt fault is;
   cause = λ by. cause (cc);
   still = λ other. same (λ by. other (ap Some by));
 }
 
 -- it was read
-pub reads-nothing : (order : ByteOrder) (left0 left : Option (List ℕ)) (faults0 faults : ℕ) (ports : List ℕ)
-    → Took left0 left (λ taken. (rest : List ℕ) → records_of (taken ++ rest) ≡ records_in order rest)
-    → faults ≡ faults0 → HasRead order left0 left faults0 faults ports []
-reads-nothing order left0 left faults0 faults ports took same = record {
+pub reads-nothing : (going : Going) (left0 left : Option (List ℕ)) (faults0 faults : ℕ) (ports : List ℕ)
+    → Took left0 left (λ taken. (rest : List ℕ) → records_of (taken ++ rest) ≡ records_from going rest)
+    → faults ≡ faults0 → HasRead going left0 left faults0 faults ports []
+reads-nothing going left0 left faults0 faults ports took same = record {
   taken = took;
   still = same;
   through = GoesThrough-nothing ports;
@@ -316,23 +324,23 @@ reads-nothing order left0 left faults0 faults ports took same = record {
 
 -- ---- a frame that ends the reading
 
-module _ (Wants : List (List ℕ) → List ℕ → Type 0) {order : ByteOrder} {left0 left : Option (List ℕ)} {faults0 faults : ℕ} {ports : List ℕ}
+module _ (Wants : List (List ℕ) → List ℕ → Type 0) {going : Going} {left0 left : Option (List ℕ)} {faults0 faults : ℕ} {ports : List ℕ}
     {records : List Captured}
-    (read : HasRead order left0 left faults0 faults ports records) where
-  pub ends-frame : (later : Option (List ℕ)) (now : ℕ) (frame : List ℕ) (original : ℕ)
-      → Took left later (λ taken. (rest : List ℕ) → records_in order (taken ++ rest) ≡ with_record frame original (records_in order rest))
+    (read : HasRead going left0 left faults0 faults ports records) where
+  pub ends-frame : (going_now : Going) (later : Option (List ℕ)) (now : ℕ) (frame : List ℕ) (original : ℕ)
+      → Took left later (λ taken. (rest : List ℕ) → records_from going (taken ++ rest) ≡ with_record frame original (records_from going_now rest))
       → now ≡ faults
       → (fault : Fault) → EndsAt Wants ports (frames_of records) frame fault
       → HasEnded Wants left0 later faults0 now ports (frames_of records) (Some fault)
-  ends-frame later now frame original took same fault refused = by_fault fault refused
+  ends-frame going_now later now frame original took same fault refused = by_fault fault refused
     where
       at : (fault : Fault) → ending_at ports (frames_of records) frame ≡ Some fault
           → HasEnded Wants left0 later faults0 now ports (frames_of records) (Some fault)
-      at fault is = ends-at Wants read later now same frame original fault took is
+      at fault is = ends-at Wants read going_now later now same frame original fault took is
 
       by_fault : (fault : Fault) → EndsAt Wants ports (frames_of records) frame fault
           → HasEnded Wants left0 later faults0 now ports (frames_of records) (Some fault)
-      by_fault Memory (goes, wants) = ends-wanting Wants read later now frame original took same goes wants
+      by_fault Memory (goes, wants) = ends-wanting Wants read going_now later now frame original took same goes wants
       by_fault Usage is = at Usage is
       by_fault NotPcap is = at NotPcap is
       by_fault Version is = at Version is

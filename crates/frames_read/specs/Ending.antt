@@ -2,7 +2,8 @@
 use Rattle.std.specs.Prelude.{◌≡◌, ℕ, suc, List, [], ◌∷◌, ◌++◌, length, map, ◌==◌, if◌then◌else◌, Option, Some, None}
 use Rattle.zr_kinds.specs.declared.fault.Fault.{Fault}
 use Rattle.zr_kinds.specs.declared.fault.Fault.TheVariants.{TooManyFlows, TooManyFrames}
-use Rattle.pcap_reader.specs.Records.{Captured, records_of}
+use Rattle.pcap_reader.specs.Records.{Captured}
+use Rattle.pcapng_reader.specs.Records.{records_of}
 use Rattle.frame_headers.specs.FrameClass.{class_of}
 use Rattle.frame_headers.specs.Seen.{segment_of}
 use Rattle.flow_table.specs.Steered.{Steered, steered_of, segments_of, steer}

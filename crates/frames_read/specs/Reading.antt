@@ -2,10 +2,10 @@
 use Rattle.std.specs.Prelude.{◌≡◌, ◌≢◌, ℕ, List, [], ◌∷◌, ◌++◌, Option, Some, None, IfSome, ◌⊎◌}
 use Rattle.std.specs.Io.KnownBytes.{IsAtEnd}
 use Rattle.zr_kinds.specs.declared.fault.Fault.{Fault}
-use Rattle.zr_kinds.specs.declared.fault.Fault.TheVariants.{Memory, NotPcap, Version, LinkType, Cut, LongRecord, Read, TooManyFlows, TooManyFrames}
+use Rattle.zr_kinds.specs.declared.fault.Fault.TheVariants.{Memory, NotPcap, Version, LinkType, Cut, LongRecord, Read, TooManyFlows, TooManyFrames, BadBlock}
 use Rattle.zr_io.specs.Moved.{Rose, Took}
-use Rattle.pcap_reader.specs.declared.order.ByteOrder.{ByteOrder}
-use Rattle.pcap_reader.specs.Records.{Captured, Records, records_in, records_of}
+use Rattle.pcap_reader.specs.Records.{Captured, Records}
+use Rattle.pcapng_reader.specs.Records.{Going, records_from, records_of}
 use Rattle.flow_table.specs.Flows.{flows_of}
 use Rattle.frames_read.specs.Ending.{Ended, steered_in, steered_next, BeginsFlow, ending_at, frames_of, ended_after, ended_of}
 
@@ -15,8 +15,8 @@ with_records records others = record { all = records ++ others.all; fault = othe
 
 -- The bytes that were taken hold these records and no more: whatever follows them, the capture's other records are
 -- those of what follows.
-abbrev pub Holds : ByteOrder → List Captured → List ℕ → Type 0
-Holds order records taken = (rest : List ℕ) → records_of (taken ++ rest) ≡ with_records records (records_in order rest)
+abbrev pub Holds : Going → List Captured → List ℕ → Type 0
+Holds going records taken = (rest : List ℕ) → records_of (taken ++ rest) ≡ with_records records (records_from going rest)
 
 -- no frame of these ends the reading
 abbrev pub GoesThrough : List ℕ → List (List ℕ) → Type 0
@@ -24,9 +24,9 @@ GoesThrough ports frames = (more : List (List ℕ)) (fault : Option Fault)
     → ended_after ports [] (frames ++ more) fault ≡ ended_after ports frames more fault
 
 -- These records were read, and no read failed.
-pub record HasRead (order : ByteOrder) (left_at_first left : Option (List ℕ)) (faults_at_first faults : ℕ) (ports : List ℕ)
+pub record HasRead (going : Going) (left_at_first left : Option (List ℕ)) (faults_at_first faults : ℕ) (ports : List ℕ)
     (records : List Captured) : Type 0 where
-  pub taken : Took left_at_first left (Holds order records)
+  pub taken : Took left_at_first left (Holds going records)
   pub still : faults ≡ faults_at_first
   pub through : GoesThrough ports (frames_of records)
 
@@ -75,6 +75,7 @@ IsEnding (Some LongRecord) = Unit {0}
 IsEnding (Some Read) = Unit {0}
 IsEnding (Some TooManyFlows) = Unit {0}
 IsEnding (Some TooManyFrames) = Unit {0}
+IsEnding (Some BadBlock) = Unit {0}
 IsEnding (Some fault) = ⊥
 
 -- a source that tells its bytes was read to its end

@@ -4,3 +4,6 @@ mod Heads
 mod WholeBlocks
 mod Passing
 mod Forms
+pub mod Goings
+pub mod ClassicGoes
+pub mod BlocksGo
