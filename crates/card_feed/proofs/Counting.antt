@@ -11,7 +11,7 @@ use Rattle.board_face.specs.declared.views.nic.NicView.{NicView}
 use Rattle.page_pool.specs.declared.offer.Offer.{Offer}
 use Rattle.page_pool.specs.Frames.{Offered, offered}
 use Rattle.page_pool.specs.Dealing.{IsRaised, is_stray, strays_in, DrainsRings}
-use Rattle.page_pool.specs.Searching.{SearchEnd, fast, refill, slow, empty, CountsEnd}
+use Rattle.page_pool.specs.Searching.{SearchEnd, fast, refill, slow, empty, CountsEnd, LooksAhead}
 use Rattle.page_pool.specs.Pool.{PoolState, Closes}
 use Rattle.page_pool.specs.Offer.{payload_of, needed_for, LooksFor, not_needed, searched, Accepts, Refuses}
 use Rattle.card_feed.specs.Counts.{capped, is_long, long_in, searches_in, AreCounted}
@@ -151,6 +151,21 @@ module _ (split : ℕ) (offers : List Offered) (refused : List ℕ) where
         empty = ap (λ (s : PoolStats). s.empty) others ∙ counted.empty;
         strays = strays-more was now old.dealt new.dealt drains.more counted.strays (ap (λ (v : NicView). v.dealt) drains.deals.view)
             drains.strays.strays fits.strays;
+      }
+
+  -- of a search that isn't counted
+  pub counted-looked : (hand : Option Offered) (need : ℕ) (was now : PoolState) (old new : NicView) → AreInType now.stats
+      → LooksAhead need was now old new → AreCounted split offers refused hand old.dealt was.stats
+      → AreCounted split offers refused hand new.dealt now.stats
+  counted-looked hand need was now old new fits looks counted =
+      let stats : now.stats ≡ record was.stats { strays = looks.counted.strays } = ap (λ (p : PoolState). p.stats) looks.pool in
+      record {
+        searches = omega (arith, counted.searches, ap searches_in stats);
+        empty = ap (λ (s : PoolStats). s.empty) stats ∙ counted.empty;
+        strays = strays-more was.stats now.stats old.dealt new.dealt looks.searches.more counted.strays
+            (ap (λ (v : NicView). v.dealt) looks.searches.view)
+            (subst (IsRaised was.stats.strays (strays_in looks.searches.more)) (sym (ap (λ (s : PoolStats). s.strays) stats))
+            (end-strays looks.result was.stats looks.counted looks.searches.more looks.searches.counts)) fits.strays;
       }
 
   module _ (was now : PoolState) (old new : NicView) (o : Offer) (split_is : was.split ≡ split) (fits : AreInType now.stats)

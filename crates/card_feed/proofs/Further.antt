@@ -3,11 +3,12 @@ use Rattle.std.proofs.Common.{◌≡◌, ℕ, ◌≤◌, List, [], ◌++◌, len
 use Rattle.std.specs.Prelude.{IfOk, IfSome}
 use Rattle.zr_kinds.specs.declared.fault.Fault.{Fault}
 use Rattle.zr_io.specs.Moved.{Took}
-use Rattle.zr_io.proofs.Moved.{Took-nothing, Took-then, Took-weaker}
+use Rattle.zr_io.proofs.Moved.{Took-then, Took-weaker}
 use Rattle.pcap_reader.specs.declared.capture.Record.{Record}
-use Rattle.pcap_reader.specs.declared.order.ByteOrder.{ByteOrder}
-use Rattle.pcap_reader.specs.Records.{with_record, records_in, records_of, header_fault}
-use Rattle.pcap_reader.specs.Capture.{Reading, Opens, Gives, HasReadCause, TakenShows, TakenHeaderShows}
+use Rattle.pcap_reader.specs.Records.{no_record, with_record}
+use Rattle.pcap_reader.specs.Capture.{HasReadCause, TakenShows, TakenHeaderShows}
+use Rattle.pcapng_reader.specs.Records.{Going, records_from, records_of, opening_fault}
+use Rattle.pcapng_reader.specs.Capture.{Reading, Opens, Gives}
 use Rattle.card_feed.specs.Coming.{TookBytes}
 
 -- ---- what was taken
@@ -23,23 +24,24 @@ took-some : (a b : Option (List ℕ)) (P : List ℕ → Type 0) → Took a b P �
 took-some a b P = Took-weaker a b P (λ taken. Unit {0}) (λ taken _. tt)
 
 pub took-opening : (a b : Option (List ℕ)) (result : Result Reading Fault) → Opens a b result → TookBytes a b
-took-opening a b (Ok capture) opens = took-some a b (λ taken. (rest : List ℕ) → records_of (taken ++ rest) ≡ records_in capture.order rest) opens.1
-took-opening a b (Err fault) opens = took-some a b (λ taken. TakenHeaderShows (header_fault taken) fault) opens.2
+took-opening a b (Ok capture) opens = took-some a b (λ taken. (rest : List ℕ) → records_of (taken ++ rest) ≡ records_from capture.going rest) opens.1
+took-opening a b (Err fault) opens = took-some a b (λ taken. TakenHeaderShows (opening_fault taken) fault) opens.2
 
-took-record : (order : ByteOrder) (a b : Option (List ℕ)) (frame : List ℕ) (result : Result (Option Record) Fault) → Gives order a b frame result
+took-record : (going later : Going) (a b : Option (List ℕ)) (frame : List ℕ) (result : Result (Option Record) Fault)
+    → Gives going later a b frame result
     → TookBytes a b
-took-record order a b frame (Ok (Some found)) gives =
-    took-some a b (λ taken. (rest : List ℕ) → records_in order (taken ++ rest) ≡ with_record frame found.original (records_in order rest)) gives.1
-took-record order a b frame (Ok None) gives = Took-nothing a b (λ taken. Unit {0}) gives.1 tt
-took-record order a b frame (Err fault) gives = took-some a b (λ taken. TakenShows (records_in order taken) fault) gives.2
+took-record going later a b frame (Ok (Some found)) gives =
+    took-some a b (λ taken. (rest : List ℕ) → records_from going (taken ++ rest) ≡ with_record frame found.original (records_from later rest)) gives.1
+took-record going later a b frame (Ok None) gives = took-some a b (λ taken. records_from going taken ≡ no_record None) gives.1
+took-record going later a b frame (Err fault) gives = took-some a b (λ taken. TakenShows (records_from going taken) fault) gives.2
 
 -- ---- a read behind which the capture keeps this fault
 
-module _ {S : Type 0} (left : S → Option (List ℕ)) (faults : S → ℕ) (old now : S) (order : ByteOrder) (frame : List ℕ)
+module _ {S : Type 0} (left : S → Option (List ℕ)) (faults : S → ℕ) (old now : S) (going later : Going) (frame : List ℕ)
     (result : Result (Option Record) Fault) where
-  pub next-further : (kept : Option Fault) → (kept ≡ None → Gives order (left old) (left now) frame result)
+  pub next-further : (kept : Option Fault) → (kept ≡ None → Gives going later (left old) (left now) frame result)
       → IfSome kept (λ fault. (result ≡ Err fault) × (now ≡ old)) → TookBytes (left old) (left now)
-  next-further None gives stopped = took-record order (left old) (left now) frame result (gives refl)
+  next-further None gives stopped = took-record going later (left old) (left now) frame result (gives refl)
   next-further (Some fault) gives stopped = subst (λ (s : S). TookBytes (left old) (left s)) (sym stopped.1) (took-same (left old))
 
   pub next-later : (kept : Option Fault) → (kept ≡ None → HasReadCause (faults old) (faults now) result)
@@ -47,13 +49,13 @@ module _ {S : Type 0} (left : S → Option (List ℕ)) (faults : S → ℕ) (old
   next-later None cause stopped = (cause refl).later
   next-later (Some fault) cause stopped = subst (λ (s : S). faults old ≤ faults s) (sym stopped.1) (omega arith)
 
-  pub next-bytes : (kept : Option Fault) → (kept ≡ None → Gives order (left old) (left now) frame result)
+  pub next-bytes : (kept : Option Fault) → (kept ≡ None → Gives going later (left old) (left now) frame result)
       → IfSome kept (λ fault. (result ≡ Err fault) × (now ≡ old))
       → IfOk result (λ found. IfSome found (λ one. one.captured ≤ 262144))
       → IfOk result (λ found. IfSome found (λ one. (length frame ≡ one.captured) × (one.captured ≤ 262144)))
   next-bytes None gives stopped most = bytes_of result (gives refl) most
     where
-      bytes_of : (made : Result (Option Record) Fault) → Gives order (left old) (left now) frame made
+      bytes_of : (made : Result (Option Record) Fault) → Gives going later (left old) (left now) frame made
           → IfOk made (λ found. IfSome found (λ one. one.captured ≤ 262144))
           → IfOk made (λ found. IfSome found (λ one. (length frame ≡ one.captured) × (one.captured ≤ 262144)))
       bytes_of (Ok (Some found)) gave few = (sym gave.0, few)

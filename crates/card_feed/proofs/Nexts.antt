@@ -4,8 +4,9 @@ use Rattle.std.specs.Prelude.{MatchResult, IsErrOf}
 use Rattle.zr_kinds.specs.declared.fault.Fault.{Fault}
 use Rattle.zr_kinds.specs.declared.fault.Fault.TheVariants.{Memory}
 use Rattle.zr_io.specs.Moved.{Took}
-use Rattle.pcap_reader.specs.Capture.{Reading, Gives, HasReadCause, WantsMemory}
+use Rattle.pcap_reader.specs.Capture.{HasReadCause}
 use Rattle.pcap_reader.specs.Records.{Captured}
+use Rattle.pcapng_reader.specs.Capture.{Reading, Gives, WantsMemory}
 use Rattle.pcap_reader.specs.declared.capture.Record.{Record}
 use Rattle.frames_read.specs.Ending.{frames_of}
 use Rattle.frames_read.specs.Reading.{HasRead, HasEnded}
@@ -17,9 +18,9 @@ use Rattle.card_feed.specs.Coming.{NextGives}
 module _ {S : Type 0} (Wants : List (List ℕ) → List ℕ → Type 0) (left : S → Option (List ℕ)) (faults : S → ℕ) (first old now : S)
     (ports : List ℕ)
     (capture : Reading) (is_on : capture.fault ≡ None) (records : List Captured)
-    (read : HasRead capture.order (left first) (left old) (faults first) (faults old) ports records) where
+    (read : HasRead capture.going (left first) (left old) (faults first) (faults old) ports records) where
   -- there is a record, or the bytes end
-  pub next-gives : (later : Reading) → later ≡ capture → (found : Option Record) (frame : List ℕ) → Gives capture.order (left old) (left now) frame
+  pub next-gives : (later : Reading) → later.fault ≡ capture.fault → (found : Option Record) (frame : List ℕ) → Gives capture.going later.going (left old) (left now) frame
       (Ok found)
       → HasReadCause (faults old) (faults now) (Ok found)
       → NextGives Wants left faults first now ports (stage.Open later) (frames_of records) frame (Ok found)
@@ -28,30 +29,30 @@ module _ {S : Type 0} (Wants : List (List ℕ) → List ℕ → Type 0) (left : 
       let still : faults now ≡ faults old = cause.still (λ failed. cc) in
       record {
         goes = λ goes. (
-          ap (λ (c : Reading). c.fault) kept ∙ is_on,
+          kept ∙ is_on,
           (
             records ++ record { frame = frame; original = found.original } ∷ [],
             sym (frames-append records (record { frame = frame; original = found.original } ∷ [])),
-            rw kept (goes_on read (left now) (faults now) frame found.original gives.1 still goes),
+            goes_on read later.going (left now) (faults now) frame found.original gives.1 still goes,
           ),
         );
-        ends = λ fault ends. ends-frame Wants read (left now) (faults now) frame found.original gives.1 still fault ends;
+        ends = λ fault ends. ends-frame Wants read later.going (left now) (faults now) frame found.original gives.1 still fault ends;
         on = refl;
       }
 
   -- the record has a fault, or a read failed, or there was no memory for its bytes
-  pub next-ends : (fault : Fault) (frame : List ℕ) → Gives capture.order (left old) (left now) frame (Err fault)
+  pub next-ends : (later : Reading) (fault : Fault) (frame : List ℕ) → Gives capture.going later.going (left old) (left now) frame (Err fault)
       → HasReadCause {T = Option Record} (faults old) (faults now) (Err fault)
-      → (fault ≡ Memory → Took (left old) (left now) (WantsMemory capture.order))
+      → (fault ≡ Memory → Took (left old) (left now) (WantsMemory capture.going))
       → HasEnded Wants (left first) (left now) (faults first) (faults now) ports (frames_of records) (Some fault)
-  next-ends fault frame gives cause wants = ends-by Wants read (left now) (faults now) fault gives.0 gives.1 gives.2 wants
+  next-ends later fault frame gives cause wants = ends-by Wants read (left now) (faults now) fault gives.0 gives.1 gives.2 wants
       (λ by. cause.read (ap Err by)) (λ other. cause.still (λ failed. other (cc)))
 
   pub next-all : (later : Reading) (result : Result (Option Record) Fault) (frame : List ℕ)
-      → MatchResult result (λ _. later ≡ capture) (λ fault. later ≡ record capture { fault = Some fault })
-      → Gives capture.order (left old) (left now) frame result
+      → MatchResult result (λ _. later.fault ≡ capture.fault) (λ fault. later.fault ≡ Some fault)
+      → Gives capture.going later.going (left old) (left now) frame result
       → HasReadCause (faults old) (faults now) result
-      → (IsErrOf result Memory → Took (left old) (left now) (WantsMemory capture.order))
+      → (IsErrOf result Memory → Took (left old) (left now) (WantsMemory capture.going))
       → NextGives Wants left faults first now ports (stage.Open later) (frames_of records) frame result
   next-all later (Ok found) frame kept gives cause wants = next-gives later kept found frame gives cause
-  next-all later (Err fault) frame kept gives cause wants = next-ends fault frame gives cause (λ by. wants (ap Err by))
+  next-all later (Err fault) frame kept gives cause wants = next-ends later fault frame gives cause (λ by. wants (ap Err by))

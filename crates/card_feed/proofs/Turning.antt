@@ -13,6 +13,7 @@ use Rattle.page_pool.specs.declared.offer.Verdict.{Verdict}
 use Rattle.page_pool.specs.declared.offer.Verdict.TheVariants.{Accepted, NoRoom, Busy}
 use Rattle.page_pool.specs.Frames.{offered}
 use Rattle.page_pool.specs.Dealing.{DrainsRings}
+use Rattle.page_pool.specs.Searching.{LooksAhead}
 use Rattle.page_pool.specs.Pool.{PoolState, all_notes, OnlySends, Closes}
 use Rattle.frames_read.specs.Ending.{steered_in}
 use Rattle.frames_read.specs.Reading.{EndsAt}
@@ -34,7 +35,7 @@ use Rattle.card_feed.proofs.OffersRise.{RiseFrom, offers-rise, offers-more}
 use Rattle.card_feed.proofs.Needing.{AreUnused, unused-trans, sends-unused, drains-unused, closes-unused, needed-read, needed-accepted}
 use Rattle.card_feed.proofs.Needing.{needed-refused, needed-same, keeps-setting}
 use Rattle.card_feed.proofs.Settling.{hand-last, next-last, settled-read, settled-accepted, settled-refused}
-use Rattle.card_feed.proofs.Counting.{AreInType, counted-read, counted-same, counted-drained, counted-accepted, counted-refused, closes-dealt}
+use Rattle.card_feed.proofs.Counting.{AreInType, counted-read, counted-same, counted-drained, counted-looked, counted-accepted, counted-refused, closes-dealt}
 
 known_is : (k : KnownFlows) (known_ports : List ℕ) (flows : List Flow) → k.ports ≡ known_ports → k.flows ≡ flows
     → k ≡ record { ports = known_ports; flows = flows }
@@ -188,6 +189,15 @@ module _ (ports : List ℕ) (split : ℕ) where
       (drained-notes pool now.pool mid new count drained pool_is ∙ sends.notes)
       (unused-trans old mid new (sends-unused was.pool pool old mid sends) (drains-unused pool now.pool mid new count drained))
       (drained-counted frames was now pool old mid new count fits sends drained stands.counted)
+
+  -- it looked for buffers
+  pub prepared : (frames : List (List ℕ)) (need : ℕ) (was now : FeedState) (old new : NicView) → AreInType now.pool.stats
+      → LooksAhead need was.pool now.pool old new → now ≡ record was { pool = now.pool }
+      → FeedKnows ports split frames was old → FeedKnows ports split frames now new
+  prepared frames need was now old new fits looks same stands =
+      same-settled frames was now old new stands same (ap (λ (p : PoolState). p.split) looks.pool) (rw (looks.searches.view, looks.pool) refl)
+      (record { used = ap (λ (v : NicView). v.used) looks.searches.view; setting = ap (λ (v : NicView). v.setting) looks.searches.view })
+      (counted-looked split (offers_of (steered_in ports frames)) was.refused was.at_hand need was.pool now.pool old new fits looks stands.counted)
 
 -- ---- the stage stays
 

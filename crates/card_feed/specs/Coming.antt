@@ -17,7 +17,7 @@ abbrev pub ComesTo : {S : Type 0} → (List (List ℕ) → List ℕ → Type 0) 
 ComesTo Wants left faults first now ports stage.Unopened frames = (frames ≡ []) × (now ≡ first)
 ComesTo Wants left faults first now ports (stage.Open capture) frames =
     (capture.fault ≡ None) × ((records : List Captured) × (frames ≡ frames_of records)
-    × HasRead capture.order (left first) (left now) (faults first) (faults now) ports records)
+    × HasRead capture.going (left first) (left now) (faults first) (faults now) ports records)
 ComesTo Wants left faults first now ports (stage.Over end) frames = HasEnded Wants (left first) (left now) (faults first) (faults now) ports frames end
 
 -- the reading is over
@@ -51,7 +51,7 @@ is_open stage.Unopened = false
 is_open (stage.Open capture) = true
 is_open (stage.Over end) = false
 
--- the file header was read, or it ends the reading
+-- the file header, or the first section header, was read, or it ends the reading
 abbrev pub OpenGives : {S : Type 0} → (List (List ℕ) → List ℕ → Type 0) → (S → Option (List ℕ)) → (S → ℕ) → S → S → List ℕ
     → Stage → List (List ℕ)
     → Result (Unit {0}) Fault → Type 0

@@ -6,17 +6,17 @@ ghost use Rattle.card_feed.specs.Hand.{HaveApps, HandFits, HasRoom};
 
 use flow_table::FlowTable;
 use frames_read::Counting;
-use pcap_reader::Capture;
+use pcapng_reader::AnyCapture;
 use std::alloc::Global;
 use zr_kinds::Fault;
 
 /// How far the reading has come.
 #[derive(Debug, Drop)]
 pub enum Stage {
-    /// No file header was read here.
+    /// Neither a file header nor a first section header was read here.
     Unopened,
     /// The reading goes on.
-    Open(Capture),
+    Open(AnyCapture),
     /// It ended, by a fault or at the end of the bytes.
     Over(Option<Fault>),
 }
@@ -50,7 +50,7 @@ pub struct Intake {
     pub hand: Option<Route>,
     /// The greatest payload that is never refused, in bytes.
     pub split: u32,
-    /// What empty vectors are made of.
+    /// What the capture's interfaces and empty vectors are made of.
     pub alloc: Global,
     ghost apps: { HaveApps table.ports table.flows },
     ghost hand_fits: { ForSome hand (HandFits table.ports bytes.items) },

@@ -8,6 +8,7 @@ mod laws;
 mod outcome;
 mod plan;
 mod playing;
+mod preparing;
 mod reading;
 mod receiving;
 mod turn;
@@ -22,4 +23,5 @@ pub use laws::{
 };
 pub use outcome::Outcome;
 pub use plan::Plan;
+pub use preparing::nic_prepare;
 pub use turn::{nic_step, nic_turn};

@@ -7,12 +7,14 @@ ghost use Rattle.card_feed.specs.declared.arrived.Arrived.TheVariants.{Nothing};
 
 use crate::arrived::Arrived;
 use crate::intake::Stage;
-use pcap_reader::{Capture, Record};
+use pcap_reader::Record;
+use pcapng_reader::AnyCapture;
+use std::alloc::Global;
 use zr_io::Source;
 use zr_kinds::Fault;
 
-/// Reads the file header, if it wasn't read.
-fn open<S: Source>(stage: &mut Stage, source: &mut S) -> Result<(), Fault>
+/// Reads the file header or the first section header, if it wasn't read.
+fn open<S: Source>(stage: &mut Stage, alloc: Global, source: &mut S) -> Result<(), Fault>
     requires goes { is_over stage.old ≡ false }
     ensures opens { (split : ℕ) (first : S) (ports : List ℕ) (frames : List (List ℕ))
         → ComesTo (WantsRoom split ports) S.left S.faults first source.old ports stage.old frames
@@ -23,12 +25,12 @@ fn open<S: Source>(stage: &mut Stage, source: &mut S) -> Result<(), Fault>
     ensures later { S.faults source.old ≤ S.faults source.new }
 {
     if let Stage::Unopened = stage {
-        *stage = Stage::Open(Capture::open(source)?);
+        *stage = Stage::Open(AnyCapture::open(alloc, source)?);
     }
     Ok(())
 }
 
-/// Reads the next record, behind the file header, if there is one.
+/// Reads the next record, behind that header, if there is one.
 fn next_record<S: Source>(
     stage: &mut Stage,
     source: &mut S,
@@ -57,9 +59,10 @@ impl Stage {
         matches!(self, Stage::Over(_))
     }
 
-    /// Reads the next record into that memory, the file header before the first. Where it answers that the reading is over, the
-    /// stage is left to the caller.
-    pub fn read<S: Source>(&mut self, source: &mut S, into: Vec<u8>) -> Arrived
+    /// Reads the next record into that memory, the file header or the first section header before the first. Memory for
+    /// interfaces is taken from `alloc`, of the first call. Where it answers that the reading is over, the stage is left to the
+    /// caller.
+    pub fn read<S: Source>(&mut self, alloc: Global, source: &mut S, into: Vec<u8>) -> Arrived
         requires goes { is_over self.old ≡ false }
         ensures reads { (split : ℕ) (first : S) (ports : List ℕ) (frames : List (List ℕ))
             → ComesTo (WantsRoom split ports) S.left S.faults first source.old ports self.old frames
@@ -73,7 +76,7 @@ impl Stage {
         ensures later { S.faults source.old ≤ S.faults source.new }
     {
         let mut into = into;
-        match self.read_record(source, &mut into) {
+        match self.read_record(alloc, source, &mut into) {
             Ok(Some(record)) => Arrived::Frame(record, into),
             Ok(None) => Arrived::Over(None),
             Err(fault) => Arrived::Over(Some(fault)),
@@ -82,6 +85,7 @@ impl Stage {
 
     fn read_record<S: Source>(
         &mut self,
+        alloc: Global,
         source: &mut S,
         into: &mut Vec<u8>,
     ) -> Result<Option<Record>, Fault>
@@ -94,7 +98,7 @@ impl Stage {
         ensures further { TookBytes (S.left source.old) (S.left source.new) }
         ensures later { S.faults source.old ≤ S.faults source.new }
     {
-        open(self, source)?;
+        open(self, alloc, source)?;
         next_record(self, source, into)
     }
 }

@@ -194,6 +194,6 @@ impl Intake {
             return Arrived::Nothing;
         }
         let into = self.spare();
-        self.stage.read(source, into)
+        self.stage.read(self.alloc, source, into)
     }
 }

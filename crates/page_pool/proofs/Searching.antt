@@ -1,7 +1,7 @@
 -- One more ring was drained, or one more word swept.
 use Rattle.std.proofs.Common.{◌≡◌, ℕ, zero, suc, ◌+◌, ◌-◌, ◌<◌, ◌≤◌, ◌^◌, ◌⊎◌, inl, inr, List, [], ◌∷◌, ◌++◌}
 use Rattle.std.proofs.Common.{length, append_assoc, length-append, refl, sym, ◌∙◌, ap, arith, below_more, ⊎_elim, min, Bool, true, false}
-use Rattle.std.specs.Prelude.{◌≢◌}
+use Rattle.std.specs.Prelude.{◌≢◌, MatchBool}
 use Rattle.std.specs.Prelude.{◌||◌, nat_eq}
 use Rattle.std.specs.List.{list_any, range_with_len}
 use Rattle.std.proofs.lemmas.Bool.{true≢false, cases_lt, cases_Bool, eq-eqb}
@@ -20,7 +20,8 @@ use Rattle.board_face.proofs.LostLemmas.{buffers-accounted}
 use Rattle.board_face.proofs.LookLemmas.{NicLooksStay-same, NicLooksStay-trans, NicRose-later, NicRose-before, times-more}
 use Rattle.page_pool.specs.Dealing.{DealsWith, IsRaised}
 use Rattle.page_pool.specs.Gathering.{DrainsRing, Gathers, HasAtMost, RefillsFirst, SweepsFirst}
-use Rattle.page_pool.specs.Searching.{SearchEnd, fast, refill, slow, empty, enough, AreRingsDone, AreSwept, AreToldOf, Searches}
+use Rattle.page_pool.specs.Searching.{SearchEnd, fast, refill, slow, empty, enough, AreRingsDone, AreSwept, AreToldOf, Searches, LooksAhead}
+use Rattle.page_pool.specs.Pool.{PoolState}
 use Rattle.page_pool.proofs.Entries.{CountsStrays-none, CachesFreed-none, CachesFreed-trans}
 use Rattle.page_pool.proofs.Rings.{CountsStrays-more, AreInTurn-none, AreInTurn-ring, entries_of-own, entries_of-append}
 
@@ -316,3 +317,14 @@ refill_not e = absurd (true≢false (sym (ap is_empty e)))
 pub slow_not : slow ≢ empty
 unfolding is_empty
 slow_not e = absurd (true≢false (sym (ap is_empty e)))
+
+-- ---- a search that isn't counted
+
+pub LooksAhead-by : (need : ℕ) (found : Bool) (was now : PoolState) (counted : PoolStats) (begin end : NicView)
+    → now ≡ record was { stats = record was.stats { strays = counted.strays } }
+    → MatchBool found ((how : SearchEnd) × (how ≢ empty) × Searches need was.stats counted begin end how) (Searches need was.stats counted begin end empty)
+    → LooksAhead need was now begin end
+LooksAhead-by need true was now counted begin end is (how, some, searches) =
+    record { result = how; counted = counted; searches = searches; pool = is }
+LooksAhead-by need false was now counted begin end is searches =
+    record { result = empty; counted = counted; searches = searches; pool = is }

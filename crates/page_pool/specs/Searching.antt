@@ -9,6 +9,7 @@ use Rattle.board_face.specs.declared.views.nic.Dealt.{Dealt}
 use Rattle.board_face.specs.declared.views.nic.NicLook.TheVariants.{Swept}
 use Rattle.board_face.specs.declared.views.nic.NicView.{NicView}
 use Rattle.page_pool.specs.Dealing.{IsRaised, freed_in, AreInTurn, IsRingDone, strays_in}
+use Rattle.page_pool.specs.Pool.{PoolState}
 
 -- A search that looks beyond the cache goes on until so many buffers are cached.
 abbrev pub enough : ℕ
@@ -74,3 +75,10 @@ pub record Searches (need : ℕ) (was now : PoolStats) (begin end : NicView) (re
   pub seen : freed_in end ≡ freed_in begin + freed
   pub ends : EndsBy result need begin end more freed words
   pub counts : CountsEnd result was now more
+
+-- It searched, and of that only the strays were counted.
+pub record LooksAhead (need : ℕ) (was now : PoolState) (begin end : NicView) : Type 0 where
+  pub result : SearchEnd
+  pub counted : PoolStats
+  pub searches : Searches need was.stats counted begin end result
+  pub pool : now ≡ record was { stats = record was.stats { strays = counted.strays } }

@@ -4,6 +4,7 @@
 mod close;
 mod drain;
 mod flush;
+mod gather;
 mod laws;
 mod offer;
 mod pieces;
@@ -14,6 +15,7 @@ mod search;
 pub use close::nic_close;
 pub use drain::nic_drain;
 pub use flush::nic_flush;
+pub use gather::nic_gather;
 pub use laws::{accepted_are_shown, offer_is_shown, packing_is_short, packing_is_whole};
 pub use offer::{Offer, Verdict, nic_offer};
 pub use pool::{Pending, Pool, Short};

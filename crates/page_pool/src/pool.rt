@@ -96,4 +96,22 @@ impl Pool {
             pieces
         }
     }
+
+    /// Whether the buffer that it fills has room for so many bytes.
+    fn has_room(&self, len: u32) -> bool {
+        self.current
+            .as_ref()
+            .is_some_and(|own| own.size().saturating_sub(own.start()) >= len)
+    }
+
+    /// How many fresh buffers of so many bytes a payload needs.
+    pub fn needed(&self, len: u32, size: u32) -> u32
+        ensures few { result ≤ 64 }
+    {
+        if len <= self.split || self.has_room(len) {
+            0
+        } else {
+            len.div_ceil(size.max(1)).min(64)
+        }
+    }
 }

@@ -11,14 +11,15 @@ use Rattle.card_feed.specs.declared.arrived.Arrived.{Arrived}
 use Rattle.card_feed.specs.declared.arrived.Arrived.TheVariants as arrived
 use Rattle.card_feed.specs.declared.intake.Stage.{Stage}
 use Rattle.card_feed.specs.declared.intake.Stage.TheVariants as stage
-use Rattle.rtrb.specs.Ring.{known_items, received, SameConsumer}
+use Rattle.page_pool.specs.Pool.{pending_count}
+use Rattle.rtrb.specs.Ring.{received, SameConsumer}
 use Rattle.replay_threads.specs.Carried.{MayFollow, arrived_of}
 use Rattle.replay_threads.specs.declared.carried.Carried.{Carried}
 use Rattle.replay_threads.specs.declared.carried.Carried.TheVariants as carried
-use Rattle.replay_threads.specs.declared.card.Card.{Card}
+use Rattle.replay_threads.specs.declared.card.CardLane.{CardLane}
 
 -- It looked whether applications have left, and nothing else changed.
-pub record CardLooks (was now : Card) : Type 0 where
+pub record CardLooks (was now : CardLane) : Type 0 where
   pub board : now.seat.board ≡ was.seat.board
   pub feed : now.feed ≡ was.feed
   pub frames : now.frames ≡ was.frames
@@ -31,13 +32,15 @@ abbrev pub Came : List Carried → List Carried → Arrived → Type 0
 Came old new arrived.Nothing = new ≡ old
 Came old new came = (m : Carried) × (new ≡ old ++ m ∷ []) × MayFollow old m × (arrived_of m ≡ came)
 
-pub record CardTakes (was now : Card) (came : Arrived) : Type 0 where
+-- No frame is taken now: one is at hand, notes are pending, or the reading has ended.
+abbrev pub Waits : FeedState → Type 0
+Waits feed = (feed.at_hand ≢ None) ⊎ ((0 < pending_count feed.pool) ⊎ (is_over feed.stage ≡ true))
+
+pub record CardTakes (was now : CardLane) (came : Arrived) : Type 0 where
   pub seat : now.seat ≡ was.seat
   pub feed : now.feed ≡ was.feed
   pub ring : SameConsumer was.frames now.frames
   pub came_is : Came (received was.frames) (received now.frames) came
-  -- Nothing came only where a frame is at hand, the reading has ended, or the ring was seen empty.
-  pub cause : came ≡ arrived.Nothing → (was.feed.at_hand ≢ None) ⊎ ((is_over was.feed.stage ≡ true) ⊎ (known_items now.frames ≡ []))
 
 -- the message is a frame of these bytes
 abbrev pub IsFrame : Carried → List ℕ → Type 0
@@ -68,7 +71,7 @@ pub record CardStands (ports : List ℕ) (split : ℕ) (messages : List Carried)
   pub dealt : All (λ d. d.app < length ports) v.dealt
 
 -- Some turns: it is ready for the next, at the same board and the same ring, and stands by all that was sent to it.
-pub record CardGoes (was now : Card) : Type 0 where
+pub record CardGoes (was now : CardLane) : Type 0 where
   pub board : now.seat.board ≡ was.seat.board
   pub ready : IsReady now.feed now.seat.side.view
   pub ports : now.feed.ports ≡ was.feed.ports
@@ -79,7 +82,7 @@ pub record CardGoes (was now : Card) : Type 0 where
 -- ---- what isn't wanted any more
 
 -- The next message was taken, and nothing else changed.
-pub record CardDrops (was now : Card) : Type 0 where
+pub record CardDrops (was now : CardLane) : Type 0 where
   pub seat : now.seat ≡ was.seat
   pub feed : now.feed ≡ was.feed
   pub ring : SameConsumer was.frames now.frames

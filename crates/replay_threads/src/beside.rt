@@ -32,12 +32,10 @@ pub struct Beside {
     enough: AtomicBool,
     /// An application's loop ended before it had left.
     halted: AtomicBool,
-    /// How many loops of applications have ended.
-    ended: AtomicU64,
-    /// How often the card had the applications catch up.
+    /// How often the card asked for buffers.
     asked: AtomicU64,
-    /// How often one of them had.
-    answers: AtomicU64,
+    /// The last asking behind which each application found nothing more to do, by its number.
+    answers: [AtomicU64; MOST_APPS],
     /// The card's loop.
     card_loop: Sleeper,
     /// Those of the applications, by their numbers.
@@ -53,9 +51,8 @@ impl Beside {
             reading: AtomicBool::new(false),
             enough: AtomicBool::new(false),
             halted: AtomicBool::new(false),
-            ended: AtomicU64::new(0),
             asked: AtomicU64::new(0),
-            answers: AtomicU64::new(0),
+            answers: array::from_fn(|_| AtomicU64::new(0)),
             card_loop: Sleeper::new(CARD_PATIENCE),
             lanes: array::from_fn(|_| Sleeper::new(LANE_PATIENCE)),
         }
@@ -91,12 +88,12 @@ impl Beside {
         self.begun.fetch_add(1, Ordering::SeqCst);
     }
 
-    /// An application's loop ends; it has left, or it hasn't.
-    pub fn end(&self, left: bool) {
+    /// An application's loop ends; it has left, or it hasn't. It has nothing to do any more.
+    pub fn end(&self, app: u32, left: bool) {
         if !left {
             self.halted.store(true, Ordering::SeqCst);
         }
-        self.ended.fetch_add(1, Ordering::SeqCst);
+        self.answer(app, u64::MAX);
         self.wake_card();
     }
 
@@ -151,64 +148,35 @@ impl Beside {
         false
     }
 
-    /// How often the card had the applications catch up, as an application reads it before a turn.
+    /// The last asking, as an application reads it before a turn.
     pub fn asked(&self) -> u64 {
         self.asked.load(Ordering::SeqCst)
     }
 
-    /// In a turn behind that number an application found nothing to do. It keeps in `answered` the last number to which it
-    /// said so.
-    pub fn answer(&self, asked: u64, answered: &mut u64) {
-        if asked > *answered {
-            *answered = asked;
-            self.answers.fetch_add(1, Ordering::SeqCst);
+    /// In a turn behind that asking an application found nothing to do.
+    pub fn answer(&self, app: u32, asking: u64) {
+        if let Some(answer) = self.answers.get(app as usize)
+            && answer.load(Ordering::SeqCst) < asking
+        {
+            answer.store(asking, Ordering::SeqCst);
             self.wake_card();
         }
     }
 
-    /// Waits until so many applications have found nothing more to do, or one's loop has ended before it left. Each goes on as
-    /// long as the card takes turns, so it comes to that.
-    pub fn catch_up<R: Wait>(&self, rt: &R, apps: u32) {
-        let before = self.answers.load(Ordering::SeqCst);
-        self.asked.fetch_add(1, Ordering::SeqCst);
+    /// The card asks for buffers: the number of the asking.
+    pub fn ask(&self) -> u64 {
+        let before = self.asked.fetch_add(1, Ordering::SeqCst);
         self.wake_lanes();
-        let backoff = Backoff::new();
-        for looks in 0..u32::MAX {
-            let answers = self.answers.load(Ordering::SeqCst).saturating_sub(before);
-            let ended = self.ended.load(Ordering::SeqCst);
-            if answers.saturating_add(ended) >= u64::from(apps) || self.is_halted() {
-                return;
-            }
-            self.rest_card(rt, looks, &backoff);
-        }
-    }
-}
-
-/// How far the card runs ahead of the applications.
-#[derive(Drop)]
-pub struct Pace {
-    /// How many buffers the card may take before the applications have to catch up.
-    most: u32,
-    /// How many it has taken since they last had.
-    taken: u32,
-}
-
-impl Pace {
-    /// The card may take so many buffers.
-    pub fn new(most: u32) -> Pace {
-        Pace { most, taken: 0 }
+        before.saturating_add(1)
     }
 
-    /// Has the applications catch up, where the card has taken many buffers.
-    pub fn keep<R: Wait>(&mut self, rt: &R, beside: &Beside, apps: u32) {
-        if self.taken > self.most {
-            beside.catch_up(rt, apps);
-            self.taken = 0;
-        }
-    }
-
-    /// A turn of the card, before and behind which so many buffers were cached.
-    pub fn count(&mut self, before: u32, behind: u32) {
-        self.taken = self.taken.saturating_add(before.saturating_sub(behind));
+    /// Whether each of so many applications has found nothing more to do behind that asking, or one's loop ended before it had left.
+    pub fn have_answered(&self, apps: u32, asking: u64) -> bool {
+        self.is_halted()
+            || self
+                .answers
+                .iter()
+                .take(apps as usize)
+                .all(|answer| answer.load(Ordering::SeqCst) >= asking)
     }
 }

@@ -1,24 +1,26 @@
 //! The card at its seat: its turns, and the loop of its thread.
-ghost use Rattle.std.specs.Prelude.{◌≡◌, true, None, IsTrue};
-ghost use Rattle.card_feed.specs.Feed.{IsReady};
+ghost use Rattle.std.specs.Prelude.{◌≡◌, ◌≤◌, ◌⊎◌, [], true, None, IsTrue, MatchBool};
+ghost use Rattle.card_feed.specs.Feed.{IsReady, WantsRecord};
+ghost use Rattle.card_feed.specs.declared.arrived.Arrived.TheVariants.{Nothing};
 ghost use Rattle.card_feed.specs.Turns.{MayArrive};
-ghost use Rattle.rtrb.specs.Ring.{IsPair, received, sent};
-ghost use Rattle.replay_threads.specs.Cards.{CardGoes, CardLooks, CardTakes};
+ghost use Rattle.rtrb.specs.Ring.{IsPair, known_items, received, sent};
+ghost use Rattle.replay_threads.specs.Cards.{CardGoes, CardLooks, CardTakes, Waits};
 
-use crate::beside::{Beside, IDLE, Pace};
+use crate::beside::{Beside, IDLE};
 use crate::carried::{Carried, InOrder};
 use crate::gate::Gate;
+use crate::pace::Pace;
 use board_face::NicFace;
-use card_feed::{Arrived, Feed, nic_step};
+use card_feed::{Arrived, Feed, nic_prepare, nic_step};
 use crossbeam_utils::Backoff;
 use rtrb::{Consumer, Producer};
 use std::alloc::Global;
 use std::sync::Wait;
 use word_board::NicSeat;
 
-/// The card between two of its turns.
+/// The card between two of its turns, at its seat.
 #[derive(Drop)]
-pub struct Card<'b> {
+pub struct CardLane<'b> {
     pub seat: NicSeat<'b>,
     pub feed: Feed,
     /// What the reading sends.
@@ -29,17 +31,17 @@ pub struct Card<'b> {
     pub turns: u64,
     /// How many applications it has seen leave: the first so many.
     pub gone: u32,
-    /// How many buffers it may take before the applications have to catch up, where they go on beside it.
-    pub ahead: u32,
+    /// How many buffers are free at first for it alone: none where applications take some to copy into.
+    pub free: u32,
 }
 
 /// Whether the card was closed and has seen every application leave.
-fn is_over(card: &Card<'_>) -> bool {
+fn is_over(card: &CardLane<'_>) -> bool {
     card.feed.closed() && card.gone >= card.seat.apps()
 }
 
 /// Once the card was closed, looks whether the next application has left. `false` says that it wasn't seen to.
-fn see_leave(card: &mut Card<'_>) -> bool
+fn see_leave(card: &mut CardLane<'_>) -> bool
     ensures { CardLooks card.old card.new }
 {
     if !card.feed.closed() || card.gone >= card.seat.apps() {
@@ -52,12 +54,20 @@ fn see_leave(card: &mut Card<'_>) -> bool
     left
 }
 
+/// Whether no frame is taken now: one is at hand, notes are pending, or the reading has ended.
+fn waits(card: &CardLane<'_>) -> bool
+    ensures { MatchBool result (Waits card.now.feed) (WantsRecord card.now.feed) }
+{
+    card.feed.at_hand() || card.feed.ended() || card.feed.pending() > 0
+}
+
 /// What has come for the next turn. The vector of the frame before goes back to the reading, if there is room.
-fn arrive(card: &mut Card<'_>) -> Arrived
+fn arrive(card: &mut CardLane<'_>) -> Arrived
     ensures may { MayArrive card.new.feed result }
     ensures takes { CardTakes card.old card.new result }
+    ensures cause { result ≡ Nothing → Waits card.old.feed ⊎ (known_items card.new.frames ≡ []) }
 {
-    if card.feed.at_hand() || card.feed.ended() {
+    if waits(card) {
         return Arrived::Nothing;
     }
     match card.frames.pop() {
@@ -71,7 +81,7 @@ fn arrive(card: &mut Card<'_>) -> Arrived
 }
 
 /// A turn of the card, unless it is over. `false` says that nothing was done.
-pub fn card_turn<G: Gate>(gate: &G, card: &mut Card<'_>) -> bool
+pub fn card_turn<G: Gate>(gate: &G, card: &mut CardLane<'_>) -> bool
     requires ready { IsReady card.old.feed card.old.seat.side.view }
     ensures goes { CardGoes card.old card.new }
 {
@@ -85,21 +95,68 @@ pub fn card_turn<G: Gate>(gate: &G, card: &mut Card<'_>) -> bool
     see_leave(card) || did
 }
 
-/// A turn of the card, once the applications aren't too far behind.
+/// How many fresh buffers the next frame needs, if one is there.
+fn next_needs(card: &mut CardLane<'_>) -> u32
+    requires ready { IsReady card.old.feed card.old.seat.side.view }
+    ensures goes { CardGoes card.old card.new }
+    ensures few { result ≤ 64 }
+{
+    if waits(card) || card.frames.is_empty() {
+        return 0;
+    }
+    match card.frames.peek_known() {
+        Carried::Frame(_, _, bytes) => card.feed.needed(bytes, card.seat.size()),
+        Carried::Over(_) => 0,
+    }
+}
+
+/// Waits until so many buffers are cached, or each application has found nothing more to do: what they still have isn't on its
+/// way back.
+fn wait_for<R: Wait>(rt: &R, beside: &Beside, needed: u32, card: &mut CardLane<'_>)
+    requires ready { IsReady card.old.feed card.old.seat.side.view }
+    requires few { needed ≤ 64 }
+    ensures goes { CardGoes card.old card.new }
+{
+    let asking = beside.ask();
+    let backoff = Backoff::new();
+    for looks in 0..u32::MAX {
+        // What they gave back before they answered is there when the search looks.
+        let answered = beside.have_answered(card.seat.apps(), asking);
+        if nic_prepare(&mut card.feed, &mut card.seat, needed) || answered {
+            return;
+        }
+        // Some may wait for entries that this look dealt with.
+        beside.wake_lanes();
+        beside.rest_card(rt, looks, &backoff);
+    }
+}
+
+/// A turn of the card. Where the buffers of the next frame may not be free it looks for them first, and waits for those that are on
+/// their way back.
 fn paced_turn<G: Gate, R: Wait>(
     rt: &R,
     gate: &G,
     beside: &Beside,
     pace: &mut Pace,
-    card: &mut Card<'_>,
+    card: &mut CardLane<'_>,
 ) -> bool
     requires ready { IsReady card.old.feed card.old.seat.side.view }
     ensures goes { CardGoes card.old card.new }
 {
-    pace.keep(rt, beside, card.seat.apps());
+    let needed = next_needs(card);
+    if !pace.knows(needed) {
+        wait_for(rt, beside, needed, card);
+        pace.see(card.seat.cached());
+    }
     let before = card.seat.cached();
+    let swept = card.feed.searches().slow;
     let did = card_turn(gate, card);
-    pace.count(before, card.seat.cached());
+    pace.count(
+        needed,
+        card.feed.searches().slow > swept,
+        before,
+        card.seat.cached(),
+    );
     did
 }
 
@@ -110,7 +167,7 @@ fn card_turns<G: Gate, R: Wait>(
     gate: &G,
     beside: &Beside,
     pace: &mut Pace,
-    card: &mut Card<'_>,
+    card: &mut CardLane<'_>,
 ) -> bool
     requires ready { IsReady card.old.feed card.old.seat.side.view }
     ensures goes { CardGoes card.old card.new }
@@ -129,11 +186,11 @@ fn card_turns<G: Gate, R: Wait>(
 }
 
 /// The turns of the card, until it is over, nothing is done in many, or an application stays behind.
-fn card_loop<G: Gate, R: Wait>(rt: &R, gate: &G, beside: &Beside, card: &mut Card<'_>)
+fn card_loop<G: Gate, R: Wait>(rt: &R, gate: &G, beside: &Beside, card: &mut CardLane<'_>)
     requires ready { IsReady card.old.feed card.old.seat.side.view }
     ensures goes { CardGoes card.old card.new }
 {
-    let mut pace = Pace::new(card.ahead);
+    let mut pace = Pace::new(card.free);
     // The bound is never reached. By it the loop is seen to end.
     for _ in 0..u64::MAX {
         if card.feed.ended() {
@@ -146,7 +203,7 @@ fn card_loop<G: Gate, R: Wait>(rt: &R, gate: &G, beside: &Beside, card: &mut Car
 }
 
 /// The card's loop. It begins once all applications have begun theirs.
-pub fn run_card<G: Gate, R: Wait>(rt: &R, gate: &G, beside: &Beside, card: &mut Card<'_>)
+pub fn run_card<G: Gate, R: Wait>(rt: &R, gate: &G, beside: &Beside, card: &mut CardLane<'_>)
     requires ready { IsReady card.old.feed card.old.seat.side.view }
     ensures goes { CardGoes card.old card.new }
 {

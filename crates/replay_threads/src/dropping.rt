@@ -6,11 +6,11 @@ ghost use Rattle.card_feed.specs.Feed.{IsReady};
 ghost use Rattle.replay_threads.specs.Cards.{CardDrops, CardGoes};
 ghost use Rattle.replay_threads.specs.Reader.{messages_of};
 
-use crate::card::Card;
+use crate::card::CardLane;
 use crate::reader::Reader;
 
 /// Takes the next message, and drops it.
-fn drop_next(card: &mut Card<'_>)
+fn drop_next(card: &mut CardLane<'_>)
     requires some { 0 < length (known_items card.old.frames) }
     ensures drops { CardDrops card.old card.new }
     ensures known { length (known_items card.old.frames) ≡ length (known_items card.new.frames) + 1 }
@@ -20,7 +20,7 @@ fn drop_next(card: &mut Card<'_>)
 }
 
 /// Takes all that was sent and not taken, and drops it. The card wants no more of the capture.
-pub fn drop_rest(reader: &mut Reader, card: &mut Card<'_>)
+pub fn drop_rest(reader: &mut Reader, card: &mut CardLane<'_>)
     requires pair { IsPair reader.old.ring card.old.frames }
     requires over { is_over card.old.feed.stage ≡ true }
     requires ready { IsReady card.old.feed card.old.seat.side.view }

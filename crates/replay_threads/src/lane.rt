@@ -5,7 +5,7 @@ ghost use Rattle.replay_threads.specs.Lanes.{AllFit, LaneGoes, AllGo};
 
 use crate::beside::{Beside, IDLE, MOST_APPS};
 use crate::gate::Gate;
-use app_worker::{Turn, app_turn};
+use app_worker::{Turn, Why, app_turn};
 use crossbeam_utils::Backoff;
 use run_account::Worker;
 use std::alloc::Global;
@@ -25,13 +25,33 @@ pub struct Lane<'b, T> {
     pub turns: u64,
 }
 
-/// A turn of the application, unless it has left. `false` says that nothing was done.
-fn lane_turn<T: Shelf, G: Gate>(alloc: Global, gate: &G, lane: &mut Lane<'_, T>) -> bool
+/// What a turn of an application came to.
+#[derive(Clone, Copy, Debug, PartialEq, Eq)]
+enum Came {
+    /// It did something.
+    Did,
+    /// It has something to do once the card has dealt with entries of its.
+    WaitsForCard,
+    /// It has nothing to do.
+    Rests,
+}
+
+/// What this answer says.
+fn came_of(turn: Turn) -> Came {
+    match turn {
+        Turn::Idle(Why::NoNote) => Came::Rests,
+        Turn::Idle(_) => Came::WaitsForCard,
+        Turn::Did | Turn::Finished | Turn::Failed(_) => Came::Did,
+    }
+}
+
+/// A turn of the application, unless it has left.
+fn lane_turn<T: Shelf, G: Gate>(alloc: Global, gate: &G, lane: &mut Lane<'_, T>) -> Came
     requires fits { WorkerFits lane.old.seat.side.view lane.old.worker }
     ensures goes { LaneGoes T.kept T.faults lane.old lane.new }
 {
     if lane.worker.left {
-        return false;
+        return Came::Rests;
     }
     gate.at(lane.app.saturating_add(1), lane.turns);
     lane.turns = lane.turns.saturating_add(1);
@@ -42,7 +62,7 @@ fn lane_turn<T: Shelf, G: Gate>(alloc: Global, gate: &G, lane: &mut Lane<'_, T>)
         &mut lane.shelf,
     );
     lane.worker.left = matches!(turn, Turn::Finished);
-    !matches!(turn, Turn::Idle(_))
+    came_of(turn)
 }
 
 /// Turns, until something is done in one. `false` says that nothing was done in many, and that the card takes none.
@@ -51,7 +71,6 @@ fn lane_turns<T: Shelf, G: Gate, R: Wait>(
     alloc: Global,
     gate: &G,
     beside: &Beside,
-    answered: &mut u64,
     lane: &mut Lane<'_, T>,
 ) -> bool
     requires fits { WorkerFits lane.old.seat.side.view lane.old.worker }
@@ -60,10 +79,11 @@ fn lane_turns<T: Shelf, G: Gate, R: Wait>(
     let backoff = Backoff::new();
     for idle in 0..IDLE {
         let asked = beside.asked();
-        if lane_turn(alloc, gate, lane) {
-            return true;
+        match lane_turn(alloc, gate, lane) {
+            Came::Did => return true,
+            Came::WaitsForCard => beside.wake_card(),
+            Came::Rests => beside.answer(lane.app, asked),
         }
-        beside.answer(asked, answered);
         beside.rest_lane(rt, lane.app, idle, &backoff);
     }
     beside.card_runs()
@@ -80,10 +100,9 @@ fn lane_loop<T: Shelf, G: Gate, R: Wait>(
     requires fits { WorkerFits lane.old.seat.side.view lane.old.worker }
     ensures goes { LaneGoes T.kept T.faults lane.old lane.new }
 {
-    let mut answered = 0;
     // The bound is never reached. By it the loop is seen to end.
     for _ in 0..u64::MAX {
-        if lane.worker.left || !lane_turns(rt, alloc, gate, beside, &mut answered, lane) {
+        if lane.worker.left || !lane_turns(rt, alloc, gate, beside, lane) {
             return;
         }
     }
@@ -102,7 +121,7 @@ fn run_lane<T: Shelf, G: Gate, R: Wait>(
 {
     beside.begin();
     lane_loop(rt, alloc, gate, beside, lane);
-    beside.end(lane.worker.left);
+    beside.end(lane.app, lane.worker.left);
 }
 
 /// The turns of all applications, side by side.

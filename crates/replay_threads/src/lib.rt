@@ -10,6 +10,7 @@ mod dropping;
 mod gate;
 mod lane;
 mod moving;
+mod pace;
 mod playing;
 mod reader;
 mod reading;

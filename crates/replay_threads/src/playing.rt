@@ -6,7 +6,7 @@ ghost use Rattle.replay_threads.specs.Reader.{ReaderGoes};
 ghost use Rattle.replay_threads.specs.Lanes.{AllFit, AllGo};
 
 use crate::beside::{Beside, IDLE};
-use crate::card::{Card, card_turn, run_card};
+use crate::card::{CardLane, card_turn, run_card};
 use crate::gate::Gate;
 use crate::lane::{Lane, have_left, round, run_lanes};
 use crate::reader::Reader;
@@ -23,7 +23,7 @@ fn join_reading<S: Source + Send, G: Gate + Sync, R: Threads + Wait + Sync>(
     beside: &Beside,
     source: &mut S,
     reader: &mut Reader,
-    card: &mut Card<'_>,
+    card: &mut CardLane<'_>,
 )
     requires ready { IsReady card.old.feed card.old.seat.side.view }
     ensures reader { ReaderGoes S.left S.faults source.old source.new reader.old reader.new }
@@ -46,7 +46,7 @@ fn join_loops<S: Source + Send, T: Shelf + Send, G: Gate + Sync, R: Threads + Wa
     beside: &Beside,
     source: &mut S,
     reader: &mut Reader,
-    card: &mut Card<'_>,
+    card: &mut CardLane<'_>,
     lanes: &mut [Lane<'_, T>],
 )
     requires ready { IsReady card.old.feed card.old.seat.side.view }
@@ -73,7 +73,7 @@ fn play_beside<S: Source + Send, T: Shelf + Send, G: Gate + Sync, R: Threads + W
     gate: &G,
     source: &mut S,
     reader: &mut Reader,
-    card: &mut Card<'_>,
+    card: &mut CardLane<'_>,
     lanes: &mut [Lane<'_, T>],
 )
     requires ready { IsReady card.old.feed card.old.seat.side.view }
@@ -90,7 +90,7 @@ fn play_beside<S: Source + Send, T: Shelf + Send, G: Gate + Sync, R: Threads + W
 }
 
 /// Whether the card was closed and every application has left.
-fn are_over<T>(card: &Card<'_>, lanes: &[Lane<'_, T>]) -> bool
+fn are_over<T>(card: &CardLane<'_>, lanes: &[Lane<'_, T>]) -> bool
     ensures closed { IsTrue result → card.now.feed.closed ≡ true }
     ensures left { IsTrue result → All (λ lane. lane.worker.left ≡ true) lanes.now }
 {
@@ -98,7 +98,7 @@ fn are_over<T>(card: &Card<'_>, lanes: &[Lane<'_, T>]) -> bool
 }
 
 /// A turn of the reading, as long as the card wants more of the capture.
-fn read_on<S: Source>(source: &mut S, reader: &mut Reader, card: &Card<'_>)
+fn read_on<S: Source>(source: &mut S, reader: &mut Reader, card: &CardLane<'_>)
     ensures goes { ReaderGoes S.left S.faults source.old source.new reader.old reader.new }
 {
     if !card.feed.ended() {
@@ -114,7 +114,7 @@ fn play_rounds<S: Source, T: Shelf + Send, G: Gate + Sync, R: Threads + Sync>(
     gate: &G,
     source: &mut S,
     reader: &mut Reader,
-    card: &mut Card<'_>,
+    card: &mut CardLane<'_>,
     lanes: &mut [Lane<'_, T>],
 ) -> bool
     requires ready { IsReady card.old.feed card.old.seat.side.view }
@@ -143,7 +143,7 @@ pub fn play<S: Source + Send, T: Shelf + Send, G: Gate + Sync, R: Threads + Wait
     gate: &G,
     source: &mut S,
     reader: &mut Reader,
-    card: &mut Card<'_>,
+    card: &mut CardLane<'_>,
     lanes: &mut [Lane<'_, T>],
 )
     requires ready { IsReady card.old.feed card.old.seat.side.view }

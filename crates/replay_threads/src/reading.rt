@@ -79,7 +79,13 @@ fn spare(empties: &mut Consumer<Vec<u8>>, alloc: Global) -> Vec<u8> {
 }
 
 /// The next message, behind so many records: a record more and the bytes of its frame, or how the reading ended.
-fn next_message<S: Source>(stage: &mut Stage, count: u32, source: &mut S, into: Vec<u8>) -> Carried
+fn next_message<S: Source>(
+    stage: &mut Stage,
+    alloc: Global,
+    count: u32,
+    source: &mut S,
+    into: Vec<u8>,
+) -> Carried
     requires goes { is_over stage.old ≡ false }
     requires few { count ≤ 16777216 }
     ensures makes { Makes S.left S.faults count source.old stage.old result source.new stage.new }
@@ -87,7 +93,7 @@ fn next_message<S: Source>(stage: &mut Stage, count: u32, source: &mut S, into: 
     ensures few { count + 1 ≤ 16777216 + one_if (is_end result) }
     ensures follows { (before : List Carried) → length before ≡ count → has_end before ≡ false → MayFollow before result }
 {
-    match stage.read(source, into) {
+    match stage.read(alloc, source, into) {
         Arrived::Frame(record, bytes) if count < MOST_RECORDS => {
             Carried::Frame(count + 1, record, bytes)
         }
@@ -110,7 +116,7 @@ fn make_next<S: Source>(reader: &mut Reader, source: &mut S)
     ensures goes { ReaderGoes S.left S.faults source.old source.new reader.old reader.new }
 {
     let into = spare(&mut reader.empties, reader.alloc);
-    let message = next_message(&mut reader.stage, reader.count, source, into);
+    let message = next_message(&mut reader.stage, reader.alloc, reader.count, source, into);
     reader.count += 1;
     reader.held = send(&mut reader.ring, message);
 }

@@ -11,7 +11,7 @@ ghost use Rattle.word_board.specs.Desk.{AllAreBack};
 ghost use Rattle.replay_threads.specs.Played.{HasPlayed};
 ghost use Rattle.replay_threads.specs.Reader.{IsOpened};
 
-use crate::card::Card;
+use crate::card::CardLane;
 use crate::dropping::drop_rest;
 use crate::gate::Gate;
 use crate::lane::Lane;
@@ -88,14 +88,14 @@ fn play_seated<'b, S: Source + Send, T: Shelf + Send, G: Gate + Sync, R: Threads
         frames,
         spares,
     } = reading;
-    let mut card = Card {
+    let mut card = CardLane {
         seat,
         feed,
         frames,
         spares,
         turns: 0,
         gone: 0,
-        ahead: plan.buffers / 2,
+        free: if plan.split == 0 { plan.buffers } else { 0 },
     };
     play(
         rt,
@@ -107,7 +107,7 @@ fn play_seated<'b, S: Source + Send, T: Shelf + Send, G: Gate + Sync, R: Threads
         lanes.as_mut_slice(),
     );
     drop_rest(&mut reader, &mut card);
-    let Card { seat, feed, .. } = card;
+    let CardLane { seat, feed, .. } = card;
     // Its answer says that no more records were read than are read at most.
     let _ = feed.records();
     seat.back(desk);

@@ -13,7 +13,7 @@ use Rattle.zr_io.proofs.Moved.{Gained-weaker, Gained-nothing}
 use Rattle.board_face.specs.declared.views.app.Reading.{Reading}
 use Rattle.board_face.specs.declared.views.app.TakenNote.{TakenNote}
 use Rattle.board_face.specs.declared.views.app.AppView.{AppView}
-use Rattle.app_worker.specs.declared.stack.FlowQueue.{FlowQueue}
+use Rattle.flow_queues.specs.declared.queues.FlowQueue.{FlowQueue}
 use Rattle.app_worker.specs.Marks.{Mark}
 use Rattle.app_worker.specs.Core.{Each, many, AreReadAt, placed_of}
 use Rattle.app_worker.specs.Kept.{flow_bytes}

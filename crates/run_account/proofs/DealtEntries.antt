@@ -12,8 +12,8 @@ use Rattle.page_pool.specs.declared.offer.Verdict.{Verdict}
 use Rattle.page_pool.specs.declared.offer.Verdict.TheVariants.{Accepted, NoRoom, Busy}
 use Rattle.page_pool.specs.Dealing.{DrainsRings}
 use Rattle.page_pool.specs.Offer.{ClosesCurrent, LooksFor, not_needed, searched}
-use Rattle.page_pool.specs.Searching.{SearchEnd}
-use Rattle.page_pool.specs.Pool.{Closes}
+use Rattle.page_pool.specs.Searching.{SearchEnd, LooksAhead}
+use Rattle.page_pool.specs.Pool.{PoolState, Closes}
 use Rattle.card_feed.specs.Feed.{FeedState}
 use Rattle.card_feed.specs.Turns.{Plays, drains, offers, finishes, rests, Settles, KeepsUp}
 use Rattle.card_feed.proofs.PlayLemmas.{closed-dealt}
@@ -86,3 +86,11 @@ module _ (n : ℕ) where
       let setting : apps_of mid.setting ≡ n = ap (λ (v : NicView). apps_of v.setting) view ∙ many in
       let before : All IsOne mid.dealt = subst (All IsOne) (sym (ap (λ (v : NicView). v.dealt) view)) all in
       drained pool.stats now.pool.stats mid new count drains_it setting before
+
+  -- nor while it looks for buffers
+  pub dealt-ahead : (need : ℕ) (was now : PoolState) (old new : NicView) → LooksAhead need was now old new → apps_of old.setting ≡ n
+      → All IsOne old.dealt → All IsOne new.dealt
+  dealt-ahead need was now old new looks many all =
+      let searches = looks.searches in
+      with-more old.dealt searches.more new.dealt (ap (λ (v : NicView). v.dealt) searches.view) all
+      (subst (λ m. All (λ (e : Dealt). e.app < m) searches.more) many searches.turns.apps_of)

@@ -11,7 +11,7 @@ use Rattle.board_face.specs.Relay.{IsProper}
 use Rattle.board_face.specs.declared.views.nic.SentNote.{SentNote}
 use Rattle.page_pool.specs.Frames.{Offered, ShowRest, ShowsWhole, ShowsFrame, ShowFrames}
 use Rattle.app_worker.specs.Core.{total}
-use Rattle.app_worker.proofs.Tokens.{total-append}
+use Rattle.flow_queues.proofs.Tokens.{total-append}
 
 abbrev pub note_len : SentNote → ℕ
 note_len s = s.note.place.len

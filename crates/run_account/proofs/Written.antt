@@ -14,7 +14,7 @@ use Rattle.flow_table.proofs.FlowLaws.{HaveApps}
 use Rattle.board_face.specs.Relay.{as_taken}
 use Rattle.board_face.specs.declared.views.nic.SentNote.{SentNote}
 use Rattle.board_face.specs.declared.views.app.TakenNote.{TakenNote}
-use Rattle.app_worker.specs.declared.stack.FlowQueue.{FlowQueue}
+use Rattle.flow_queues.specs.declared.queues.FlowQueue.{FlowQueue}
 use Rattle.app_worker.specs.Marks.{numbered, of_flow}
 use Rattle.app_worker.specs.Core.{total, Each, many, BeginAt}
 use Rattle.app_worker.specs.Kept.{flow_bytes}

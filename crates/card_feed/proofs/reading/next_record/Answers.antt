@@ -15,15 +15,15 @@ returns-clause-reads g c = λ split first ports frames comes.
 
 pub returns-clause-bytes : goal.returns-clause-bytes
 returns-clause-bytes g c =
-    next-bytes g.S.Source.left g.S.Source.faults c.args.source.now c.next.new.source c.in-Open.capture.order c.next.new.into.items c.next.result
+    next-bytes g.S.Source.left g.S.Source.faults c.args.source.now c.next.new.source c.in-Open.capture.going c.next.new.self.going c.next.new.into.items c.next.result
     c.in-Open.capture.fault c.next.ensures.gives c.next.ensures.stopped c.next.ensures.most
 
 pub returns-clause-further : goal.returns-clause-further
 returns-clause-further g c =
-    next-further g.S.Source.left g.S.Source.faults c.args.source.now c.next.new.source c.in-Open.capture.order c.next.new.into.items c.next.result
+    next-further g.S.Source.left g.S.Source.faults c.args.source.now c.next.new.source c.in-Open.capture.going c.next.new.self.going c.next.new.into.items c.next.result
     c.in-Open.capture.fault c.next.ensures.gives c.next.ensures.stopped
 
 pub returns-clause-later : goal.returns-clause-later
 returns-clause-later g c =
-    next-later g.S.Source.left g.S.Source.faults c.args.source.now c.next.new.source c.in-Open.capture.order c.next.new.into.items c.next.result
+    next-later g.S.Source.left g.S.Source.faults c.args.source.now c.next.new.source c.in-Open.capture.going c.next.new.self.going c.next.new.into.items c.next.result
     c.in-Open.capture.fault c.next.ensures.cause c.next.ensures.stopped

@@ -1,7 +1,7 @@
--- The file header was refused.
+-- The file header, or the first section header, was refused.
 use Rattle.std.proofs.Common.{Err, ap, sym}
 use Rattle.std.proofs.lemmas.Result.{err_from_is_err_and}
-use Rattle.pcap_reader.proofs.Joined.{Stops-opening}
+use Rattle.pcapng_reader.proofs.Goings.{opening-stops}
 use Rattle.frames_read.proofs.Endings.{ends-opening}
 use Rattle.card_feed.specs.Offered.{WantsRoom}
 use Rattle.card_feed.proofs.reading.open.Goals as goal
@@ -9,7 +9,7 @@ use Rattle.card_feed.proofs.reading.open.Goals as goal
 pub returns-in_err-open-clause-opens : goal.returns-in_err-open-clause-opens
 returns-in_err-open-clause-opens g c = λ split first ports frames comes.
     let p = err_from_is_err_and c.from_residual.result c.from_residual.ensures.1 in
-    let stops = Stops-opening _ _ c.in_err-open.field-0.0 c.in_err-open.ensures.opens in
+    let stops = opening-stops _ _ c.in_err-open.field-0.0 c.in_err-open.ensures.opens in
     let fresh = rw c.in-Unopened.is at comes in
     rw (p.1, p.2, fresh.0, sym fresh.1)
     (ends-opening (WantsRoom split ports) _ _ _ _ ports c.in_err-open.field-0.0 stops.0 stops.1 stops.2

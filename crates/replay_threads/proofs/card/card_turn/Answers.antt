@@ -9,7 +9,7 @@ returns-then-see_leave g c =
     let step = c.nic_step-did.ensures in
     record {
       goes = goes_turn c.args.card.now c.arrive-arrived.new.card (record c.arrive-arrived.new.card { feed = c.nic_step-did.new.feed; seat = c.nic_step-did.new.face })
-          c.see_leave.new.card c.arrive-arrived.result c.requires.ready (record { seat = came.takes.seat; feed = came.takes.feed; ring = came.takes.ring; came_is = came.takes.came_is; cause = came.takes.cause }) came.may
+          c.see_leave.new.card c.arrive-arrived.result c.requires.ready (record { seat = came.takes.seat; feed = came.takes.feed; ring = came.takes.ring; came_is = came.takes.came_is }) came.may
           step.ready step.beside step.ports refl step.steps c.see_leave.ensures;
     }
 
@@ -19,6 +19,6 @@ returns-else-see_leave g c =
     let step = c.nic_step-did.ensures in
     record {
       goes = goes_turn c.args.card.now c.arrive-arrived.new.card (record c.arrive-arrived.new.card { feed = c.nic_step-did.new.feed; seat = c.nic_step-did.new.face })
-          c.see_leave.new.card c.arrive-arrived.result c.requires.ready (record { seat = came.takes.seat; feed = came.takes.feed; ring = came.takes.ring; came_is = came.takes.came_is; cause = came.takes.cause }) came.may
+          c.see_leave.new.card c.arrive-arrived.result c.requires.ready (record { seat = came.takes.seat; feed = came.takes.feed; ring = came.takes.ring; came_is = came.takes.came_is }) came.may
           step.ready step.beside step.ports refl step.steps c.see_leave.ensures;
     }

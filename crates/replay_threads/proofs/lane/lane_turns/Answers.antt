@@ -2,8 +2,8 @@
 use Rattle.replay_threads.proofs.LaneTurns.{lane_more}
 use Rattle.replay_threads.proofs.lane.lane_turns.Goals as goal
 
-pub returns-then-lane_turn : goal.returns-then-lane_turn
-returns-then-lane_turn g c = record {
+pub returns-in-Did : goal.returns-in-Did
+returns-in-Did g c = record {
   goes = lane_more g.T.Shelf.kept g.T.Shelf.faults c.args.lane.now c.loop-idle.lane c.lane_turn.new.lane c.loop-idle.invariant c.lane_turn.ensures.goes;
 }
 

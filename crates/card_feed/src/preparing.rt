@@ -1,0 +1,56 @@
+//! Before a frame is offered: whether there are buffers for it.
+
+ghost use Rattle.std.specs.Prelude.{◌≡◌, ℕ, ◌<◌, ◌≤◌, List, length, MatchBool};
+ghost use Rattle.page_pool.specs.Pool.{pending_count};
+ghost use Rattle.page_pool.specs.Searching.{LooksAhead};
+ghost use Rattle.card_feed.specs.Feed.{IsReady, FeedKnows};
+
+use crate::Feed;
+use board_face::NicFace;
+use frame_headers::{Seen, read_frame};
+use page_pool::nic_gather;
+use zr_kinds::PoolStats;
+
+impl Feed {
+    /// How many fresh buffers of so many bytes the payload of a frame needs, if all of it counts.
+    pub fn needed(&self, frame: &[u8], size: u32) -> u32
+        ensures few { result ≤ 64 }
+    {
+        match read_frame(frame) {
+            Seen::Tcp(segment) => self.pool.needed(segment.payload.len() as u32, size),
+            _ => 0,
+        }
+    }
+
+    /// How many notes are pending.
+    pub fn pending(&self) -> u32
+        ensures { result ≡ pending_count self.now.pool }
+    {
+        self.pool.pending()
+    }
+
+    /// How many searches for fresh buffers ended where.
+    pub fn searches(&self) -> PoolStats
+        ensures { result ≡ self.now.pool.stats }
+    {
+        self.pool.stats()
+    }
+}
+
+/// Looks for so many fresh buffers, for a frame that is to be offered, and answers whether so many are cached. Nothing is offered
+/// or sent, and the search isn't counted.
+pub fn nic_prepare<F: NicFace>(feed: &mut Feed, face: &mut F, needed: u32) -> bool
+    requires ready { IsReady feed.old (F.seen face.old) }
+    requires few { needed ≤ 64 }
+    ensures ready { IsReady feed.new (F.seen face.new) }
+    ensures looks { LooksAhead needed feed.old.pool feed.new.pool (F.seen face.old) (F.seen face.new) × (feed.new ≡ record feed.old { pool = feed.new.pool }) }
+    ensures knows { (ports : List ℕ) (split : ℕ) (frames : List (List ℕ)) → FeedKnows ports split frames feed.old (F.seen face.old)
+        → FeedKnows ports split frames feed.new (F.seen face.new) }
+    ensures enough { MatchBool result (needed ≤ length (F.seen face.new).cache) (length (F.seen face.new).cache < needed) }
+    ensures beside { F.beside face.new ≡ F.beside face.old }
+{
+    let found = nic_gather(face, &mut feed.pool, needed);
+    // Its answer says that each count fits its type.
+    let _ = feed.pool.stats();
+    found
+}

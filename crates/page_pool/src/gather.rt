@@ -1,0 +1,27 @@
+ghost use Rattle.std.specs.Prelude.{◌≡◌, ℕ, ◌<◌, ◌≤◌, length, MatchBool};
+ghost use Rattle.page_pool.specs.Pool.{PoolStands};
+ghost use Rattle.page_pool.specs.Searching.{LooksAhead};
+
+use crate::Pool;
+use crate::search::find_fresh;
+use board_face::NicFace;
+use zr_kinds::PoolStats;
+
+/// Looks for so many fresh buffers, as an offer would: in the cache, then in the refill rings, then on the free list. It answers
+/// whether so many are cached. The search isn't counted, as nothing is offered.
+pub fn nic_gather<F: NicFace>(face: &mut F, pool: &mut Pool, needed: u32) -> bool
+    requires stands { PoolStands pool.old (F.seen face.old) }
+    requires few { needed ≤ 64 }
+    ensures stands { PoolStands pool.new (F.seen face.new) }
+    ensures looks { LooksAhead needed pool.old pool.new (F.seen face.old) (F.seen face.new) }
+    ensures enough { MatchBool result (needed ≤ length (F.seen face.new).cache) (length (F.seen face.new).cache < needed) }
+    ensures beside { F.beside face.new ≡ F.beside face.old }
+{
+    let was = pool.stats;
+    let found = find_fresh(face, &mut pool.stats, needed);
+    pool.stats = PoolStats {
+        strays: pool.stats.strays,
+        ..was
+    };
+    found
+}
