@@ -18,7 +18,7 @@ use Rattle.plain_board.specs.Sound.{taken_of, notes_of, refills_of}
 use Rattle.app_worker.specs.Core.{total}
 use Rattle.app_worker.specs.State.{State, AppStands, Bare, Working, app_steps, furthest, raw_entries, loan_entries, taken_len}
 use Rattle.app_worker.proofs.Measure.{working-within, bare-within, one-most}
-use Rattle.app_worker.proofs.Tokens.{total-append}
+use Rattle.flow_queues.proofs.Tokens.{total-append}
 use Rattle.replay_turns.specs.Running.{Fits}
 use Rattle.replay_turns.specs.Steps.{worker_steps, steps_from, run_steps, most_bytes, entries_most, worker_most, run_most}
 use Rattle.replay_turns.specs.Steps.{RunsStayWithin}

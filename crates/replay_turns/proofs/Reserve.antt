@@ -22,13 +22,13 @@ use Rattle.plain_board.specs.Users.{IsMadeOfLoans}
 use Rattle.plain_board.proofs.AppFrames.{has-setting}
 use Rattle.plain_board.proofs.OwnSide.{seen-users}
 use Rattle.plain_board.proofs.Reserves.{users-are_loans}
-use Rattle.app_worker.specs.declared.stack.Lending.{Lending}
+use Rattle.flow_queues.specs.declared.queues.Lending.{Lending}
 use Rattle.app_worker.specs.Core.{total, Each, is_odd, lent_piece, over_read, read_out}
 use Rattle.app_worker.specs.Entries.{loans_of, lies_in}
 use Rattle.app_worker.specs.State.{State, Common, Working, LiesOutside, odd_loans}
 use Rattle.app_worker.specs.Turns.{IsCaughtUp}
 use Rattle.app_worker.proofs.Flushing.{lies-away}
-use Rattle.app_worker.proofs.Tokens.{total-append, even-lies, even-bytes}
+use Rattle.flow_queues.proofs.Tokens.{total-append, even-lies, even-bytes}
 
 -- ---- loans
 

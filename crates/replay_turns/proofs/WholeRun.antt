@@ -1,18 +1,21 @@
 -- A run from its opening to its end: the turns of the text, and then rounds.
-use Rattle.std.proofs.Common.{◌≡◌, ℕ, ◌≤◌, List, ◌++◌, length, take, drop, Option}
-use Rattle.std.proofs.Common.{inr, sym, ap, subst, ◌∙◌, arith}
+use Rattle.std.proofs.Common.{◌≡◌, ℕ, ◌≤◌, List, ◌++◌, length, map, take, drop, Option}
+use Rattle.std.proofs.Common.{inr, refl, sym, ap, subst, ◌∙◌, arith}
 use Rattle.std.specs.Prelude.{Result, Ok, Err, OnErr}
 use Rattle.std.proofs.Math.Seq.{take-append_seam}
 use Rattle.plain_board.specs.Board.{Board}
 use Rattle.card_feed.specs.declared.outcome.Outcome.{Outcome}
 use Rattle.card_feed.specs.declared.plan.Plan.{Plan}
 use Rattle.run_account.specs.Ran.{TellsOf, Ran, LacksMemory, told_of}
+use Rattle.replay_turns.specs.Following.{Follows, IsNewRun, RunsBy, moment, rounds_of}
 use Rattle.replay_turns.specs.Rounds.{IsOfPlan}
 use Rattle.run_account.specs.Running.{Running, AreOver}
 use Rattle.replay_turns.specs.Running.{Fits, Plays}
 use Rattle.run_account.specs.declared.run.Run.{Run}
 use Rattle.run_account.proofs.Ended.{end-well, end-told}
+use Rattle.replay_turns.specs.Schedule.{role_of}
 use Rattle.replay_turns.proofs.BoardOver.{have-ended}
+use Rattle.replay_turns.proofs.Following.{follows-through}
 
 pub on-err : {A E : Type 0} (r : Result A E) (P : Type 0) → P → OnErr r P
 on-err (Ok x) P holds = tt
@@ -91,3 +94,37 @@ module _ {S T : Type 0} (left : S → Option (List ℕ)) (faults : S → ℕ) (k
           subst
               (λ shelves. Ran left faults kept losses source now items shelves plan told.0 over_board.nic over_board.apps) (sym ends-with) told.2,
         )
+
+    -- its turns were those of the text, and then whole rounds
+    pub run-by : (turns : List ℕ) → IsNewRun plan opened begun
+        → Follows left faults kept losses (map role_of turns) (moment source was opened begun) (moment mid text played went)
+        → ((count : ℕ) × Follows left faults kept losses (rounds_of (length went.workers.items) count) (moment mid was_text played went)
+        (moment now rounds over_board over_run))
+        → (outcome : Outcome) → TellsOf over_run plan.ports.items outcome
+        → RunsBy left faults kept losses source now items (take n (rounds ++ drop (length rounds) (take n (text ++ drop (length text) items)))) plan
+        turns (told_of outcome) over_board
+    run-by turns new of_text of_rounds outcome tells =
+        let count = of_rounds.0 in
+        let apps = length plan.ports.items in
+        let roles = map role_of turns ++ rounds_of apps count in
+        let of_ports = subst
+        (λ k. Follows left faults kept losses (rounds_of k count) (moment mid was_text played went) (moment now rounds over_board over_run))
+        (first.workers ∙ new.workers.many) of_rounds.1 in
+        let behind = subst
+        (λ ws. Follows left faults kept losses (rounds_of apps count) (moment mid ws played went) (moment now rounds over_board over_run)) text-is of_ports in
+        let all = follows-through left faults kept losses (map role_of turns) (rounds_of apps count) (moment source was opened begun)
+        (moment mid text played went) (moment now rounds over_board over_run) of_text behind in
+        record {
+          opened = opened;
+          begun = begun;
+          new = new;
+          last = over_run;
+          rounds = count;
+          follows = subst
+              (λ ws. Follows left faults kept losses roles (moment source items opened begun) (moment now ws over_board over_run)) (sym ends-with)
+              (subst (λ ws. Follows left faults kept losses roles (moment source ws opened begun) (moment now rounds over_board over_run)) is all);
+          over = over;
+          outcome = outcome;
+          tells = tells;
+          told_is = refl;
+        }

@@ -3,6 +3,7 @@
 ghost use Rattle.std.specs.Prelude.{◌≡◌, ℕ, ◌≤◌, List, length, IfOk};
 ghost use Rattle.card_feed.specs.Plan.{IsPlan};
 ghost use Rattle.run_account.specs.Running.{Running};
+ghost use Rattle.replay_turns.specs.Following.{IsNewRun};
 ghost use Rattle.replay_turns.specs.Running.{Fits};
 
 use card_feed::{Feed, Plan, new_feeds_stand};
@@ -20,6 +21,7 @@ pub fn open<S: Source, T: Shelf>(
 ) -> Result<(PlainBoard, Run), AllocError>
     requires { IsPlan plan.now }
     ensures fits { IfOk result (λ it. (shelves : ℕ) → length plan.now.ports.items ≤ shelves → Fits it.0 it.1 shelves) }
+    ensures opened { IfOk result (λ it. IsNewRun plan.now it.0 it.1) }
     ensures many { IfOk result (λ it. length it.1.workers.items ≡ length plan.now.ports.items) }
     ensures runs { IfOk result (λ it. (source : S) (shelves : List T) → length plan.now.ports.items ≤ length shelves
         → Running S.left S.faults T.kept T.faults source source shelves shelves plan.now it.0.nic it.0.apps it.1) }

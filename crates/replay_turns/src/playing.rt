@@ -1,10 +1,11 @@
 //! Many turns: those of a text, and then rounds.
 
-ghost use Rattle.std.specs.Prelude.{◌<◌, length, MatchBool};
+ghost use Rattle.std.specs.Prelude.{ℕ, ◌<◌, length, map, MatchBool};
 ghost use Rattle.replay_turns.specs.Rounds.{IsOfPlan};
 ghost use Rattle.run_account.specs.Running.{AreOver};
+ghost use Rattle.replay_turns.specs.Following.{Follows, moment, round_of, rounds_of};
 ghost use Rattle.replay_turns.specs.Running.{Fits, Plays};
-ghost use Rattle.replay_turns.specs.Schedule.{AreTurns};
+ghost use Rattle.replay_turns.specs.Schedule.{AreTurns, role_of};
 ghost use Rattle.replay_turns.specs.Steps.{run_steps};
 ghost use Rattle.replay_turns.specs.Stuck.{AreStuck};
 
@@ -28,6 +29,8 @@ pub fn play_text<S: Source, T: Shelf>(
     requires fits { Fits board run.old (length shelves.old) }
     requires turns { AreTurns (length run.old.workers.items) turns.now }
     ensures plays { Plays S.left S.faults T.kept T.faults source.old source.new shelves.old shelves.new board result run.old run.new }
+    ensures follows { Follows S.left S.faults T.kept T.faults (map role_of turns.now) (moment source.old shelves.old board run.old)
+        (moment source.new shelves.new result run.new) }
 {
     let apps = run.workers.len() as u32;
     for letter in turns.bytes() {
@@ -47,6 +50,8 @@ fn play_round<S: Source, T: Shelf>(
 ) -> (PlainBoard, bool)
     requires fits { Fits board run.old (length shelves.old) }
     ensures plays { Plays S.left S.faults T.kept T.faults source.old source.new shelves.old shelves.new board result.0 run.old run.new }
+    ensures follows { Follows S.left S.faults T.kept T.faults (round_of (length run.old.workers.items))
+        (moment source.old shelves.old board run.old) (moment source.new shelves.new result.0 run.new) }
     ensures answer { MatchBool result.1 (run_steps board run.old < run_steps result.0 run.new) (AreStuck result.0 run.new) }
 {
     let apps = run.workers.len() as u32;
@@ -71,6 +76,8 @@ pub fn play_rounds<S: Source, T: Shelf>(
     requires plan { IsOfPlan S.left S.faults T.kept T.faults source.old shelves.old board run.old }
     ensures over { AreOver run.new }
     ensures plays { Plays S.left S.faults T.kept T.faults source.old source.new shelves.old shelves.new board result run.old run.new }
+    ensures follows { (rounds : ℕ) × Follows S.left S.faults T.kept T.faults (rounds_of (length run.old.workers.items) rounds)
+        (moment source.old shelves.old board run.old) (moment source.new shelves.new result run.new) }
 {
     loop {
         let (next, did) = play_round(alloc, board, run, source, shelves);

@@ -4,6 +4,7 @@ ghost use Rattle.std.specs.Prelude.{◌≡◌, ◌≤◌, length, vec_len, IfOk,
 ghost use Rattle.plain_board.specs.Sound.{IsSound};
 ghost use Rattle.card_feed.specs.Plan.{IsPlan};
 ghost use Rattle.run_account.specs.Ran.{Ran, LacksMemory, told_of};
+ghost use Rattle.replay_turns.specs.Following.{RunsBy};
 ghost use Rattle.replay_turns.specs.Schedule.{AreTurns};
 
 use crate::opening::open;
@@ -35,6 +36,9 @@ pub fn run_turns<S: Source, T: Shelf>(
     // The stream theorem, what the outcome says, and that all is over at the board and it accounts for the run.
     ensures ran { IfOk result (λ it. Ran S.left S.faults T.kept T.faults source.old source.new shelves.old.items shelves.new.items plan.now
         (told_of it.0) it.1.nic it.1.apps) }
+    // Its turns were those of the text, one a letter, and then whole rounds.
+    ensures follows { IfOk result (λ it. RunsBy S.left S.faults T.kept T.faults source.old source.new shelves.old.items shelves.new.items plan.now
+        turns.now (told_of it.0) it.1) }
     // The board is sound too.
     ensures sound { IfOk result (λ it. IsSound it.1) }
     // Want of memory comes before the first turn or behind the last.

@@ -1,6 +1,7 @@
 //! One turn of a role.
 
 ghost use Rattle.std.specs.Prelude.{◌<◌, length, MatchBool};
+ghost use Rattle.replay_turns.specs.Following.{Moves, moment};
 ghost use Rattle.replay_turns.specs.Rounds.{DidNothing};
 ghost use Rattle.replay_turns.specs.Running.{Fits, Plays};
 ghost use Rattle.replay_turns.specs.Schedule.{IsRole};
@@ -28,6 +29,8 @@ fn app_turn<S: Source, T: Shelf>(
     ensures plays { (source : S) → Plays S.left S.faults T.kept T.faults source source shelves.old shelves.new board result.0 run.old run.new }
     ensures answer { MatchBool result.1 (run_steps board run.old < run_steps result.0 run.new)
         (DidNothing (App app) board result.0 run.old run.new) }
+    ensures moves { (source : S) → Moves S.left S.faults T.kept T.faults (App app) (moment source shelves.old board run.old)
+        (moment source shelves.new result.0 run.new) }
 {
     if run.workers[app as usize].left {
         return (board, false);
@@ -60,6 +63,8 @@ pub fn step<S: Source, T: Shelf>(
     ensures plays { Plays S.left S.faults T.kept T.faults source.old source.new shelves.old shelves.new board result.0 run.old run.new }
     ensures answer { MatchBool result.1 (run_steps board run.old < run_steps result.0 run.new)
         (DidNothing role board result.0 run.old run.new) }
+    ensures moves { Moves S.left S.faults T.kept T.faults role (moment source.old shelves.old board run.old)
+        (moment source.new shelves.new result.0 run.new) }
 {
     match role {
         Role::Card => {

@@ -4,6 +4,7 @@ mod drawn;
 mod extremes;
 mod frames;
 mod limits;
+mod long;
 mod reading;
 mod rows;
 mod runs;

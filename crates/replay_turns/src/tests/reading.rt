@@ -53,14 +53,15 @@ fn file_headers_are_told_apart(rt: HostRuntime) -> Result<(), Fail> {
     version[4] = 3;
     let mut link = FILE_HEADER;
     link[20] = 113;
-    let rows: [(&str, &[u8], Option<Fault>); 6] = [
+    let rows: [(&str, &[u8], Option<Fault>); 7] = [
         ("a header alone", &FILE_HEADER, None),
         ("no bytes", &[], Some(Fault::Cut)),
         ("three bytes", &FILE_HEADER[..3], Some(Fault::Cut)),
+        ("another format", &[0x1f, 0x8b, 8, 0], Some(Fault::NotPcap)),
         (
-            "another format",
+            "the begin of a section header",
             &[0x0a, 0x0d, 0x0d, 0x0a],
-            Some(Fault::NotPcap),
+            Some(Fault::Cut),
         ),
         ("major version 3", &version, Some(Fault::Version)),
         ("link type 113", &link, Some(Fault::LinkType)),

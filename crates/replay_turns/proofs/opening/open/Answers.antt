@@ -6,12 +6,22 @@ use Rattle.std.proofs.lemmas.List.Elements.{All-nil}
 use Rattle.area_layout.specs.Layout.{Shape}
 use Rattle.board_face.specs.declared.views.nic.Dealt.{Dealt}
 use Rattle.card_feed.specs.Feed.{FeedState}
-use Rattle.plain_board.specs.Board.{Board}
+use Rattle.plain_board.specs.Board.{Board, new_board}
 use Rattle.card_feed.specs.Plan.{layout_of}
 use Rattle.run_account.proofs.NewWorkers.{new-fits, new-runs}
 use Rattle.run_account.proofs.Places.{get-within}
 use Rattle.replay_turns.proofs.News.{begun}
 use Rattle.replay_turns.proofs.opening.open.Goals as goal
+
+pub returns-clause-opened : goal.returns-clause-opened
+returns-clause-opened g c =
+    let layout_is : c.unwrap-layout.result ≡ layout_of c.args.plan.now =
+    subst (λ (r : Option Shape). IfSome r (λ l. l ≡ layout_of c.args.plan.now)) c.unwrap-layout.ensures c.layout.ensures.value in
+    record {
+      board_is = c.in_ok-board.ensures ∙ ap (λ (l : Shape). new_board l c.args.plan.now.ring) layout_is;
+      feed_is = c.in_ok-feed.ensures.value;
+      workers = c.in_ok-workers.ensures;
+    }
 
 pub returns-clause-many : goal.returns-clause-many
 returns-clause-many g c = c.in_ok-workers.ensures.many

@@ -1,23 +1,29 @@
 -- Each round that did something goes on and brings the run nearer to its end; one in which nothing was done finds it over.
-use Rattle.std.proofs.Common.{◌<◌, length, subst}
+use Rattle.std.proofs.Common.{◌<◌, suc, length, subst}
 use Rattle.std.specs.Prelude.{MatchBool}
 use Rattle.replay_turns.specs.Steps.{run_steps}
 use Rattle.replay_turns.specs.Stuck.{AreStuck}
 use Rattle.replay_turns.proofs.AllLeft.{stuck-over}
+use Rattle.replay_turns.proofs.Following.{follows-round}
 use Rattle.replay_turns.proofs.StepsLeft.{still-of, left-falls}
 use Rattle.replay_turns.proofs.Turns.{plays-through}
 use Rattle.replay_turns.proofs.playing.play_rounds.Goals as goal
 
 pub loop-alloc-preserved : goal.loop-alloc-preserved
 loop-alloc-preserved g c =
-    plays-through g.S.Source.left g.S.Source.faults g.T.Shelf.kept g.T.Shelf.faults
-    _ _ _ _ _ _ _ _ _ _ _ _ c.loop-alloc.invariant c.play_round-next.ensures.plays
+    let so_far = c.loop-alloc.invariant in (
+      plays-through g.S.Source.left g.S.Source.faults g.T.Shelf.kept g.T.Shelf.faults
+          _ _ _ _ _ _ _ _ _ _ _ _ so_far.0 c.play_round-next.ensures.plays,
+      suc so_far.1,
+      follows-round g.S.Source.left g.S.Source.faults g.T.Shelf.kept g.T.Shelf.faults (length c.args.run.now.workers.items) _ so_far.1 _ _ _
+          so_far.0.workers so_far.2 c.play_round-next.ensures.follows,
+    )
 
 pub loop-alloc-smaller : goal.loop-alloc-smaller
 loop-alloc-smaller g c =
     let round = c.play_round-next.ensures in
     left-falls g.S.Source.left g.S.Source.faults g.T.Shelf.kept g.T.Shelf.faults _ _ _ _ _ _ _ _
-    (still-of g.S.Source.left g.S.Source.faults g.T.Shelf.kept g.T.Shelf.faults _ _ _ _ _ _ _ _ c.requires.plan c.loop-alloc.invariant)
+    (still-of g.S.Source.left g.S.Source.faults g.T.Shelf.kept g.T.Shelf.faults _ _ _ _ _ _ _ _ c.requires.plan c.loop-alloc.invariant.0)
     round.plays
     (subst (λ did. MatchBool did (run_steps c.loop-alloc.board c.loop-alloc.run < run_steps c.play_round-next.result.0 c.play_round-next.new.run)
     (AreStuck c.play_round-next.result.0 c.play_round-next.new.run)) c.if-not-did.false round.answer)
@@ -25,10 +31,16 @@ loop-alloc-smaller g c =
 pub returns : goal.returns
 returns g c =
     let round = c.play_round-next.ensures in
+    let so_far = c.loop-alloc.invariant in
     record {
       over = stuck-over c.play_round-next.result.0 c.play_round-next.new.run (length c.play_round-next.new.shelves) round.plays.fits
           (subst (λ did. MatchBool did (run_steps c.loop-alloc.board c.loop-alloc.run < run_steps c.play_round-next.result.0 c.play_round-next.new.run)
           (AreStuck c.play_round-next.result.0 c.play_round-next.new.run)) c.if-not-did.true round.answer);
       plays = plays-through g.S.Source.left g.S.Source.faults g.T.Shelf.kept g.T.Shelf.faults
-          _ _ _ _ _ _ _ _ _ _ _ _ c.loop-alloc.invariant round.plays;
+          _ _ _ _ _ _ _ _ _ _ _ _ so_far.0 round.plays;
+      follows = (
+        suc so_far.1,
+        follows-round g.S.Source.left g.S.Source.faults g.T.Shelf.kept g.T.Shelf.faults (length c.args.run.now.workers.items) _ so_far.1 _ _ _
+            so_far.0.workers so_far.2 round.follows,
+      );
     }

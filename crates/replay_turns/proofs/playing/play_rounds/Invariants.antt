@@ -1,4 +1,6 @@
--- What was played so far goes on with the run, which comes nearer to what it comes to at most.
+-- What was played so far goes on with the run by whole rounds, which comes nearer to what it comes to at most.
+use Rattle.std.proofs.Common.{ℕ, length}
+use Rattle.replay_turns.specs.Following.{Follows, moment, rounds_of}
 use Rattle.replay_turns.specs.Running.{Plays}
 use Rattle.replay_turns.proofs.StepsLeft.{steps_left}
 use Rattle.replay_turns.proofs.playing.play_rounds.Given as goal
@@ -7,6 +9,8 @@ abbrev pub invariant-loop-alloc : goal.invariant-loop-alloc
 invariant-loop-alloc g l =
     Plays g.S.Source.left g.S.Source.faults g.T.Shelf.kept g.T.Shelf.faults l.initial.source l.source l.initial.shelves l.shelves
     l.initial.board l.board l.initial.run l.run
+    × (rounds : ℕ) × Follows g.S.Source.left g.S.Source.faults g.T.Shelf.kept g.T.Shelf.faults (rounds_of (length l.initial.run.workers.items) rounds)
+    (moment l.initial.source l.initial.shelves l.initial.board l.initial.run) (moment l.source l.shelves l.board l.run)
 
 abbrev pub decreases-loop-alloc : goal.decreases-loop-alloc
 decreases-loop-alloc g l = steps_left l.board l.run

@@ -1,8 +1,13 @@
--- What was played so far goes on with the run.
+-- What was played so far goes on with the run, and follows the letters.
+use Rattle.std.proofs.Common.{map}
+use Rattle.replay_turns.specs.Following.{Follows, moment}
 use Rattle.replay_turns.specs.Running.{Plays}
+use Rattle.replay_turns.specs.Schedule.{role_of}
 use Rattle.replay_turns.proofs.playing.play_text.Given as goal
 
 abbrev pub invariant-loop-letter : goal.invariant-loop-letter
 invariant-loop-letter g l =
     Plays g.S.Source.left g.S.Source.faults g.T.Shelf.kept g.T.Shelf.faults l.initial.source l.source l.initial.shelves l.shelves
     l.initial.board l.board l.initial.run l.run
+    × Follows g.S.Source.left g.S.Source.faults g.T.Shelf.kept g.T.Shelf.faults (map role_of l.yielded)
+    (moment l.initial.source l.initial.shelves l.initial.board l.initial.run) (moment l.source l.shelves l.board l.run)

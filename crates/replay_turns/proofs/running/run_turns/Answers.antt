@@ -2,13 +2,20 @@
 use Rattle.std.proofs.Common.{length, inl, refl, sym, ap, subst, ◌∙◌, arith}
 use Rattle.run_account.specs.Ran.{TellsOf}
 use Rattle.replay_turns.specs.Schedule.{AreTurns}
-use Rattle.replay_turns.proofs.WholeRun.{on-err, whole-runs, text-fits, text-plan, run-told, run-lacks}
+use Rattle.replay_turns.proofs.WholeRun.{on-err, whole-runs, text-fits, text-plan, run-by, run-told, run-lacks}
 use Rattle.replay_turns.proofs.running.run_turns.Goals as goal
 
 pub returns-clause-ran : goal.returns-clause-ran
 returns-clause-ran g c = run-told _ _ _ _ _ _ _ _ _ _ _ _ c.args.shelves.now.len c.args.plan.now _ _ _ _ _ _
     (omega (arith, c.args.shelves.now.ok)) c.requires.shelves c.deref_mut.ensures.value c.deref_mut-2.ensures.value
     c.in_ok-board.ensures.runs c.play_text-board.ensures.plays c.play_rounds-board.ensures.plays c.play_rounds-board.ensures.over
+    c.in_ok-outcome.outcome (subst (λ ports. TellsOf c.play_rounds-board.new.run ports c.in_ok-outcome.outcome) c.deref.ensures.value c.in_ok-outcome.ensures)
+
+pub returns-clause-follows : goal.returns-clause-follows
+returns-clause-follows g c = run-by _ _ _ _ _ _ _ _ _ _ _ _ c.args.shelves.now.len c.args.plan.now _ _ _ _ _ _
+    (omega (arith, c.args.shelves.now.ok)) c.requires.shelves c.deref_mut.ensures.value c.deref_mut-2.ensures.value
+    c.in_ok-board.ensures.runs c.play_text-board.ensures.plays c.play_rounds-board.ensures.plays c.play_rounds-board.ensures.over
+    c.args.turns.now c.in_ok-board.ensures.opened c.play_text-board.ensures.follows c.play_rounds-board.ensures.follows
     c.in_ok-outcome.outcome (subst (λ ports. TellsOf c.play_rounds-board.new.run ports c.in_ok-outcome.outcome) c.deref.ensures.value c.in_ok-outcome.ensures)
 
 pub returns-in_err-board-clause-lacks : goal.returns-in_err-board-clause-lacks

@@ -1,5 +1,5 @@
 -- A turn of an application goes on with the run.
-use Rattle.std.proofs.Common.{◌≡◌, ◌≢◌, ◌<◌, Bool, true, false, not, length, get_or, refl, sym, ap, ◌∙◌, subst, arith}
+use Rattle.std.proofs.Common.{◌≡◌, ◌≢◌, ◌<◌, Bool, true, false, not, length, get_or, inl, inr, refl, sym, ap, ◌∙◌, subst, arith}
 use Rattle.std.specs.Prelude.{MatchBool}
 use Rattle.std.proofs.lemmas.List.{length-set}
 use Rattle.std.proofs.lemmas.Option.{slice_get_read, slice_get-get_or}
@@ -27,6 +27,11 @@ returns-then-index g c = record {
   plays = λ source. record { fits = c.requires.fits; workers = refl; many = refl; runs = λ first firsts plan runs. runs };
   answer = gone-idle c.args.board c.args.run.now c.args.app c.index.result.now
       (slice_get_read c.args.run.now.workers.items _ c.args.app c.index.result.now refl c.requires.app c.index.ensures) c.if-index.true;
+  moves = λ source. (
+    c.index.result.now,
+    slice_get_read c.args.run.now.workers.items _ c.args.app c.index.result.now refl c.requires.app c.index.ensures,
+    inl (c.if-index.true, refl),
+  );
 }
 
 pub app_step-board-requires-clause-here : goal.app_step-board-requires-clause-here
@@ -65,6 +70,10 @@ returns g c =
       | in-Finished w ↦ w.worker-is
       | in_default w ↦ absurd (w.in_default.not-Finished is)
     ] in
+    let stays : c.app_step-board.result.1 ≢ Finished → w_now.left ≡ false = λ not. elim c.match-matches.branch [
+      | in-Finished w ↦ absurd (not w.in-Finished.is)
+      | in_default w ↦ w.worker-is
+    ] in
     let here : w_was.left ≡ false =
     let there = slice_get_read c.args.run.now.workers.items _ c.args.app c.index.result.now refl c.requires.app c.index.ensures in
     let same : w_was ≡ c.index.result.now = cc in ap (λ (w : Worker). w.left) same ∙ c.if-index.false in
@@ -99,4 +108,30 @@ returns g c =
             (app-rises board board_now c.args.run.now run_now c.args.app w_was w_now is_was refl refl step.card step.others
             ((turns-rise w_was w_now old new _ _ _ _ c.app_step-board.result.1 step.turns here is_gone).1 w.in_default-matches.not-Idle))
       ];
+      moves = λ source. (
+        w_was,
+        is_was,
+        inr (
+          here,
+          record {
+            worker_now = w_now;
+            shelf = shelf;
+            shelf_now = shelf_now;
+            shelf_at = shelf_is;
+            answer = c.app_step-board.result.1;
+            turns = step.turns;
+            seen = step.told;
+            leaves = is_gone;
+            stays = stays;
+            workers = refl;
+            shelves = refl;
+            feed = refl;
+            source = refl;
+            card = step.card;
+            others = step.others;
+            many = step.many;
+            sound = step.sound;
+          },
+        ),
+      );
     }

@@ -1,10 +1,12 @@
 -- A turn of the card, or of an application.
 use Rattle.std.proofs.Common.{◌<◌, ◌≤◌, refl, sym, subst}
 use Rattle.std.specs.Prelude.{MatchBool}
+use Rattle.replay_turns.specs.Following.{Moves, moment}
 use Rattle.replay_turns.specs.Rounds.{DidNothing}
 use Rattle.replay_turns.specs.Steps.{run_steps}
 use Rattle.run_account.specs.declared.run.Run.{Run}
 use Rattle.replay_turns.proofs.Answering.{card-answers}
+use Rattle.replay_turns.proofs.Following.{either}
 use Rattle.replay_turns.proofs.Turns.{card-fits, card-runs}
 use Rattle.replay_turns.proofs.stepping.step.Goals as goal
 
@@ -13,6 +15,9 @@ returns-in-App g c = record {
   plays = c.app_turn.ensures.plays c.args.source.now;
   answer = subst (λ role. MatchBool c.app_turn.result.1 (run_steps c.args.board c.args.run.now < run_steps c.app_turn.result.0 c.app_turn.new.run)
       (DidNothing role c.args.board c.app_turn.result.0 c.args.run.now c.app_turn.new.run)) (sym c.in-App.is) c.app_turn.ensures.answer;
+  moves = subst (λ role. Moves g.S.Source.left g.S.Source.faults g.T.Shelf.kept g.T.Shelf.faults role
+      (moment c.args.source.now c.args.shelves.now c.args.board c.args.run.now)
+      (moment c.args.source.now c.app_turn.new.shelves c.app_turn.result.0 c.app_turn.new.run)) (sym c.in-App.is) (c.app_turn.ensures.moves c.args.source.now);
 }
 
 pub returns-in-Card : goal.returns-in-Card
@@ -35,4 +40,17 @@ returns-in-Card g c =
       answer = subst (λ role. MatchBool c.card_step-turn.result.1 (run_steps c.args.board c.args.run.now < run_steps c.card_step-turn.result.0 run_now)
           (DidNothing role c.args.board c.card_step-turn.result.0 c.args.run.now run_now)) (sym c.in-Card.is)
           (card-answers c.args.board c.card_step-turn.result.0 c.args.run.now run_now refl step.apps c.card_step-turn.result.1 step.answer);
+      moves = subst (λ role. Moves g.S.Source.left g.S.Source.faults g.T.Shelf.kept g.T.Shelf.faults role
+          (moment c.args.source.now c.args.shelves.now c.args.board c.args.run.now)
+          (moment c.card_step-turn.new.source c.args.shelves.now c.card_step-turn.result.0 run_now)) (sym c.in-Card.is)
+          (record {
+            turns = step.turns;
+            answer = either c.card_step-turn.result.1 _ _ step.answer;
+            unread = step.source;
+            ports = step.ports;
+            apps = step.apps;
+            workers = refl;
+            shelves = refl;
+            sound = step.sound;
+          });
     }
