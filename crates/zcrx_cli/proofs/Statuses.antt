@@ -44,22 +44,22 @@ use Rattle.zcrx_cli.specs.StreamTheorem.{HasLost, IsStatusOf, IsStatus, IsBroken
 -- ---- the ways in which a reading ends
 
 ending_cases : (P : Option Fault → Type 0) → P None → P (Some Memory) → P (Some NotPcap) → P (Some Version) → P (Some LinkType) → P (Some Cut)
-    → P (Some LongRecord) → P (Some Read) → P (Some TooManyFlows) → P (Some TooManyFrames)
+    → P (Some LongRecord) → P (Some Read) → P (Some TooManyFlows) → P (Some TooManyFrames) → P (Some BadBlock)
     → (end : Option Fault) → IsEnding end → P end
-ending_cases P none memory not_pcap version link_type cut long_record read flows frames None is = none
-ending_cases P none memory not_pcap version link_type cut long_record read flows frames (Some Memory) is = memory
-ending_cases P none memory not_pcap version link_type cut long_record read flows frames (Some NotPcap) is = not_pcap
-ending_cases P none memory not_pcap version link_type cut long_record read flows frames (Some Version) is = version
-ending_cases P none memory not_pcap version link_type cut long_record read flows frames (Some LinkType) is = link_type
-ending_cases P none memory not_pcap version link_type cut long_record read flows frames (Some Cut) is = cut
-ending_cases P none memory not_pcap version link_type cut long_record read flows frames (Some LongRecord) is = long_record
-ending_cases P none memory not_pcap version link_type cut long_record read flows frames (Some Read) is = read
-ending_cases P none memory not_pcap version link_type cut long_record read flows frames (Some TooManyFlows) is = flows
-ending_cases P none memory not_pcap version link_type cut long_record read flows frames (Some TooManyFrames) is = frames
-ending_cases P none memory not_pcap version link_type cut long_record read flows frames (Some Usage) is = absurd is
-ending_cases P none memory not_pcap version link_type cut long_record read flows frames (Some Write) is = absurd is
-ending_cases P none memory not_pcap version link_type cut long_record read flows frames (Some BadBlock) is = absurd is
-ending_cases P none memory not_pcap version link_type cut long_record read flows frames (Some BadRun) is = absurd is
+ending_cases P none memory not_pcap version link_type cut long_record read flows frames bad_block None is = none
+ending_cases P none memory not_pcap version link_type cut long_record read flows frames bad_block (Some Memory) is = memory
+ending_cases P none memory not_pcap version link_type cut long_record read flows frames bad_block (Some NotPcap) is = not_pcap
+ending_cases P none memory not_pcap version link_type cut long_record read flows frames bad_block (Some Version) is = version
+ending_cases P none memory not_pcap version link_type cut long_record read flows frames bad_block (Some LinkType) is = link_type
+ending_cases P none memory not_pcap version link_type cut long_record read flows frames bad_block (Some Cut) is = cut
+ending_cases P none memory not_pcap version link_type cut long_record read flows frames bad_block (Some LongRecord) is = long_record
+ending_cases P none memory not_pcap version link_type cut long_record read flows frames bad_block (Some Read) is = read
+ending_cases P none memory not_pcap version link_type cut long_record read flows frames bad_block (Some TooManyFlows) is = flows
+ending_cases P none memory not_pcap version link_type cut long_record read flows frames bad_block (Some TooManyFrames) is = frames
+ending_cases P none memory not_pcap version link_type cut long_record read flows frames bad_block (Some Usage) is = absurd is
+ending_cases P none memory not_pcap version link_type cut long_record read flows frames bad_block (Some Write) is = absurd is
+ending_cases P none memory not_pcap version link_type cut long_record read flows frames bad_block (Some BadBlock) is = bad_block
+ending_cases P none memory not_pcap version link_type cut long_record read flows frames bad_block (Some BadRun) is = absurd is
 
 -- and what stopped applications
 all_cases : (P : Bool → Bool → Option Fault → Type 0) → ((lost : Bool) (end : Option Fault) → IsEnding end → P true lost end)
@@ -78,9 +78,10 @@ says : (wanting lost : Bool) (end : Option Fault) → IsEnding end → Says want
 unfolding Says
 says = all_cases Says (λ lost end is. inl refl)
     (ending_cases (Says false true) (inr (inl (refl, refl))) (inl refl) (inr (inl (refl, refl))) (inr (inl (refl, refl))) (inr (inl (refl, refl)))
-    (inr (inl (refl, refl))) (inr (inl (refl, refl))) (inr (inl (refl, refl))) (inr (inl (refl, refl))) (inr (inl (refl, refl))))
+    (inr (inl (refl, refl))) (inr (inl (refl, refl))) (inr (inl (refl, refl))) (inr (inl (refl, refl))) (inr (inl (refl, refl)))
+    (inr (inl (refl, refl))))
     (ending_cases (Says false false) (inr (inr refl)) (inl refl) (inr (inr refl)) (inr (inr refl)) (inr (inr refl)) (inr (inr refl)) (inr (inr refl))
-    (inr (inr refl)) (inr (inr refl)) (inr (inr refl)))
+    (inr (inr refl)) (inr (inr refl)) (inr (inr refl)) (inr (inr refl)))
 
 -- each way of ending by its number
 IsNumbered : Option Fault → Type 0
@@ -99,6 +100,7 @@ numbered = ending_cases IsNumbered
     (refl, (λ e. omega arith), (λ e. refl), (λ e. absurd (omega arith)))
     (refl, (λ e. omega arith), (λ e. absurd (omega arith)), (λ e. absurd (omega arith)))
     (refl, (λ e. omega arith), (λ e. absurd (omega arith)), (λ e. absurd (omega arith)))
+    (refl, (λ e. omega arith), (λ e. absurd (omega arith)), (λ e. absurd (omega arith)))
 
 -- ---- what the bytes show
 
@@ -112,6 +114,7 @@ shown-number = ending_cases (λ end. (ended : Ended) (before : List (List ℕ)) 
     (λ ended before shows. inl (ap (λ e. end_number e.fault) (sym shows))) (λ ended before shows. inl (ap (λ e. end_number e.fault) (sym shows)))
     (λ ended before shows. inl (ap (λ e. end_number e.fault) (sym shows))) (λ ended before shows. inr (inr refl))
     (λ ended before shows. inl (ap (λ e. end_number e.fault) (sym shows))) (λ ended before shows. inl (ap (λ e. end_number e.fault) (sym shows)))
+    (λ ended before shows. inl (ap (λ e. end_number e.fault) (sym shows)))
 
 -- what was taken ends as all bytes do, unless memory ran out or a read failed
 same-ending : (Wants : List (List ℕ) → List ℕ → Type 0) (end : Option Fault) → IsEnding end
@@ -123,6 +126,7 @@ same-ending Wants = ending_cases (λ end. ((taken all : Ended) (before : List (L
     (inl (λ taken all before ends shows. ends ∙ sym shows)) (inl (λ taken all before ends shows. ends ∙ sym shows))
     (inl (λ taken all before ends shows. ends ∙ sym shows)) (inl (λ taken all before ends shows. ends ∙ sym shows)) (inr (inr refl))
     (inl (λ taken all before ends shows. ends ∙ sym shows)) (inl (λ taken all before ends shows. ends ∙ sym shows))
+    (inl (λ taken all before ends shows. ends ∙ sym shows))
 
 -- by which endings something may have been read on behind them
 pub record IsApart (end : Option Fault) : Type 0 where
@@ -135,6 +139,7 @@ apart = ending_cases (λ end. IsApart end ⊎ ((end ≡ Some Memory) ⊎ (end �
     (inl (record { memory = λ e. cc; flows = λ e. cc })) (inl (record { memory = λ e. cc; flows = λ e. cc }))
     (inl (record { memory = λ e. cc; flows = λ e. cc })) (inl (record { memory = λ e. cc; flows = λ e. cc }))
     (inl (record { memory = λ e. cc; flows = λ e. cc })) (inr (inr refl)) (inl (record { memory = λ e. cc; flows = λ e. cc }))
+    (inl (record { memory = λ e. cc; flows = λ e. cc }))
 
 broken_off : (ended : Ended) (before : List (List ℕ)) → BreaksOff ended before → IsBrokenOff ended.fault
 broken_off ended before broke = ⊎_elim (λ none. inl (ap (λ e. e.fault) none)) (λ cut. inr (ap (λ e. e.fault) cut)) broke

@@ -1,5 +1,5 @@
 -- What a replay leaves: the streams on their shelves, the report, the status, and the board of the run.
-use Rattle.std.specs.Prelude.{◌≡◌, ◌≢◌, ℕ, ◌<◌, ◌≤◌, List, [], ◌∷◌, length, ◌==◌, true, Option, Some, None, Result, IfSome, OnOk, ◌⊎◌}
+use Rattle.std.specs.Prelude.{◌≡◌, ◌≢◌, ℕ, ◌<◌, ◌≤◌, List, [], ◌∷◌, length, ◌==◌, true, Option, Some, None, Result, IfSome, OnOk, ◌⊎◌, ⊤}
 use Rattle.std.specs.List.{list_any, slice_get}
 use Rattle.zr_kinds.specs.declared.fault.Fault.{Fault}
 use Rattle.zr_kinds.specs.declared.fault.Fault.TheVariants.{Cut}
@@ -17,6 +17,7 @@ use Rattle.card_feed.specs.Need.{buffers_of, need_in}
 use Rattle.card_feed.specs.Offered.{offers_of}
 use Rattle.run_account.specs.Running.{losses_in}
 use Rattle.run_account.specs.Ran.{HasReadOn, HaveWholeStreams, LacksMemory, LacksMemoryBeside, Ran, Told}
+use Rattle.replay_turns.specs.Following.{RunsBy}
 use Rattle.run_report.specs.Report.{report_of, Reports, answer_of}
 use Rattle.run_report.specs.declared.report.Unreported.{Unreported}
 use Rattle.zcrx_cli.specs.Cards.{HasOver, HasSides, IsClosed, IsOfWay}
@@ -32,7 +33,7 @@ IsStatusOf status end = (status ≡ end_number end) ⊎ ((status ≡ 1) ⊎ ((st
 
 -- the statuses of a replay
 abbrev pub IsStatus : ℕ → Type 0
-IsStatus status = list_any (λ n. n == status) (0 ∷ 1 ∷ 3 ∷ 4 ∷ 5 ∷ 6 ∷ 7 ∷ 8 ∷ 9 ∷ 10 ∷ 11 ∷ []) ≡ true
+IsStatus status = list_any (λ n. n == status) (0 ∷ 1 ∷ 3 ∷ 4 ∷ 5 ∷ 6 ∷ 7 ∷ 8 ∷ 9 ∷ 10 ∷ 11 ∷ 13 ∷ []) ≡ true
 
 -- the bytes end at a record's end, or within what they begin
 abbrev pub IsBrokenOff : Option Fault → Type 0
@@ -42,6 +43,14 @@ IsBrokenOff end = (end ≡ None) ⊎ (end ≡ Some Cut)
 abbrev pub text_of : Told → List ℕ
 text_of outcome =
     report_of outcome.tally outcome.apps outcome.flows outcome.refused outcome.pool (status_of outcome)
+
+-- With a text of turns the run's turns are those of the text, one a letter, and then whole rounds.
+abbrev pub IsPlayed : {S T : Type 0} → (S → Option (List ℕ)) → (S → ℕ) → (T → ℕ → Option (List ℕ)) → (T → ℕ) → S → S
+    → List T → List T → Plan → Told → Option (List ℕ) → Card → Type 0
+IsPlayed left failed kept losses source source_now shelves shelves_now plan outcome (Some turns) (Card.Plain board) =
+    RunsBy left failed kept losses source source_now shelves shelves_now plan turns outcome board
+IsPlayed left failed kept losses source source_now shelves shelves_now plan outcome (Some turns) card = ⊥
+IsPlayed left failed kept losses source source_now shelves shelves_now plan outcome None card = ⊤
 
 -- What a run leaves, by turns or by threads: the streams, what its outcome says, and in the card the board of the run, which accounts for
 -- it and may be finished. By threads the capture may be read beside the card.
@@ -57,6 +66,7 @@ pub record RanWith {S T : Type 0} (left : S → Option (List ℕ)) (failed : S �
   pub sides : HasSides card_now nic apps
   pub over : HasOver card_now
   pub way : IsOfWay turns card_now
+  pub played : IsPlayed left failed kept losses source source_now shelves shelves_now plan outcome turns card_now
 
 -- a call of the shelf of one of these applications failed
 abbrev pub HasLost : {T : Type 0} → (T → ℕ) → List T → List T → ℕ → Type 0

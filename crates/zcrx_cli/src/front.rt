@@ -5,7 +5,7 @@ ghost use Rattle.std.specs.Io.KnownBytes.{ReadConsumes};
 ghost use Rattle.zr_io.specs.Moved.{HasCause};
 
 use crate::progress::Progress;
-use crate::records::Records;
+use crate::records::{Place, Records};
 use zr_io::{Failed, Source};
 
 /// How many of the first bytes are kept.
@@ -33,14 +33,15 @@ impl Seen<'_> {
 
     fn look(&mut self, piece: &[u8]) {
         self.keep(piece);
+        self.records.see(piece);
         if let Some(progress) = &mut self.progress {
-            self.records.see(piece);
             progress.count(piece.len(), self.records.count());
         }
     }
 }
 
-/// Reads from a source, keeps the first bytes that it gave, and shows how far it has come. It tells what the source tells.
+/// Reads from a source, keeps the first bytes that it gave and where it stands, and shows how far it has come. It tells what the
+/// source tells.
 #[derive(Drop)]
 pub(crate) struct Front<'a, S: Source> {
     source: S,
@@ -63,6 +64,11 @@ impl<'a, S: Source> Front<'a, S> {
     /// The first bytes, up to four.
     pub(crate) fn bytes(&self) -> &[u8] {
         &self.seen.kept[..self.seen.count.min(KEPT)]
+    }
+
+    /// The record, or the block, of which bytes were read last.
+    pub(crate) fn place(&self) -> Option<Place> {
+        self.seen.records.place()
     }
 
     /// Clears the line of progress.

@@ -109,7 +109,7 @@ fn start(rt: &HostRuntime, threads: &(impl Threads + Wait + Sync)) -> Result<u8,
         say_usage(rt, &words);
     }
     say_lost(rt, &shelves);
-    say_status(rt, status, source.bytes());
+    say_status(rt, status, source.bytes(), source.place());
     Ok(status)
 }
 
@@ -130,7 +130,7 @@ fn main(rt: HostRuntime) -> ExitCode {
     let status = match start(&rt, &rt) {
         Ok(status) => status,
         Err(fault) => {
-            say_status(&rt, fault.number(), &[]);
+            say_status(&rt, fault.number(), &[], None);
             fault.number()
         }
     };

@@ -1,5 +1,6 @@
 //! What the program says to people, on standard error. No clause speaks of it; where it can't be said nothing is.
 
+use crate::records::Place;
 use command_words::{USAGE, what_is_wrong};
 use file_shelf::FileShelf;
 use std::rt::Files;
@@ -10,7 +11,6 @@ use zr_kinds::Fault;
 enum Look {
     Nothing,
     Gzip,
-    Pcapng,
     Text,
     Unknown,
 }
@@ -19,7 +19,6 @@ fn look_of(front: &[u8]) -> Look {
     match front {
         [] => Look::Nothing,
         [0x1f, 0x8b, ..] => Look::Gzip,
-        [0x0a, 0x0d, 0x0d, 0x0a] => Look::Pcapng,
         _ if front.iter().all(|byte| byte.is_ascii_graphic() || byte.is_ascii_whitespace()) => {
             Look::Text
         }
@@ -27,14 +26,12 @@ fn look_of(front: &[u8]) -> Look {
     }
 }
 
-/// What an input that is no classic capture is, and what to do about it.
+/// What an input that is no capture is, and what to do about it.
 fn no_capture(front: &[u8]) -> &'static str {
     match look_of(front) {
         Look::Gzip => "standard input is compressed by gzip (gzip -dc FILE | zcrx ..)",
-        Look::Pcapng =>
-            "standard input is a pcapng capture, and classic pcap is read (editcap -F pcap FILE -)",
-        Look::Text => "standard input is text, and no pcap capture",
-        Look::Nothing | Look::Unknown => "standard input is no pcap capture",
+        Look::Text => "standard input is text, and no capture",
+        Look::Nothing | Look::Unknown => "standard input is no pcap or pcapng capture",
     }
 }
 
@@ -42,7 +39,8 @@ fn no_capture(front: &[u8]) -> &'static str {
 fn cut_short(front: &[u8]) -> &'static str {
     match look_of(front) {
         Look::Nothing => "standard input is empty",
-        _ => "the capture ends within a header or a frame; what came before it was replayed",
+        _ =>
+            "the capture ends within a header, a frame or a block; what came before it was replayed",
     }
 }
 
@@ -52,8 +50,9 @@ fn meaning(fault: Fault, front: &[u8]) -> &'static str {
         Fault::Memory => "there was no memory for all of it (fewer --buffers, or a smaller --size)",
         Fault::Usage => "the words have no reading",
         Fault::NotPcap => no_capture(front),
-        Fault::Version => "the capture's major version isn't 2",
-        Fault::LinkType => "the capture isn't of Ethernet (capture at one interface, not at 'any')",
+        Fault::Version => "the capture's major version isn't 2, or 1 of a pcapng section",
+        Fault::LinkType =>
+            "the capture, or an interface of its packets, isn't of Ethernet (capture at one interface, not at 'any')",
         Fault::Cut => cut_short(front),
         Fault::LongRecord =>
             "a record states more than 262144 bytes, so the capture is damaged there; what came before it was replayed",
@@ -90,10 +89,27 @@ fn fault_of(status: u8) -> Option<Fault> {
     .find(|fault| fault.number() == status)
 }
 
-/// Says what a status means, where it isn't 0. The input began with `front`.
-pub(crate) fn say_status(rt: &HostRuntime, status: u8, front: &[u8]) {
-    if let Some(fault) = fault_of(status) {
-        let _ = eprintln!(rt; "zcrx: status {status}: {}", meaning(fault, front));
+/// Whether the reading stood within what the fault is of when it ended.
+fn is_within(fault: Fault) -> bool {
+    matches!(
+        fault,
+        Fault::Version | Fault::LinkType | Fault::Cut | Fault::LongRecord | Fault::BadBlock
+    )
+}
+
+/// Says what a status means, where it isn't 0. The input began with `front`, and its reading ended at `place`.
+pub(crate) fn say_status(rt: &HostRuntime, status: u8, front: &[u8], place: Option<Place>) {
+    let Some(fault) = fault_of(status) else {
+        return;
+    };
+    let meaning = meaning(fault, front);
+    match place {
+        Some(place) if is_within(fault) => {
+            let _ = eprintln!(rt; "zcrx: status {status}: {meaning} (at {place})");
+        }
+        _ => {
+            let _ = eprintln!(rt; "zcrx: status {status}: {meaning}");
+        }
     }
 }
 

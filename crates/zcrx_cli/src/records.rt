@@ -1,37 +1,116 @@
-//! How many records went by, for people: nothing is decided by it.
+//! Where in a capture its reading stands, for people: nothing is decided by it.
 
 use pcap_reader::ByteOrder;
+use std::fmt;
+
+/// The first bytes of a pcapng capture, and of each of its section headers.
+const SECTION_HEADER: [u8; 4] = [0x0a, 0x0d, 0x0d, 0x0a];
+
+const MAGIC: usize = 4;
 
 const FILE_HEADER: usize = 24;
 
 const RECORD_HEADER: usize = 16;
 
-/// Counts the records of a classic capture as its bytes go by.
+/// The type and the total length of a block, and what stands there of a section header: the magic that tells the order.
+const BLOCK_HEADER: usize = 12;
+
+const ENHANCED_PACKET: u32 = 6;
+
+const SIMPLE_PACKET: u32 = 3;
+
+const BYTE_ORDER_MAGIC: u32 = 0x1a2b_3c4d;
+
+/// What goes by, as the first four bytes tell it.
+#[derive(Clone, Copy)]
+enum Form {
+    Unknown,
+    /// No capture.
+    Other,
+    /// The file header of the classic form, with the numbers of this order.
+    FileHeader(ByteOrder),
+    /// Records, with the numbers of this order.
+    Records(ByteOrder),
+    /// Blocks, with the numbers of this order.
+    Blocks(ByteOrder),
+}
+
+impl Form {
+    /// How many bytes are looked at of what begins here.
+    fn header_len(self) -> usize {
+        match self {
+            Form::Unknown | Form::Other => MAGIC,
+            Form::FileHeader(_) => FILE_HEADER,
+            Form::Records(_) => RECORD_HEADER,
+            Form::Blocks(_) => BLOCK_HEADER,
+        }
+    }
+}
+
+/// The record, or the block, of which bytes went by last.
+#[derive(Clone, Copy, Debug, PartialEq, Eq)]
+pub(crate) enum Place {
+    /// The number of a record, from 1, and how many bytes stand before it.
+    Record(u64, u64),
+    /// How many bytes stand before a block.
+    Block(u64),
+}
+
+impl fmt::Display for Place {
+    fn fmt<W: fmt::Write>(&self, f: &mut fmt::Formatter<W>) -> fmt::Result {
+        match self {
+            Place::Record(number, at) => write!(f, "record {number}, behind {at} bytes"),
+            Place::Block(at) => write!(f, "the block behind {at} bytes"),
+        }
+    }
+}
+
+/// Looks at the headers of a capture's records or blocks as its bytes go by.
 #[derive(Drop)]
 pub(crate) struct Records {
-    /// The order of the capture's numbers, once its file header went by.
-    order: Option<ByteOrder>,
+    form: Form,
     header: [u8; FILE_HEADER],
     /// How many bytes of the header went by.
     filled: usize,
-    /// How many bytes of a frame are still to come.
+    /// How many bytes behind it are still to come.
     skip: u64,
+    /// How many bytes went by.
+    gone: u64,
+    /// How many of them stand before that header.
+    begin: u64,
+    /// How many records or packets began.
     count: u64,
 }
 
 impl Records {
     pub(crate) fn new() -> Records {
         Records {
-            order: None,
+            form: Form::Unknown,
             header: [0; FILE_HEADER],
             filled: 0,
             skip: 0,
+            gone: 0,
+            begin: 0,
             count: 0,
         }
     }
 
+    /// How many records, or packets, went by or begin there.
     pub(crate) fn count(&self) -> u64 {
         self.count
+    }
+
+    /// Where the bytes that went by last stand; `None` before the first record or block.
+    pub(crate) fn place(&self) -> Option<Place> {
+        match self.form {
+            Form::Unknown | Form::Other | Form::FileHeader(_) => None,
+            Form::Blocks(_) => Some(Place::Block(self.begin)),
+            Form::Records(_) if self.filled > 0 => {
+                Some(Place::Record(self.count.saturating_add(1), self.begin))
+            }
+            Form::Records(_) if self.count > 0 => Some(Place::Record(self.count, self.begin)),
+            Form::Records(_) => None,
+        }
     }
 
     /// These bytes went by.
@@ -43,18 +122,20 @@ impl Records {
             }
             let passed = self.skip.min(rest.len() as u64) as usize;
             self.skip -= passed as u64;
+            self.gone = self.gone.saturating_add(passed as u64);
             rest = self.fill(&rest[passed..]);
         }
     }
 
     /// Fills the header, and gives what stands behind it.
     fn fill<'a>(&mut self, piece: &'a [u8]) -> &'a [u8] {
-        let len = match self.order {
-            None => FILE_HEADER,
-            Some(_) => RECORD_HEADER,
-        };
+        let len = self.form.header_len();
         let more = len.saturating_sub(self.filled).min(piece.len());
         let (part, rest) = piece.split_at(more);
+        if self.filled == 0 && more > 0 {
+            self.begin = self.gone;
+        }
+        self.gone = self.gone.saturating_add(more as u64);
         for byte in part {
             if let Some(place) = self.header.get_mut(self.filled) {
                 *place = *byte;
@@ -62,31 +143,77 @@ impl Records {
             }
         }
         if self.filled == len {
-            self.filled = 0;
-            self.begin();
+            self.begun();
         }
         rest
     }
 
     /// A header went by whole.
-    fn begin(&mut self) {
-        match self.order {
-            None => {
-                let big = self.header[0] == 0xa1;
-                self.order = Some(if big {
-                    ByteOrder::Big
-                } else {
-                    ByteOrder::Little
-                });
+    fn begun(&mut self) {
+        match self.form {
+            // What the first four bytes begin goes on.
+            Form::Unknown => {
+                self.form = form_of(&self.header);
+                if matches!(self.form, Form::Other) {
+                    self.skip = u64::MAX;
+                }
             }
-            Some(order) => {
+            Form::Other => {}
+            Form::FileHeader(order) => {
+                self.filled = 0;
+                self.form = Form::Records(order);
+            }
+            Form::Records(order) => {
+                self.filled = 0;
                 self.count = self.count.saturating_add(1);
-                let [_, _, _, _, _, _, _, _, a, b, c, d, ..] = self.header;
-                self.skip = u64::from(match order {
-                    ByteOrder::Little => u32::from_le_bytes([a, b, c, d]),
-                    ByteOrder::Big => u32::from_be_bytes([a, b, c, d]),
-                });
+                self.skip = u64::from(order.number32(&self.header[8..]));
+            }
+            Form::Blocks(order) => {
+                self.filled = 0;
+                self.block(order);
             }
         }
     }
+
+    /// The header of a block went by.
+    fn block(&mut self, order: ByteOrder) {
+        let mut order = order;
+        if self.header.starts_with(&SECTION_HEADER) {
+            order = section_order(&self.header, order);
+            self.form = Form::Blocks(order);
+        } else if matches!(
+            order.number32(&self.header),
+            ENHANCED_PACKET | SIMPLE_PACKET
+        ) {
+            self.count = self.count.saturating_add(1);
+        }
+        let total = u64::from(order.number32(&self.header[MAGIC..]));
+        self.skip = total.saturating_sub(BLOCK_HEADER as u64);
+    }
+}
+
+/// What the first four bytes tell.
+fn form_of(header: &[u8; FILE_HEADER]) -> Form {
+    if header.starts_with(&SECTION_HEADER) {
+        return Form::Blocks(ByteOrder::Little);
+    }
+    match header {
+        [0xd4, 0xc3, 0xb2, 0xa1, ..] | [0x4d, 0x3c, 0xb2, 0xa1, ..] => {
+            Form::FileHeader(ByteOrder::Little)
+        }
+        [0xa1, 0xb2, 0xc3, 0xd4, ..] | [0xa1, 0xb2, 0x3c, 0x4d, ..] => {
+            Form::FileHeader(ByteOrder::Big)
+        }
+        _ => Form::Other,
+    }
+}
+
+/// The order that a section header tells, or this one.
+fn section_order(header: &[u8; FILE_HEADER], order: ByteOrder) -> ByteOrder {
+    for told in [ByteOrder::Little, ByteOrder::Big] {
+        if told.number32(&header[8..]) == BYTE_ORDER_MAGIC {
+            return told;
+        }
+    }
+    order
 }

@@ -1,6 +1,7 @@
 //! Replays over memory.
 
 mod alone;
+mod blocks;
 mod checking;
 mod closing;
 mod drawn;
@@ -19,4 +20,5 @@ mod reordered;
 mod rows;
 mod runs;
 mod threads;
+mod waiting;
 mod words;

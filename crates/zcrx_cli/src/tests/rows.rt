@@ -59,7 +59,7 @@ pool fast 0 refill 0 slow 1 empty 0 strays 0
 ";
 
 /// The report up to its status where nothing was read.
-const NOTHING: &str = "\
+pub const NOTHING: &str = "\
 capture records 0 tcp 0 steered 0 other 0 fragment 0 cut 0 bad 0
 app 0 port 9000 written 0 loans 0 copied 0 stopped no
 pool fast 0 refill 0 slow 0 empty 0 strays 0
@@ -150,11 +150,16 @@ fn file_headers_are_told_apart(rt: HostRuntime) -> Result<(), Fail> {
     version[4] = 3;
     let mut link = FILE_HEADER;
     link[20] = 113;
-    let rows: [(&str, &[u8], u8); 6] = [
+    let rows: [(&str, &[u8], u8); 7] = [
         ("a header alone", &FILE_HEADER, 0),
         ("no bytes", &[], 6),
         ("three bytes", &FILE_HEADER[..3], 6),
-        ("another format", &[0x0a, 0x0d, 0x0d, 0x0a], 3),
+        ("another format", &[0x1f, 0x8b, 8, 0], 3),
+        (
+            "the begin of a section header",
+            &[0x0a, 0x0d, 0x0d, 0x0a],
+            6,
+        ),
         ("major version 3", &version, 4),
         ("link type 113", &link, 5),
     ];
