@@ -1,0 +1,33 @@
+-- What a contract sees of a carrier over a shelf.
+use Rattle.std.specs.Prelude.{◌≡◌, ℕ, ◌<◌, length, nat_eq, nat_le, Bool, true, false, Option, Some, None, ◌∷◌, if◌then◌else◌}
+use Rattle.futures.specs.declared.task.Poll.{Poll}
+use Rattle.futures.specs.declared.task.Poll.TheVariants.{Ready, Pending}
+use Rattle.zr_io.specs.Memory.{raised}
+use Rattle.std.specs.List.{IsDistinct}
+use Rattle.std.specs.Map.{keys_of}
+use Rattle.zc_forward.specs.Tags.{Tags}
+
+-- the shelf, how many tags it keeps out, these in the order in which they went out, and how often it had no notice
+pub record Carriage (T : Type 0) : Type 0 where
+  pub shelf : T
+  pub delay : ℕ
+  pub out : Tags
+  pub looks : ℕ
+
+-- whether so few tags are out that none is told
+abbrev pub is_waiting : {T : Type 0} → Carriage T → Bool → Bool
+is_waiting carriage urge = nat_le (length carriage.out) (if urge then 0 else carriage.delay)
+
+abbrev pub is_pending : Poll ℕ → Bool
+is_pending Pending = true
+is_pending (Ready tag) = false
+
+-- it tells of the tag that went out first, or counts a look; all else stays
+abbrev pub TellsOldest : {T : Type 0} → Carriage T → Carriage T → Option ℕ → Type 0
+TellsOldest old new None = new ≡ record old { looks = raised old.looks }
+TellsOldest old new (Some tag) = (flow : ℕ) × (old.out ≡ (tag, flow) ∷ new.out) × (new ≡ record old { out = new.out })
+
+-- no tag is out twice
+pub record AreOut (delay : ℕ) (out : Tags) : Type 0 where
+  pub small : delay < 64
+  pub each : IsDistinct nat_eq (keys_of out)

@@ -1,0 +1,2 @@
+pub mod Carriage
+pub mod Tags

@@ -1,0 +1,17 @@
+-- The tags that are out.
+use Rattle.std.specs.Prelude.{◌≡◌, ℕ, List, Option, Some, None, IsSome, nat_eq}
+use Rattle.std.specs.Map.{lookup, remove_entry}
+use Rattle.std.specs.Io.KnownBytes.{Keeps}
+
+-- each tag with its flow
+abbrev pub Tags : Type 0
+Tags = List (ℕ × ℕ)
+
+-- a tag that was out is out no longer, and the others are as they were
+abbrev pub TakesTag : Tags → Tags → Option ℕ → Type 0
+TakesTag old new None = new ≡ old
+TakesTag old new (Some tag) = IsSome (lookup (nat_eq tag) old) × (new ≡ remove_entry (nat_eq tag) old) × (lookup (nat_eq tag) new ≡ None)
+
+-- no flow got anything
+abbrev pub FlowsKeep : (ℕ → Option (List ℕ)) → (ℕ → Option (List ℕ)) → Type 0
+FlowsKeep old new = (flow : ℕ) → Keeps (old flow) (new flow)
