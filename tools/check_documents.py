@@ -26,13 +26,13 @@ DOCUMENTS = [TOP / "README.md", *sorted((TOP / "docs").glob("*.md")), TOP / "ben
 MOST_LINES = 130
 
 # Words in code font that name nothing under crates/: commands, and the goal that stands as an example.
-COMMANDS = set("rt tcpdump dumpcap editcap tcpflow callgrind malloc ulimit returns-in-Err-clause-turn".split())
+COMMANDS = set("rt tcpdump dumpcap tcpflow callgrind malloc ulimit returns-in-Err-clause-turn".split())
 # Options of other programs, and those that there aren't.
 OTHER_OPTIONS = set("--help --version --name".split())
 # Files that a run makes, or that the text gives a name.
 MADE_FILES = set("made.pcap flow-N.bin proofs/PATH/OF/FUNCTION/Answers.antt".split())
 # Faults that no replay ends with.
-OF_NO_REPLAY = {"BadBlock", "BadRun"}
+OF_NO_REPLAY = {"BadRun"}
 # The libraries that the crates stand on have no file here.
 OUTSIDE = set("std core alloc".split())
 
