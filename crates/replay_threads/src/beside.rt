@@ -10,6 +10,9 @@ use std::sync::atomic::{AtomicBool, AtomicU64, Ordering};
 /// How many looks or turns in a row may come to nothing before a loop ends.
 pub const IDLE: u32 = 100_000;
 
+/// How many looks in a row a loop waits for others to begin: half a second at least.
+const BEGINNING: u32 = 10_000;
+
 /// How many applications a board has at most.
 pub const MOST_APPS: usize = 8;
 
@@ -63,11 +66,20 @@ impl Beside {
         self.card_loop.rest(rt, idle, backoff);
     }
 
+    /// A rest of an application that may nap, behind so many idle looks or turns.
+    fn nap_lane<R: Wait>(&self, rt: &R, app: u32, idle: u32, backoff: &Backoff) {
+        match self.lanes.get(app as usize) {
+            Some(lane) => lane.rest(rt, idle, backoff),
+            None => backoff.snooze(),
+        }
+    }
+
     /// A rest of an application, behind so many idle turns.
     pub fn rest_lane<R: Wait>(&self, rt: &R, app: u32, idle: u32, backoff: &Backoff) {
-        match self.lanes.get(app as usize) {
-            Some(lane) if self.card_runs() => lane.rest(rt, idle, backoff),
-            _ => backoff.snooze(),
+        if self.card_runs() {
+            self.nap_lane(rt, app, idle, backoff);
+        } else {
+            backoff.snooze();
         }
     }
 
@@ -83,9 +95,17 @@ impl Beside {
         }
     }
 
-    /// An application's loop begins.
-    pub fn begin(&self) {
+    /// An application's loop begins. It waits for the card's, but not for long.
+    pub fn begin<R: Wait>(&self, rt: &R, app: u32) {
         self.begun.fetch_add(1, Ordering::SeqCst);
+        self.wake_card();
+        let backoff = Backoff::new();
+        for looks in 0..BEGINNING {
+            if self.card_runs() || self.is_halted() {
+                return;
+            }
+            self.nap_lane(rt, app, looks, &backoff);
+        }
     }
 
     /// An application's loop ends; it has left, or it hasn't. It has nothing to do any more.
@@ -105,6 +125,7 @@ impl Beside {
     /// The card takes turns from now on, or it doesn't any more.
     pub fn set_card(&self, runs: bool) {
         self.card.store(runs, Ordering::SeqCst);
+        self.wake_lanes();
     }
 
     /// Whether the card takes turns, so that a note may come.
@@ -132,18 +153,18 @@ impl Beside {
         self.enough.load(Ordering::SeqCst)
     }
 
-    /// Looks until so many applications have begun. `false` says that they weren't seen to: where there are too few threads
+    /// Waits until so many applications have begun. `false` says that they weren't seen to: where there are too few threads
     /// one begins only once another's loop has ended.
-    pub fn all_begin(&self, apps: u32) -> bool {
+    pub fn all_begin<R: Wait>(&self, rt: &R, apps: u32) -> bool {
         let backoff = Backoff::new();
-        for _ in 0..IDLE {
+        for looks in 0..BEGINNING {
             if self.is_halted() {
                 return false;
             }
             if self.begun.load(Ordering::SeqCst) >= u64::from(apps) {
                 return true;
             }
-            backoff.snooze();
+            self.rest_card(rt, looks, &backoff);
         }
         false
     }

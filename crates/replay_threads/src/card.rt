@@ -207,7 +207,7 @@ pub fn run_card<G: Gate, R: Wait>(rt: &R, gate: &G, beside: &Beside, card: &mut 
     requires ready { IsReady card.old.feed card.old.seat.side.view }
     ensures goes { CardGoes card.old card.new }
 {
-    if beside.all_begin(card.seat.apps()) {
+    if beside.all_begin(rt, card.seat.apps()) {
         beside.set_card(true);
         card_loop(rt, gate, beside, card);
         beside.set_card(false);

@@ -119,7 +119,7 @@ fn run_lane<T: Shelf, G: Gate, R: Wait>(
     requires fits { WorkerFits lane.old.seat.side.view lane.old.worker }
     ensures goes { LaneGoes T.kept T.faults lane.old lane.new }
 {
-    beside.begin();
+    beside.begin(rt, lane.app);
     lane_loop(rt, alloc, gate, beside, lane);
     beside.end(lane.app, lane.worker.left);
 }
