@@ -1,5 +1,5 @@
 //! The card at its seat: its turns, and the loop of its thread.
-ghost use Rattle.std.specs.Prelude.{◌≡◌, ◌≤◌, ◌⊎◌, [], true, None, IsTrue, MatchBool};
+ghost use Rattle.std.specs.Prelude.{◌≡◌, ◌≤◌, ◌⊎◌, [], true, None, IfSome, IsTrue, MatchBool};
 ghost use Rattle.card_feed.specs.Feed.{IsReady, WantsRecord};
 ghost use Rattle.card_feed.specs.declared.arrived.Arrived.TheVariants.{Nothing};
 ghost use Rattle.card_feed.specs.Turns.{MayArrive};
@@ -95,18 +95,31 @@ pub fn card_turn<G: Gate>(gate: &G, card: &mut CardLane<'_>) -> bool
     see_leave(card) || did
 }
 
-/// How many fresh buffers the next frame needs, if one is there.
-fn next_needs(card: &mut CardLane<'_>) -> u32
+/// A turn of the card for which nothing has come.
+fn quiet_turn<G: Gate>(gate: &G, pace: &mut Pace, card: &mut CardLane<'_>) -> bool
     requires ready { IsReady card.old.feed card.old.seat.side.view }
     ensures goes { CardGoes card.old card.new }
-    ensures few { result ≤ 64 }
 {
-    if waits(card) || card.frames.is_empty() {
-        return 0;
+    let before = card.seat.cached();
+    gate.at(0, card.turns);
+    card.turns = card.turns.saturating_add(1);
+    let did = nic_step(&mut card.feed, Arrived::Nothing, &mut card.seat);
+    pace.count(0, false, before, card.seat.cached());
+    did
+}
+
+/// How many fresh buffers the next frame needs, where one is there.
+fn next_needs(card: &mut CardLane<'_>) -> Option<u32>
+    requires ready { IsReady card.old.feed card.old.seat.side.view }
+    ensures goes { CardGoes card.old card.new }
+    ensures few { IfSome result (λ needed. needed ≤ 64) }
+{
+    if card.frames.is_empty() {
+        return None;
     }
     match card.frames.peek_known() {
-        Carried::Frame(_, _, bytes) => card.feed.needed(bytes, card.seat.size()),
-        Carried::Over(_) => 0,
+        Carried::Frame(_, _, bytes) => Some(card.feed.needed(bytes, card.seat.size())),
+        Carried::Over(_) => Some(0),
     }
 }
 
@@ -131,8 +144,34 @@ fn wait_for<R: Wait>(rt: &R, beside: &Beside, needed: u32, card: &mut CardLane<'
     }
 }
 
-/// A turn of the card. Where the buffers of the next frame may not be free it looks for them first, and waits for those that are on
-/// their way back.
+/// A turn of the card that offers the next frame. Where its buffers may not be free the card looks for them first, and waits for those
+/// that are on their way back.
+fn offering_turn<G: Gate, R: Wait>(
+    rt: &R,
+    gate: &G,
+    beside: &Beside,
+    pace: &mut Pace,
+    needed: u32,
+    card: &mut CardLane<'_>,
+) -> bool
+    requires ready { IsReady card.old.feed card.old.seat.side.view }
+    requires few { needed ≤ 64 }
+    ensures goes { CardGoes card.old card.new }
+{
+    if !pace.knows(needed) {
+        wait_for(rt, beside, needed, card);
+        pace.see(card.seat.cached());
+    }
+    let before = card.seat.cached();
+    let searches = card.feed.searches();
+    let did = card_turn(gate, card);
+    let swept = card.feed.searches().slow > searches.slow
+        || card.feed.searches().empty > searches.empty;
+    pace.count(needed, swept, before, card.seat.cached());
+    did
+}
+
+/// A turn of the card. It takes no other frame than the one whose buffers were looked for.
 fn paced_turn<G: Gate, R: Wait>(
     rt: &R,
     gate: &G,
@@ -143,21 +182,16 @@ fn paced_turn<G: Gate, R: Wait>(
     requires ready { IsReady card.old.feed card.old.seat.side.view }
     ensures goes { CardGoes card.old card.new }
 {
-    let needed = next_needs(card);
-    if !pace.knows(needed) {
-        wait_for(rt, beside, needed, card);
-        pace.see(card.seat.cached());
+    if card.feed.ended() || card.feed.at_hand() {
+        return card_turn(gate, card);
     }
-    let before = card.seat.cached();
-    let swept = card.feed.searches().slow;
-    let did = card_turn(gate, card);
-    pace.count(
-        needed,
-        card.feed.searches().slow > swept,
-        before,
-        card.seat.cached(),
-    );
-    did
+    if card.feed.pending() > 0 {
+        return quiet_turn(gate, pace, card);
+    }
+    match next_needs(card) {
+        Some(needed) => offering_turn(rt, gate, beside, pace, needed, card),
+        None => quiet_turn(gate, pace, card),
+    }
 }
 
 /// Turns, until something is done in one. `false` says that nothing was done in many, and that the capture isn't read, or that an
