@@ -90,7 +90,10 @@ fn options_stand_among_the_ports_and_zeros_lead_numbers(rt: HostRuntime) -> Resu
             1024,
         ),
         (&["replay", "--ring=1", "--", "9000"], 64),
-        (&["replay", "--ring", "256", "--split=4", "9000"], 64),
+        (
+            &["replay", "--ring", "256", "--split=4", "--turns=n", "9000"],
+            64,
+        ),
         (&["replay", "--hold=4096", "9000", "--leak=4096"], 64),
         (&["replay", "--quit", "999999999999999999", "9000"], 64),
         (&["replay", "--turns", "00n0", "9000"], 64),
