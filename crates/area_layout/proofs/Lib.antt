@@ -1,3 +1,5 @@
 pub mod Powers
+pub mod Areas
 pub mod Words
+pub mod Making
 pub mod Bytes

@@ -8,4 +8,4 @@ mod layout;
 
 pub use entries::{cqe_bytes, cqe_read, rqe_bytes, rqe_read};
 pub use laws::{buffers_are_in_order, places_are_judged, words_are_apart};
-pub use layout::Layout;
+pub use layout::{Area, Layout};

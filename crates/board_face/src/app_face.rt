@@ -1,6 +1,6 @@
 ghost use Rattle.std.specs.Prelude.{◌≡◌, ℕ, ◌+◌, ◌-◌, ◌<◌, ◌≤◌, ◌↔◌, true, false, length, IsTrue, IfErr, IfNone, IfSome, MatchOption, MatchResult};
 ghost use Rattle.std.specs.Prelude.{MatchBool};
-ghost use Rattle.area_layout.specs.Layout.{IsLayout, total, least_size, off_of};
+ghost use Rattle.area_layout.specs.Layout.{IsLayout, IsBufferSize, total, least_size, off_of};
 ghost use Rattle.board_face.specs.declared.views.app.AppView.{AppView};
 ghost use Rattle.board_face.specs.declared.views.app.AppLook.TheVariants.{RefillInUse, RawOnItsWay, NoSpare, NotQuiet};
 ghost use Rattle.board_face.specs.declared.views.app.AppLook.{AppLook};
@@ -47,6 +47,7 @@ pub trait AppFace {
     /// The least size of a buffer, in bytes.
     fn size(&self) -> u32
         ensures value { result ≡ least_size (seen self.now).setting.layout }
+        ensures within { IsBufferSize result }
         ensures sound { IsLayout (seen self.now).setting.layout };
 
     /// The number of this application's reserve buffer.

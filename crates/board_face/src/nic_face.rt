@@ -1,5 +1,5 @@
 ghost use Rattle.std.specs.Prelude.{◌≡◌, ◌+◌, ◌<◌, ◌≤◌, [], false, length, IfErr, MatchOption, MatchResult, MatchBool};
-ghost use Rattle.area_layout.specs.Layout.{IsLayout, least_size};
+ghost use Rattle.area_layout.specs.Layout.{IsLayout, IsBufferSize, least_size};
 ghost use Rattle.board_face.specs.declared.views.nic.NicView.{NicView};
 ghost use Rattle.board_face.specs.declared.views.nic.NicLook.TheVariants.{NoteInUse, NotLeft};
 ghost use Rattle.board_face.specs.declared.views.nic.NicLook.{NicLook};
@@ -47,6 +47,7 @@ pub trait NicFace {
     /// The least size of a buffer, in bytes.
     fn size(&self) -> u32
         ensures value { result ≡ least_size (seen self.now).setting.layout }
+        ensures within { IsBufferSize result }
         ensures sound { IsLayout (seen self.now).setting.layout };
 
     /// How many words the free list has. Word `w` has the pool buffers from `64 * w` on, 64 at most.

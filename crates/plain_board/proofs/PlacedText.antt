@@ -3,9 +3,8 @@ use Rattle.std.proofs.Common.{◌≡◌, ℕ, ◌+◌, ◌^◌, ◌<◌, ◌≤�
 use Rattle.std.proofs.Common.{inl, inr}
 use Rattle.std.specs.Prelude.{◌⊎◌, ◌==◌, if◌then◌else◌}
 use Rattle.std.proofs.lemmas.List.{length-set}
-use Rattle.area_layout.specs.Layout.{pool_buffers, total, size_of, off_of}
+use Rattle.area_layout.specs.Layout.{pool_buffers, total, size_of, begin_of, LiesIn}
 use Rattle.area_layout.proofs.Words.{words_apart}
-use Rattle.board_face.specs.Tokens.{next_place}
 use Rattle.board_face.specs.NicEvents.{placed}
 use Rattle.board_face.specs.NicCalls.{IsOpen, HasOwn}
 use Rattle.board_face.specs.Sides.{nic_at}
@@ -45,7 +44,10 @@ module _ (board : Board) (own : Filling) (bytes : List ℕ) (sound : IsSound boa
   lies : own.start + length bytes ≤ size_of board.arrays.layout own.buffer
   lies = let is = FillingsFit-own board.nic board.apps own out sound.filled in omega (arith, is.1, ap (λ s. size_of s.layout own.buffer) sound.set.card)
 
-  pub in_area : off_of board.arrays.layout (next_place own (length bytes)) + length bytes ≤ length board.arrays.area
+  pub lies-in : LiesIn board.arrays.layout (record { buffer = own.buffer; offset = own.start; len = length bytes })
+  lies-in = record { buffer = inside; bytes = lies }
+
+  pub in_area : begin_of board.arrays.layout own.buffer + own.start + length bytes ≤ length board.arrays.area
   in_area = stored-in_area board.arrays own.buffer own.start bytes sound.sizes inside lies
 
   -- no count wraps
@@ -64,7 +66,7 @@ module _ (board : Board) (own : Filling) (bytes : List ℕ) (sound : IsSound boa
 
   pub IsSound-placed : IsOpen board.nic.view → 0 < length bytes → IsSound (record {
     arrays = record board.arrays {
-      area = stored board.arrays.area (off_of board.arrays.layout (next_place own (length bytes))) bytes;
+      area = stored board.arrays.area (begin_of board.arrays.layout own.buffer + own.start) bytes;
       pool = set board.arrays.pool own.buffer (get_or board.arrays.pool own.buffer 0 + 1);
     };
     nic = nic_at board.nic (placed board.nic.view own bytes);
@@ -77,7 +79,7 @@ module _ (board : Board) (own : Filling) (bytes : List ℕ) (sound : IsSound boa
         sizes = record {
           layout = sound.sizes.layout;
           places = sound.sizes.places;
-          area = length-stored board.arrays.area bytes (off_of board.arrays.layout (next_place own (length bytes))) in_area ∙ sound.sizes.area;
+          area = length-stored board.arrays.area bytes (begin_of board.arrays.layout own.buffer + own.start) in_area ∙ sound.sizes.area;
           pool = length-set board.arrays.pool own.buffer (get_or board.arrays.pool own.buffer 0 + 1) ∙ sound.sizes.pool;
           users = sound.sizes.users;
           listed = sound.sizes.listed;

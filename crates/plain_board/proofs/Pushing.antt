@@ -87,6 +87,12 @@ module _ (board : Board) (a : ℕ) (x : AppSide) (entry : Rqe) (sound : IsSound 
       ∙ get_or-set_same board.arrays.refills a ring_then r ring_there) in
       many ∙ ap (λ (r : Buffer Rqe). length r.items) is
 
+  pub ring-few : length (ring_in board.arrays.refills a).items < (ring_in board.arrays.refills a).capacity → length ring_then.items ≤ 256
+  ring-few room =
+      let ring = sound.relayed.refills a (buffer [] 0) ring_there in
+      let places = sound.sizes.places.1 in
+      simp length-append (omega (arith, room, ring.slots, places))
+
   refills-others : (k : ℕ) → k ≢ a → (get_or (set board.arrays.refills a ring_then) k (buffer [] 0)).items ≡ refills_of board.arrays k
   refills-others k ne = ap (λ (r : Buffer Rqe). r.items) (get_or-set_other board.arrays.refills a k ring_then (buffer [] 0) ne)
 

@@ -4,7 +4,7 @@ use Rattle.std.proofs.Common.{subst, arith}
 use Rattle.std.proofs.lemmas.List.{length-take, length-take-le, length-drop, get_or-take, get_or-drop, ext_get_or, drop-drop}
 use Rattle.zr_kinds.specs.declared.place.Place.{Place}
 use Rattle.zr_kinds.specs.declared.ring.Rqe.{Rqe}
-use Rattle.area_layout.specs.Layout.{total, begin_of, off_of, LiesIn}
+use Rattle.area_layout.specs.Layout.{total, begin_of, LiesIn}
 use Rattle.area_layout.proofs.Words.{in_order}
 use Rattle.board_face.specs.Sides.{IsApp, app_at}
 use Rattle.board_face.specs.Texts.{further}
@@ -83,7 +83,7 @@ module _ (board : Board) (a : ℕ) (x : AppSide) (place : Place) (sound : IsSoun
   lies = (loan-lies board a x sound here place out).0
 
   abbrev at : ℕ
-  at = off_of board.arrays.layout place
+  at = begin_of board.arrays.layout place.buffer + place.offset
 
   -- the bytes lie in the area
   pub bytes-there : (from n : ℕ) → from + n ≤ place.len → at + from + n ≤ length board.arrays.area

@@ -25,7 +25,7 @@ impl Contents {
         ensures layout { self.new.arrays.layout ≡ self.old.arrays.layout }
     {
         let place = loan.place();
-        let at = self.layout.off_of(&place) as usize + from as usize;
+        let at = self.layout.byte_of(&place) as usize + from as usize;
         load(self.area.as_slice(), at, into);
         note_at::<Brand, (Place, u32, &[u8])>(&mut self.apps, app as usize, (place, from, into));
     }

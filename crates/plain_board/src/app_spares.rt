@@ -59,7 +59,7 @@ impl Contents {
             offset: 0,
             len: bytes.len() as u32,
         };
-        let at = self.layout.off_of(&place) as usize;
+        let at = self.layout.byte_of(&place) as usize;
         store(&mut self.area, at, bytes);
         put(&mut self.filled, place.buffer as usize, place.len);
         note_at::<Brand, (Filling, &[u8])>(&mut self.apps, app as usize, (filling, bytes));

@@ -28,7 +28,7 @@ impl Contents {
             offset: filling.start,
             len: bytes.len() as u32,
         };
-        let at = self.layout.off_of(&place) as usize;
+        let at = self.layout.byte_of(&place) as usize;
         store(&mut self.area, at, bytes);
         raise(&mut self.pool, place.buffer as usize);
         let nic = &mut self.nic;

@@ -99,3 +99,61 @@ fn layouts_have_bounds(rt: HostRuntime) {
         assert_eq!(rt; found, fits, "{buffers} {reserves} {size}");
     }
 }
+
+/// Areas of 2 buffers of 1,024 bytes and 1 of 2,048, and 1 reserve: it lies in area 0, behind two buffers.
+#[test]
+fn offsets_name_areas(rt: HostRuntime) -> Result<(), Fail> {
+    let layout = Layout::of(&[(2, 1024), (1, 2048)], 1).ok_or("no layout")?;
+    assert_eq!(rt; layout.total(), 4);
+    assert_eq!(rt; layout.size_of(2), 2048);
+    assert_eq!(rt; layout.size_of(3), 1024);
+    let place = Place {
+        buffer: 2,
+        offset: 64,
+        len: 5,
+    };
+    assert_eq!(rt; layout.off_of(&place), 281_474_976_710_720);
+    let reserve = Place {
+        buffer: 3,
+        offset: 0,
+        len: 5,
+    };
+    assert_eq!(rt; layout.off_of(&reserve), 2048);
+    assert_eq!(rt; layout.first_word(0), 0);
+    assert_eq!(rt; layout.first_word(1), 128);
+    assert_eq!(rt; layout.first_word(2), 256);
+    assert_eq!(rt; layout.first_word(3), 512);
+    let area = 1 << 48;
+    for (off, buffer) in [
+        (area + 2047, Some(2)),
+        (area + 2048, None),
+        (3071, Some(3)),
+        (3072, None),
+        (2 * area, None),
+    ] {
+        let entry = Rqe {
+            off,
+            len: 5,
+            pad: 0,
+        };
+        assert_eq!(rt; layout.judge(&entry), buffer, "at {off}");
+    }
+    Ok(())
+}
+
+#[test]
+fn areas_have_bounds(rt: HostRuntime) {
+    let none: [(u32, u32); 0] = [];
+    assert!(rt; Layout::of(&none, 1).is_none());
+    assert!(rt; Layout::of(&[(1, 1024); 4], 8).is_some());
+    assert!(rt; Layout::of(&[(1, 1024); 5], 1).is_none());
+    assert!(rt; Layout::of(&[(1, 1024), (0, 1024)], 1).is_none());
+    assert!(rt; Layout::of(&[(1, 1024), (1, 1000)], 1).is_none());
+    assert!(rt; Layout::of(&[(1, 1024), (4095, 1024)], 1).is_some());
+    assert!(rt; Layout::of(&[(1, 1024), (4096, 1024)], 1).is_none());
+    // 67,108,864 bytes, and one buffer more.
+    assert!(rt; Layout::of(&[(1023, 65_536), (64, 1024)], 1).is_some());
+    assert!(rt; Layout::of(&[(1023, 65_536), (65, 1024)], 1).is_none());
+    assert!(rt; Layout::of(&[(1, 1024)], 0).is_none());
+    assert!(rt; Layout::of(&[(1, 1024)], 9).is_none());
+}

@@ -34,3 +34,21 @@ loop-buffer-preserved c =
     let more = IsTakenBelow-more _ _ _ _ _ _ _ c.loop-buffer.listed.items n h place user_there count_there
     (h.listed_len ∙ c.requires.listed) c.came_free.result (rw (owed, had) at is) in
     rw (c.list_if.ensures, c.user_index-user.ensures, owed, had) more
+
+pub overflow_sub-index_mut : goal.overflow_sub-index_mut
+overflow_sub-index_mut c =
+    let h = c.loop-buffer.invariant in
+    let layout = c.args.layout.now in
+    let n = c.loop-buffer.buffer in
+    let users = c.loop-buffer.users.items in
+    let pool = c.loop-buffer.pool.items in
+    let at = user_at layout c.args.app n in
+    let place : n < total layout = omega arith in
+    let user_there : at < length users = let row = mul-add-lt c.args.app (total layout) n layout.reserves c.requires.app place in omega (arith, h.users_len) in
+    let count_there : n < length pool = omega (arith, h.pool_len) in
+    let owed : c.index-owed.result.now ≡ get_or users at 0 = get_or_read users at c.index-owed.result.now user_there
+    (rw c.user_index-user.ensures at c.index-owed.ensures) 0 in
+    let had : c.index_mut-in-loop-buffer.result.now ≡ get_or pool n 0 = get_or_read pool n c.index_mut-in-loop-buffer.result.now count_there
+    c.index_mut-in-loop-buffer.ensures.value 0 in
+    let kept = h.above n (omega arith) in
+    rw (owed, had, kept.same_user, kept.same_count) (c.requires.few n place)

@@ -3,8 +3,8 @@ use Rattle.plain_board.proofs.AppFrames.{here-of, others-then}
 use Rattle.plain_board.proofs.SpareFilled.{spare-there, lies-in, fits-area, fits-token, IsSound-filled}
 use Rattle.plain_board.proofs.contents.Contents.fill.Goals as goal
 
-pub off_of-at-requires : goal.off_of-at-requires
-off_of-at-requires c =
+pub byte_of-at-requires : goal.byte_of-at-requires
+byte_of-at-requires c =
     let here = here-of _ c.args.app c.self.invariant.0 (rw (← c.self.view_is) at c.requires.app) in
     let out = rw (← c.self.view_is) at c.requires.out in
     rw c.filling_of-filling.ensures (lies-in _ c.args.app _ c.args.own.now c.self.invariant.0 here out c.args.bytes.now c.requires.empty c.requires.few)
@@ -13,7 +13,7 @@ pub store-requires : goal.store-requires
 store-requires c =
     let here = here-of _ c.args.app c.self.invariant.0 (rw (← c.self.view_is) at c.requires.app) in
     let out = rw (← c.self.view_is) at c.requires.out in
-    rw (c.off_of-at.ensures.value, c.filling_of-filling.ensures)
+    rw (c.byte_of-at.ensures.value, c.filling_of-filling.ensures)
     (fits-area _ c.args.app _ c.args.own.now c.self.invariant.0 here out c.args.bytes.now c.requires.empty c.requires.few)
 
 pub put-requires : goal.put-requires
@@ -33,7 +33,7 @@ invariant_of-self c =
     let here = here-of _ c.args.app c.self.invariant.0 (rw (← c.self.view_is) at c.requires.app) in
     let out = rw (← c.self.view_is) at c.requires.out in
     let stays = rw (← c.self.view_is) at c.requires.here in
-    rw (c.note_at.ensures, c.put.ensures, c.store.ensures, c.off_of-at.ensures.value, c.filling_of-filling.ensures) (
+    rw (c.note_at.ensures, c.put.ensures, c.store.ensures, c.byte_of-at.ensures.value, c.filling_of-filling.ensures) (
       IsSound-filled _ c.args.app _ c.args.own.now c.self.invariant.0 here out c.args.bytes.now c.requires.empty c.requires.few stays c.requires.some,
       c.self.invariant.1,
     )

@@ -1,11 +1,16 @@
 -- The buffer of a token has room for the text, and fewer holders than a count may have.
-use Rattle.plain_board.proofs.PlacedText.{in_area, is_few, IsSound-placed}
+use Rattle.plain_board.proofs.PlacedText.{lies-in, in_area, is_few, IsSound-placed}
 use Rattle.plain_board.proofs.contents.Contents.place.Goals as goal
+
+pub byte_of-at-requires : goal.byte_of-at-requires
+byte_of-at-requires c =
+    let out = rw (← c.self.view_is) at c.requires.out in
+    rw c.filling_of-filling.ensures (lies-in _ c.args.own.now c.args.bytes.now c.self.invariant.0 out c.requires.fits)
 
 pub store-requires : goal.store-requires
 store-requires c =
     let out = rw (← c.self.view_is) at c.requires.out in
-    rw (c.off_of-at.ensures.value, c.filling_of-filling.ensures) (in_area _ c.args.own.now c.args.bytes.now c.self.invariant.0 out c.requires.fits)
+    rw (c.byte_of-at.ensures.value, c.filling_of-filling.ensures) (in_area _ c.args.own.now c.args.bytes.now c.self.invariant.0 out c.requires.fits)
 
 pub raise-requires-clause-fits : goal.raise-requires-clause-fits
 raise-requires-clause-fits c =
@@ -16,5 +21,5 @@ pub invariant_of-self : goal.invariant_of-self
 invariant_of-self c =
     let out = rw (← c.self.view_is) at c.requires.out in
     let running = rw (← c.self.view_is) at c.requires.open in
-    rw (c.note.ensures, c.store.ensures, c.raise.ensures, c.off_of-at.ensures.value, c.filling_of-filling.ensures)
+    rw (c.note.ensures, c.store.ensures, c.raise.ensures, c.byte_of-at.ensures.value, c.filling_of-filling.ensures)
     (IsSound-placed _ c.args.own.now c.args.bytes.now c.self.invariant.0 out c.requires.fits running c.requires.some, c.self.invariant.1)

@@ -1,9 +1,9 @@
 -- Where the ring is full nothing moves. Else the entry is the last on its way.
-use Rattle.std.proofs.Common.{refl}
+use Rattle.std.proofs.Common.{refl, arith}
 use Rattle.board_face.specs.declared.views.app.AppLook.TheVariants.{RefillInUse}
 use Rattle.plain_board.proofs.AppFrames.{here-of, others-then, side-then}
 use Rattle.plain_board.proofs.AppTold.{IsSound-looked}
-use Rattle.plain_board.proofs.Pushing.{IsSound-pushed, ring-length, told-full}
+use Rattle.plain_board.proofs.Pushing.{IsSound-pushed, ring-length, ring-few, told-full}
 use Rattle.plain_board.proofs.NotNow.{full-written}
 use Rattle.plain_board.proofs.contents.Contents.push_raw.Goals as goal
 
@@ -38,3 +38,11 @@ pub returns-then-not-put_back-clause-full : goal.returns-then-not-put_back-claus
 returns-then-not-put_back-clause-full c =
     let here = here-of _ c.args.app c.self.invariant.0 (rw (← c.self.view_is) at c.requires.app) in
     rw (← c.self.view_is) (full-written _ c.args.app _ c.self.invariant.0 here c.if-not-put_back.ensures.slots.1)
+
+pub overflow_cast-entries : goal.overflow_cast-entries
+overflow_cast-entries c =
+    let here = here-of _ c.args.app c.self.invariant.0 (rw (← c.self.view_is) at c.requires.app) in
+    let many = ring-length _ c.args.app _ c.args.entry c.self.invariant.0 here _ _ _ c.if-not-put_back.ensures.slots c.index.ensures c.len-entries.ensures.len
+    in
+    let few = ring-few _ c.args.app _ c.args.entry c.self.invariant.0 here (c.if-not-put_back.ensures.room refl) in
+    omega (arith, many, few)

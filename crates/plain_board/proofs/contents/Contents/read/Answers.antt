@@ -4,8 +4,8 @@ use Rattle.plain_board.proofs.AppFrames.{here-of, others-then}
 use Rattle.plain_board.proofs.Reading.{IsSound-read, bytes-there, shows-copy, lies}
 use Rattle.plain_board.proofs.contents.Contents.read.Goals as goal
 
-pub off_of-requires : goal.off_of-requires
-off_of-requires c =
+pub byte_of-requires : goal.byte_of-requires
+byte_of-requires c =
     let within = rw (← c.self.view_is) at c.requires.app in
     let out = rw (← c.self.view_is) at c.requires.out in
     let here = here-of _ c.args.app c.self.invariant.0 within in
@@ -16,7 +16,7 @@ load-requires c =
     let within = rw (← c.self.view_is) at c.requires.app in
     let out = rw (← c.self.view_is) at c.requires.out in
     let here = here-of _ c.args.app c.self.invariant.0 within in
-    rw (c.as_slice.ensures.value, c.off_of.ensures.value, c.place-place.ensures)
+    rw (c.as_slice.ensures.value, c.byte_of.ensures.value, c.place-place.ensures)
     (bytes-there _ c.args.app _ c.args.loan.now c.self.invariant.0 here out c.args.from (length c.args.into.now) c.requires.within)
 
 pub invariant_of-self : goal.invariant_of-self
@@ -24,7 +24,7 @@ invariant_of-self c =
     let within = rw (← c.self.view_is) at c.requires.app in
     let out = rw (← c.self.view_is) at c.requires.out in
     let here = here-of _ c.args.app c.self.invariant.0 within in
-    rw (c.note_at.ensures, c.load.ensures, c.as_slice.ensures.value, c.off_of.ensures.value, c.place-place.ensures)
+    rw (c.note_at.ensures, c.load.ensures, c.as_slice.ensures.value, c.byte_of.ensures.value, c.place-place.ensures)
     (IsSound-read _ c.args.app _ c.args.loan.now c.self.invariant.0 here out c.args.from (length c.args.into.now) c.requires.within, c.self.invariant.1)
 
 pub returns-clause-copied : goal.returns-clause-copied
@@ -32,7 +32,7 @@ returns-clause-copied c =
     let within = rw (← c.self.view_is) at c.requires.app in
     let out = rw (← c.self.view_is) at c.requires.out in
     let here = here-of _ c.args.app c.self.invariant.0 within in
-    rw (← c.self.view_is, c.load.ensures, c.as_slice.ensures.value, c.off_of.ensures.value, c.place-place.ensures)
+    rw (← c.self.view_is, c.load.ensures, c.as_slice.ensures.value, c.byte_of.ensures.value, c.place-place.ensures)
     (shows-copy _ c.args.app _ c.args.loan.now c.self.invariant.0 here out c.args.from (length c.args.into.now) c.requires.within)
 
 pub returns-clause-others : goal.returns-clause-others
