@@ -127,7 +127,9 @@ fn callers_run(rt: HostRuntime) -> Result<(), Fail> {
     let mut nic = board.nic(&mut desk).ok_or("no seat of the card")?;
     let mut seat = board.app(&mut desk, 0).ok_or("no seat of the application")?;
     nic.sweep(0);
-    let mut own = nic.take().ok_or("nothing cached")?;
+    let Some(mut own) = nic.take() else {
+        return Err(Fail::from("nothing cached"));
+    };
     let piece = nic.place(&mut own, b"hello");
     let note = Note {
         frame: 1,

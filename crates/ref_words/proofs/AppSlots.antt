@@ -52,6 +52,7 @@ module _ (setting : Setting) (words : Words) (nic : NicSide) (apps : List AppSid
           none_raw = r.none_raw;
         };
         notes = rings.notes;
+        left = rings.left;
       })
       (λ k x is ne. rule.rings k x is))
   look-entry false flag =
@@ -89,11 +90,13 @@ module _ (setting : Setting) (words : Words) (nic : NicSide) (apps : List AppSid
           none_raw = r.none_raw;
         });
         notes = rings.notes;
+        left = rings.left;
       })
       (λ k x is ne. let all = rule.rings k x is in
       record {
         refills = rw (ring-other words.refills a s i n x.view.app (λ e. ne (sym is.number ∙ e))) all.refills;
         notes = all.notes;
+        left = all.left;
       }))
 
   -- ---- its note ring
@@ -104,7 +107,7 @@ module _ (setting : Setting) (words : Words) (nic : NicSide) (apps : List AppSid
       RefRule-app setting words nic apps a app rule here (side_slot_looked app true) refl (rule.sides.returns a app here).settled
       (rule.sides.returns a app here).quiet (λ e. e) words (no-word setting words rule.sizes)
       (rings-others setting words nic apps a app (side_slot_looked app true) here
-      (record { refills = rings.refills; notes = ringing.sees-full _ _ _ _ _ _ _ _ rings.notes (flag refl) })
+      (record { refills = rings.refills; notes = ringing.sees-full _ _ _ _ _ _ _ _ rings.notes (flag refl); left = rings.left })
       (λ k x is ne. rule.rings k x is))
   look-note false flag =
       RefRule-app setting words nic apps a app rule here (side_slot_looked app false) refl (rule.sides.returns a app here).settled
@@ -119,7 +122,7 @@ module _ (setting : Setting) (words : Words) (nic : NicSide) (apps : List AppSid
       RefRule-app setting words nic apps a app rule here now refl (rule.sides.returns a app here).settled
       (rule.sides.returns a app here).quiet (λ e. e) words (no-word setting words rule.sizes)
       (rings-others setting words nic apps a app now here
-      (record { refills = rings.refills; notes = ringing.loads _ _ _ _ _ _ _ _ rings.notes saw more })
+      (record { refills = rings.refills; notes = ringing.loads _ _ _ _ _ _ _ _ rings.notes saw more; left = rings.left })
       (λ k x is ne. rule.rings k x is))
 
   -- ---- by what the flag says

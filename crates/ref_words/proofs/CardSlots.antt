@@ -24,12 +24,13 @@ use Rattle.board_face.specs.declared.views.app.AppSide.{AppSide}
 use Rattle.word_rings.specs.Slots.{note_width, refill_width, entry_of, entry_body, pair, low_of, high_of}
 use Rattle.ref_words.specs.Words.{Words, slot_word, with_note}
 use Rattle.ref_words.specs.Sides.{IsInHand, IsFirst}
-use Rattle.ref_words.specs.Rings.{IsRing, EntryFits, words_of_entry, words_of_note, takes_entry_at, writes_note_at}
+use Rattle.ref_words.specs.Rings.{IsRing, AreLeft, EntryFits, words_of_entry, words_of_note, takes_entry_at, writes_note_at}
 use Rattle.ref_words.specs.SlotLaws.{refill_words_at, note_words_at}
 use Rattle.ref_words.specs.Rule.{RefRule}
 use Rattle.board_face.proofs.SideLemmas.{IsApp-at}
 use Rattle.ref_words.proofs.InHand.{some-is, if-none}
 use Rattle.ref_words.proofs.Ringing as ringing
+use Rattle.ref_words.proofs.LeftWords as left-words
 use Rattle.ref_words.proofs.RingSteps.{AllRings, rings-card}
 use Rattle.ref_words.proofs.RingMoves.{slot-here, slot-other, rings-parts}
 use Rattle.ref_words.proofs.SlotWords.{ring-here, ring-other, sizes-note}
@@ -68,10 +69,12 @@ module _ (setting : Setting) (words : Words) (nic : NicSide) (apps : List AppSid
           none_raw = r.none_raw;
         });
         notes = rw (sent, notes) all.notes;
+        left = rw (sent, notes) all.left;
       })
       (λ k x is ne. let all = rule.rings k x is in record {
         refills = rw (dealt, slots, slot-other nic.inside.refill_slots a slot x.view.app (λ e. ne (sym is.number ∙ e))) all.refills;
         notes = rw (sent, notes) all.notes;
+        left = rw (sent, notes) all.left;
       })
 
   look-entry : (full : Bool) → (full ≡ true → slot_word words.refills a (takes_entry_at setting nic a) 0 ≡ 1)
@@ -136,23 +139,26 @@ module _ (setting : Setting) (words : Words) (nic : NicSide) (apps : List AppSid
       → now.inside.refill_slots ≡ nic.inside.refill_slots → now.inside.note_slots ≡ set nic.inside.note_slots a slot
       → words'.refills ≡ words.refills → ((k : ℕ) → k ≢ a → get_or words'.notes k [] ≡ get_or words.notes k [])
       → ((x : AppSide) → IsApp apps a x
-      → IsRing note_width words_of_note setting.places (get_or words'.notes a []) (sent_to a nic) (length x.view.taken) slot x.inside.note_slot)
+      → IsRing note_width (words_of_note setting) setting.places (get_or words'.notes a []) (sent_to a nic) (length x.view.taken) slot x.inside.note_slot
+      × AreLeft note_width (words_of_note setting) setting.places (get_or words'.notes a []) (sent_to a nic) (length x.view.taken) slot)
       → AllRings setting words' now apps
   note-moves words' now slot dealt sent refills slots same others ring =
       let there : a < length nic.inside.note_slots = omega (arith, is_app, rule.sides.slots.notes) in
       rings-parts setting words' now apps a
       (λ x is. let all = rule.rings a x is in record {
         refills = rw (dealt, refills, same) all.refills;
-        notes = rw (is.number, sent, slots, slot-here nic.inside.note_slots a slot there) (ring x is);
+        notes = rw (is.number, sent, slots, slot-here nic.inside.note_slots a slot there) (ring x is).0;
+        left = rw (is.number, sent, slots, slot-here nic.inside.note_slots a slot there) (ring x is).1;
       })
       (λ k x is ne. let all = rule.rings k x is in let other : x.view.app ≢ a = λ e. ne (sym is.number ∙ e) in record {
         refills = rw (dealt, refills, same) all.refills;
         notes = rw (sent, slots, slot-other nic.inside.note_slots a slot x.view.app other, others x.view.app other) all.notes;
+        left = rw (sent, slots, slot-other nic.inside.note_slots a slot x.view.app other, others x.view.app other) all.left;
       })
 
-  look-note : (free : Bool) → (free ≡ true → slot_word words.notes a (writes_note_at setting nic a) 0 ≡ 0)
+  look-note : (next_slot nic.inside.note_slots a).words ≡ [] → (free : Bool) → (free ≡ true → slot_word words.notes a (writes_note_at setting nic a) 0 ≡ 0)
       → RefRule setting words (side_note_looked nic a free) apps
-  look-note true flag =
+  look-note none true flag =
       RefRule-card setting words nic apps rule (side_note_looked nic a true) refl
       (length-set nic.inside.note_slots a (seen_with [])) refl (λ x c. refl) (λ x c. refl) words (no-word setting words rule.sizes)
       (λ it is. let h = rule.sides.hand it is in record {
@@ -164,8 +170,11 @@ module _ (setting : Setting) (words : Words) (nic : NicSide) (apps : List AppSid
         stray = h.stray;
       })
       (note-moves words (side_note_looked nic a true) (seen_with []) refl refl refl refl refl (λ k ne. refl)
-      (λ x is. ringing.sees-free _ _ _ _ _ _ _ _ (rw is.number at (rule.rings a x is).notes) (flag refl)))
-  look-note false flag =
+      (λ x is. let all = rule.rings a x is in let ring = rw is.number at all.notes in (
+        ringing.sees-free _ _ _ _ _ _ _ _ ring (flag refl),
+        left-words.looks _ _ _ _ _ _ _ _ ring (rw is.number at all.left) none,
+      )))
+  look-note none false flag =
       RefRule-card setting words nic apps rule (side_note_looked nic a false) refl refl refl (λ x c. refl) (λ x c. refl) words
       (no-word setting words rule.sizes)
       (λ it is. let h = rule.sides.hand it is in record {
@@ -178,8 +187,8 @@ module _ (setting : Setting) (words : Words) (nic : NicSide) (apps : List AppSid
       })
       (rings-card setting words nic (side_note_looked nic a false) apps refl refl refl refl rule.rings)
 
-  pub looked-note : RefRule setting words (side_note_looked nic a (slot_word words.notes a (writes_note_at setting nic a) 0 == 0)) apps
-  looked-note = look-note (slot_word words.notes a (writes_note_at setting nic a) 0 == 0) (λ e. eqb-true _ 0 e)
+  pub looked-note : (next_slot nic.inside.note_slots a).words ≡ [] → RefRule setting words (side_note_looked nic a (slot_word words.notes a (writes_note_at setting nic a) 0 == 0)) apps
+  looked-note none = look-note none (slot_word words.notes a (writes_note_at setting nic a) 0 == 0) (λ e. eqb-true _ 0 e)
 
   pub store-note : (n : ℕ) → (next_slot nic.inside.note_slots a).seen ≡ true → note_words_at nic a < note_width
       → RefRule setting (with_note words a (writes_note_at setting nic a) (note_words_at nic a) n) (side_note_stored nic a n) apps
@@ -207,8 +216,10 @@ module _ (setting : Setting) (words : Words) (nic : NicSide) (apps : List AppSid
       })
       (note-moves (with_note words a s i n) now (one_more (next_slot nic.inside.note_slots a) n) refl refl refl refl refl
       (λ k ne. ring-other words.notes a s i n k ne)
-      (λ x is. rw (ring-here words.notes a s i n there)
-      (ringing.stores _ _ _ _ _ _ _ _ (rw is.number at (rule.rings a x is).notes) n saw more)))
+      (λ x is. let all = rule.rings a x is in let ring = rw is.number at all.notes in (
+        rw (ring-here words.notes a s i n there) (ringing.stores _ _ _ _ _ _ _ _ ring n saw more),
+        rw (ring-here words.notes a s i n there) (left-words.stores _ _ _ _ _ _ _ _ ring (rw is.number at all.left) n saw),
+      )))
     where
       places_some : 0 < setting.places
       places_some =

@@ -199,6 +199,7 @@ module _ (setting : Setting) (words : Words) (nic : NicSide) (apps : List AppSid
           none_raw = all.refills.none_raw;
         });
         notes = all.notes;
+        left = all.left;
       })
       (λ k x is ne. let all = rule.rings k x is in let apart : x.view.app ≢ a = λ e. ne (sym is.number ∙ e) in record {
         refills = rw (
@@ -207,6 +208,7 @@ module _ (setting : Setting) (words : Words) (nic : NicSide) (apps : List AppSid
           slot-other nic.inside.refill_slots a unseen x.view.app apart,
         ) all.refills;
         notes = all.notes;
+        left = all.left;
       })
 
   places_some : 0 < setting.places

@@ -130,7 +130,7 @@ module _ (setting : Setting) (words : Words) (nic : NicSide) (apps : List AppSid
       RefRule-looked setting words nic apps a app rule here (side_note_sought app true) refl r.settled r.quiet (λ e. e)
       (rule.sides.reserves a app here).unheld words (no-word setting words rule.sizes)
       (rings-others setting words nic apps a app (side_note_sought app true) here
-      (record { refills = rings.refills; notes = ringing.sees-full _ _ _ _ _ _ _ _ rings.notes (is refl) })
+      (record { refills = rings.refills; notes = ringing.sees-full _ _ _ _ _ _ _ _ rings.notes (is refl); left = rings.left })
       (λ k x it ne. rule.rings k x it))
   seeks false is = finds-none app.inside.end_seen app.inside.end_unseen
 

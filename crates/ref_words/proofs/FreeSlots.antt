@@ -52,7 +52,7 @@ module _ (setting : Setting) (words : Words) (nic : NicSide) (apps : List AppSid
         RefRule-app setting words nic apps a app rule here (side_slot_free app s) refl (rule.sides.returns a app here).settled
         (rule.sides.returns a app here).quiet (λ e. e) words (no-word setting words rule.sizes)
         (rings-others setting words nic apps a app (side_slot_free app s) here
-        (record { refills = record { ring = r.ring; free_slots = all-free; raw_slot = r.raw_slot; none_raw = r.none_raw }; notes = rings.notes })
+        (record { refills = record { ring = r.ring; free_slots = all-free; raw_slot = r.raw_slot; none_raw = r.none_raw }; notes = rings.notes; left = rings.left })
         (λ k x is ne. rule.rings k x is))
 
     -- an entry on its way would lie in a slot whose flag is 1
@@ -76,7 +76,7 @@ module _ (setting : Setting) (words : Words) (nic : NicSide) (apps : List AppSid
         RefRule-app setting words nic apps a app rule here (side_fell_quiet app s) refl (rule.sides.returns a app here).settled
         (λ e. nothing all) (λ e. refl) words (no-word setting words rule.sizes)
         (rings-others setting words nic apps a app (side_fell_quiet app s) here
-        (record { refills = record { ring = r.ring; free_slots = all-free; raw_slot = r.raw_slot; none_raw = r.none_raw }; notes = rings.notes })
+        (record { refills = record { ring = r.ring; free_slots = all-free; raw_slot = r.raw_slot; none_raw = r.none_raw }; notes = rings.notes; left = rings.left })
         (λ k x is ne. rule.rings k x is))
 
   any : (s : ℕ) → s < setting.places → (free : Bool) → (free ≡ true → slot_word words.refills a s 0 ≡ 0)

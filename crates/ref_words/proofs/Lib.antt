@@ -5,6 +5,7 @@ pub mod Counting
 pub mod Frees
 pub mod RingSteps
 mod Ringing
+pub mod LeftWords
 pub mod PoolSteps
 pub mod CardSteps
 pub mod SideSteps

@@ -2,8 +2,8 @@
 use Rattle.std.proofs.Common.{◌≡◌, ℕ, zero, suc, ◌+◌, ◌<◌, ◌≤◌, Bool, true, false, List}
 use Rattle.std.proofs.Common.{[], ◌∷◌, ◌++◌, length, map, take, drop}
 use Rattle.std.proofs.Common.{set, get_or, refl, ap, sym, ◌∙◌, arith, subst, inr, mod-lt}
-use Rattle.std.specs.Prelude.{◌==◌, All, filter, if◌then◌else◌}
-use Rattle.std.proofs.lemmas.List.{length_push}
+use Rattle.std.specs.Prelude.{◌==◌, ◌*◌, All, filter, if◌then◌else◌, min}
+use Rattle.std.proofs.lemmas.List.{length_push, take-append-drop}
 use Rattle.std.proofs.lemmas.List.Elements.{All-nil, All-cons, All-head, All-tail}
 use Rattle.std.proofs.lemmas.List.Sums.{sum_by-cons}
 use Rattle.board_face.specs.Texts.{unsplit_bytes, IsSplitNote, IsLinearNote}
@@ -31,13 +31,16 @@ use Rattle.board_face.proofs.MadeLastLemmas.{IsMadeLast-app}
 use Rattle.board_face.proofs.Parts.{app_count}
 use Rattle.board_face.proofs.PlaceTallies.{app_places}
 use Rattle.board_face.proofs.PlacesByEvent.{app_places-took_note, app_places-took_linear}
-use Rattle.word_rings.specs.Slots.{note_width, note_of, linear_of, words_of, bytes_of, pair, flags_of}
-use Rattle.word_rings.proofs.NoteSlots.{note_back}
+use Rattle.word_rings.specs.Slots.{note_width, note_fields, note_of, linear_of, words_of, bytes_of, pair, flags_of}
+use Rattle.word_rings.specs.Texts.{text_count}
+use Rattle.word_rings.proofs.NoteSlots.{note_back, note-front, bytes-front}
 use Rattle.word_rings.proofs.Words.{padded_words, text_back}
 use Rattle.ref_words.specs.Words.{Words, listed_in, with_note}
-use Rattle.ref_words.specs.Rings.{AreRings, EntryFits, NoteFits, words_of_note, linear_bytes, takes_note_at}
+use Rattle.ref_words.specs.Rings.{AreRings, EntryFits, NoteFits, area_of_note, words_of_note, linear_bytes, takes_note_at}
+use Rattle.ref_words.specs.SlotLaws.{loaded_note, loaded_bytes, note_loads}
 use Rattle.ref_words.specs.Rule.{RefRule}
 use Rattle.ref_words.proofs.Ringing as ringing
+use Rattle.ref_words.proofs.LeftWords as left-words
 use Rattle.ref_words.proofs.RingSteps.{AllRings, rings-others}
 use Rattle.ref_words.proofs.SlotWords.{ring-here, ring-other, sizes-note}
 use Rattle.ref_words.proofs.SlotSteps.{DifferInSlots, RefRule-slot}
@@ -49,11 +52,12 @@ use Rattle.ref_words.proofs.Dealing.{take-next, map-push}
 -- ---- what the words of a slot tell
 
 -- the note of a slot is the one whose words it has
-note-read : (s : SentNote) → NoteFits s → note_of (1 ∷ words_of_note s) ≡ s.note
-note-read s fits =
+note-read : (setting : Setting) (s : SentNote) → NoteFits s → note_of (1 ∷ words_of_note setting s) ≡ s.note
+note-read setting s fits =
     let n = s.note in
     let f1 = fits.frame in let f2 = fits.base in let f3 = fits.at in let f4 = fits.buffer in let f5 = fits.len in
-    note_back n (pair n.frame n.flow) (pair n.base n.seq) (pair n.at n.total) (pair n.place.buffer n.place.offset) (pair n.place.len (flags_of n)) 0
+    note_back n (pair n.frame n.flow) (pair n.base n.seq) (pair n.at n.total) (pair n.place.buffer n.place.offset) (pair n.place.len (flags_of n))
+    (area_of_note setting n)
     (words_of 32 (linear_bytes s)) (omega arith) (omega arith) (omega arith) (omega arith) (omega arith) (omega arith) (omega arith) (omega arith)
     (omega arith) (omega arith)
 
@@ -67,6 +71,20 @@ bytes-read xs few small =
     below [] small i = omega arith
     below (x ∷ xs) small zero = small 0 0 (omega arith)
     below (x ∷ xs) small (suc i) = below xs (λ k d less. small (suc k) d (omega arith)) i
+
+-- the fields are loaded, and of an unsplit note its bytes
+fields-loaded : (note : Note) (n : ℕ) → note_loads note ≤ 1 + n → 6 ≤ n
+fields-loaded note n enough = by note.split enough
+  where
+    by : (split : Bool) → (if split then note_fields else min note_width (note_fields + text_count note.total)) ≤ 1 + n → 6 ≤ n
+    by true h = omega arith
+    by false h = omega arith
+
+bytes-loaded : (note : Note) (n : ℕ) → note.split ≡ false → note.total ≤ 256 → note_loads note ≤ 1 + n → note.total + 48 ≤ 8 * n
+bytes-loaded note n split most enough =
+    let h : min note_width (note_fields + text_count note.total) ≤ 1 + n =
+    subst (λ c. (if c then note_fields else min note_width (note_fields + text_count note.total)) ≤ 1 + n) split enough in
+    omega arith
 
 -- a note more has no fewer bytes
 bytes-more : (ns : List Note) (n : Note) → unsplit_bytes ns ≤ unsplit_bytes (ns ++ n ∷ [])
@@ -163,10 +181,12 @@ module _ (setting : Setting) (words : Words) (nic : NicSide) (apps : List AppSid
         (record {
           refills = rings.refills;
           notes = rw (ring-here words.notes a s 0 0 inside, many) (ringing.frees _ _ _ _ _ _ _ _ rings.notes saw);
+          left = rw (ring-here words.notes a s 0 0 inside, many) (left-words.frees _ _ _ _ _ _ _ _ rings.notes rings.left none_sent saw);
         })
         (λ j x it ne. let all = rule.rings j x it in record {
           refills = all.refills;
           notes = rw (ring-other words.notes a s 0 0 x.view.app (λ e. ne (sym it.number ∙ e))) all.notes;
+          left = rw (ring-other words.notes a s 0 0 x.view.app (λ e. ne (sym it.number ∙ e))) all.left;
         })
 
     -- it has more bytes in unsplit notes than before, if any
@@ -241,21 +261,33 @@ module _ (setting : Setting) (words : Words) (nic : NicSide) (apps : List AppSid
 
   -- ---- what the words that were loaded tell of
 
-  module _ (all : 1 + length app.inside.note_slot.words ≡ note_width) where
+  module _ (enough : note_loads (loaded_note app) ≤ 1 + length app.inside.note_slot.words) where
     fits : NoteFits next
     fits = All-left NoteFits (λ (s : SentNote). s.app == a) nic.view.sent rule.sides.notes k none_sent there
 
     proper : IsProper next
     proper = All-left IsProper (λ (s : SentNote). s.app == a) nic.view.sent rule.sides.proper k none_sent there
 
-    words-are : app.inside.note_slot.words ≡ words_of_note next
-    words-are = ringing.has-next _ _ _ _ _ _ _ _ rings.notes none_sent saw all
+    -- the words that were loaded, and the others
+    abbrev loaded : List ℕ
+    loaded = app.inside.note_slot.words
+
+    abbrev others : List ℕ
+    others = drop (length loaded) (words_of_note setting next)
+
+    words-are : words_of_note setting next ≡ loaded ++ others
+    words-are =
+        sym (take-append-drop (length loaded) (words_of_note setting next))
+        ∙ ap (λ ws. ws ++ others) (ringing.has-front _ _ _ _ _ _ _ _ rings.notes none_sent saw)
 
     abbrev note : Note
-    note = note_of (1 ∷ app.inside.note_slot.words)
+    note = loaded_note app
+
+    fields : 6 ≤ length loaded
+    fields = fields-loaded note (length loaded) enough
 
     note-is : note ≡ next.note
-    note-is = ap (λ ws. note_of (1 ∷ ws)) words-are ∙ note-read next fits
+    note-is = sym (note-front loaded others fields) ∙ (ap (λ ws. note_of (1 ∷ ws)) (sym words-are) ∙ note-read setting next fits)
 
     pub is-next : IsNext nic app note
     is-next = record { next = next; rest = drop (suc k) (sent_to a nic); way = way; same = sym note-is }
@@ -279,19 +311,21 @@ module _ (setting : Setting) (words : Words) (nic : NicSide) (apps : List AppSid
         taken-split sent n e split' = ap (λ c. note_with sent.note (if c then [] else sent.bytes)) split' ∙ ap (λ (m : Note). note_with m []) e
 
     pub takes-linear : note.split ≡ false → RefRule setting (with_note words a (takes_note_at setting app) 0 0) nic
-        (set apps a (side_took_linear app note (take note.total (linear_of (1 ∷ app.inside.note_slot.words)))))
+        (set apps a (side_took_linear app note (loaded_bytes app)))
     takes-linear split =
         let theirs : next.note.split ≡ false = ap (λ (n : Note). n.split) (sym note-is) ∙ split in
         let tells = proper.linear theirs in
         let small = fits.bytes theirs in
         let travels : linear_bytes next ≡ next.bytes = ap (λ c. if c then [] else next.bytes) theirs in
-        let read : take note.total (linear_of (1 ∷ app.inside.note_slot.words)) ≡ next.bytes =
-        ap (λ (n : Note). take n.total (linear_of (1 ∷ app.inside.note_slot.words))) note-is
-        ∙ (ap (λ ws. take next.note.total (linear_of (1 ∷ ws))) words-are
+        let most : note.total ≤ 256 = let few = tells.0.few_bytes in omega (arith, ap (λ (n : Note). n.total) note-is) in
+        let read : loaded_bytes app ≡ next.bytes =
+        sym (bytes-front note.total loaded others fields (bytes-loaded note (length loaded) split most enough))
+        ∙ (ap (λ ws. take note.total (linear_of (1 ∷ ws))) (sym words-are)
+        ∙ (ap (λ (n : Note). take n.total (bytes_of (words_of 32 (linear_bytes next)))) note-is
         ∙ (ap (λ xs. take next.note.total (bytes_of (words_of 32 xs))) travels
         ∙ (ap (λ m. take m (bytes_of (words_of 32 next.bytes))) (sym tells.1)
-        ∙ bytes-read next.bytes (let most = tells.0.few_bytes in omega (arith, tells.1)) small))) in
-        let bytes = take note.total (linear_of (1 ∷ app.inside.note_slot.words)) in
+        ∙ bytes-read next.bytes (let few = tells.0.few_bytes in omega (arith, tells.1)) small)))) in
+        let bytes = loaded_bytes app in
         RefRule-taken (side_took_linear app note bytes) (record { note = note; bytes = bytes }) (record {
           same = refl;
           places = λ b test. omega (arith, app_places-took_linear b test nic app note bytes is-next split);

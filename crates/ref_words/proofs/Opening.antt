@@ -1,7 +1,7 @@
 -- A board that was just opened.
 use Rattle.std.proofs.Common.{◌≡◌, ⊎_elim, ℕ, zero, suc, ◌+◌, ◌-◌, ◌*◌, ◌/◌, ◌%◌, ◌<◌, ◌≤◌}
 use Rattle.std.proofs.Common.{List, [], ◌∷◌, length, get_or}
-use Rattle.std.proofs.Common.{mod-lt, replicate, length-drop, refl, ap, sym, ◌∙◌, arith, subst, length-append}
+use Rattle.std.proofs.Common.{mod-lt, replicate, drop, length-drop, refl, ap, sym, ◌∙◌, arith, subst, length-append}
 use Rattle.std.specs.Prelude.{true, ◌==◌, min, All}
 use Rattle.std.specs.Int.{bit_at}
 use mathlib.Core.Option.{some, some-injective, some-ne-none}
@@ -30,7 +30,7 @@ use Rattle.ref_words.specs.Words.{AreSlots, opened_words, free_list, free_word, 
 use Rattle.word_rings.specs.Slots.{note_width, refill_width}
 use Rattle.ref_words.specs.Seated.{Seated, no_role, side_at}
 use Rattle.ref_words.specs.Sides.{HasScrubLists, HasFreeReserve, IsDealtInOrder, IsTakenInOrder, HasNoneOwed, IsScrubbedSoFar}
-use Rattle.ref_words.specs.Rings.{slot_of, IsRing, AreRings, EntryFits, words_of_entry, words_of_note}
+use Rattle.ref_words.specs.Rings.{slot_of, IsRing, AreLeft, left_for, AreRings, EntryFits, words_of_entry, words_of_note}
 use Rattle.ref_words.specs.Rule.{RefRule}
 
 module _ (setting : Setting) where
@@ -140,6 +140,19 @@ module _ (setting : Setting) where
       slot-is : (k : ℕ) → slot_of setting.places (replicate setting.places (replicate width 0)) k ≡ replicate width 0
       slot-is k = get_or-replicate setting.places (k % setting.places) (replicate width 0) [] (mod-lt k places_some)
 
+  empty-left : {X : Type 0} (width : ℕ) (body : X → List ℕ) → 0 < setting.places
+      → AreLeft width body setting.places (replicate setting.places (replicate width 0)) [] 0 unseen
+  empty-left width body places_some = record { next = λ less. zeros 0 less; others = λ k from to. zeros k to }
+    where
+      zeros : (k : ℕ) → k < 0 + setting.places
+          → drop 1 (slot_of setting.places (replicate setting.places (replicate width 0)) k) ≡ left_for width body setting.places [] k
+      zeros k less =
+          let none = drop 1 (replicate width 0) in
+          let turn = replicate setting.places none in
+          ap (drop 1) (get_or-replicate setting.places (k % setting.places) (replicate width 0) [] (mod-lt k places_some))
+          ∙ (sym (get_or-replicate setting.places k none [] (omega arith))
+          ∙ sym (get_or_append_left turn [] [] k (omega (arith, length-replicate setting.places none))))
+
   rings : 0 < setting.places → (a : ℕ) → a < apps_of setting → AreRings setting (opened_words setting) (new_nic setting) (new_app setting a)
   rings places_some a small =
       let refills : get_or (opened_words setting).refills a [] ≡ replicate setting.places (replicate refill_width 0) =
@@ -154,7 +167,8 @@ module _ (setting : Setting) where
           raw_slot = λ s e. absurd (let none : ⊥ = cc in none);
           none_raw = λ e. All-nil _;
         });
-        notes = rw (notes, ends) (empty-ring note_width words_of_note places_some);
+        notes = rw (notes, ends) (empty-ring note_width (words_of_note setting) places_some);
+        left = rw (notes, ends) (empty-left note_width (words_of_note setting) places_some);
       }
 
   pub rule : IsLayout setting.layout → 0 < setting.places → RefRule setting (opened_words setting) (new_nic setting) apps

@@ -18,7 +18,7 @@ AllRings setting words nic apps = (a : ℕ) (app : AppSide) → IsApp apps a app
 pub rings-words : (setting : Setting) (words words' : Words) (nic : NicSide) (apps : List AppSide) → words'.refills ≡ words.refills
     → words'.notes ≡ words.notes → AllRings setting words nic apps → AllRings setting words' nic apps
 rings-words setting words words' nic apps refills notes rings a app here =
-    let all = rings a app here in record { refills = rw refills all.refills; notes = rw notes all.notes }
+    let all = rings a app here in record { refills = rw refills all.refills; notes = rw notes all.notes; left = rw notes all.left }
 
 -- the card's side changed, but not what it dealt with or sent, nor what it has seen of slots
 pub rings-card : (setting : Setting) (words : Words) (nic now : NicSide) (apps : List AppSide) → now.view.dealt ≡ nic.view.dealt
@@ -26,7 +26,7 @@ pub rings-card : (setting : Setting) (words : Words) (nic now : NicSide) (apps :
     → AllRings setting words nic apps → AllRings setting words now apps
 rings-card setting words nic now apps dealt refills sent notes rings a app here =
     let all = rings a app here in
-    record { refills = rw (dealt, refills) all.refills; notes = rw (sent, notes) all.notes }
+    record { refills = rw (dealt, refills) all.refills; notes = rw (sent, notes) all.notes; left = rw (sent, notes) all.left }
 
 -- what holds of the rings of the others, and of this one, holds of all
 pub rings-others : (setting : Setting) (words : Words) (nic : NicSide) (apps : List AppSide) (a : ℕ) (app now : AppSide) → IsApp apps a app
@@ -54,5 +54,9 @@ pub rings-app : (setting : Setting) (words : Words) (nic : NicSide) (apps : List
 rings-app setting words nic apps a app now here number written slot free raw taken note rings =
     let all = rings a app here in
     rings-others setting words nic apps a app now here
-    (record { refills = rw (number, written, slot, free, raw) all.refills; notes = rw (number, taken, note) all.notes })
+    (record {
+      refills = rw (number, written, slot, free, raw) all.refills;
+      notes = rw (number, taken, note) all.notes;
+      left = rw (number, taken) all.left;
+    })
     (λ k x is ne. rings k x is)

@@ -14,10 +14,10 @@ use Rattle.ref_words.specs.Words.{with_word}
 use Rattle.board_face.specs.Opened.{unseen}
 use Rattle.board_face.specs.SlotSteps.{seen_with, one_more}
 
-apart : (k j p : ℕ) → k < j → j < k + p → k % p ≢ j % p
+pub apart : (k j p : ℕ) → k < j → j < k + p → k % p ≢ j % p
 apart k j p less near e = let same : k ≡ j = one_turn k j p (omega arith) near e in absurd (omega arith)
 
-apart' : (k j p : ℕ) → k < j → j < k + p → j % p ≢ k % p
+pub apart' : (k j p : ℕ) → k < j → j < k + p → j % p ≢ k % p
 apart' k j p less near e = apart k j p less near (sym e)
 
 same-or : (x y : ℕ) → (x ≡ y) ⊎ (x ≢ y)
@@ -42,9 +42,13 @@ loaded (flag ∷ slot) ws there so =
     ap (λ l. take l slot) m ∙ (take_more slot (length ws) 0 (omega arith) ∙ (ap (λ xs. xs ++ get_or slot (length ws) 0 ∷ []) so
     ∙ ap (λ n. ws ++ n ∷ []) (sym found)))
 
-published : (slot ws : List ℕ) → length slot ≡ suc (length ws) → IsSoFar slot ws → set slot 0 1 ≡ 1 ∷ ws
-published [] ws many so = absurd (omega arith)
-published (flag ∷ slot) ws many so = ap (λ xs. 1 ∷ xs) (sym (take_all (length ws) slot (omega arith)) ∙ so)
+whole : (slot ws : List ℕ) → length slot ≡ suc (length ws) → IsSoFar slot ws → drop 1 slot ≡ ws
+whole [] ws many so = absurd (omega arith)
+whole (flag ∷ slot) ws many so = sym (take_all (length ws) slot (omega arith)) ∙ so
+
+published : (slot : List ℕ) → 0 < length slot → set slot 0 1 ≡ 1 ∷ drop 1 slot
+published [] some = absurd (omega arith)
+published (flag ∷ slot) some = refl
 
 module _ {X : Type 0} (width : ℕ) (words_of : X → List ℕ) (places : ℕ) (slots : List (List ℕ)) (written : List X) (taken : ℕ)
     (writer reader : Slot) (ring : IsRing width words_of places slots written taken writer reader) where
@@ -54,10 +58,10 @@ module _ {X : Type 0} (width : ℕ) (words_of : X → List ℕ) (places : ℕ) (
   within : (k : ℕ) → k % places < length slots
   within k = let b : k % places < places = mod-lt k ring.some in omega (arith, ring.many)
 
-  here : (k i n : ℕ) → slot_of places (with_word slots (k % places) i n) k ≡ set (slot_of places slots k) i n
+  pub here : (k i n : ℕ) → slot_of places (with_word slots (k % places) i n) k ≡ set (slot_of places slots k) i n
   here k i n = get_or-set_same slots (k % places) (set (slot_of places slots k) i n) [] (within k)
 
-  other : (k j i n : ℕ) → k % places ≢ j % places → slot_of places (with_word slots (j % places) i n) k ≡ slot_of places slots k
+  pub other : (k j i n : ℕ) → k % places ≢ j % places → slot_of places (with_word slots (j % places) i n) k ≡ slot_of places slots k
   other k j i n ne = get_or-set_other slots (j % places) (k % places) (set (slot_of places slots j) i n) [] ne
 
   many-after : (j i n : ℕ) → length (with_word slots (j % places) i n) ≡ places
@@ -138,14 +142,21 @@ module _ {X : Type 0} (width : ℕ) (words_of : X → List ℕ) (places : ℕ) (
             subst (λ ws. IsSoFar ws reader.words) (sym (other taken w (1 + length writer.words) n (apart taken w places less near))) (ring.reader_words saw');
       }
 
+  -- it has stored all words of what it writes
+  pub has-stored : (x : X) → writer.seen ≡ true → writer.words ≡ words_of x → 1 + length (words_of x) ≡ width
+      → drop 1 (slot_of places slots (length written)) ≡ words_of x
+  has-stored x saw is all =
+      let w = length written in
+      whole (slot_of places slots w) (words_of x) (omega (arith, ring.wide w))
+      (subst (IsSoFar (slot_of places slots w)) is (ring.writer_words saw))
+
   -- it stores the flag 1
-  pub publishes : (x : X) → writer.seen ≡ true → writer.words ≡ words_of x → 1 + length (words_of x) ≡ width
+  pub publishes : (x : X) → writer.seen ≡ true → drop 1 (slot_of places slots (length written)) ≡ words_of x → 0 < width
       → Ring (with_word slots (length written % places) 0 1) (written ++ x ∷ []) taken unseen reader
-  publishes x saw is all =
+  publishes x saw words_are some_width =
       let w = length written in
       let near = ring.writer_seen saw in
       let more : length (written ++ x ∷ []) ≡ length written + 1 = length_push written x in
-      let so : IsSoFar (slot_of places slots w) (words_of x) = subst (IsSoFar (slot_of places slots w)) is (ring.writer_words saw) in
       record {
         some = ring.some;
         many = many-after w 0 1;
@@ -160,8 +171,8 @@ module _ {X : Type 0} (width : ℕ) (words_of : X → List ℕ) (places : ℕ) (
             (λ (past : w ≤ k).
             let at : k ≡ w = omega (arith, more) in
             ap (slot_of places (with_word slots (w % places) 0 1)) at
-            ∙ (here w 0 1 ∙ (published (slot_of places slots w) (words_of x) (omega (arith, ring.wide w)) so
-            ∙ ap (λ y. 1 ∷ words_of y) (sym (ap (λ j. get_or (written ++ x ∷ []) j d) at ∙ get_or_push written x d w refl)))))
+            ∙ (here w 0 1 ∙ (published (slot_of places slots w) (omega (arith, ring.wide w)) ∙ (ap (λ ws. 1 ∷ ws) words_are
+            ∙ ap (λ y. 1 ∷ words_of y) (sym (ap (λ j. get_or (written ++ x ∷ []) j d) at ∙ get_or_push written x d w refl))))))
             (cases_lt k w);
         free = λ k from to. ap (λ ws. get_or ws 0 0) (other k w 0 1 (apart' w k places (omega (arith, more)) (omega (arith, ring.order))))
             ∙ ring.free k (omega (arith, more)) to;
@@ -212,7 +223,12 @@ module _ {X : Type 0} (width : ℕ) (words_of : X → List ℕ) (places : ℕ) (
     reader_words = λ _. loaded (slot_of places slots taken) reader.words (omega (arith, ring.wide taken)) (ring.reader_words saw);
   }
 
-  -- what it has loaded, once it has loaded all, is what was written next
+  -- what it has loaded are the first words of what was written next
+  pub has-front : (d : X) → reader.seen ≡ true → take (length reader.words) (words_of (get_or written taken d)) ≡ reader.words
+  has-front d saw =
+      ap (λ ws. take (length reader.words) (drop 1 ws)) (sym (ring.full taken d (omega arith) (ring.reader_seen saw))) ∙ ring.reader_words saw
+
+  -- and once it has loaded all, that is it
   pub has-next : (d : X) → reader.seen ≡ true → 1 + length reader.words ≡ width → reader.words ≡ words_of (get_or written taken d)
   has-next d saw all =
       let so = ring.reader_words saw in

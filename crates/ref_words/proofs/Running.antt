@@ -75,7 +75,7 @@ module _ (laws : AreLaws) (setting : Setting) where
   card-keeps words nic apps (Runs.lowers_pool a entry b) rule may = (laws.k6.returning setting words nic apps a entry b rule may).rule
   card-keeps words nic apps (Runs.judges a entry b) rule may = laws.k8 setting words nic apps a entry b rule may.0 may.1 may.2
   card-keeps words nic apps (Runs.lowers_user a entry b) rule may = (laws.k9 setting words nic apps a entry b rule may).rule
-  card-keeps words nic apps (Runs.looks_note a) rule may = laws.k13.note setting words nic apps a rule may
+  card-keeps words nic apps (Runs.looks_note a) rule may = laws.k13.note setting words nic apps a rule may.0 may.1
   card-keeps words nic apps (Runs.stores_note a n) rule may = laws.k14.note setting words nic apps a n rule may.0 may.1 may.2
   card-keeps words nic apps (Runs.sends a note) rule may =
       laws.k15_note.split setting words nic apps a note rule may.0 may.1 may.2 may.3 may.4 may.5

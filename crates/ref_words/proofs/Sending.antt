@@ -1,5 +1,5 @@
 -- The card hands a note slot over: a note is on its way.
-use Rattle.std.proofs.Common.{◌≡◌, ⊎_elim, ℕ, ◌+◌, ◌<◌, ◌≤◌, true, false, List, [], ◌∷◌}
+use Rattle.std.proofs.Common.{◌≡◌, ⊎_elim, ℕ, ◌<◌, ◌≤◌, true, false, List, [], ◌∷◌}
 use Rattle.std.proofs.Common.{◌++◌, length, map, take, set, get_or, refl}
 use Rattle.std.proofs.Common.{ap, sym, ◌∙◌, arith, subst, mod-lt}
 use Rattle.std.specs.Prelude.{◌≢◌, if◌then◌else◌}
@@ -7,6 +7,7 @@ use Rattle.std.proofs.lemmas.Bool.Decides.{eqb_tells}
 use Rattle.std.proofs.lemmas.List.{length-set}
 use Rattle.std.proofs.lemmas.List.Elements.{All-push}
 use Rattle.zr_kinds.specs.declared.place.Note.{Note}
+use Rattle.area_layout.specs.Layout.{area_of_buffer}
 use Rattle.board_face.specs.NicCalls.{HasPiece, apps_of}
 use Rattle.board_face.specs.NicEvents.{text_at, sent, sent_linear}
 use Rattle.board_face.specs.Holders.{sent_to}
@@ -28,12 +29,13 @@ use Rattle.board_face.proofs.ArePlacedLemmas.{ArePlaced-sent, ArePlaced-sent_lin
 use Rattle.board_face.proofs.IsFilledByOneLemmas.{IsFilledByOne-sent, IsFilledByOne-sent_linear}
 use Rattle.board_face.proofs.MadeLastLemmas.{IsMadeLast-sent, IsMadeLast-sent_linear}
 use Rattle.board_face.proofs.SideLemmas.{IsApp-at}
-use Rattle.word_rings.specs.Slots.{note_body, note_width}
+use Rattle.word_rings.specs.Slots.{note_body}
 use Rattle.ref_words.specs.Words.{Words, listed_in, with_note}
-use Rattle.ref_words.specs.Rings.{NoteFits, words_of_note, writes_note_at}
+use Rattle.ref_words.specs.Rings.{NoteFits, words_of_note, note_so_far, writes_note_at}
 use Rattle.ref_words.specs.Sides.{IsTakenInOrder}
 use Rattle.ref_words.specs.Rule.{RefRule}
 use Rattle.ref_words.proofs.Ringing as ringing
+use Rattle.ref_words.proofs.LeftWords as left-words
 use Rattle.ref_words.proofs.RingSteps.{AllRings}
 use Rattle.ref_words.proofs.RingMoves.{slot-here, slot-other, rings-parts}
 use Rattle.ref_words.proofs.SlotWords.{ring-here, ring-other, sizes-note}
@@ -65,7 +67,7 @@ module _ (setting : Setting) (words : Words) (nic : NicSide) (apps : List AppSid
   within = subst (λ k. length app.view.taken ≤ length (sent_to k nic)) here.number (rule.rings a app here).notes.order
 
   module _ (v : NicView) (s : SentNote) (sending : IsSending nic apps v s) (for : s.app ≡ a) (saw : (next_slot nic.inside.note_slots a).seen ≡ true)
-      (words_are : (next_slot nic.inside.note_slots a).words ≡ words_of_note s) where
+      (words_are : note_so_far setting nic a ≡ words_of_note setting s) where
     abbrev like : NicSide
     like = record {
       view = record nic.view { pieces = v.pieces; sent = nic.view.sent ++ s ∷ [] };
@@ -106,10 +108,14 @@ module _ (setting : Setting) (words : Words) (nic : NicSide) (apps : List AppSid
         let there : a < length words.notes = omega (arith, is_app, rule.sizes.notes) in
         let slot_there : a < length nic.inside.note_slots = omega (arith, is_app, rule.sides.slots.notes) in
         rings-parts setting words' like apps a
-        (λ x it. let all = rule.rings a x it in record {
+        (λ x it. let all = rule.rings a x it in
+        let ring = rw it.number at all.notes in
+        let left = rw it.number at all.left in record {
           refills = all.refills;
           notes = rw (it.number, ring-here words.notes a mark 0 1 there, sent-here, slot-here nic.inside.note_slots a unseen slot_there)
-              (ringing.publishes _ _ _ _ _ _ _ _ (rw it.number at all.notes) s saw words_are (words-many s));
+              (ringing.publishes _ _ _ _ _ _ _ _ ring s saw (left-words.so-far _ _ _ _ _ _ _ _ ring left saw ∙ words_are) (omega arith));
+          left = rw (it.number, ring-here words.notes a mark 0 1 there, sent-here, slot-here nic.inside.note_slots a unseen slot_there)
+              (left-words.publishes _ _ _ _ _ _ _ _ ring left s saw);
         })
         (λ k x it ne. let all = rule.rings k x it in let apart : x.view.app ≢ a = λ e. ne (sym it.number ∙ e) in record {
           refills = all.refills;
@@ -118,10 +124,12 @@ module _ (setting : Setting) (words : Words) (nic : NicSide) (apps : List AppSid
             sent-other x.view.app apart,
             slot-other nic.inside.note_slots a unseen x.view.app apart,
           ) all.notes;
+          left = rw (
+            ring-other words.notes a mark 0 1 x.view.app apart,
+            sent-other x.view.app apart,
+            slot-other nic.inside.note_slots a unseen x.view.app apart,
+          ) all.left;
         })
-      where
-        words-many : (s : SentNote) → 1 + length (words_of_note s) ≡ note_width
-        words-many s = refl
 
     pub RefRule-sent : RefRule setting words' (record { view = v; inside = record nic.inside { note_slots = set nic.inside.note_slots a unseen } }) apps
     RefRule-sent =
@@ -159,7 +167,7 @@ module _ (setting : Setting) (words : Words) (nic : NicSide) (apps : List AppSid
   -- ---- with its piece, or with its bytes
 
   pub sends : (note : Note) → HasPiece nic.view note.place → IsSplitNote note → (next_slot nic.inside.note_slots a).seen ≡ true
-      → (next_slot nic.inside.note_slots a).words ≡ note_body note [] 0
+      → note_so_far setting nic a ≡ note_body note [] (area_of_buffer setting.layout note.place.buffer)
       → NoteFits (record { app = a; note = note; bytes = text_at nic.view note.place })
       → RefRule setting (with_note words a (writes_note_at setting nic a) 0 1) (side_sent nic a note) apps
   sends note out fields saw words_are fits =
@@ -174,10 +182,11 @@ module _ (setting : Setting) (words : Words) (nic : NicSide) (apps : List AppSid
         placed = λ b. ArePlaced-sent b nic apps a note app out split numbers here within (rule.sides.placed b);
         by_one = λ b. IsFilledByOne-sent b nic apps a note app out split numbers here within (rule.sides.by_one b);
         made = IsMadeLast-sent nic apps a note app out split numbers here within rule.sides.made;
-      }) refl saw (words_are ∙ ap (λ xs. note_body note xs 0) (sym (ap (λ c. if c then [] else text_at nic.view note.place) split)))
+      }) refl saw (words_are ∙ sym (ap
+      (λ c. note_body note (if c then [] else text_at nic.view note.place) (if c then area_of_buffer setting.layout note.place.buffer else 0)) split))
 
   pub sends-linear : (note : Note) (bytes : List ℕ) → IsLinearNote note → note.total ≡ length bytes
-      → (next_slot nic.inside.note_slots a).seen ≡ true → (next_slot nic.inside.note_slots a).words ≡ note_body note bytes 0
+      → (next_slot nic.inside.note_slots a).seen ≡ true → note_so_far setting nic a ≡ note_body note bytes 0
       → NoteFits (record { app = a; note = note; bytes = bytes })
       → RefRule setting (with_note words a (writes_note_at setting nic a) 0 1) (side_sent_linear nic a note bytes) apps
   sends-linear note bytes fields many saw words_are fits =
@@ -195,4 +204,5 @@ module _ (setting : Setting) (words : Words) (nic : NicSide) (apps : List AppSid
         placed = λ b. ArePlaced-sent_linear b nic apps a note bytes app split numbers here within (rule.sides.placed b);
         by_one = λ b. IsFilledByOne-sent_linear b nic apps a note bytes app split numbers here within (rule.sides.by_one b);
         made = IsMadeLast-sent_linear nic apps a note bytes app split numbers here within rule.sides.made;
-      }) refl saw (words_are ∙ ap (λ xs. note_body note xs 0) (sym (ap (λ c. if c then [] else bytes) split)))
+      }) refl saw (words_are ∙ sym (ap
+      (λ c. note_body note (if c then [] else bytes) (if c then area_of_buffer setting.layout note.place.buffer else 0)) split))

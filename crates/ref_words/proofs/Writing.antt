@@ -140,16 +140,19 @@ module _ (setting : Setting) (words : Words) (nic : NicSide) (apps : List AppSid
         rings-others setting words' nic apps a app like here
         (record {
           refills = rw (ring-here words.refills a s 0 1 there) (record {
-            ring = ringing.publishes _ _ _ _ _ _ _ _ rings.refills.ring w saw words_are refl;
+            ring = ringing.publishes _ _ _ _ _ _ _ _ rings.refills.ring w saw
+                (ringing.has-stored _ _ _ _ _ _ _ _ rings.refills.ring w saw words_are refl) (omega arith);
             free_slots = All-nil _;
             raw_slot = is.raw_slot;
             none_raw = is.none_raw;
           });
           notes = rings.notes;
+          left = rings.left;
         })
         (λ k x it ne. let all = rule.rings k x it in record {
           refills = rw (ring-other words.refills a s 0 1 x.view.app (λ e. ne (sym it.number ∙ e))) all.refills;
           notes = all.notes;
+          left = all.left;
         })
 
     differ : DifferInSlots setting words words'

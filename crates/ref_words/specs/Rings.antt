@@ -1,8 +1,10 @@
 -- Rings of slots. A slot is a list of words of which the first is the flag, 1 where the slot is full. The writer and the reader use
 -- the slots in turn; what either has seen of its next slot is so until it goes on.
 use Rattle.std.specs.Prelude.{◌≡◌, ℕ, ◌+◌, ◌%◌, ◌^◌, ◌<◌, ◌≤◌, true, false}
-use Rattle.std.specs.Prelude.{if◌then◌else◌, List, [], ◌∷◌, ◌++◌, length}
+use Rattle.std.specs.Prelude.{if◌then◌else◌, List, [], ◌∷◌, ◌++◌, length, map, replicate}
 use Rattle.std.specs.Prelude.{take, drop, slice_index, slice_index_or, All, Option, Some, None}
+use Rattle.zr_kinds.specs.declared.place.Note.{Note}
+use Rattle.area_layout.specs.Layout.{area_of_buffer}
 use Rattle.board_face.specs.SlotSteps.{next_slot}
 use Rattle.board_face.specs.Holders.{sent_to}
 use Rattle.board_face.specs.Relay.{dealt_entries}
@@ -38,6 +40,17 @@ module _ {X : Type 0} (width : ℕ) (words_of : X → List ℕ) where
     pub writer_words : writer.seen ≡ true → IsSoFar (slot_of places slots (length written)) writer.words
     pub reader_seen : reader.seen ≡ true → taken < length written
     pub reader_words : reader.seen ≡ true → IsSoFar (slot_of places slots taken) reader.words
+
+  -- what the slot of the k-th has behind its flag before that is written: what was written there a turn before, or zeros
+  abbrev pub left_for : ℕ → List X → ℕ → List ℕ
+  left_for places written k = slice_index_or (replicate places (drop 1 (replicate width 0)) ++ map words_of written) k []
+
+  -- The slots that aren't full have that behind their flags, but for the words that the writer has stored in the next one.
+  pub record AreLeft (places : ℕ) (slots : List (List ℕ)) (written : List X) (taken : ℕ) (writer : Slot) : Type 0 where
+    pub next : length written < taken + places
+        → drop (length writer.words) (drop 1 (slot_of places slots (length written)))
+        ≡ drop (length writer.words) (left_for places written (length written))
+    pub others : (k : ℕ) → length written < k → k < taken + places → drop 1 (slot_of places slots k) ≡ left_for places written k
 
 -- ---- refill rings
 
@@ -81,20 +94,41 @@ AreRefills setting words nic app =
 abbrev pub linear_bytes : SentNote → List ℕ
 linear_bytes s = if s.note.split then [] else s.bytes
 
--- the words of such a note; all notes are of area 0
-abbrev pub words_of_note : SentNote → List ℕ
-words_of_note s = note_body s.note (linear_bytes s) 0
+-- the area in which its piece lies; an unsplit note names area 0
+abbrev pub area_of_note : Setting → Note → ℕ
+area_of_note setting note = if note.split then area_of_buffer setting.layout note.place.buffer else 0
+
+-- the words of such a note
+abbrev pub words_of_note : Setting → SentNote → List ℕ
+words_of_note setting s = note_body s.note (linear_bytes s) (area_of_note setting s.note)
 
 -- An application's note ring: the notes that it hasn't taken lie in the slots.
 abbrev pub AreNotes : Setting → Words → NicSide → AppSide → Type 0
 AreNotes setting words nic app =
-    IsRing note_width words_of_note setting.places (slice_index_or words.notes app.view.app []) (sent_to app.view.app nic)
+    IsRing note_width (words_of_note setting) setting.places (slice_index_or words.notes app.view.app []) (sent_to app.view.app nic)
     (length app.view.taken) (next_slot nic.inside.note_slots app.view.app) app.inside.note_slot
+
+-- and the slots that aren't full have the words of the notes that were there before
+abbrev pub AreLeftOfNotes : Setting → Words → NicSide → AppSide → Type 0
+AreLeftOfNotes setting words nic app =
+    AreLeft note_width (words_of_note setting) setting.places (slice_index_or words.notes app.view.app []) (sent_to app.view.app nic)
+    (length app.view.taken) (next_slot nic.inside.note_slots app.view.app)
+
+-- what is left in the card's next note slot to an application
+abbrev pub left_in_note : Setting → NicSide → ℕ → List ℕ
+left_in_note setting nic a = left_for note_width (words_of_note setting) setting.places (sent_to a nic) (length (sent_to a nic))
+
+-- what that slot has behind its flag: the words that the card has stored there, and then those that are left
+abbrev pub note_so_far : Setting → NicSide → ℕ → List ℕ
+note_so_far setting nic a =
+    let stored = (next_slot nic.inside.note_slots a).words in
+    stored ++ drop (length stored) (left_in_note setting nic a)
 
 -- both rings of an application
 pub record AreRings (setting : Setting) (words : Words) (nic : NicSide) (app : AppSide) : Type 0 where
   pub refills : AreRefills setting words nic app
   pub notes : AreNotes setting words nic app
+  pub left : AreLeftOfNotes setting words nic app
 
 -- ---- which slot is next
 

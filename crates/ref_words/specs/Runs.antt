@@ -1,13 +1,13 @@
 -- Runs of a board: what stands between two steps, the steps as plain data, and what holds after any list of them.
 use Rattle.std.specs.Prelude.{◌≡◌, ◌≢◌, ◌≤◌, ◌<◌, ◌+◌, ◌-◌, ◌*◌, ◌/◌, ◌%◌}
 use Rattle.std.specs.Prelude.{◌∷◌, ◌++◌, [], ℕ, true, false, List, ◌==◌, Contains}
-use Rattle.std.specs.Prelude.{None, Some, All, length, slice_index, slice_index_or, slice_set, take}
+use Rattle.std.specs.Prelude.{None, Some, All, length, slice_index, slice_index_or, slice_set}
 use mathlib.Core.Option.{some}
 use lib.ListN.{get_elem?}
 use Rattle.zr_kinds.specs.declared.place.Place.{Place}
 use Rattle.zr_kinds.specs.declared.place.Note.{Note}
 use Rattle.zr_kinds.specs.declared.ring.Rqe.{Rqe}
-use Rattle.area_layout.specs.Layout.{IsLayout, total, judged}
+use Rattle.area_layout.specs.Layout.{area_of_buffer, IsLayout, total, judged}
 use Rattle.board_face.specs.NicEvents.{took, text_at, word_bits}
 use Rattle.board_face.specs.AppEvents.{cut, lent, lent_own, reserve_of, begin_place, loan_origin, reads_with, entry_of as loan_entry}
 use Rattle.board_face.specs.NicCalls.{HasOwn, HasPiece, HasNoToken, IsOpen, apps_of, free_words_of}
@@ -34,14 +34,14 @@ use Rattle.board_face.specs.declared.views.nic.Judged.TheVariants.{Not, Stray as
 use Rattle.board_face.specs.declared.views.nic.NicSide.{NicSide}
 use Rattle.board_face.specs.declared.views.app.Reading.{Reading}
 use Rattle.board_face.specs.declared.views.app.AppSide.{AppSide}
-use Rattle.word_rings.specs.Slots.{note_width, refill_width, entry_of, entry_body, note_body, linear_of}
+use Rattle.word_rings.specs.Slots.{note_width, refill_width, entry_of, entry_body, note_body}
 use Rattle.ref_words.specs.declared.view.View.{View}
 use Rattle.ref_words.specs.Words.{Words, opened_words, with_role, with_pool, pool_of, with_user, user_of, listed_in}
 use Rattle.ref_words.specs.Words.{free_of, with_free, with_listed, with_unlisted}
 use Rattle.ref_words.specs.Words.{slot_word, with_refill, with_note}
 use Rattle.ref_words.specs.Seated.{Seated, times_in, due_view, card_view, app_view, dealt_out, both_sides, no_role, side_at}
-use Rattle.ref_words.specs.Rings.{EntryFits, NoteFits, writes_entry_at, takes_entry_at, writes_note_at, takes_note_at}
-use Rattle.ref_words.specs.SlotLaws.{refill_words_at, note_words_at, loaded_note}
+use Rattle.ref_words.specs.Rings.{EntryFits, NoteFits, note_so_far, writes_entry_at, takes_entry_at, writes_note_at, takes_note_at}
+use Rattle.ref_words.specs.SlotLaws.{refill_words_at, note_words_at, loaded_note, loaded_bytes, note_loads}
 use Rattle.ref_words.specs.Area.{area_word, byte_in, with_area}
 use Rattle.ref_words.specs.AreaSteps.{made_words, side_piece_stored, side_piece_placed, side_spare_stored, side_spare_filled, side_loaded}
 use Rattle.ref_words.specs.AreaLaws.{IsMadeAt, IsMadeThere, IsLastWord, next_word, part_of}
@@ -94,16 +94,16 @@ CardMay setting words nic (lowers_pool a entry b) = nic.inside.entry ≡ Some (r
 CardMay setting words nic (judges a entry b) =
     (nic.inside.entry ≡ Some (record { app = a; entry = entry; judged = Not })) × (judged setting.layout entry ≡ Some b) × (b < total setting.layout)
 CardMay setting words nic (lowers_user a entry b) = nic.inside.entry ≡ Some (record { app = a; entry = entry; judged = Owed b })
-CardMay setting words nic (looks_note a) = a < apps_of setting
+CardMay setting words nic (looks_note a) = (a < apps_of setting) × ((next_slot nic.inside.note_slots a).words ≡ [])
 CardMay setting words nic (stores_note a n) =
     (a < apps_of setting) × ((next_slot nic.inside.note_slots a).seen ≡ true) × (note_words_at nic a < note_width)
 CardMay setting words nic (sends a note) =
     (a < apps_of setting) × HasPiece nic.view note.place × IsSplitNote note × ((next_slot nic.inside.note_slots a).seen ≡ true)
-    × ((next_slot nic.inside.note_slots a).words ≡ note_body note [] 0)
+    × (note_so_far setting nic a ≡ note_body note [] (area_of_buffer setting.layout note.place.buffer))
     × NoteFits (record { app = a; note = note; bytes = text_at nic.view note.place })
 CardMay setting words nic (sends_linear a note bytes) =
     (a < apps_of setting) × IsLinearNote note × (note.total ≡ length bytes) × ((next_slot nic.inside.note_slots a).seen ≡ true)
-    × ((next_slot nic.inside.note_slots a).words ≡ note_body note bytes 0) × NoteFits (record { app = a; note = note; bytes = bytes })
+    × (note_so_far setting nic a ≡ note_body note bytes 0) × NoteFits (record { app = a; note = note; bytes = bytes })
     × IsOpen nic.view
 CardMay setting words nic (looks_entry a) = a < apps_of setting
 CardMay setting words nic (loads_entry a) =
@@ -252,9 +252,9 @@ AppMay setting words app (looks_raw s) = app.inside.raw_slot ≡ Some s
 AppMay setting words app looks_slot = Unit {0}
 AppMay setting words app loads_slot = (app.inside.note_slot.seen ≡ true) × (1 + length app.inside.note_slot.words < note_width)
 AppMay setting words app takes_note =
-    (app.inside.note_slot.seen ≡ true) × (1 + length app.inside.note_slot.words ≡ note_width) × ((loaded_note app).split ≡ true)
+    (app.inside.note_slot.seen ≡ true) × (note_loads (loaded_note app) ≤ 1 + length app.inside.note_slot.words) × ((loaded_note app).split ≡ true)
 AppMay setting words app takes_linear =
-    (app.inside.note_slot.seen ≡ true) × (1 + length app.inside.note_slot.words ≡ note_width) × ((loaded_note app).split ≡ false)
+    (app.inside.note_slot.seen ≡ true) × (note_loads (loaded_note app) ≤ 1 + length app.inside.note_slot.words) × ((loaded_note app).split ≡ false)
 AppMay setting words app (looks_word j) = j < free_words_of setting
 AppMay setting words app (clears_bit b) = (b / word_bits < free_words_of setting) × MaySpare app.view × PicksAreGiven app
 AppMay setting words app (relists b) = Contains app.inside.hands b
@@ -330,7 +330,7 @@ app_after setting words app loads_slot =
     side_slot_loaded app (slot_word words.notes app.view.app (takes_note_at setting app) (1 + length app.inside.note_slot.words))
 app_after setting words app takes_note = side_took_note app (loaded_note app)
 app_after setting words app takes_linear =
-    side_took_linear app (loaded_note app) (take (loaded_note app).total (linear_of (1 ∷ app.inside.note_slot.words)))
+    side_took_linear app (loaded_note app) (loaded_bytes app)
 app_after setting words app (looks_word j) = side_word_looked app j (free_of words j == 0)
 app_after setting words app (clears_bit b) = side_bit_cleared app (b / word_bits) b (listed_in words b)
 app_after setting words app (relists b) = side_app_listed app b

@@ -1,11 +1,12 @@
 -- The laws of steps at the slots of the rings. Each end goes through its slots in turn: the writer looks at the flag until it is 0,
 -- stores the words behind it and then the flag 1, and the reader looks until it is 1, loads the words and stores the flag 0.
-use Rattle.std.specs.Prelude.{◌≡◌, ℕ, ◌+◌, ◌<◌, ◌==◌, true, false, List, [], ◌∷◌, ◌++◌, length, take, slice_set}
+use Rattle.std.specs.Prelude.{◌≡◌, ℕ, ◌+◌, ◌<◌, ◌≤◌, ◌==◌, if◌then◌else◌, true, false, List, [], ◌∷◌, ◌++◌, length, min}
+use Rattle.std.specs.Prelude.{take, slice_set}
 use Rattle.std.specs.Prelude.{Some, None, Contains}
 use Rattle.zr_kinds.specs.declared.place.Note.{Note}
 use Rattle.zr_kinds.specs.declared.place.Place.{Place}
 use Rattle.zr_kinds.specs.declared.ring.Rqe.{Rqe}
-use Rattle.area_layout.specs.Layout.{judged}
+use Rattle.area_layout.specs.Layout.{judged, area_of_buffer}
 use Rattle.board_face.specs.AppCalls.{HasLoan, NamesNoLoan, TookNote}
 use Rattle.board_face.specs.AppEvents.{entry_of as loan_entry}
 use Rattle.board_face.specs.NicCalls.{HasPiece, IsOpen, apps_of}
@@ -20,9 +21,10 @@ use Rattle.board_face.specs.declared.views.nic.Judged.TheVariants.{Not, Stray as
 use Rattle.board_face.specs.declared.views.parts.Setting.{Setting}
 use Rattle.board_face.specs.declared.views.nic.NicSide.{NicSide}
 use Rattle.board_face.specs.declared.views.app.AppSide.{AppSide}
-use Rattle.word_rings.specs.Slots.{note_width, refill_width, entry_of, entry_body, note_body, note_of, linear_of}
+use Rattle.word_rings.specs.Slots.{note_width, note_fields, refill_width, entry_of, entry_body, note_body, note_of, linear_of}
+use Rattle.word_rings.specs.Texts.{text_count}
 use Rattle.ref_words.specs.Words.{Words, slot_word, with_refill, with_note}
-use Rattle.ref_words.specs.Rings.{EntryFits, NoteFits, writes_entry_at, takes_entry_at, writes_note_at, takes_note_at}
+use Rattle.ref_words.specs.Rings.{EntryFits, NoteFits, note_so_far, writes_entry_at, takes_entry_at, writes_note_at, takes_note_at}
 use Rattle.ref_words.specs.RestSteps.{side_raw_looked, side_any_looked, side_last_looked}
 use Rattle.ref_words.specs.Rule.{BoardRule}
 
@@ -39,14 +41,23 @@ loaded_note app = note_of (1 ∷ app.inside.note_slot.words)
 
 -- ---- the writer
 
--- It looks at the flag of its next slot, and 0 says that the slot is free. No word changes.
+-- the bytes that the words tell of which it has loaded
+abbrev pub loaded_bytes : AppSide → List ℕ
+loaded_bytes app = take (loaded_note app).total (linear_of (1 ∷ app.inside.note_slot.words))
+
+-- how many words it loads of the slot at least, the flag among them: those of the fields, and of an unsplit note those of its bytes
+abbrev pub note_loads : Note → ℕ
+note_loads note = if note.split then note_fields else min note_width (note_fields + text_count note.total)
+
+-- It looks at the flag of its next slot, and 0 says that the slot is free. No word changes. The card looks there before it stores
+-- words of a note.
 pub record WriterLooksLaw : Type 0 where
   pub entry : (setting : Setting) (words : Words) (nic : NicSide) (apps : List AppSide) (app : AppSide)
       → BoardRule setting words nic apps → IsApp apps app.view.app app
       → BoardRule setting words nic (slice_set apps app.view.app
       (side_refill_looked app (slot_word words.refills app.view.app (writes_entry_at setting app) 0 == 0)))
   pub note : (setting : Setting) (words : Words) (nic : NicSide) (apps : List AppSide) (a : ℕ)
-      → BoardRule setting words nic apps → a < apps_of setting
+      → BoardRule setting words nic apps → a < apps_of setting → (next_slot nic.inside.note_slots a).words ≡ []
       → BoardRule setting words (side_note_looked nic a (slot_word words.notes a (writes_note_at setting nic a) 0 == 0)) apps
 
 -- An application looks at any of its refill slots, and 0 says that the slot is free. No word changes. Once it has seen each of them
@@ -124,16 +135,17 @@ pub record PublishLaw : Type 0 where
       → EntryFits (record { entry = entry; of_loan = false })
       → BoardRule setting (with_refill words app.view.app (writes_entry_at setting app) 0 1) nic (slice_set apps app.view.app (side_pushed app entry))
 
--- The card sends a note with the piece at its place, or with the bytes that travel in it.
+-- The card sends a note with the piece at its place, or with the bytes that travel in it. The slot has the note's words, as far as the
+-- card stored them, and behind these as they were left there.
 pub record PublishNoteLaw : Type 0 where
   pub split : (setting : Setting) (words : Words) (nic : NicSide) (apps : List AppSide) (a : ℕ) (note : Note)
       → BoardRule setting words nic apps → a < apps_of setting → HasPiece nic.view note.place → IsSplitNote note
-      → (next_slot nic.inside.note_slots a).seen ≡ true → (next_slot nic.inside.note_slots a).words ≡ note_body note [] 0
+      → (next_slot nic.inside.note_slots a).seen ≡ true → note_so_far setting nic a ≡ note_body note [] (area_of_buffer setting.layout note.place.buffer)
       → NoteFits (record { app = a; note = note; bytes = text_at nic.view note.place })
       → BoardRule setting (with_note words a (writes_note_at setting nic a) 0 1) (side_sent nic a note) apps
   pub linear : (setting : Setting) (words : Words) (nic : NicSide) (apps : List AppSide) (a : ℕ) (note : Note) (bytes : List ℕ)
       → BoardRule setting words nic apps → a < apps_of setting → IsLinearNote note → note.total ≡ length bytes
-      → (next_slot nic.inside.note_slots a).seen ≡ true → (next_slot nic.inside.note_slots a).words ≡ note_body note bytes 0
+      → (next_slot nic.inside.note_slots a).seen ≡ true → note_so_far setting nic a ≡ note_body note bytes 0
       → NoteFits (record { app = a; note = note; bytes = bytes }) → IsOpen nic.view
       → BoardRule setting (with_note words a (writes_note_at setting nic a) 0 1) (side_sent_linear nic a note bytes) apps
 
@@ -153,18 +165,17 @@ pub record FreeLaw : Type 0 where
       → nic.inside.entry ≡ Some (record { app = a; entry = entry; judged = Not }) → judged setting.layout entry ≡ None
       → BoardRule setting (with_refill words a (takes_entry_at setting nic a) 0 0) (side_dealt nic a entry Stray) apps
 
--- The note that an application takes is the one that the slot's words tell of: its piece is held from then on, and lies where nothing
--- of the application's lay, or the bytes that travelled in it are taken.
+-- The note that an application takes is the one of which the words tell that it loaded: its piece is held from then on, and lies where
+-- nothing of the application's lay, or the bytes that travelled in it are taken.
 pub record TakeNoteLaw : Type 0 where
   pub split : (setting : Setting) (words : Words) (nic : NicSide) (apps : List AppSide) (app : AppSide)
       → BoardRule setting words nic apps → IsApp apps app.view.app app → app.inside.note_slot.seen ≡ true
-      → 1 + length app.inside.note_slot.words ≡ note_width → (loaded_note app).split ≡ true
+      → note_loads (loaded_note app) ≤ 1 + length app.inside.note_slot.words → (loaded_note app).split ≡ true
       → TookNote app.view (side_took_note app (loaded_note app)).view (loaded_note app) (loaded_note app).place
       × BoardRule setting (with_note words app.view.app (takes_note_at setting app) 0 0) nic
       (slice_set apps app.view.app (side_took_note app (loaded_note app)))
   pub linear : (setting : Setting) (words : Words) (nic : NicSide) (apps : List AppSide) (app : AppSide)
       → BoardRule setting words nic apps → IsApp apps app.view.app app → app.inside.note_slot.seen ≡ true
-      → 1 + length app.inside.note_slot.words ≡ note_width → (loaded_note app).split ≡ false
+      → note_loads (loaded_note app) ≤ 1 + length app.inside.note_slot.words → (loaded_note app).split ≡ false
       → IsLinearNote (loaded_note app) × BoardRule setting (with_note words app.view.app (takes_note_at setting app) 0 0) nic
-      (slice_set apps app.view.app (side_took_linear app (loaded_note app)
-      (take (loaded_note app).total (linear_of (1 ∷ app.inside.note_slot.words)))))
+      (slice_set apps app.view.app (side_took_linear app (loaded_note app) (loaded_bytes app)))

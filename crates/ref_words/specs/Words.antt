@@ -1,5 +1,5 @@
 -- The words of a board that threads share, group by group, and how they lie in one table. Counts, bits and slots are those of
--- docs/WORDS.md; each group is a list, so that a store in one group leaves the others as they are.
+-- docs/BOARDS.md; each group is a list, so that a store in one group leaves the others as they are.
 use Rattle.std.specs.Prelude.{◌≡◌, ℕ, zero, suc, ◌+◌, ◌-◌, ◌*◌, ◌/◌, ◌%◌, ◌^◌, ◌<◌}
 use Rattle.std.specs.Prelude.{◌≤◌, Bool, List, [], ◌∷◌}
 use Rattle.std.specs.Prelude.{◌++◌, length, min, replicate, slice_index}

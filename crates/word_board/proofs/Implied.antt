@@ -42,7 +42,7 @@ full-sent setting v a few told =
     let app = get_or told.apps a blank_app in
     let here = IsApp-at told.apps a blank_app set.numbers (omega (arith, few, set.many)) in
     let ring = subst
-    (λ k. IsRing note_width words_of_note setting.places (get_or told.words.notes k []) (sent_to k told.nic) (length app.view.taken)
+    (λ k. IsRing note_width (words_of_note setting) setting.places (get_or told.words.notes k []) (sent_to k told.nic) (length app.view.taken)
     (next_slot told.nic.inside.note_slots k) app.inside.note_slot)
     here.number (told.rule.refs.rings a app here).notes in
     let sent : ℕ = length (sent_to a told.nic) in

@@ -8,6 +8,7 @@ mod HandsGiven
 mod Dealing
 mod OpenedTable
 mod CardKeeps
+mod LeftKept
 mod Scrubs
 mod EntryTaken
 mod NoteFilled

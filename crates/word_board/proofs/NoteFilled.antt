@@ -2,7 +2,11 @@
 use Rattle.std.proofs.Common.{◌≡◌, ℕ, suc, ◌+◌, ◌<◌, List, [], ◌∷◌, ◌++◌, length}
 use Rattle.std.proofs.Common.{take, drop, get_or, set, ap, ◌∙◌, arith, take-suc}
 use Rattle.std.proofs.lemmas.Grind.{get_or_after_one}
-use Rattle.std.proofs.lemmas.List.{get_or-set_same, set-set}
+use Rattle.std.proofs.Common.{◌≤◌, sym}
+use Rattle.std.proofs.lemmas.List.{get_or-set_same, set-set, length-take-le, take-append-drop}
+use Rattle.board_face.specs.declared.views.parts.Setting.{Setting}
+use Rattle.word_rings.specs.Slots.{IsBlankFrom}
+use Rattle.ref_words.specs.Rings.{left_in_note, note_so_far}
 use Rattle.zr_kinds.specs.declared.place.Note.{Note}
 use Rattle.board_face.specs.Opened.{unseen}
 use Rattle.board_face.specs.NicEvents.{sent, sent_linear}
@@ -25,6 +29,9 @@ module _ (nic : NicSide) (a : ℕ) (there : a < length nic.inside.note_slots) wh
   twice : (slot last : Slot) → set (set nic.inside.note_slots a slot) a last ≡ set nic.inside.note_slots a last
   twice slot last = set-set nic.inside.note_slots a slot last
 
+  pub again : (slot last : Slot) → at_note (at_note nic a slot) a last ≡ at_note nic a last
+  again slot last = ap (λ slots. record nic { inside = record nic.inside { note_slots = slots } }) (twice slot last)
+
   pub stored : (words : List ℕ) (n : ℕ) → side_note_stored (at_note nic a (seen_with words)) a n ≡ at_note nic a (seen_with (words ++ n ∷ []))
   stored words n =
       ap (λ slot. at_note (at_note nic a (seen_with words)) a (one_more slot n)) (slot-is (seen_with words))
@@ -38,3 +45,14 @@ module _ (nic : NicSide) (a : ℕ) (there : a < length nic.inside.note_slots) wh
       → side_sent_linear (at_note nic a slot) a note bytes ≡ side_sent_linear nic a note bytes
   sent-linear-so slot note bytes =
       ap (λ slots. record { view = sent_linear nic.view a note bytes; inside = record nic.inside { note_slots = slots } }) (twice slot unseen)
+
+  -- All of a note's words stand in the slot once those were stored behind which there are zeros, in the note and from before.
+  pub filled-so : (setting : Setting) (body : List ℕ) (many m : ℕ) → length body ≡ 38 → many ≡ 6 + m → m ≤ 32 → IsBlankFrom m body
+      → IsBlankFrom m (left_in_note setting nic a) → note_so_far setting (at_note nic a (seen_with (take many body))) a ≡ body
+  filled-so setting body many m long is few blank left_blank =
+      let left = left_in_note setting nic a in
+      let stored = take many body in
+      let stored_many : length stored ≡ 6 + m = length-take-le many body (omega arith) ∙ is in
+      ap (λ (slot : Slot). slot.words ++ drop (length slot.words) left) (slot-is (seen_with stored))
+      ∙ (ap (λ n. stored ++ drop n left) stored_many
+      ∙ (ap (λ xs. stored ++ xs) (left_blank ∙ (sym blank ∙ ap (λ n. drop n body) (sym is))) ∙ take-append-drop many body))

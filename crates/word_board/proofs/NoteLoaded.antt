@@ -1,6 +1,18 @@
 -- What an application's next note slot is, once it loaded words from there.
 use Rattle.std.proofs.Common.{◌≡◌, ℕ, suc, ◌+◌, ◌<◌, List, [], ◌∷◌, ◌++◌, length, take, drop, set, ap, sym, ◌∙◌, arith}
-use Rattle.std.proofs.lemmas.List.{take_more_set, length-set}
+use Rattle.std.proofs.Common.{⊎_elim, ◌≤◌, false, min, append_assoc}
+use Rattle.std.specs.Prelude.{if◌then◌else◌}
+use Rattle.std.proofs.Math.Seq.{drop-append_seam}
+use Rattle.std.proofs.lemmas.Bool.{cases_lt}
+use Rattle.std.proofs.lemmas.List.{take_all, take_more_set, length-set, length-append, length-drop, length-take-le, take-append-drop}
+use Rattle.zr_kinds.specs.declared.place.Note.{Note}
+use Rattle.board_face.specs.SlotSteps.{seen_with, at_slot, side_took_note, side_took_linear}
+use Rattle.board_face.specs.declared.views.app.AppSide.{AppSide}
+use Rattle.word_rings.specs.Slots.{note_of, linear_of, bytes_of}
+use Rattle.word_rings.specs.Texts.{text_count}
+use Rattle.word_rings.proofs.NoteSlots.{note-front, bytes-front}
+use Rattle.ref_words.specs.SlotLaws.{loaded_note, loaded_bytes}
+use Rattle.word_board.specs.Board.{side_full_taken}
 
 module _ (body : List ℕ) (k n : ℕ) (full : body ≡ 1 ∷ drop 1 body) where
   -- another word behind the flag
@@ -17,3 +29,38 @@ module _ (body : List ℕ) (k n : ℕ) (full : body ≡ 1 ∷ drop 1 body) where
 
   pub one-loaded : k < length (drop 1 body) → take k (drop 1 body) ++ n ∷ [] ≡ take (k + 1) (drop 1 (set body (1 + k) n))
   one-loaded within = sym (ap (λ b. take (k + 1) (drop 1 b)) behind ∙ take_more_set (drop 1 body) k n within)
+
+-- The note that was taken is the one of the fields, with the first bytes of the payload, where as many words were loaded as these take.
+module _ (fields payload : List ℕ) where
+  front : (m t : ℕ) → length fields ≡ 6 → length payload ≡ 32 → m ≡ min (text_count t) 32
+      → take t (linear_of (1 ∷ (fields ++ take m payload))) ≡ take t (linear_of (1 ∷ (fields ++ payload)))
+  front m t long whole is =
+      ⊎_elim
+      (λ (less : m < 32).
+      let stored = length-take-le m payload (omega arith) in
+      let both = length-append fields (take m payload) in
+      sym (bytes-front t (fields ++ take m payload) (drop m payload) (omega arith) (omega arith))
+      ∙ ap (λ ws. take t (linear_of (1 ∷ ws))) (append_assoc fields (take m payload) (drop m payload)
+      ∙ ap (λ ws. fields ++ ws) (take-append-drop m payload)))
+      (λ all. ap (λ ws. take t (linear_of (1 ∷ (fields ++ ws)))) (take_all m payload (omega arith)))
+      (cases_lt m 32)
+
+  behind-fields : length fields ≡ 6 → linear_of (1 ∷ (fields ++ payload)) ≡ bytes_of payload
+  behind-fields long = ap (λ n. bytes_of (drop n (fields ++ payload))) (sym long) ∙ ap bytes_of (drop-append_seam fields payload)
+
+pub linear-taken : (app : AppSide) (slot payload linear : List ℕ) (note : Note) (m : ℕ) → slot ≡ 1 ∷ drop 1 slot → length slot ≡ 7
+    → length payload ≡ 32 → note ≡ note_of slot → m ≡ min (text_count note.total) 32 → linear ≡ bytes_of payload → note.split ≡ false
+    → side_took_linear app (loaded_note (at_slot app (seen_with (drop 1 slot ++ take m payload))))
+    (loaded_bytes (at_slot app (seen_with (drop 1 slot ++ take m payload)))) ≡ side_full_taken app note linear
+linear-taken app slot payload linear note m full long whole read enough bytes split =
+    let fields = drop 1 slot in
+    let six : length fields ≡ 6 = omega (arith, length-drop 1 slot) in
+    let is : loaded_note (at_slot app (seen_with (fields ++ take m payload))) ≡ note =
+    note-front fields (take m payload) (omega arith) ∙ (ap note_of (sym full) ∙ sym read) in
+    let taken : loaded_bytes (at_slot app (seen_with (fields ++ take m payload))) ≡ take note.total linear =
+    ap (λ (n : Note). take n.total (linear_of (1 ∷ (fields ++ take m payload)))) is
+    ∙ (front fields payload m note.total six whole enough
+    ∙ ap (take note.total) (behind-fields fields payload six ∙ sym bytes)) in
+    ap (λ (n : Note). side_took_linear app n (loaded_bytes (at_slot app (seen_with (fields ++ take m payload))))) is
+    ∙ (ap (side_took_linear app note) taken
+    ∙ sym (ap (λ c. if c then side_took_note app note else side_took_linear app note (take note.total linear)) split))

@@ -1,6 +1,7 @@
 -- What holds of a seat between two calls: its role is in the middle of nothing, its tokens lie in their buffers, and what it keeps
 -- beside the words tells of its side.
-use Rattle.std.specs.Prelude.{◌≡◌, ◌≢◌, ℕ, ◌<◌, ◌≤◌, true, false, List, [], length, All, AllPairs, replicate, slice_index, Option, Some, None, MatchOption}
+use Rattle.std.specs.Prelude.{◌≡◌, ◌≢◌, ℕ, ◌+◌, ◌*◌, ◌%◌, ◌<◌, ◌≤◌, ◌==◌, true, false, List, [], length, filter, All, AllPairs}
+use Rattle.std.specs.Prelude.{replicate, slice_index, Option, Some, None, MatchOption}
 use Rattle.area_layout.specs.Layout.{LiesIn, pool_buffers, total, size_of}
 use Rattle.board_face.specs.NicCalls.{apps_of}
 use Rattle.board_face.specs.Returns.{loans_out}
@@ -8,7 +9,11 @@ use Rattle.board_face.specs.Used.{PicksAreGiven}
 use Rattle.board_face.specs.declared.views.parts.Setting.{Setting}
 use Rattle.board_face.specs.declared.views.nic.NicSide.{NicSide}
 use Rattle.board_face.specs.declared.views.app.AppSide.{AppSide}
-use Rattle.ref_words.specs.Rings.{writes_note_at, takes_note_at, writes_entry_at, takes_entry_at}
+use Rattle.board_face.specs.SlotSteps.{next_slot}
+use Rattle.board_face.specs.declared.views.nic.SentNote.{SentNote}
+use Rattle.board_face.specs.declared.views.parts.Slot.{Slot}
+use Rattle.word_rings.specs.Slots.{note_width, IsBlankFrom}
+use Rattle.ref_words.specs.Rings.{left_for, words_of_note, writes_note_at, takes_note_at, writes_entry_at, takes_entry_at}
 use Rattle.ref_words.specs.Sides.{HasScrubLists}
 
 -- ---- the card
@@ -33,6 +38,17 @@ pub record NicKeeps (setting : Setting) (nic : NicSide) (kept notes entries : Li
   pub many : (length notes ≡ 8) × (length entries ≡ 8)
   pub next_notes : (a : ℕ) → a < apps_of setting → slice_index notes a ≡ writes_note_at setting nic a
   pub next_entries : (a : ℕ) → a < apps_of setting → slice_index entries a ≡ takes_entry_at setting nic a
+
+-- It has stored nothing into any next note slot, and knows of each slot from which word of the payload on there are zeros: of the
+-- slots to an application in turn, 256 numbers for each.
+pub record KnowsLeft (setting : Setting) (sent : List SentNote) (slots : List Slot) (filled : List ℕ) : Type 0 where
+  pub many : length filled ≡ 2048
+  pub most : (i : ℕ) → slice_index filled i ≤ 32
+  pub blank : (a k : ℕ) → a < apps_of setting → length (filter (λ s. s.app == a) sent) ≤ k
+      → k < length (filter (λ s. s.app == a) sent) + setting.places
+      → IsBlankFrom (slice_index filled (256 * a + k % setting.places))
+      (left_for note_width (words_of_note setting) setting.places (filter (λ s. s.app == a) sent) k)
+  pub unstored : (a : ℕ) → (next_slot slots a).words ≡ []
 
 -- ---- an application
 

@@ -1,6 +1,6 @@
-//! What the seats keep beside the words: which slot of each ring is next, the card's cache, and of an application how many
-//! loans are out in each buffer and how long the text of a filled spare is.
-ghost use Rattle.std.specs.Prelude.{◌≡◌, ◌+◌, ◌%◌, ◌<◌, [], IfOk, replicate, None};
+//! What the seats keep beside the words: which slot of each ring is next, the card's cache and how much payload its note slots
+//! have, and of an application how many loans are out in each buffer and how long the text of a filled spare is.
+ghost use Rattle.std.specs.Prelude.{◌≡◌, ◌+◌, ◌*◌, ◌%◌, ◌<◌, [], IfOk, replicate, None, slice_index, slice_set};
 ghost use Rattle.area_layout.specs.Layout.{total};
 
 use area_layout::Layout;
@@ -10,6 +10,9 @@ use std::alloc::{AllocError, Global};
 /// How many applications a board has at most.
 pub(crate) const MOST_APPS: usize = 8;
 
+/// How many slots a ring has at most.
+const MOST_PLACES: usize = 256;
+
 /// What the card keeps.
 #[derive(Drop)]
 pub(crate) struct NicHand {
@@ -18,6 +21,33 @@ pub(crate) struct NicHand {
     pub(crate) notes: [u32; MOST_APPS],
     /// The next refill slot of each application.
     pub(crate) entries: [u32; MOST_APPS],
+    pub(crate) filled: Filled,
+}
+
+/// Of each note slot how many payload words may be other than 0: as many as the last note there had.
+#[derive(Drop)]
+pub(crate) struct Filled {
+    pub(crate) counts: [u8; MOST_APPS * MOST_PLACES],
+}
+
+impl Filled {
+    /// That number of a slot to an application.
+    pub(crate) fn of(&self, app: u32, slot: u32) -> u32
+        requires app { app < 8 }
+        requires slot { slot < 256 }
+        ensures { result ≡ slice_index self.now.counts (256 * app + slot) }
+    {
+        u32::from(self.counts[MOST_PLACES * app as usize + slot as usize])
+    }
+
+    /// The note that was sent there has so many.
+    pub(crate) fn note(&mut self, app: u32, slot: u32, words: u8)
+        requires app { app < 8 }
+        requires slot { slot < 256 }
+        ensures { self.new.counts ≡ slice_set self.old.counts (256 * app + slot) words }
+    {
+        self.counts[MOST_PLACES * app as usize + slot as usize] = words;
+    }
 }
 
 impl NicHand {
@@ -26,11 +56,15 @@ impl NicHand {
         ensures cache { result.cache.items ≡ [] }
         ensures notes { result.notes ≡ replicate 8 0 }
         ensures entries { result.entries ≡ replicate 8 0 }
+        ensures filled { result.filled.counts ≡ replicate 2048 0 }
     {
         NicHand {
             cache: Cache::new(),
             notes: [0; MOST_APPS],
             entries: [0; MOST_APPS],
+            filled: Filled {
+                counts: [0; MOST_APPS * MOST_PLACES],
+            },
         }
     }
 }

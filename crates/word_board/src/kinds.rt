@@ -37,7 +37,7 @@ pub(crate) use free::{
 pub(crate) use given_up::{Loaded, honour_entry, list_last_by_app, release_piece, shut_buffer};
 pub(crate) use lessons::{look_listed, look_served, look_unheld};
 pub(crate) use notes::{
-    look_note, publish_linear, publish_note, send_linear, send_note, store_note,
+    look_note, payload_words, publish_linear, publish_note, send_linear, send_note, store_note,
 };
 pub(crate) use phases::{
     abandon_loan, end_card, leave_app, look_end, look_left, look_reserve, seek_note,

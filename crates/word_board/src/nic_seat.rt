@@ -2,14 +2,14 @@
 ghost use Rattle.std.specs.Prelude.{◌≡◌, []};
 ghost use Rattle.ref_words.specs.Seated.{card_view};
 ghost use Rattle.word_board.specs.Board.{card_of};
-ghost use Rattle.word_board.specs.Hands.{NicKeeps};
+ghost use Rattle.word_board.specs.Hands.{NicKeeps, KnowsLeft};
 
 use crate::board::WordBoard;
 use crate::found::{cache_found, cache_if};
 use crate::hands::{NicHand, slot_after};
 use crate::kinds::{
-    WORD_BITS, end_card, look_left, next_entry, place_text, send_linear, send_note, shut_buffer,
-    sweep_word, take_buffer,
+    WORD_BITS, end_card, look_left, next_entry, payload_words, place_text, send_linear, send_note,
+    shut_buffer, sweep_word, take_buffer,
 };
 use crate::rule::WordSeat;
 use board_face::{Entry, NicFace, Own, Piece};
@@ -27,7 +27,7 @@ pub struct NicSeat<'a> {
 
 impl<'a> Model for NicSeat<'a> {
     ghost use Rattle.word_board.specs.Board.{TheNic, card_of};
-    ghost use Rattle.word_board.specs.Hands.{NicKeeps};
+    ghost use Rattle.word_board.specs.Hands.{NicKeeps, KnowsLeft};
     ghost use Rattle.ref_words.specs.Seated.{card_view};
     ghost use Rattle.std.specs.Prelude.{◌≡◌, []};
 
@@ -37,7 +37,8 @@ impl<'a> Model for NicSeat<'a> {
 
     ghost invariant = { λ s. (s.seat.table_id ≡ s.board.now.table)
         × (s.seat.me ≡ (card_view (card_of s.seat.me.0), []))
-        × NicKeeps s.board.now.setting (card_of s.seat.me.0) s.hand.cache.items s.hand.notes s.hand.entries };
+        × NicKeeps s.board.now.setting (card_of s.seat.me.0) s.hand.cache.items s.hand.notes s.hand.entries
+        × KnowsLeft s.board.now.setting (card_of s.seat.me.0).view.sent (card_of s.seat.me.0).inside.note_slots s.hand.filled.counts };
 }
 
 impl<'a> NicSeat<'a> {
@@ -45,6 +46,7 @@ impl<'a> NicSeat<'a> {
         requires table { seat.table_id ≡ board.now.table }
         requires card { seat.me ≡ (card_view (card_of seat.me.0), []) }
         requires keeps { NicKeeps board.now.setting (card_of seat.me.0) hand.cache.items hand.notes hand.entries }
+        requires left { KnowsLeft board.now.setting (card_of seat.me.0).view.sent (card_of seat.me.0).inside.note_slots hand.filled.counts }
         ensures { result ≡ record { board = board.now; side = card_of seat.me.0 } }
     {
         NicSeat { board, seat, hand }
@@ -138,10 +140,13 @@ impl<'a> NicFace for NicSeat<'a> {
         let board = self.board;
         let words = &board.words;
         let slot = self.hand.notes[app as usize];
-        if !send_note(words, &mut self.seat, app, slot, note) {
+        let places = words.map.places();
+        let left = self.hand.filled.of(app, slot);
+        if !send_note(words, &mut self.seat, app, slot, note, left) {
             return Err(piece);
         }
-        self.hand.notes[app as usize] = slot_after(slot, words.map.places());
+        self.hand.filled.note(app, slot, 0);
+        self.hand.notes[app as usize] = slot_after(slot, places);
         Ok(())
     }
 
@@ -149,10 +154,14 @@ impl<'a> NicFace for NicSeat<'a> {
         let board = self.board;
         let words = &board.words;
         let slot = self.hand.notes[app as usize];
-        if !send_linear(words, &mut self.seat, app, slot, note, bytes) {
+        let places = words.map.places();
+        let left = self.hand.filled.of(app, slot);
+        if !send_linear(words, &mut self.seat, app, slot, note, bytes, left) {
             return false;
         }
-        self.hand.notes[app as usize] = slot_after(slot, words.map.places());
+        let filled = payload_words(bytes.len());
+        self.hand.filled.note(app, slot, filled as u8);
+        self.hand.notes[app as usize] = slot_after(slot, places);
         true
     }
 

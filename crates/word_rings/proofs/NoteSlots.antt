@@ -1,9 +1,15 @@
 -- A note and its slot.
 use Rattle.std.proofs.Common.{◌≡◌, ℕ, zero, suc, ◌+◌, ◌/◌, ◌%◌, ◌<◌, ◌==◌, Bool, true, false, if◌then◌else◌}
-use Rattle.std.proofs.Common.{List, [], ◌∷◌, ◌++◌, length, drop, slice_index, refl, sym, ap, ◌∙◌, arith}
-use Rattle.std.proofs.lemmas.List.{append-nil}
+use Rattle.std.proofs.Common.{List, [], ◌∷◌, ◌++◌, length, take, drop, slice_index, refl, sym, ap, ◌∙◌, arith, ◌≤◌, ◌*◌}
+use Rattle.std.proofs.Common.{◌-◌, replicate}
+use Rattle.std.proofs.Math.Seq.{drop-nil}
+use Rattle.std.proofs.lemmas.List.{append-nil, length-append, length-drop, take-append-le, drop-append-le, drop-drop, drop-replicate}
+use Rattle.std.proofs.lemmas.Grind.{flat_map-append}
+use Rattle.byteorder.specs.Endian.{little_bytes}
+use Rattle.byteorder.specs.Numbers.{length-bytes_low_first}
 use Rattle.zr_kinds.specs.declared.place.Note.{Note}
-use Rattle.word_rings.specs.Slots.{pair, low_of, high_of, flags_of, words_of, note_width, note_slot, note_of, linear_of, IsNoteSlot}
+use Rattle.word_rings.specs.Slots.{pair, low_of, high_of, flags_of, words_of, note_width, note_body, note_slot, note_of, linear_of, bytes_of}
+use Rattle.word_rings.specs.Slots.{IsNoteSlot, IsBlankFrom}
 
 -- ---- two numbers in a word
 
@@ -93,3 +99,60 @@ slot_back w len slot payload =
       pair_back (slice_index w 5),
       payload,
     ) (first_word w slot.full ∙ sym (seven w 32 len))
+
+-- ---- the first words of a slot
+
+-- the note of the words of a slot is that of the first of them
+pub note-front : (ws rest : List ℕ) → 6 ≤ length ws → note_of (1 ∷ (ws ++ rest)) ≡ note_of (1 ∷ ws)
+note-front (a ∷ b ∷ c ∷ d ∷ e ∷ f ∷ ws) rest few = refl
+note-front (a ∷ b ∷ c ∷ d ∷ e ∷ []) rest few = absurd (omega arith)
+note-front (a ∷ b ∷ c ∷ d ∷ []) rest few = absurd (omega arith)
+note-front (a ∷ b ∷ c ∷ []) rest few = absurd (omega arith)
+note-front (a ∷ b ∷ []) rest few = absurd (omega arith)
+note-front (a ∷ []) rest few = absurd (omega arith)
+note-front [] rest few = absurd (omega arith)
+
+-- and so are the first bytes behind the fields
+pub bytes-front : (n : ℕ) (ws rest : List ℕ) → 6 ≤ length ws → n + 48 ≤ 8 * length ws
+    → take n (linear_of (1 ∷ (ws ++ rest))) ≡ take n (linear_of (1 ∷ ws))
+bytes-front n ws rest few enough =
+    let behind = drop 6 ws in
+    ap (λ xs. take n (bytes_of xs)) (drop-append-le 6 ws rest few)
+    ∙ (ap (take n) (flat_map-append (little_bytes 8) behind rest)
+    ∙ take-append-le n (bytes_of behind) (bytes_of rest) (omega (arith, length-bytes behind, length-drop 6 ws)))
+  where
+    length-bytes : (xs : List ℕ) → length (bytes_of xs) ≡ 8 * length xs
+    length-bytes [] = refl
+    length-bytes (x ∷ xs) =
+        omega (arith, length-append (little_bytes 8 x) (bytes_of xs), length-bytes_low_first 0 8 x, length-bytes xs)
+
+-- ---- zeros behind a payload
+
+words-blank : (n m : ℕ) (bytes : List ℕ) → length bytes ≤ 8 * m → drop m (words_of n bytes) ≡ replicate (n - m) 0
+words-blank zero m bytes short = let none : 0 - m ≡ 0 = omega arith in drop-nil m ∙ ap (λ k. replicate k 0) (sym none)
+words-blank (suc n) zero [] short =
+    let one : suc (n - 0) ≡ suc n - 0 = omega arith in
+    ap (λ ws. 0 ∷ ws) (words-blank n 0 [] (omega arith)) ∙ ap (λ k. replicate k 0) one
+words-blank (suc n) zero (x ∷ bytes) short = absurd (omega arith)
+words-blank (suc n) (suc m) bytes short =
+    let less : n - m ≡ suc n - suc m = omega arith in
+    words-blank n m (drop 8 bytes) (omega (arith, length-drop 8 bytes)) ∙ ap (λ k. replicate k 0) less
+
+-- behind the bytes of its payload a note's words are 0,
+pub note-blank : (n : Note) (linear : List ℕ) (area m : ℕ) → length linear ≤ 8 * m → IsBlankFrom m (note_body n linear area)
+note-blank n linear area m few = sym (drop-drop m 6 (note_body n linear area)) ∙ words-blank 32 m linear few
+
+-- and so is what is left there before any note
+pub zeros-blank : (m : ℕ) → IsBlankFrom m (replicate 38 0)
+zeros-blank m =
+    let many : 38 - (6 + m) ≡ 32 - m = omega arith in
+    drop-replicate (6 + m) 38 0 ∙ ap (λ k. replicate k 0) many
+
+-- from a later word on they are so too
+pub blank-later : (m n : ℕ) (body : List ℕ) → m ≤ n → IsBlankFrom m body → IsBlankFrom n body
+blank-later m n body less blank =
+    let at : 6 + n ≡ 6 + m + (n - m) = omega arith in
+    let many : 32 - m - (n - m) ≡ 32 - n = omega arith in
+    ap (λ k. drop k body) at
+    ∙ (sym (drop-drop (n - m) (6 + m) body)
+    ∙ (ap (drop (n - m)) blank ∙ (drop-replicate (n - m) (32 - m) 0 ∙ ap (λ k. replicate k 0) many)))

@@ -1,6 +1,6 @@
 -- The words of a note slot and of a refill slot. The first word of each is its flag, which is 1 where the slot is full.
-use Rattle.std.specs.Prelude.{◌≡◌, ℕ, zero, suc, ◌+◌, ◌*◌, ◌/◌, ◌%◌, ◌^◌, ◌<◌, ◌==◌, if◌then◌else◌}
-use Rattle.std.specs.Prelude.{List, [], ◌∷◌, drop, flat_map, slice_index}
+use Rattle.std.specs.Prelude.{◌≡◌, ℕ, zero, suc, ◌+◌, ◌-◌, ◌*◌, ◌/◌, ◌%◌, ◌^◌, ◌<◌, ◌==◌, if◌then◌else◌}
+use Rattle.std.specs.Prelude.{List, [], ◌∷◌, length, drop, replicate, flat_map, slice_index}
 use Rattle.byteorder.specs.Endian.{little_number, little_bytes}
 use Rattle.zr_kinds.specs.declared.place.Note.{Note}
 use Rattle.zr_kinds.specs.declared.ring.Rqe.{Rqe}
@@ -30,15 +30,22 @@ bytes_of words = flat_map (little_bytes 8) words
 
 -- ---- a note slot
 
--- how many words it has, its flag among them
+-- how many words it has, its flag among them, and how many the flag and the fields are
 abbrev pub note_width : ℕ
 note_width = 39
+
+abbrev pub note_fields : ℕ
+note_fields = 7
 
 -- the words of a note behind the flag: fields, area, and the 256 bytes in which an unsplit payload travels
 abbrev pub note_body : Note → List ℕ → ℕ → List ℕ
 note_body n linear area =
     pair n.frame n.flow ∷ pair n.base n.seq ∷ pair n.at n.total ∷ pair n.place.buffer n.place.offset ∷ pair n.place.len (flags_of n)
     ∷ area ∷ words_of 32 linear
+
+-- the payload's words from this one on are 0, in a note slot behind its flag
+abbrev pub IsBlankFrom : ℕ → List ℕ → Type 0
+IsBlankFrom n body = drop (6 + n) body ≡ replicate (32 - n) 0
 
 -- a full one
 abbrev pub note_slot : Note → List ℕ → ℕ → List ℕ
@@ -84,3 +91,9 @@ entry_of w = record { off = slice_index w 1; len = low_of (slice_index w 2); pad
 pub record IsNoteSlot (w : List ℕ) : Type 0 where
   pub full : slice_index w 0 ≡ 1
   pub flags : high_of (slice_index w 5) < 4
+
+-- A full slot is the one of its note, its bytes and its area.
+abbrev pub SlotsComeBack : Type 0
+SlotsComeBack =
+    (w : List ℕ) → length w ≡ note_width → ((k : ℕ) → slice_index w k < 2 ^ 64) → IsNoteSlot w
+    → note_slot (note_of w) (linear_of w) (slice_index w 6) ≡ w

@@ -6,5 +6,8 @@ mod slots;
 mod tests;
 mod texts;
 
-pub use slots::{NOTE_WORDS, REFILL_WORDS, note_read, note_words, refill_read, refill_words};
+pub use slots::{
+    NOTE_FIELDS, NOTE_WORDS, REFILL_WORDS, note_read, note_words, payload_read, refill_read,
+    refill_words, slots_come_back,
+};
 pub use texts::{bytes_of_word, text_word};

@@ -1,12 +1,16 @@
 //! The words of a note slot and of a refill slot.
 ghost use Rattle.std.specs.Prelude.{◌≡◌, ◌≤◌, ◌<◌, ◌^◌, ◌+◌, true, false, ℕ, [], length, take, slice_index};
-ghost use Rattle.word_rings.specs.Slots.{pair, flags_of, note_slot, note_of, linear_of, refill_slot, entry_of, IsNoteSlot, low_of, high_of};
+ghost use Rattle.word_rings.specs.Slots.{pair, flags_of, note_slot, note_of, linear_of, bytes_of, refill_slot, entry_of, low_of, high_of};
+ghost use Rattle.word_rings.specs.Slots.{IsNoteSlot, SlotsComeBack};
 
 use byteorder::{ByteOrder, LittleEndian};
 use zr_kinds::{Note, Place, Rqe};
 
 /// How many words a note slot has, its flag among them.
 pub const NOTE_WORDS: usize = 39;
+
+/// How many words of a note slot its flag and the note's fields and area are.
+pub const NOTE_FIELDS: usize = 7;
 
 /// How many words a refill slot has, its flag among them.
 pub const REFILL_WORDS: usize = 3;
@@ -65,8 +69,8 @@ pub fn note_words(n: &Note, linear: &[u8], area: u32) -> [u64; 39]
     words
 }
 
-/// The note of a slot.
-fn note_in(w: &[u64; 39]) -> Note
+/// The note of a slot, by the words of its flag and its fields.
+pub fn note_read(w: &[u64; 7]) -> Note
     ensures { result ≡ note_of w.now }
 {
     let (frame, flow) = halves(w[1]);
@@ -91,16 +95,17 @@ fn note_in(w: &[u64; 39]) -> Note
     }
 }
 
-/// The note of a slot. `linear` becomes the slot's 256 bytes, of which an unsplit note's payload are the first.
-pub fn note_read(w: &[u64; 39], linear: &mut [u8; 256]) -> Note
-    ensures note { result ≡ note_of w.now }
-    ensures bytes { linear.new ≡ linear_of w.now }
-    // A full slot is the one of its note and bytes.
-    ensures again { IsNoteSlot w.now → note_slot result linear.new (slice_index w.now 6) ≡ w.now }
+/// `linear` becomes the 256 bytes of a slot, by the words behind its fields. An unsplit note's payload are the first of them.
+pub fn payload_read(w: &[u64; 32], linear: &mut [u8; 256])
+    ensures { linear.new ≡ bytes_of w.now }
 {
-    LittleEndian::write_u64_into(&w[7..], linear);
-    note_in(w)
+    LittleEndian::write_u64_into(w, linear);
 }
+
+/// A full slot says no more than its note, its area and its bytes.
+pub fn slots_come_back()
+    ensures { SlotsComeBack }
+{}
 
 /// The words of a full refill slot: its flag, the offset, and length and pad.
 pub fn refill_words(e: &Rqe) -> [u64; 3]

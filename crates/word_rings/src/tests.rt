@@ -1,6 +1,9 @@
 ghost use Rattle.std.specs.Prelude.{◌≡◌, true, false};
 
-use crate::{bytes_of_word, note_read, note_words, refill_read, refill_words, text_word};
+use crate::{
+    NOTE_FIELDS, bytes_of_word, note_read, note_words, payload_read, refill_read, refill_words,
+    text_word,
+};
 use std::test::*;
 use zr_kinds::{Note, Place, Rqe};
 
@@ -13,6 +16,17 @@ fn draw(state: &mut u32) -> u32 {
     *state ^= *state >> 17;
     *state ^= *state << 5;
     *state
+}
+
+/// The note of a slot, and the 256 bytes behind its fields.
+fn read(words: &[u64; 39]) -> (Note, [u8; 256]) {
+    let mut fields = [0; NOTE_FIELDS];
+    fields.copy_from_slice(&words[..NOTE_FIELDS]);
+    let mut payload = [0; 32];
+    payload.copy_from_slice(&words[NOTE_FIELDS..]);
+    let mut linear = [1; 256];
+    payload_read(&payload, &mut linear);
+    (note_read(&fields), linear)
 }
 
 /// A note that tells of a piece in the area.
@@ -96,8 +110,8 @@ fn a_payload_travels_in_its_note(rt: HostRuntime) {
     assert_eq!(rt; words[7], u64::from_le_bytes(*b"abcdefgh"));
     assert_eq!(rt; words[8], u64::from(b'i'));
     assert_eq!(rt; &words[9..], [0; 30].as_slice());
-    let mut linear = [1; 256];
-    assert_eq!(rt; note_read(&words, &mut linear), note);
+    let (back, linear) = read(&words);
+    assert_eq!(rt; back, note);
     assert_eq!(rt; &linear[..9], b"abcdefghi".as_slice());
     assert_eq!(rt; &linear[9..], [0; 247].as_slice());
 }
@@ -106,17 +120,18 @@ fn a_payload_travels_in_its_note(rt: HostRuntime) {
 fn drawn_notes_come_back(rt: HostRuntime) {
     let mut state = 7;
     for _ in 0..DRAWN {
-        let mut linear = [1; 256];
         let split = split_note(&mut state);
         let words = note_words(&split, &[], draw(&mut state));
-        assert_eq!(rt; note_read(&words, &mut linear), split);
+        let (back, linear) = read(&words);
+        assert_eq!(rt; back, split);
         assert_eq!(rt; linear.as_slice(), [0; 256].as_slice());
         let bytes = [(draw(&mut state) % 256) as u8; 256];
         let total = 1 + draw(&mut state) % 256;
         let unsplit = unsplit_note(&mut state, total);
         let payload = &bytes[..total as usize];
         let words = note_words(&unsplit, payload, draw(&mut state));
-        assert_eq!(rt; note_read(&words, &mut linear), unsplit);
+        let (back, linear) = read(&words);
+        assert_eq!(rt; back, unsplit);
         assert_eq!(rt; &linear[..total as usize], payload);
     }
 }

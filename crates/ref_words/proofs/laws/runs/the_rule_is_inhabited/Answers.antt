@@ -1,16 +1,20 @@
-use Rattle.std.proofs.Common.{refl, arith}
+use Rattle.std.proofs.Common.{◌≡◌, ◌∷◌, [], refl, arith}
 use Rattle.area_layout.specs.Layout.{IsLayout}
+use Rattle.area_layout.proofs.Making.{made}
 use Rattle.ref_words.specs.Runs.{MayRun, opened_state}
 use Rattle.ref_words.specs.Middle.{small, steps}
 use Rattle.ref_words.proofs.laws.runs.the_rule_is_inhabited.Goals as goal
 
 layout : IsLayout small.layout
-layout = record {
-  buffers = (omega arith, omega arith);
-  reserves = (omega arith, omega arith);
-  size = record { power = (10, refl); least = omega arith; most = omega arith };
+layout = made ((2, 1024) ∷ []) 2 (record {
+  few = (omega arith, omega arith);
+  each = λ k d there.
+      let e : k ≡ 0 = omega arith in
+      rw e (record { some = (omega arith, omega arith); fits = record { power = (10, refl); least = omega arith; most = omega arith } });
+  buffers = omega arith;
   bytes = omega arith;
-}
+  kept = (omega arith, omega arith);
+})
 
 may : MayRun small (opened_state small) steps
 may = (

@@ -13,9 +13,9 @@ returns c = record {
     refs = theirs.looked-entry setting words nic apps app rule.refs here;
     phases = phased.refill_looked-phases setting words nic apps rule.refs rule.phases app.view.app app here _;
   };
-  note = λ setting words nic apps a rule small. record {
-    texts = texts.texts-note_looked setting words.area nic apps a rule.texts _ (card.looked-note setting words nic apps a rule.refs small).sides;
-    refs = card.looked-note setting words nic apps a rule.refs small;
+  note = λ setting words nic apps a rule small none. record {
+    texts = texts.texts-note_looked setting words.area nic apps a rule.texts _ (card.looked-note setting words nic apps a rule.refs small none).sides;
+    refs = card.looked-note setting words nic apps a rule.refs small none;
     phases = by_card.note_looked-phases setting words nic apps rule.refs rule.phases a _;
   };
 }

@@ -1,5 +1,7 @@
 use Rattle.std.proofs.Common.{◌≡◌, ℕ, ◌<◌, length, ap, sym, ◌∙◌, subst, arith}
-use Rattle.std.specs.Prelude.{◌==◌, false}
+use Rattle.std.specs.Prelude.{◌==◌, false, All}
+use Rattle.area_layout.specs.Layout.{pool_buffers}
+use Rattle.board_face.specs.declared.views.nic.PlacedText.{PlacedText}
 use Rattle.board_face.specs.NicCalls.{apps_of}
 use Rattle.board_face.specs.SlotSteps.{side_note_looked}
 use Rattle.board_face.specs.declared.views.nic.NicSide.{NicSide}
@@ -30,16 +32,20 @@ load_as-requires-clause-allows c =
     let within : s < setting.places = subst (λ k. k < setting.places) next_slot_is (subst
     (λ (k : Setting). c.args.slot < k.places) words.keyed c.requires.within) in
     let told : ℕ → Type 0 = λ n.
-    (length mine.inside.note_slots ≡ apps_of setting) × ((n == 0) ≡ false → SawNoteInUse setting (nic_gist mine.view) a) in
+    (length mine.inside.note_slots ≡ apps_of setting)
+    × (All (λ (p : PlacedText). p.place.buffer < pool_buffers setting.layout) mine.view.pieces)
+    × ((n == 0) ≡ false → SawNoteInUse setting (nic_gist mine.view) a) in
     let next : ℕ → NicSide = λ n. side_note_looked mine a (n == 0) in
     card-step setting words.table.shared.table_id.slots c.args.seat.now.id c.note-word.result (λ n. n)
     told mine next
     (λ ws apps rule small.
-    let law = c.k13.ensures.note setting ws mine apps a rule few in (
+    let law = c.k13.ensures.note setting ws mine apps a rule few c.requires.unstored in (
       loads setting ws c.note-word.result
           (subst (λ n. BoardRule setting ws (next n) apps) (sym (found-note setting ws a s i c.note-word.result at few within (omega arith) rule)) law),
       (
         rule.refs.sides.slots.notes,
+        subst (λ (s : Setting). All (λ (p : PlacedText). p.place.buffer < pool_buffers s.layout) mine.view.pieces) rule.refs.sides.set.card
+            rule.phases.lies.pieces,
         λ no. tells-card setting ws mine apps rule _ (subst (λ n. (n == 0) ≡ false)
             (found-note setting ws a s i c.note-word.result at few within (omega arith) rule) no),
       ),
@@ -57,4 +63,9 @@ returns-clause-slots c =
 pub returns-clause-told : goal.returns-clause-told
 returns-clause-told c unseen =
     subst (λ (k : Setting). SawNoteInUse k (nic_gist (card_of c.args.seat.now.me.0).view) c.args.app) (sym c.args.words.now.keyed)
-    (c.load_as.ensures.told.1 unseen)
+    (c.load_as.ensures.told.2 unseen)
+
+pub returns-clause-pieces : goal.returns-clause-pieces
+returns-clause-pieces c =
+    subst (λ (k : Setting). All (λ (p : PlacedText). p.place.buffer < pool_buffers k.layout) (card_of c.args.seat.now.me.0).view.pieces)
+    (sym c.args.words.now.keyed) c.load_as.ensures.told.1

@@ -1,10 +1,12 @@
-use Rattle.std.proofs.Common.{◌≡◌, ℕ, ◌<◌, ap, ◌∙◌, subst, arith}
+use Rattle.std.proofs.Common.{◌≡◌, ℕ, ◌<◌, [], ap, ◌∙◌, subst, arith}
+use Rattle.area_layout.specs.Layout.{area_of_buffer}
 use Rattle.board_face.specs.NicCalls.{apps_of}
 use Rattle.board_face.specs.SlotSteps.{side_sent}
 use Rattle.board_face.specs.declared.views.nic.NicSide.{NicSide}
 use Rattle.board_face.specs.declared.views.parts.Setting.{Setting}
 use Rattle.ref_words.specs.Words.{note_at}
-use Rattle.ref_words.specs.Rings.{writes_note_at}
+use Rattle.word_rings.specs.Slots.{note_body}
+use Rattle.ref_words.specs.Rings.{writes_note_at, note_so_far}
 use Rattle.ref_words.specs.Seated.{card_view}
 use Rattle.word_board.specs.Board.{card_of}
 use Rattle.word_board.proofs.Stepping.{card-step, stores-note}
@@ -24,10 +26,11 @@ swap_as-requires-clause-allows c =
     let few : a < apps_of setting = subst (λ k. a < apps_of k) words.keyed c.requires.app in
     let within : s < setting.places = subst (λ k. k < setting.places) next_slot_is (subst
     (λ (k : Setting). c.args.slot < k.places) words.keyed c.requires.within) in
+    let words_are = subst (λ (k : Setting). note_so_far k mine a ≡ note_body c.args.note [] (area_of_buffer k.layout c.args.note.place.buffer)) words.keyed c.requires.words in
     let next : ℕ → NicSide = λ n. side_sent mine a c.args.note in
     card-step setting words.table.shared.table_id.slots c.args.seat.now.id c.note-word.result (λ _. 1) (λ _. Unit {0}) mine next
     (λ ws apps rule small.
-    let law = c.k15_note.ensures.split setting ws mine apps a c.args.note rule few c.requires.out c.requires.fields c.requires.seen c.requires.words
+    let law = c.k15_note.ensures.split setting ws mine apps a c.args.note rule few c.requires.out c.requires.fields c.requires.seen words_are
     c.requires.fits in
     (stores-note setting ws a s i c.note-word.result at few within (omega arith) rule 1 law, tt))
     c.args.seat.now.me c.requires.card

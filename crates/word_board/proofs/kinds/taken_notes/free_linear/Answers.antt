@@ -1,13 +1,12 @@
-use Rattle.std.proofs.Common.{◌≡◌, ℕ, ◌<◌, ◌∷◌, take, refl, ap, sym, ◌∙◌, subst, arith}
+use Rattle.std.proofs.Common.{◌≡◌, ℕ, ◌<◌, refl, ap, sym, ◌∙◌, subst, arith}
 use Rattle.board_face.specs.NicCalls.{apps_of}
 use Rattle.board_face.specs.Texts.{IsLinearNote}
 use Rattle.board_face.specs.SlotSteps.{side_took_linear}
 use Rattle.board_face.specs.declared.views.parts.Setting.{Setting}
 use Rattle.board_face.specs.declared.views.app.AppSide.{AppSide}
-use Rattle.word_rings.specs.Slots.{linear_of}
 use Rattle.ref_words.specs.Words.{note_at}
 use Rattle.ref_words.specs.Rings.{takes_note_at}
-use Rattle.ref_words.specs.SlotLaws.{loaded_note}
+use Rattle.ref_words.specs.SlotLaws.{loaded_note, loaded_bytes}
 use Rattle.ref_words.specs.Seated.{app_view}
 use Rattle.word_board.specs.Board.{app_of}
 use Rattle.word_board.proofs.Stepping.{app-step, stores-note}
@@ -29,20 +28,18 @@ swap_as-requires-clause-allows c =
     (λ k. c.args.app < apps_of k) words.keyed c.requires.few) in
     let within : s < setting.places = subst (λ k. k < setting.places) next_slot (subst
     (λ (k : Setting). c.args.slot < k.places) words.keyed c.requires.within) in
-    let next : ℕ → AppSide = λ n. side_took_linear mine (loaded_note mine)
-    (take (loaded_note mine).total (linear_of (1 ∷ mine.inside.note_slot.words))) in
+    let next : ℕ → AppSide = λ n. side_took_linear mine (loaded_note mine) (loaded_bytes mine) in
     app-step setting words.table.shared.table_id.slots c.args.seat.now.id c.note-word.result (λ _. 0) (λ _. IsLinearNote (loaded_note mine)) mine next
     (λ n. refl)
     (λ ws nic apps rule here small.
-    let law = c.k17_note.ensures.linear setting ws nic apps mine rule here c.requires.seen c.requires.all c.requires.split in
+    let law = c.k17_note.ensures.linear setting ws nic apps mine rule here c.requires.seen c.requires.enough c.requires.split in
     (stores-note setting ws a s i c.note-word.result at few within (omega arith) rule 0 law.1, law.0))
     c.args.seat.now.me c.requires.app
 
 pub returns-clause-event : goal.returns-clause-event
 returns-clause-event c = c.swap_as.ensures.me
     ∙ ap (λ xs. (
-      app_view (side_took_linear (app_of c.args.seat.now.me.0) (loaded_note (app_of c.args.seat.now.me.0))
-          (take (loaded_note (app_of c.args.seat.now.me.0)).total (linear_of (1 ∷ (app_of c.args.seat.now.me.0).inside.note_slot.words)))),
+      app_view (side_took_linear (app_of c.args.seat.now.me.0) (loaded_note (app_of c.args.seat.now.me.0)) (loaded_bytes (app_of c.args.seat.now.me.0))),
       xs,
     ))
     (ap (λ me. me.1) c.requires.app)

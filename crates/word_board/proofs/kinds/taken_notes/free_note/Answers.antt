@@ -34,7 +34,7 @@ swap_as-requires-clause-allows c =
     (λ _. TookNote mine.view (took_note mine.view (loaded_note mine)) (loaded_note mine) (loaded_note mine).place) mine next
     (λ n. refl)
     (λ ws nic apps rule here small.
-    let law = c.k17_note.ensures.split setting ws nic apps mine rule here c.requires.seen c.requires.all c.requires.split in
+    let law = c.k17_note.ensures.split setting ws nic apps mine rule here c.requires.seen c.requires.enough c.requires.split in
     (stores-note setting ws a s i c.note-word.result at few within (omega arith) rule 0 law.1, law.0))
     c.args.seat.now.me c.requires.app
 

@@ -1,11 +1,13 @@
 -- Behind the note the next slot is the one after it.
-use Rattle.std.proofs.Common.{◌≡◌, ◌<◌, ◌+◌, ◌%◌, false, [], get_or, set as set_at, refl, ap, sym, ◌∙◌, subst}
+use Rattle.std.proofs.Common.{◌≡◌, ◌<◌, ◌≤◌, ◌+◌, ◌*◌, ◌%◌, false, [], length, get_or, set as set_at, refl, ap, sym, ◌∙◌, subst, arith}
+use Rattle.board_face.specs.Holders.{sent_to}
 use Rattle.std.specs.Prelude.{if◌then◌else◌}
 use Rattle.board_face.specs.NicEvents.{sent, text_at, nic_gist}
 use Rattle.board_face.specs.SlotSteps.{side_sent, side_note_looked}
 use Rattle.ref_words.specs.Seated.{card_view}
 use Rattle.word_board.specs.Board.{TheNic, card_of, IsSetting}
-use Rattle.word_board.specs.Hands.{NicKeeps}
+use Rattle.word_board.specs.Hands.{NicKeeps, KnowsLeft}
+use Rattle.word_board.proofs.LeftKept.{KnowsLeft-sent}
 use Rattle.word_board.proofs.CardKeeps.{NicKeeps-sent, note-within, few-apps, own-app}
 use Rattle.board_face.specs.NotNow.{HasSentRingful}
 use Rattle.board_face.specs.declared.views.parts.Setting.{Setting}
@@ -41,16 +43,26 @@ invariant_of-self-2 c =
     let app = c.args.app in
     let here = own-app _ _ _ _ app c.self.invariant.2.set c.self.view_is c.requires.app in
     let set = ap (λ b. b.setting) c.board.view_is in
+    let setting = me.board.now.setting in
+    let filled = me.hand.filled.counts in
+    let sound = subst IsSetting set c.board.invariant in
+    let few : setting.places ≤ 256 = subst (λ n. n ≤ 256) (c.places-places.ensures.value ∙ ap (λ s. s.places) set) c.places-places.ensures.few in
     let did : c.send_note.new.seat.me ≡ (card_view (side_sent nic app c.args.note), []) =
     c.send_note.ensures.event
     ∙ ap (λ went. (card_view (if went then side_sent nic app c.args.note else side_note_looked nic app false), [])) c.if-not-send_note.false in
-    let slot = c.slot_after.ensures ∙ ap (λ p. (get_or me.hand.notes app 0 + 1) % p) (c.places.ensures.value ∙ ap (λ s. s.places) set) in (
+    let slot = c.slot_after.ensures ∙ ap (λ p. (get_or me.hand.notes app 0 + 1) % p) (c.places-places.ensures.value ∙ ap (λ s. s.places) set) in (
       c.send_note.ensures.table ∙ c.self.invariant.0,
       did ∙ ap (λ m. (card_view (card_of m.0), [])) (sym did),
       subst (λ m. NicKeeps me.board.now.setting (card_of m.0) me.hand.cache.items (set_at me.hand.notes app c.slot_after.result) me.hand.entries) (sym did)
           (NicKeeps-sent me.board.now.setting nic me.hand.cache.items me.hand.notes me.hand.entries c.self.invariant.2 (sent nic.view app c.args.note) _
           (record { app = app; note = c.args.note; bytes = text_at nic.view c.args.note.place }) c.slot_after.result
           (subst IsSetting set c.board.invariant) here refl refl refl refl refl slot),
+      subst (λ counts. KnowsLeft setting (card_of c.send_note.new.seat.me.0).view.sent (card_of c.send_note.new.seat.me.0).inside.note_slots counts)
+          (sym (c.note.ensures ∙ ap (λ n. set_at filled (256 * app + n) 0) (c.self.invariant.2.next_notes app here)))
+          (subst (λ m. KnowsLeft setting (card_of m.0).view.sent (card_of m.0).inside.note_slots
+          (set_at filled (256 * app + length (sent_to app nic) % setting.places) 0)) (sym did)
+          (KnowsLeft-sent setting nic.view.sent nic.inside.note_slots filled c.self.invariant.3 (record { app = app; note = c.args.note; bytes = text_at nic.view c.args.note.place }) 0
+          (few-apps setting app sound here, sound.places, few) (omega arith) (subst (λ split. length (if split then [] else text_at nic.view c.args.note.place) ≤ 8 * 0) (sym c.requires.fields.split) (omega arith)))),
     )
 
 pub returns-then-not-send_note-clause-full : goal.returns-then-not-send_note-clause-full

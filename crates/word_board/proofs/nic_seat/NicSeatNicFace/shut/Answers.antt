@@ -4,7 +4,7 @@ use Rattle.std.specs.Prelude.{◌&&◌, nat_lt}
 use Rattle.area_layout.specs.Layout.{pool_buffers}
 use Rattle.ref_words.specs.Seated.{card_view}
 use Rattle.word_board.specs.Board.{card_of}
-use Rattle.word_board.specs.Hands.{NicKeeps}
+use Rattle.word_board.specs.Hands.{NicKeeps, KnowsLeft}
 use Rattle.word_board.proofs.CardKeeps.{NicKeeps-shut}
 use Rattle.word_board.proofs.nic_seat.NicSeatNicFace.shut.Goals.{then-last, else-last}
 use Rattle.word_board.proofs.nic_seat.NicSeatNicFace.shut.Goals as goal
@@ -25,4 +25,5 @@ invariant_of-self c =
       subst (λ m. NicKeeps me.board.now.setting (card_of m.0) c.cache_if.new.cache.items me.hand.notes me.hand.entries) (sym did.event)
           (NicKeeps-shut me.board.now.setting nic me.hand.cache.items me.hand.notes me.hand.entries c.self.invariant.2 own last c.if-last.cache_if
           c.cache_if.new.cache.items (free ∙ ap (λ p. last && nat_lt own.buffer p) pool) c.cache_if.ensures),
+      subst (λ m. KnowsLeft me.board.now.setting (card_of m.0).view.sent (card_of m.0).inside.note_slots me.hand.filled.counts) (sym did.event) c.self.invariant.3,
     )

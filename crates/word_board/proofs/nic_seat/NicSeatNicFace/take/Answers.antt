@@ -8,7 +8,7 @@ use Rattle.board_face.specs.declared.views.parts.Setting.{Setting}
 use Rattle.board_face.proofs.TokenLemmas.{FitsBuffer-fresh}
 use Rattle.ref_words.specs.Seated.{card_view}
 use Rattle.word_board.specs.Board.{card_of, TheNic}
-use Rattle.word_board.specs.Hands.{NicKeeps}
+use Rattle.word_board.specs.Hands.{NicKeeps, KnowsLeft}
 use Rattle.word_board.proofs.CardKeeps.{NicKeeps-took, TookBuffer-last}
 use Rattle.word_board.proofs.nic_seat.NicSeatNicFace.take.Goals as goal
 
@@ -27,6 +27,7 @@ invariant_of-self-2 c =
       subst (λ m. NicKeeps me.board.now.setting (card_of m.0) c.pop.new.self.items me.hand.notes me.hand.entries) (sym did.event)
           (NicKeeps-took me.board.now.setting (card_of me.seat.me.0) me.hand.cache.items me.hand.notes me.hand.entries c.self.invariant.2
           c.in_ok-buffer.buffer c.pop.new.self.items c.in_ok-buffer.ensures.items c.pop.ensures.rest),
+      subst (λ m. KnowsLeft me.board.now.setting (card_of m.0).view.sent (card_of m.0).inside.note_slots me.hand.filled.counts) (sym did.event) c.self.invariant.3,
     )
 
 pub returns-clause-view : goal.returns-clause-view

@@ -4,7 +4,7 @@ use Rattle.board_face.specs.SlotSteps.{seen_with, at_slot, side_slot_loaded}
 use Rattle.ref_words.specs.Seated.{app_view}
 use Rattle.word_board.specs.Board.{app_of}
 use Rattle.word_board.proofs.NoteLoaded.{still-full, still-long, one-loaded}
-use Rattle.word_board.proofs.kinds.taken_notes.load_note.Goals as goal
+use Rattle.word_board.proofs.kinds.taken_notes.load_fields.Goals as goal
 
 pub load_slot-requires-clause-so_far : goal.load_slot-requires-clause-so_far
 load_slot-requires-clause-so_far c =
@@ -35,6 +35,3 @@ returns-clause-event c =
     c.loop-k.invariant.1
     ∙ ap (λ words. (app_view (at_slot (app_of c.args.seat.now.me.0) (seen_with words)), []))
     (take_all c.loop-k.k rest (omega (arith, c.loop-k-test.false, c.loop-k.invariant.3)))
-
-pub returns-clause-many : goal.returns-clause-many
-returns-clause-many c = omega (arith, c.loop-k.invariant.3)

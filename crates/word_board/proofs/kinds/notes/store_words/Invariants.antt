@@ -3,7 +3,7 @@ use Rattle.std.specs.Prelude.{◌≡◌, [], take, drop}
 use Rattle.board_face.specs.SlotSteps.{seen_with, at_note}
 use Rattle.ref_words.specs.Seated.{card_view}
 use Rattle.word_board.specs.Board.{card_of}
-use Rattle.word_board.proofs.kinds.notes.fill_note.Given as goal
+use Rattle.word_board.proofs.kinds.notes.store_words.Given as goal
 
 abbrev pub invariant-loop-k : goal.invariant-loop-k
 invariant-loop-k l =

@@ -3,7 +3,7 @@ use Rattle.board_face.specs.SlotSteps.{seen_with, at_note, side_note_stored}
 use Rattle.ref_words.specs.Seated.{card_view}
 use Rattle.word_board.specs.Board.{card_of}
 use Rattle.word_board.proofs.NoteFilled.{one-word, stored}
-use Rattle.word_board.proofs.kinds.notes.fill_note.Goals as goal
+use Rattle.word_board.proofs.kinds.notes.store_words.Goals as goal
 
 pub loop-k-preserved : goal.loop-k-preserved
 loop-k-preserved c =
@@ -11,7 +11,7 @@ loop-k-preserved c =
     let a : ℕ = c.args.app in
     let body = c.args.body.now in
     let k : ℕ = c.loop-k.k in
-    let there : a < length card.inside.note_slots = subst (λ n. a < n) (sym c.if-not-look_note.ensures.slots) c.requires.app in
+    let there : a < length card.inside.note_slots = subst (λ n. a < n) (sym c.requires.slots) c.requires.app in
     let within : k < length (drop 1 body) = omega (arith, c.loop-k-test.true, c.loop-k.auto.k-end, length-drop 1 body, c.fits-body, c.type_inv.body) in (
       c.store_note.ensures.table ∙ c.loop-k.invariant.0,
       c.store_note.ensures.event
