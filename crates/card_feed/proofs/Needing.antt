@@ -167,7 +167,7 @@ module _ (layout : Shape) (split : ℕ) (offers : List Offered) (refused : List 
             own-most places,
             ap length accepts.used,
             length-append old.used accepts.buffers,
-            accepts.many,
+            accepts.few,
             ap bytes_in accepts.notes,
             bytes-append (all_notes was old) (frame_notes was.split o places),
           );

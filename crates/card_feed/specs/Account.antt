@@ -1,7 +1,7 @@
 -- The account of a run: what the roles of a board did, read off once the card has ended and all have left, says where each
 -- byte of each stream came from. It is over the sides of the roles alone, so it is the same for every board.
 use Rattle.std.specs.Prelude.{◌≡◌, ℕ, ◌==◌, true, List, ◌++◌, length, map, filter, All, Option, Some}
-use Rattle.std.specs.Prelude.{◌≢◌, ◌<◌, option_and_then}
+use Rattle.std.specs.Prelude.{◌≢◌, ◌<◌, ◌≤◌, option_and_then}
 use Rattle.std.specs.List.{slice_get}
 use Rattle.std.specs.Io.KnownBytes.{Keeps}
 use Rattle.zr_kinds.specs.declared.behaviour.Stopped.{Stopped}
@@ -19,7 +19,9 @@ use Rattle.board_face.specs.declared.views.nic.NicSide.{NicSide}
 use Rattle.board_face.specs.declared.views.app.AppSide.{AppSide}
 use Rattle.page_pool.specs.Frames.{Offered, ShowFrames}
 use Rattle.page_pool.specs.Dealing.{strays_in}
+use Rattle.app_worker.specs.Core.{total}
 use Rattle.app_worker.specs.Marks.{marks_of}
+use Rattle.app_worker.specs.State.{lent_len}
 use Rattle.app_worker.specs.Streams.{IsFront}
 use Rattle.card_feed.specs.Offered.{offers_of, without}
 pub use Rattle.card_feed.specs.Counts.{capped}
@@ -43,13 +45,16 @@ pub record IsFlowRead (app : AppSide) (stopped : Stopped) (number : ℕ) (bytes 
   pub whole : stopped ≡ stop.No → length bytes ≡ length (marks_of number app.view.taken)
 
 -- One application: the notes that were sent to it show its frames and are those that it took; and its line says how many
--- loans it gave back or abandoned and how many spares it was given.
+-- loans it gave back or abandoned and how many spares it was given, and that it wrote all that these loans had where it wasn't
+-- stopped, and no more where it was.
 pub record AppAccounts (split : ℕ) (steered : List Steered) (left_out : List ℕ) (nic : NicSide) (a : ℕ) (app : AppSide) (line : AppLine) : Type 0 where
   pub has_left : app.view.left ≡ true
   pub notes : ShowFrames split (offered_to a left_out steered) (sent_to a nic)
   pub taken : app.view.taken ≡ map as_taken (sent_to a nic)
   pub loans : line.loans ≡ capped (length app.view.returned)
   pub copied : line.copied ≡ capped app.view.spares
+  pub all_lent : line.stopped ≡ stop.No → line.written ≡ capped (total lent_len app.view.returned)
+  pub within_lent : line.written ≤ total lent_len app.view.returned
   pub no_stray : HasNoLoanStray nic app
 
 -- A board on which the card has ended and all have left accounts for a run: it was opened by the plan, each application

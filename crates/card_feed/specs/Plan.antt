@@ -1,21 +1,21 @@
 -- What a plan asks for, and which plans can be run.
 use Rattle.std.specs.Prelude.{◌≡◌, ◌<◌, ◌≤◌, ◌↔◌, length, nat_eq, Option, IsSome, IfSome}
 use Rattle.std.specs.List.{IsDistinct}
-use Rattle.area_layout.specs.Layout.{Shape, IsLayout, shape_of}
+use Rattle.area_layout.specs.Layout.{Shape, MakeLayout, shape_of_areas}
 use Rattle.card_feed.specs.declared.plan.Plan.{Plan}
 
--- how the area is cut: pool buffers, and one reserve for each port
+-- how the areas are cut: pool buffers, and one reserve for each port
 abbrev pub layout_of : Plan → Shape
-layout_of plan = shape_of plan.buffers (length plan.ports.items) plan.size
+layout_of plan = shape_of_areas plan.areas.items (length plan.ports.items)
 
 -- There is a layout exactly where the numbers allow one.
 pub record IsLaidOut (plan : Plan) (result : Option Shape) : Type 0 where
-  pub fits : IsSome result ↔ IsLayout (layout_of plan)
+  pub fits : IsSome result ↔ MakeLayout plan.areas.items (length plan.ports.items)
   pub value : IfSome result (λ layout. layout ≡ layout_of plan)
 
 -- 1 to 8 distinct ports, and numbers in their ranges
 pub record IsPlan (plan : Plan) : Type 0 where
-  pub layout : IsLayout (layout_of plan)
+  pub layout : MakeLayout plan.areas.items (length plan.ports.items)
   pub some : 0 < length plan.ports.items
   pub most : length plan.ports.items ≤ 8
   pub distinct : IsDistinct nat_eq plan.ports.items

@@ -11,10 +11,8 @@ use zr_kinds::Behaviour;
 pub struct Plan {
     /// The destination ports, one for each application.
     pub ports: Vec<u16>,
-    /// How many pool buffers there are.
-    pub buffers: u32,
-    /// The size of a buffer in bytes.
-    pub size: u32,
+    /// One to four areas, each with its number of pool buffers and their size in bytes.
+    pub areas: Vec<(u32, u32)>,
     /// How many places each ring has.
     pub ring: u32,
     /// The greatest payload that travels in its note, in bytes.
@@ -24,11 +22,11 @@ pub struct Plan {
 }
 
 impl Plan {
-    /// The layout of the area: the pool's buffers, and one reserve for each port.
+    /// The layout of the areas: the pool's buffers, and one reserve for each port.
     pub fn layout(&self) -> Option<Layout>
         ensures { IsLaidOut self.now result }
     {
         let apps = u32::try_from(self.ports.len()).ok()?;
-        Layout::new(self.buffers, apps, self.size)
+        Layout::of(&self.areas, apps)
     }
 }

@@ -23,8 +23,9 @@ use frame_headers::{Seen, read_frame};
 use page_pool::{Offer, Pool, Verdict, nic_close, nic_drain, nic_flush, nic_offer};
 
 /// The payload in a frame, or none.
-fn payload_in(frame: &[u8]) -> &[u8]
-    ensures { result.now ≡ payload_in frame.now }
+pub fn payload_in(frame: &[u8]) -> &[u8]
+    ensures payload { result.now ≡ payload_in frame.now }
+    ensures most { length result.now ≤ 65515 }
 {
     match read_frame(frame) {
         Seen::Tcp(segment) => segment.payload,

@@ -1,25 +1,27 @@
 //! Before a frame is offered: whether there are buffers for it.
 
 ghost use Rattle.std.specs.Prelude.{◌≡◌, ℕ, ◌<◌, ◌≤◌, List, length, MatchBool};
+ghost use Rattle.area_layout.specs.Layout.{least_size};
+ghost use Rattle.page_pool.specs.Offer.{fresh_for};
 ghost use Rattle.page_pool.specs.Pool.{pending_count};
 ghost use Rattle.page_pool.specs.Searching.{LooksAhead};
 ghost use Rattle.card_feed.specs.Feed.{IsReady, FeedKnows};
+ghost use Rattle.card_feed.specs.Offered.{payload_in};
 
 use crate::Feed;
+use crate::playing::payload_in;
 use board_face::NicFace;
-use frame_headers::{Seen, read_frame};
 use page_pool::nic_gather;
 use zr_kinds::PoolStats;
 
 impl Feed {
-    /// How many fresh buffers of so many bytes the payload of a frame needs, if all of it counts.
-    pub fn needed(&self, frame: &[u8], size: u32) -> u32
+    /// How many fresh buffers the payload of a frame needs, if all of it counts.
+    pub fn needed<F: NicFace>(&self, frame: &[u8], face: &F) -> u32
+        ensures value { result ≡ fresh_for self.now.pool (least_size (F.seen face.now).setting.layout) (length (payload_in frame.now)) }
         ensures few { result ≤ 64 }
     {
-        match read_frame(frame) {
-            Seen::Tcp(segment) => self.pool.needed(segment.payload.len() as u32, size),
-            _ => 0,
-        }
+        self.pool
+            .needed(payload_in(frame).len() as u32, face.size())
     }
 
     /// How many notes are pending.

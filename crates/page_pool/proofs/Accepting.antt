@@ -84,6 +84,7 @@ Accepts-short was pool old flushed new o short more sent_more all few view looks
       enough = none_not empty;
       buffers = [];
       many = rw few refl;
+      few = omega arith;
       used = used ∙ sym (append-nil old.used);
       notes = notes ∙ rw (sent, few) refl;
       shows = rw few (record {
@@ -202,6 +203,7 @@ Accepts-split was pool placed now old flushed filled new o all long places sends
       enough = places.enough;
       buffers = places.buffers;
       many = rw long (rw (setting, current) at places.many);
+      few = rw long (rw (setting, current) at places.few);
       used = used;
       notes = sends.notes ∙ rw (no_short, sent, long) (ap (λ notes. all_notes was old ++ notes) (rw (setting, current) at places.notes));
       shows = rw long (record { short = λ le. absurd (omega (arith, le, leb-false _ _ long)); long = λ more. rw (setting, current) at places.shows });

@@ -1,15 +1,16 @@
 -- The notes of a frame show its payload.
-use Rattle.std.proofs.Common.{◌≡◌, ℕ, ◌+◌, ◌-◌, ◌*◌, ◌<◌, ◌≤◌, min, List, [], ◌∷◌, ◌++◌, length, take, drop}
+use Rattle.std.proofs.Common.{◌≡◌, ℕ, zero, suc, ◌+◌, ◌-◌, ◌<◌, ◌≤◌, min, List, [], ◌∷◌, ◌++◌, length, take, drop}
 use Rattle.std.proofs.Common.{append_assoc, refl, arith}
 use Rattle.std.proofs.lemmas.List.{append-nil}
-use Rattle.std.proofs.lemmas.Grind.{div_ceil_times}
+use Rattle.std.proofs.lemmas.List.Sums.{sum_by-cons}
+use Rattle.area_layout.specs.Layout.{Shape, IsLayout, size_of}
+use Rattle.area_layout.proofs.Words.{words_apart}
 use Rattle.zr_kinds.specs.declared.place.Place.{Place}
 use Rattle.board_face.specs.declared.views.nic.SentNote.{SentNote}
 use Rattle.page_pool.specs.declared.offer.Offer.{Offer}
-use Rattle.page_pool.specs.Packing.{buffers_for}
 use Rattle.page_pool.specs.Frames.{Offered, offered, ShowsPart, ShowRest, ShowsWhole, ShowsFrame, ShowFrames}
 use Rattle.page_pool.specs.Offer.{payload_of, split_note, split_notes, short_note}
-use Rattle.page_pool.specs.Placing.{fresh_places}
+use Rattle.page_pool.specs.Placing.{fresh_places, room_in}
 
 -- the note of a part
 shows_part : (o : Offer) (at : ℕ) (place : Place) → 0 < place.len → at + place.len ≤ length (payload_of o)
@@ -28,24 +29,25 @@ pub one_shows : (o : Offer) (place : Place) → 0 < length (payload_of o) → pl
     → ShowRest (offered o) 0 (split_notes o 0 (place ∷ []))
 one_shows o place some whole = (shows_part o 0 place (omega (arith, some, whole)) (omega (arith, whole)), omega (arith, whole))
 
--- parts in fresh buffers, as many as the rest of the payload fills
-rest_shows : (o : Offer) (size at rest : ℕ) (buffers : List ℕ) → at + rest ≡ length (payload_of o) → 0 < size → rest ≤ length buffers * size
-    → length buffers * size < rest + size
-    → ShowRest (offered o) at (split_notes o at (fresh_places size buffers rest))
-rest_shows o size at rest [] all some enough few = omega (arith, all, enough)
-rest_shows o size at rest (b ∷ bs) all some enough few =
-    let more : length bs * size < rest = omega (arith, few) in
-    let here : 0 < min size rest = grind (arith, some, more) in
-    let within : at + min size rest ≤ length (payload_of o) = grind (arith, all) in (
-      shows_part o at (record { buffer = b; offset = 0; len = min size rest }) here within,
-      rest_shows o size (at + min size rest) (rest - size) bs (grind (arith, all)) some (omega (arith, enough)) (omega (arith, more)),
+-- parts in fresh buffers, which have room for the rest of the payload
+rest_shows : (o : Offer) (layout : Shape) (at rest : ℕ) (buffers : List ℕ) → IsLayout layout → at + rest ≡ length (payload_of o)
+    → rest ≤ room_in layout buffers
+    → ShowRest (offered o) at (split_notes o at (fresh_places layout buffers rest))
+rest_shows o layout at rest [] l all enough = omega (arith, all, enough)
+rest_shows o layout at zero (b ∷ bs) l all enough = omega (arith, all)
+rest_shows o layout at (suc rest) (b ∷ bs) l all enough =
+    let size : ℕ = size_of layout b in
+    let some = ((words_apart layout l).size b).least in
+    let here : 0 < min size (suc rest) = grind (arith, some) in
+    let within : at + min size (suc rest) ≤ length (payload_of o) = grind (arith, all) in
+    let left : suc rest - size ≤ room_in layout bs = omega (arith, enough, sum_by-cons (size_of layout) b bs) in (
+      shows_part o at (record { buffer = b; offset = 0; len = min size (suc rest) }) here within,
+      rest_shows o layout (at + min size (suc rest)) (suc rest - size) bs l (grind (arith, all)) left,
     )
 
-pub fresh_shows : (o : Offer) (size : ℕ) (buffers : List ℕ) → 0 < size → length buffers ≡ buffers_for size (length (payload_of o))
-    → ShowRest (offered o) 0 (split_notes o 0 (fresh_places size buffers (length (payload_of o))))
-fresh_shows o size buffers some many =
-    let times = div_ceil_times (length (payload_of o)) size some in
-    rest_shows o size 0 (length (payload_of o)) buffers (omega arith) some (rw many times.0) (rw many times.1)
+pub fresh_shows : (o : Offer) (layout : Shape) (buffers : List ℕ) → IsLayout layout → length (payload_of o) ≤ room_in layout buffers
+    → ShowRest (offered o) 0 (split_notes o 0 (fresh_places layout buffers (length (payload_of o))))
+fresh_shows o layout buffers l room = rest_shows o layout 0 (length (payload_of o)) buffers l (omega arith) room
 
 -- the note in which the whole payload travels
 pub whole_shows : (o : Offer) → ShowsWhole (offered o) (record { app = o.app; note = short_note o; bytes = payload_of o })

@@ -25,7 +25,7 @@ use Rattle.page_pool.specs.Packing.{buffers_for, fits, needed}
 use Rattle.page_pool.specs.Pool.{PoolState, PoolStands, HasNonePending, piece_notes}
 use Rattle.page_pool.specs.Searching.{SearchEnd, empty, AreToldOf, EndsBy, Searches}
 use Rattle.page_pool.specs.Offer.{payload_of, split_notes, packed, packed_into, last_of, ClosesCurrent, LooksFor, not_needed, searched}
-use Rattle.page_pool.specs.Placing.{PiecesStand, part_of, fresh_places, FreshParts, FillsCurrent, PlacesSplit, LacksRoom}
+use Rattle.page_pool.specs.Placing.{PiecesStand, part_of, fresh_places, FillsFresh, FillsCurrent, PlacesSplit, LacksRoom}
 use Rattle.page_pool.proofs.FramesShown.{one_shows, fresh_shows}
 use Rattle.page_pool.proofs.Packed.{parts_places}
 use Rattle.page_pool.proofs.PlacedParts.{PiecesStand-part, still_needed}
@@ -105,6 +105,7 @@ PlacesSplit-current was old new o current pieces stands none app some most fills
       enough = none_not empty;
       buffers = [];
       many = rw (was_is, there) refl;
+      few = omega arith;
       used = rw (fills.event, append-nil) refl;
       notes = rw (fills.event, fills.pieces_are, no_pieces, was_is, there, start, take-length) refl;
       shows = rw (was_is, there, start) (one_shows o (next_place own len) some refl);
@@ -192,37 +193,38 @@ packed_into-fresh setting (Some own) buffers len too_long = rw too_long refl
 
 -- it went to fresh buffers
 pub PlacesSplit-fresh : (was : PoolState) (stats : PoolStats) (old begin found new : NicView) (o : Offer) (how : SearchEnd) (need size : ℕ)
-    (buffers : List ℕ) (current : Option Filling) (pieces : List Pending)
+    (current : Option Filling) (pieces : List Pending)
     → PoolStands was old → HasNonePending was → IsNeed need size was.current begin o → IsLayout begin.setting.layout → 0 < length (payload_of o)
     → ClosesCurrent was.current old begin → begin.owns ≡ [] → Searches need was.stats stats begin found how → how ≢ empty
-    → length buffers ≡ buffers_for (least_size found.setting.layout) (length (payload_of o))
-    → FreshParts o (least_size found.setting.layout) buffers found new pieces → current ≡ last_of found.setting buffers (length (payload_of o))
+    → FillsFresh o found new pieces current
     → new.owns ≡ option_to_list current → length pieces ≤ 64
     → PlacesSplit was (record was { current = current; pieces = pieces; stats = stats }) old new o
-PlacesSplit-fresh was stats old begin found new o how need size buffers current pieces stands none is layout some closes begin_owns searches enough many
-    parts current_is owns few =
+PlacesSplit-fresh was stats old begin found new o how need size current pieces stands none is layout some closes begin_owns searches enough fills owns
+    few =
     let len : ℕ = length (payload_of o) in
     let all = looked was old begin found need stats how stands none closes begin_owns searches in
     let setting : found.setting ≡ old.setting = ap (λ (v : NicView). v.setting) all.keeps.view in
     let used : found.used ≡ old.used = ap (λ (v : NicView). v.used) all.keeps.view in
     let begin_setting : begin.setting ≡ old.setting = ap (λ (v : NicView). v.setting) (ClosesCurrent-keeps was.current old begin closes).view in
-    let least = (in_order old.setting.layout (rw begin_setting at layout)).some.least in
+    let layout_there : IsLayout old.setting.layout = rw begin_setting at layout in
     let need_is = needed_is need size was.current old begin o closes is in
-    let places = parts_places was.current (least_size old.setting.layout) [] buffers len in
-    let many_there : length buffers ≡ buffers_for (least_size old.setting.layout) len = rw setting at many in
-    let notes : piece_notes pieces new.pieces ≡ split_notes o 0 (fresh_places (least_size old.setting.layout) buffers len) = rw setting at parts.notes in
+    let parts = fills.parts in
+    let buffers : List ℕ = fills.buffers in
+    let places = parts_places was.current old.setting.layout [] buffers len in
+    let notes : piece_notes pieces new.pieces ≡ split_notes o 0 (fresh_places old.setting.layout buffers len) = rw setting at parts.notes in
     record {
       found = found;
       how = Some how;
       search = rw need_is (searched begin how (some_needed need size was.current begin o is layout some) closes searches);
       enough = λ same. enough (grind (arith, same));
       buffers = buffers;
-      many = rw is.too_long many_there;
+      many = rw is.too_long (rw setting at fills.many);
+      few = rw is.too_long (rw setting at fills.few);
       used = rw (parts.used, used) refl;
       notes = rw is.too_long (notes ∙ ap (λ places. split_notes o 0 places) (sym places));
       shows = rw is.too_long (subst (λ places. ShowRest (offered o) 0 (split_notes o 0 places)) (sym places) (fresh_shows o
-          (least_size old.setting.layout) buffers (omega (arith, least)) many_there));
-      current = rw setting at current_is ∙ sym (packed_into-fresh old.setting was.current buffers len is.too_long);
+          old.setting.layout buffers layout_there (rw setting at fills.room)));
+      current = rw setting at fills.last_is ∙ sym (packed_into-fresh old.setting was.current buffers len is.too_long);
       pool = refl;
       view = parts.view;
       looks = parts.looks;

@@ -1,13 +1,15 @@
 -- One more part was placed.
-use Rattle.std.proofs.Common.{◌≡◌, ℕ, suc, ◌+◌, ◌-◌, ◌*◌, ◌<◌, ◌≤◌, min, List, [], ◌∷◌, ◌++◌, length, map, take, drop}
+use Rattle.std.proofs.Common.{◌≡◌, ℕ, zero, suc, ◌+◌, ◌-◌, ◌*◌, ◌<◌, ◌≤◌, min, List, [], ◌∷◌, ◌++◌, length, map, take, drop}
 use Rattle.std.proofs.Common.{append_assoc, length-append, refl, sym, ap, ◌∙◌, arith, true, ◌&&◌, nat_lt, Some}
 use Rattle.std.proofs.lemmas.List.{append-nil, map-append, length-map}
 use Rattle.std.proofs.lemmas.Grind.{div_ceil_times}
+use Rattle.std.proofs.lemmas.List.Sums.{sum_by-cons, sum_by_push}
 use Rattle.std.proofs.Math.Nat.{lt_of_mul-lt-mul_right}
 use Rattle.std.proofs.lemmas.List.Elements.{All-push, All-nil}
 use Rattle.zr_kinds.specs.declared.place.Place.{Place}
 use Rattle.board_face.specs.Looks.{same_nic_look}
-use Rattle.area_layout.specs.Layout.{pool_buffers, least_size}
+use Rattle.area_layout.specs.Layout.{Shape, IsLayout, pool_buffers, least_size, size_of}
+use Rattle.area_layout.proofs.Words.{in_order, words_apart}
 use Rattle.board_face.specs.Texts.{IsSplitNote}
 use Rattle.board_face.specs.Tokens.{next_place, filled_by, same_filling}
 use Rattle.board_face.specs.NicCalls.{TookBuffer, Closed, apps_of}
@@ -22,10 +24,10 @@ use Rattle.board_face.proofs.LookLemmas.{NicLooksStay-same, NicLooksStay-trans, 
 use Rattle.page_pool.specs.declared.pool.Pending.{Pending}
 use Rattle.page_pool.specs.declared.offer.Offer.{Offer}
 use Rattle.page_pool.specs.Pool.{piece_notes}
-use Rattle.page_pool.specs.Packing.{buffers_for}
+use Rattle.page_pool.specs.Packing.{buffers_for, fresh_parts}
 use Rattle.page_pool.specs.Offer.{payload_of, split_note, split_notes, last_of}
 use Rattle.page_pool.proofs.Entries.{grown, freed_by}
-use Rattle.page_pool.specs.Placing.{PiecesStand, part_of, fresh_places, FreshParts, FreshSoFar}
+use Rattle.page_pool.specs.Placing.{PiecesStand, part_of, fresh_places, room_in, FreshParts, FreshSoFar, FillsFresh}
 
 -- ---- numbers
 
@@ -35,53 +37,66 @@ still_needed size k len some before =
     let enough : len ≤ buffers_for size len * size = (div_ceil_times len size some).0 in
     lt_of_mul-lt-mul_right size (omega (arith, before, enough))
 
--- and the last one is
-pub as_needed : (size k len : ℕ) → 0 < size → k * size < len → len ≤ (k + 1) * size → k + 1 ≡ buffers_for size len
-as_needed size k len some before within =
-    let least = still_needed size k len some before in
-    let close : buffers_for size len * size < len + size = (div_ceil_times len size some).1 in
-    let most : buffers_for size len < k + 2 = lt_of_mul-lt-mul_right size {m = buffers_for size len} {n = k + 2} (omega (arith, close, within)) in
-    omega (arith, least, most)
-
 -- ---- lists
 
 -- the note of the part at a place
 abbrev pub next_note : Offer → ℕ → Place → SentNote
 next_note o at place = record { app = o.app; note = split_note o at place; bytes = take place.len (drop at (payload_of o)) }
 
-pub split_notes-push : (o : Offer) (size b : ℕ) (bs : List ℕ) (at len : ℕ) → length bs * size ≤ len
-    → split_notes o at (fresh_places size (bs ++ b ∷ []) len)
-    ≡ split_notes o at (fresh_places size bs len) ++ next_note o (at + length bs * size) (record {
+pub split_notes-push : (o : Offer) (layout : Shape) (b : ℕ) (bs : List ℕ) (at len : ℕ) → room_in layout bs < len
+    → split_notes o at (fresh_places layout (bs ++ b ∷ []) len)
+    ≡ split_notes o at (fresh_places layout bs len) ++ next_note o (at + room_in layout bs) (record {
       buffer = b;
       offset = 0;
-      len = min size
-          (len - length bs * size);
+      len = min (size_of layout b)
+          (len - room_in layout bs);
     }) ∷ []
-split_notes-push o size b [] at len within =
-    let e1 : at + 0 * size ≡ at = omega arith in
-    let e2 : len - 0 * size ≡ len = omega arith in
+split_notes-push o layout b [] at zero before = absurd (omega (arith, before))
+split_notes-push o layout b [] at (suc rest) before =
+    let e1 : at + room_in layout [] ≡ at = omega arith in
+    let e2 : suc rest - room_in layout [] ≡ suc rest = omega arith in
     rw (e1, e2) refl
-split_notes-push o size b (c ∷ cs) at len within =
-    let full : min size len ≡ size = grind (arith, within) in
-    let e1 : at + suc (length cs) * size ≡ at + min size len + length cs * size = omega (arith, full) in
-    let e2 : len - suc (length cs) * size ≡ len - size - length cs * size = omega arith in
+split_notes-push o layout b (c ∷ cs) at zero before = absurd (omega (arith, before))
+split_notes-push o layout b (c ∷ cs) at (suc rest) before =
+    let size : ℕ = size_of layout c in
+    let sum = sum_by-cons (size_of layout) c cs in
+    let full : min size (suc rest) ≡ size = grind (arith, before, sum) in
+    let e1 : at + room_in layout (c ∷ cs) ≡ at + min size (suc rest) + room_in layout cs = omega (arith, full, sum) in
+    let e2 : suc rest - room_in layout (c ∷ cs) ≡ suc rest - size - room_in layout cs = omega (arith, sum) in
     rw (e1, e2)
     (ap (λ ns. record {
       app = o.app;
-      note = split_note o at (record { buffer = c; offset = 0; len = min size len });
-      bytes = take (min size len) (drop at
+      note = split_note o at (record { buffer = c; offset = 0; len = min size (suc rest) });
+      bytes = take (min size (suc rest)) (drop at
           (payload_of o));
     } ∷ ns)
-    (split_notes-push o size b cs (at + min size len) (len - size) (omega (arith, within))))
+    (split_notes-push o layout b cs (at + min size (suc rest)) (suc rest - size) (omega (arith, before, sum))))
 
 pub last_of-push : (setting : Setting) (b : ℕ) (bs : List ℕ) (len : ℕ)
-    → last_of setting (bs ++ b ∷ []) len ≡ Some (filled_by (fresh setting b) (len - length bs * least_size setting.layout))
-last_of-push setting b [] len = let e : len - 0 * least_size setting.layout ≡ len = omega arith in rw e refl
-last_of-push setting b (c ∷ []) len = let e : len - 1 * least_size setting.layout ≡ len - least_size setting.layout = omega arith in rw e refl
+    → last_of setting (bs ++ b ∷ []) len ≡ Some (filled_by (fresh setting b) (len - room_in setting.layout bs))
+last_of-push setting b [] len = let e : len - room_in setting.layout [] ≡ len = omega arith in rw e refl
+last_of-push setting b (c ∷ []) len =
+    let e : len - room_in setting.layout (c ∷ []) ≡ len - size_of setting.layout c = omega (arith, sum_by-cons (size_of setting.layout) c []) in
+    rw e refl
 last_of-push setting b (c ∷ d ∷ ds) len =
-    let size : ℕ = least_size setting.layout in
-    let e : len - suc (suc (length ds)) * size ≡ len - size - suc (length ds) * size = omega arith in
-    rw e (last_of-push setting b (d ∷ ds) (len - size))
+    let e : len - room_in setting.layout (c ∷ d ∷ ds) ≡ len - size_of setting.layout c - room_in setting.layout (d ∷ ds) =
+    omega (arith, sum_by-cons (size_of setting.layout) c (d ∷ ds)) in
+    rw e (last_of-push setting b (d ∷ ds) (len - size_of setting.layout c))
+
+-- each buffer is used
+fresh-many : (layout : Shape) (b : ℕ) (bs : List ℕ) (number len : ℕ) → room_in layout bs < len
+    → length (fresh_parts number (map (size_of layout) (bs ++ b ∷ [])) len) ≡ length (bs ++ b ∷ [])
+fresh-many layout b [] number zero before = absurd (omega (arith, before))
+fresh-many layout b [] number (suc rest) before = refl
+fresh-many layout b (c ∷ cs) number zero before = absurd (omega (arith, before))
+fresh-many layout b (c ∷ cs) number (suc rest) before =
+    ap suc (fresh-many layout b cs (suc number) (suc rest - size_of layout c) (omega (arith, before, sum_by-cons (size_of layout) c cs)))
+
+-- and has as many bytes as the least, or more
+room-least : (layout : Shape) (bs : List ℕ) → IsLayout layout → length bs * least_size layout ≤ room_in layout bs
+room-least layout [] l = omega arith
+room-least layout (b ∷ bs) l =
+    omega (arith, room-least layout bs l, (in_order layout l).least b, sum_by-cons (size_of layout) b bs)
 
 pub piece_notes-push : (ps : List Pending) (texts : List PlacedText) (p : Pending) (t : PlacedText) → length ps ≡ length texts
     → piece_notes (ps ++ p ∷ []) (texts ++ t ∷ []) ≡ piece_notes ps texts ++ record { app = p.app; note = p.note; bytes = t.bytes } ∷ []
@@ -108,16 +123,19 @@ PiecesStand-part o at pieces v own bytes stand app most within = record {
 PiecesStand-took : (pieces : List Pending) (v : NicView) (buffer : ℕ) → PiecesStand pieces v → PiecesStand pieces (took v buffer)
 PiecesStand-took pieces v buffer stand = record { places_are = stand.places_are; apps = stand.apps; fields = stand.fields; places = stand.places }
 
-pub FreshParts-part : (o : Offer) (size : ℕ) (buffers : List ℕ) (old v t : NicView) (own : Filling) (pieces : List Pending) (bytes : List ℕ)
-    → FreshParts o size buffers old v pieces → TookBuffer v t own
-    → bytes ≡ take (min size (length (payload_of o) - length buffers * size)) (drop (length buffers * size) (payload_of o))
-    → length bytes ≡ min size (length (payload_of o) - length buffers * size)
-    → length buffers * size < length (payload_of o) → o.app < apps_of old.setting → length (payload_of o) ≤ 65515
-    → FreshParts o size (buffers ++ own.buffer ∷ []) old (placed t own bytes) (pieces ++ part_of o (length buffers * size) (next_place own
+pub FreshParts-part : (o : Offer) (buffers : List ℕ) (old v t : NicView) (own : Filling) (pieces : List Pending) (bytes : List ℕ)
+    → FreshParts o buffers old v pieces → TookBuffer v t own
+    → bytes ≡ take (min (size_of old.setting.layout own.buffer) (length (payload_of o) - room_in old.setting.layout buffers))
+    (drop (room_in old.setting.layout buffers) (payload_of o))
+    → length bytes ≡ min (size_of old.setting.layout own.buffer) (length (payload_of o) - room_in old.setting.layout buffers)
+    → room_in old.setting.layout buffers < length (payload_of o) → o.app < apps_of old.setting → length (payload_of o) ≤ 65515
+    → FreshParts o (buffers ++ own.buffer ∷ []) old (placed t own bytes) (pieces ++ part_of o (room_in old.setting.layout buffers) (next_place own
     (length bytes)) ∷ [])
-FreshParts-part o size buffers old v t own pieces bytes parts took_one bytes_are len_is before app most =
+FreshParts-part o buffers old v t own pieces bytes parts took_one bytes_are len_is before app most =
     let L : ℕ = length (payload_of o) in
-    let at : ℕ = length buffers * size in
+    let layout : Shape = old.setting.layout in
+    let at : ℕ = room_in layout buffers in
+    let size : ℕ = size_of layout own.buffer in
     let e : t ≡ took v own.buffer = took_one.event in
     let setting : v.setting ≡ old.setting = ap (λ (w : NicView). w.setting) parts.view in
     let own_is : own ≡ fresh v.setting own.buffer = took_one.fresh in
@@ -138,7 +156,7 @@ FreshParts-part o size buffers old v t own pieces bytes parts took_one bytes_are
             bytes = bytes;
           }) long
           ∙ rw (parts.notes, place, bytes_are) (let zero_at : 0 + at
-          ≡ at = omega arith in sym (rw zero_at at (split_notes-push o size own.buffer buffers 0 L (omega (arith, before))))));
+          ≡ at = omega arith in sym (rw zero_at at (split_notes-push o layout own.buffer buffers 0 L before))));
       stand = rw e (PiecesStand-part o at pieces (took v own.buffer) own bytes (PiecesStand-took pieces v own.buffer parts.stand) app_there most in_payload);
       view = rw e (rw parts.view refl);
       looks = NicLooksStay-trans old v (placed t own bytes) parts.looks (NicLooksStay-same v (placed t own bytes) (rw e refl));
@@ -147,9 +165,9 @@ FreshParts-part o size buffers old v t own pieces bytes parts took_one bytes_are
           simp length-append (omega (arith, cache, parts.enough));
     }
 
-pub FreshSoFar-none : (o : Offer) (size : ℕ) (v : NicView) (pieces : List Pending) → v.owns ≡ [] → v.pieces ≡ [] → pieces ≡ []
-    → buffers_for size (length (payload_of o)) ≤ length v.cache → FreshSoFar o size v v pieces 0
-FreshSoFar-none o size v pieces owns none nothing enough = record {
+pub FreshSoFar-none : (o : Offer) (v : NicView) (pieces : List Pending) → v.owns ≡ [] → v.pieces ≡ [] → pieces ≡ []
+    → buffers_for (least_size v.setting.layout) (length (payload_of o)) ≤ length v.cache → FreshSoFar o v v pieces 0
+FreshSoFar-none o v pieces owns none nothing enough = record {
   buffers = [];
   parts = record {
     used = rw append-nil refl;
@@ -160,14 +178,14 @@ FreshSoFar-none o size v pieces owns none nothing enough = record {
     looks = NicLooksStay-same v v refl;
     enough = omega (arith, enough);
   };
-  reached = omega arith;
+  reached = refl;
   owns = owns;
 }
 
 -- the buffer was closed
-pub FreshParts-shut : (o : Offer) (size : ℕ) (buffers : List ℕ) (old w u : NicView) (own : Filling) (pieces : List Pending)
-    → FreshParts o size buffers old w pieces → Closed w u own → FreshParts o size buffers old u pieces
-FreshParts-shut o size buffers old w u own pieces parts closed =
+pub FreshParts-shut : (o : Offer) (buffers : List ℕ) (old w u : NicView) (own : Filling) (pieces : List Pending)
+    → FreshParts o buffers old w pieces → Closed w u own → FreshParts o buffers old u pieces
+FreshParts-shut o buffers old w u own pieces parts closed =
     let e : u ≡ shut w own closed.last = closed.event in
     let cache : (shut w own closed.last).cache ≡ w.cache ++ freed_by w own.buffer closed.last = grown (closed.last && nat_lt own.buffer
     (pool_buffers w.setting.layout)) (nat_lt (length w.cache) cache_room) w.cache own.buffer in
@@ -188,33 +206,56 @@ FreshParts-shut o size buffers old w u own pieces parts closed =
     }
 
 -- what is out, once a part was placed in a fresh buffer
-owns-placed : (v t : NicView) (own : Filling) (bytes : List ℕ) → v.owns ≡ [] → TookBuffer v t own
+pub owns-placed : (v t : NicView) (own : Filling) (bytes : List ℕ) → v.owns ≡ [] → TookBuffer v t own
     → (placed t own bytes).owns ≡ filled_by own (length bytes) ∷ []
 owns-placed v t own bytes none took_one =
     let own_is : fresh v.setting own.buffer ≡ own = sym took_one.fresh in
     let same : same_filling own (fresh v.setting own.buffer) ≡ true = ap (same_filling own) own_is ∙ same_filling-refl own in
     rw (took_one.event, none, same) refl
 
+-- how many bytes of the payload the next buffer takes
+size-own : (o : Offer) (buffers : List ℕ) (old v t : NicView) (own : Filling) (pieces : List Pending) → FreshParts o buffers old v pieces
+    → TookBuffer v t own → own.size ≡ size_of old.setting.layout own.buffer
+size-own o buffers old v t own pieces parts took_one =
+    ap (λ (f : Filling). f.size) took_one.fresh ∙ ap (λ (w : NicView). size_of w.setting.layout own.buffer) parts.view
+
+pub own-some : (o : Offer) (old v t : NicView) (own : Filling) (pieces : List Pending) (at : ℕ) → IsLayout old.setting.layout
+    → FreshSoFar o old v pieces at → TookBuffer v t own → 0 < own.size
+own-some o old v t own pieces at l so took_one =
+    omega (arith, size-own o so.buffers old v t own pieces so.parts took_one, ((words_apart old.setting.layout l).size own.buffer).least)
+
+-- as long as bytes are left fewer parts were placed than buffers are needed
+pub fewer-parts : (o : Offer) (old v : NicView) (pieces : List Pending) (at : ℕ) → IsLayout old.setting.layout → FreshSoFar o old v pieces at
+    → at < length (payload_of o) → length pieces < buffers_for (least_size old.setting.layout) (length (payload_of o))
+fewer-parts o old v pieces at l so before =
+    let least : ℕ = least_size old.setting.layout in
+    let some = (in_order old.setting.layout l).some.least in
+    let needed = still_needed least (length so.buffers) (length (payload_of o)) (omega (arith, some))
+    (omega (arith, room-least old.setting.layout so.buffers l, so.reached, before)) in
+    omega (arith, needed, so.parts.many)
+
 -- one buffer was filled and closed, and some bytes are left
-pub FreshSoFar-next : (o : Offer) (size : ℕ) (old v t u : NicView) (own : Filling) (pieces : List Pending) (at n : ℕ) (bytes : List ℕ)
-    → FreshSoFar o size old v pieces at → TookBuffer v t own
-    → n ≡ min size (length (payload_of o) - at) → bytes ≡ take n (drop at (payload_of o)) → length bytes ≡ n → at + n < length (payload_of o)
+pub FreshSoFar-next : (o : Offer) (old v t u : NicView) (own : Filling) (pieces : List Pending) (at n : ℕ) (bytes : List ℕ)
+    → FreshSoFar o old v pieces at → TookBuffer v t own
+    → n ≡ min own.size (length (payload_of o) - at) → bytes ≡ take n (drop at (payload_of o)) → length bytes ≡ n → at + n < length (payload_of o)
     → o.app < apps_of old.setting → length (payload_of o) ≤ 65515
-    → Closed (placed t own bytes) u (filled_by own n) → FreshSoFar o size old u (pieces ++ part_of o at (next_place own n) ∷ []) (at + n)
-FreshSoFar-next o size old v t u own pieces at n bytes so took_one n_is bytes_are len_is rest app most closed =
-    let at_is : at ≡ length so.buffers * size = so.reached in
-    let full : n ≡ size = grind (arith, n_is, rest) in
+    → Closed (placed t own bytes) u (filled_by own n) → FreshSoFar o old u (pieces ++ part_of o at (next_place own n) ∷ []) (at + n)
+FreshSoFar-next o old v t u own pieces at n bytes so took_one n_is bytes_are len_is rest app most closed =
+    let layout : Shape = old.setting.layout in
+    let at_is : at ≡ room_in layout so.buffers = so.reached in
+    let size_is : own.size ≡ size_of layout own.buffer = size-own o so.buffers old v t own pieces so.parts took_one in
+    let full : n ≡ size_of layout own.buffer = grind (arith, n_is, size_is, rest) in
     record {
       buffers = so.buffers ++ own.buffer ∷ [];
-      parts = FreshParts-shut o size (so.buffers ++ own.buffer ∷ []) old (placed t own bytes) u (filled_by own n) _
-          (let n_there : n ≡ min size (length (payload_of o) - length so.buffers * size) = rw at_is at n_is in
-          let bytes_there : bytes ≡ take n (drop (length so.buffers * size) (payload_of o)) = rw at_is at bytes_are in
-          let before : length so.buffers * size < length (payload_of o) = omega (arith, at_is, rest) in
-          let part = FreshParts-part o size so.buffers old v t own pieces bytes so.parts took_one (rw n_there at bytes_there) (len_is
+      parts = FreshParts-shut o (so.buffers ++ own.buffer ∷ []) old (placed t own bytes) u (filled_by own n) _
+          (let n_there : n ≡ min (size_of layout own.buffer) (length (payload_of o) - room_in layout so.buffers) = rw (size_is, at_is) at n_is in
+          let bytes_there : bytes ≡ take n (drop (room_in layout so.buffers) (payload_of o)) = rw at_is at bytes_are in
+          let before : room_in layout so.buffers < length (payload_of o) = omega (arith, at_is, rest) in
+          let part = FreshParts-part o so.buffers old v t own pieces bytes so.parts took_one (rw n_there at bytes_there) (len_is
           ∙ n_there) before app most in
           rw (at_is, sym len_is) part)
           closed;
-      reached = simp length-append (omega (arith, at_is, full));
+      reached = omega (arith, at_is, full, sum_by_push (size_of layout) so.buffers own.buffer);
       owns =
           let out : (placed t own bytes).owns ≡ filled_by own n ∷ [] = owns-placed v t own bytes so.owns took_one
           ∙ ap (λ k. filled_by own k ∷ []) len_is in
@@ -222,37 +263,41 @@ FreshSoFar-next o size old v t u own pieces at n bytes so took_one n_is bytes_ar
     }
 
 -- the last part was placed
-pub FreshSoFar-last : (o : Offer) (size : ℕ) (old v t : NicView) (own : Filling) (pieces : List Pending) (at n : ℕ) (bytes : List ℕ)
-    → size ≡ least_size old.setting.layout → FreshSoFar o size old v pieces at → TookBuffer v t own
-    → n ≡ min size (length (payload_of o) - at) → bytes ≡ take n (drop at (payload_of o)) → length bytes ≡ n → at < length (payload_of o)
-    → at + n ≡ length (payload_of o) → 0 < size → o.app < apps_of old.setting → length (payload_of o) ≤ 65515
-    → (x : List ℕ) × (length x ≡ buffers_for size (length (payload_of o)))
-    × FreshParts o size x old (placed t own bytes) (pieces ++ part_of o at (next_place own n) ∷ [])
-    × (Some (filled_by own n) ≡ last_of old.setting x (length (payload_of o)))
-FreshSoFar-last o size old v t own pieces at n bytes size_is so took_one n_is bytes_are len_is before all some app most =
+pub FreshSoFar-last : (o : Offer) (old v t : NicView) (own : Filling) (pieces : List Pending) (at n : ℕ) (bytes : List ℕ)
+    → IsLayout old.setting.layout → FreshSoFar o old v pieces at → TookBuffer v t own
+    → n ≡ min own.size (length (payload_of o) - at) → bytes ≡ take n (drop at (payload_of o)) → length bytes ≡ n → at < length (payload_of o)
+    → at + n ≡ length (payload_of o) → o.app < apps_of old.setting → length (payload_of o) ≤ 65515
+    → FillsFresh o old (placed t own bytes) (pieces ++ part_of o at (next_place own n) ∷ []) (Some (filled_by own n))
+FreshSoFar-last o old v t own pieces at n bytes l so took_one n_is bytes_are len_is before all app most =
     let L : ℕ = length (payload_of o) in
-    let at_is : at ≡ length so.buffers * size = so.reached in
-    let n_there : n ≡ min size (L - length so.buffers * size) = rw at_is at n_is in
-    let bytes_there : bytes ≡ take n (drop (length so.buffers * size) (payload_of o)) = rw at_is at bytes_are in
-    let there : length so.buffers * size < L = omega (arith, at_is, before) in
-    let part = FreshParts-part o size so.buffers old v t own pieces bytes so.parts took_one (rw n_there at bytes_there) (len_is ∙ n_there) there app most in
+    let layout : Shape = old.setting.layout in
+    let least : ℕ = least_size layout in
+    let at_is : at ≡ room_in layout so.buffers = so.reached in
+    let size_is : own.size ≡ size_of layout own.buffer = size-own o so.buffers old v t own pieces so.parts took_one in
+    let n_there : n ≡ min (size_of layout own.buffer) (L - room_in layout so.buffers) = rw (size_is, at_is) at n_is in
+    let bytes_there : bytes ≡ take n (drop (room_in layout so.buffers) (payload_of o)) = rw at_is at bytes_are in
+    let there : room_in layout so.buffers < L = omega (arith, at_is, before) in
+    let part = FreshParts-part o so.buffers old v t own pieces bytes so.parts took_one (rw n_there at bytes_there) (len_is ∙ n_there) there app most in
     let setting : v.setting ≡ old.setting = ap (λ (w : NicView). w.setting) so.parts.view in
     let own_is : own ≡ fresh old.setting own.buffer = took_one.fresh ∙ ap (λ s. fresh s own.buffer) setting in
-    let n_rest : n ≡ L - length so.buffers * size = omega (arith, at_is, all) in
-    let size_enough : n ≤ size = grind (arith, n_is) in (
-      so.buffers ++ own.buffer ∷ [],
-      simp length-append (as_needed size (length so.buffers) L some there (grind (arith, all, at_is, size_enough))),
-      rw (at_is, sym len_is) part,
-      ap (λ (f : Filling). Some (filled_by f n)) own_is ∙ ap (λ k. Some (filled_by (fresh old.setting own.buffer) k)) n_rest
-          ∙ sym (last_of-push old.setting own.buffer so.buffers L
-          ∙ ap (λ k. Some (filled_by (fresh old.setting own.buffer) (L - length so.buffers * k))) (sym size_is)),
-    )
+    let n_rest : n ≡ L - room_in layout so.buffers = omega (arith, at_is, all) in
+    let size_enough : n ≤ size_of layout own.buffer = grind (arith, n_is, size_is) in
+    let some = (in_order layout l).some.least in
+    let fewer = still_needed least (length so.buffers) L (omega (arith, some)) (omega (arith, room-least layout so.buffers l, there)) in
+    record {
+      buffers = so.buffers ++ own.buffer ∷ [];
+      parts = rw (at_is, sym len_is) part;
+      many = fresh-many layout own.buffer so.buffers 0 L there;
+      few = simp length-append (omega (arith, fewer));
+      room = omega (arith, sum_by_push (size_of layout) so.buffers own.buffer, all, at_is, size_enough);
+      last_is = ap (λ (f : Filling). Some (filled_by f n)) own_is ∙ ap (λ k. Some (filled_by (fresh old.setting own.buffer) k)) n_rest
+          ∙ sym (last_of-push old.setting own.buffer so.buffers L);
+    }
 
 -- a buffer is cached as long as one is needed
-pub FreshSoFar-cached : (o : Offer) (size : ℕ) (old v : NicView) (pieces : List Pending) (at : ℕ) → FreshSoFar o size old v pieces at → 0 < size
+pub FreshSoFar-cached : (o : Offer) (old v : NicView) (pieces : List Pending) (at : ℕ) → IsLayout old.setting.layout → FreshSoFar o old v pieces at
     → at < length (payload_of o) → v.cache ≡ [] → ⊥
-FreshSoFar-cached o size old v pieces at so some before none =
-    let needed = still_needed size (length so.buffers) (length (payload_of o)) some (omega (arith, so.reached, before)) in
+FreshSoFar-cached o old v pieces at l so before none =
+    let fewer = fewer-parts o old v pieces at l so before in
     let empty : length v.cache ≡ 0 = ap length none in
-    let enough = so.parts.enough in
-    absurd (omega (arith, needed, empty, enough))
+    absurd (omega (arith, fewer, so.parts.many, empty, so.parts.enough))

@@ -6,16 +6,16 @@ use Rattle.page_pool.specs.declared.offer.Offer.{Offer}
 use Rattle.page_pool.specs.declared.offer.Verdict.{Verdict}
 use Rattle.page_pool.specs.declared.offer.Verdict.TheVariants.{Accepted, NoRoom, Busy}
 use Rattle.page_pool.specs.Frames.{Offered, offered, ShowFrames}
-use Rattle.page_pool.specs.Packing.{Current, Target, current, fresh, Part, needed, packing}
+use Rattle.page_pool.specs.Packing.{Current, Target, current, fresh, Part, needed, packing, taken}
 use Rattle.page_pool.specs.Pool.{PoolState, new_pool, all_notes}
 use Rattle.page_pool.specs.Offer.{Offers}
 
 -- ---- packing
 
--- the fresh buffers are as many as are needed, and none has fewer than `least` bytes
+-- there are as many fresh buffers as are needed, and none has fewer than `least` bytes
 pub record AreNeeded (least : ℕ) (own : Option Current) (sizes : List ℕ) (len : ℕ) : Type 0 where
   pub each : All (λ size. least ≤ size) sizes
-  pub many : length sizes ≡ needed least own len
+  pub many : needed least own len ≤ length sizes
 
 -- the size of a part's buffer
 abbrev pub size_in : Option Current → List ℕ → Target → Option ℕ
@@ -35,10 +35,10 @@ abbrev pub PackingIsWhole : Type 0
 PackingIsWhole = (least : ℕ) (own : Option Current) (sizes : List ℕ) (len : ℕ) → 0 < least → AreNeeded least own sizes len
     → (sum_by (λ p. p.len) (packing own sizes len) ≡ len) × All (LiesWell own sizes) (packing own sizes len)
 
--- Buffers of 1,024 bytes or more hold any payload in 64 parts.
+-- No more fresh buffers are taken than are needed, and buffers of 1,024 bytes or more hold any payload in 64 parts.
 abbrev pub PackingIsShort : Type 0
 PackingIsShort = (least : ℕ) (own : Option Current) (sizes : List ℕ) (len : ℕ) → 1024 ≤ least → len ≤ 65515 → AreNeeded least own sizes len
-    → length (packing own sizes len) ≤ 64
+    → (taken own sizes len ≤ needed least own len) × (length (packing own sizes len) ≤ 64)
 
 -- ---- frames offered
 

@@ -18,7 +18,7 @@ use Rattle.page_pool.specs.declared.offer.Offer.{Offer}
 use Rattle.page_pool.specs.declared.offer.Verdict.{Verdict}
 use Rattle.page_pool.specs.declared.offer.Verdict.TheVariants.{Accepted, NoRoom, Busy}
 use Rattle.page_pool.specs.Frames.{offered, ShowsFrame}
-use Rattle.page_pool.specs.Packing.{Current, Target, Part, fits, needed, packing}
+use Rattle.page_pool.specs.Packing.{Current, Target, Part, fits, needed, packing, taken}
 use Rattle.page_pool.specs.Packing.{current as in_current, fresh as in_fresh}
 use Rattle.page_pool.specs.Pool.{PoolState, OnlySends, IsNextApp, all_notes}
 use Rattle.page_pool.specs.Searching.{SearchEnd, empty, Searches}
@@ -77,10 +77,13 @@ abbrev pub packed : Option Filling → Option Current
 packed None = None
 packed (Some own) = Some (record { used = own.start; size = own.size })
 
+-- how many fresh buffers a payload of `len` bytes needs, where none has fewer than `size` bytes
+abbrev pub fresh_for : PoolState → ℕ → ℕ → ℕ
+fresh_for pool size len = if nat_le len pool.split then 0 else needed size (packed pool.current) len
+
 -- how many fresh buffers an offer needs
 abbrev pub needed_for : PoolState → NicView → Offer → ℕ
-needed_for pool v o =
-    if nat_le (len_of o) pool.split then 0 else needed (least_size v.setting.layout) (packed pool.current) (len_of o)
+needed_for pool v o = fresh_for pool (least_size v.setting.layout) (len_of o)
 
 abbrev pub number_in : Option Filling → ℕ
 number_in None = 0
@@ -98,6 +101,11 @@ place_of own buffers part = record { buffer = number_of own buffers part.target;
 abbrev pub places_for : PoolState → NicView → List ℕ → Offer → List Place
 places_for pool v buffers o =
     map (place_of pool.current buffers) (packing (packed pool.current) (map (size_of v.setting.layout) buffers) (len_of o))
+
+-- how many of the fresh buffers of these numbers an offer takes, in this order
+abbrev pub taken_for : PoolState → NicView → List ℕ → Offer → ℕ
+taken_for pool v buffers o =
+    if nat_le (len_of o) pool.split then 0 else taken (packed pool.current) (map (size_of v.setting.layout) buffers) (len_of o)
 
 -- the last of the fresh buffers, filled with what the others leave of `len` bytes
 abbrev pub last_of : Setting → List ℕ → ℕ → Option Filling
@@ -145,9 +153,10 @@ pub record Accepts (was now : PoolState) (old new : NicView) (o : Offer) : Type 
   pub how : Option SearchEnd
   pub search : LooksFor (needed_for was old o) was.current was.stats now.stats flushed found how
   pub enough : how ≢ Some empty
-  -- the fresh buffers, in the order of taking
+  -- The fresh buffers in the order of taking. Each of them is used, so they may be fewer than were found.
   pub buffers : List ℕ
-  pub many : length buffers ≡ needed_for was old o
+  pub many : taken_for was old buffers o ≡ length buffers
+  pub few : length buffers ≤ needed_for was old o
   pub used : new.used ≡ old.used ++ buffers
   pub notes : all_notes now new ≡ all_notes was old ++ frame_notes was.split o (places_for was old buffers o)
   pub shows : ShowsFrame was.split (offered o) (frame_notes was.split o (places_for was old buffers o))

@@ -1,7 +1,7 @@
 -- Packing: where a payload that is split goes. It goes whole to the current buffer, at the next multiple of 64 behind what is
 -- used, where it fits there. Otherwise it fills fresh buffers from their begin, one after another. (Linux
 -- networking/page_pool: fragments of a page.) It is over numbers alone.
-use Rattle.std.specs.Prelude.{ℕ, suc, ◌+◌, ◌-◌, nat_le, min, Bool, false, if◌then◌else◌, List, [], ◌∷◌, Option, Some, None}
+use Rattle.std.specs.Prelude.{ℕ, zero, suc, ◌+◌, ◌-◌, nat_le, min, Bool, false, if◌then◌else◌, List, [], ◌∷◌, length, Option, Some, None}
 use Rattle.std.specs.Int.{div_ceil}
 use Rattle.board_face.specs.Tokens.{next_start}
 
@@ -34,16 +34,22 @@ buffers_for size len = div_ceil len size
 abbrev pub needed : ℕ → Option Current → ℕ → ℕ
 needed least own len = if fits own len then 0 else buffers_for least len
 
--- fresh buffers of these sizes, from the one of this number on: each is filled from 0
+-- fresh buffers of these sizes, from the one of this number on: each is filled from 0 up to its own size, until all is placed
 abbrev pub fresh_parts : ℕ → List ℕ → ℕ → List Part
 fresh_parts number [] len = []
-fresh_parts number (size ∷ sizes) len = record { target = fresh number; offset = 0; len = min size len } ∷ fresh_parts (suc number) sizes (len - size)
+fresh_parts number (size ∷ sizes) zero = []
+fresh_parts number (size ∷ sizes) (suc rest) =
+    record { target = fresh number; offset = 0; len = min size (suc rest) } ∷ fresh_parts (suc number) sizes (suc rest - size)
 
 -- the part in the current buffer
 abbrev pub current_part : Option Current → ℕ → List Part
 current_part None len = []
 current_part (Some own) len = record { target = current; offset = next_start own.used; len = len } ∷ []
 
--- the packing of `len` bytes, where the fresh buffers that are needed have these sizes
+-- the packing of `len` bytes, where fresh buffers of these sizes are taken in this order as long as bytes are left
 abbrev pub packing : Option Current → List ℕ → ℕ → List Part
 packing own sizes len = if fits own len then current_part own len else fresh_parts 0 sizes len
+
+-- how many of these fresh buffers are taken
+abbrev pub taken : Option Current → List ℕ → ℕ → ℕ
+taken own sizes len = if fits own len then 0 else length (fresh_parts 0 sizes len)

@@ -1,6 +1,6 @@
 -- Parts of a payload that were placed.
-use Rattle.std.specs.Prelude.{◌≡◌, ◌≢◌, ℕ, ◌+◌, ◌-◌, ◌*◌, ◌%◌, ◌<◌, ◌≤◌, min, true, false, List, [], ◌∷◌}
-use Rattle.std.specs.Prelude.{◌++◌, length, map, take, All, Option, Some, None}
+use Rattle.std.specs.Prelude.{◌≡◌, ◌≢◌, ℕ, zero, suc, ◌+◌, ◌-◌, ◌%◌, ◌<◌, ◌≤◌, min, true, false, List, [], ◌∷◌}
+use Rattle.std.specs.Prelude.{◌++◌, length, map, sum_by, take, All, Option, Some, None}
 use Rattle.zr_kinds.specs.declared.place.Place.{Place}
 use Rattle.board_face.specs.Looks.{NicLooksStay}
 use Rattle.board_face.specs.Texts.{IsSplitNote}
@@ -10,14 +10,14 @@ use Rattle.board_face.specs.declared.views.parts.Filling.{Filling}
 use Rattle.board_face.specs.declared.views.nic.NicView.{NicView}
 use Rattle.page_pool.specs.declared.pool.Pending.{Pending}
 use Rattle.page_pool.specs.declared.offer.Offer.{Offer}
-use Rattle.area_layout.specs.Layout.{least_size, size_of}
+use Rattle.area_layout.specs.Layout.{Shape, least_size, size_of}
 use Rattle.board_face.specs.NicEvents.{placed}
 use Rattle.page_pool.specs.declared.pool.Short.{Short}
 use Rattle.page_pool.specs.Pool.{PoolState, PoolStands, piece_notes}
 use Rattle.page_pool.specs.Searching.{SearchEnd, empty}
 use Rattle.page_pool.specs.Frames.{offered, ShowRest}
-use Rattle.page_pool.specs.Offer.{payload_of, len_of, short_note, split_note, split_notes, packed, place_of, packed_into, LooksFor}
-use Rattle.page_pool.specs.Packing.{buffers_for, fits, needed, packing}
+use Rattle.page_pool.specs.Offer.{payload_of, len_of, short_note, split_note, split_notes, packed, place_of, last_of, packed_into, LooksFor}
+use Rattle.page_pool.specs.Packing.{buffers_for, fits, needed, fresh_parts, packing, taken}
 
 -- the pieces that are out are those of the pending notes, in order, and each note may be sent
 pub record PiecesStand (pieces : List Pending) (v : NicView) : Type 0 where
@@ -31,26 +31,41 @@ abbrev pub part_of : Offer → ℕ → Place → Pending
 part_of o at place = record { app = o.app; note = split_note o at place; piece = place }
 
 -- where the parts of so many bytes lie in these fresh buffers
-abbrev pub fresh_places : ℕ → List ℕ → ℕ → List Place
-fresh_places size [] len = []
-fresh_places size (b ∷ bs) len = record { buffer = b; offset = 0; len = min size len } ∷ fresh_places size bs (len - size)
+abbrev pub fresh_places : Shape → List ℕ → ℕ → List Place
+fresh_places layout [] len = []
+fresh_places layout (b ∷ bs) zero = []
+fresh_places layout (b ∷ bs) (suc rest) =
+    record { buffer = b; offset = 0; len = min (size_of layout b) (suc rest) } ∷ fresh_places layout bs (suc rest - size_of layout b)
+
+-- how many bytes these buffers have
+abbrev pub room_in : Shape → List ℕ → ℕ
+room_in layout buffers = sum_by (size_of layout) buffers
 
 -- The first parts lie in fresh buffers, each of which but the last is closed.
-pub record FreshParts (o : Offer) (size : ℕ) (buffers : List ℕ) (old v : NicView) (pieces : List Pending) : Type 0 where
+pub record FreshParts (o : Offer) (buffers : List ℕ) (old v : NicView) (pieces : List Pending) : Type 0 where
   pub used : v.used ≡ old.used ++ buffers
   pub many : length pieces ≡ length buffers
-  pub notes : piece_notes pieces v.pieces ≡ split_notes o 0 (fresh_places size buffers (length (payload_of o)))
+  pub notes : piece_notes pieces v.pieces ≡ split_notes o 0 (fresh_places old.setting.layout buffers (length (payload_of o)))
   pub stand : PiecesStand pieces v
   pub view : v ≡ record old { cache = v.cache; used = v.used; owns = v.owns; pieces = v.pieces; looks = v.looks }
   pub looks : NicLooksStay old v
-  pub enough : buffers_for size (length (payload_of o)) ≤ length buffers + length v.cache
+  pub enough : buffers_for (least_size old.setting.layout) (length (payload_of o)) ≤ length buffers + length v.cache
 
 -- So far: each fresh buffer that was taken is full and closed.
-pub record FreshSoFar (o : Offer) (size : ℕ) (old v : NicView) (pieces : List Pending) (at : ℕ) : Type 0 where
+pub record FreshSoFar (o : Offer) (old v : NicView) (pieces : List Pending) (at : ℕ) : Type 0 where
   pub buffers : List ℕ
-  pub parts : FreshParts o size buffers old v pieces
-  pub reached : at ≡ length buffers * size
+  pub parts : FreshParts o buffers old v pieces
+  pub reached : at ≡ room_in old.setting.layout buffers
   pub owns : v.owns ≡ []
+
+-- The payload lies in fresh buffers: each that was taken is used, all but the last to its end.
+pub record FillsFresh (o : Offer) (old v : NicView) (pieces : List Pending) (last : Option Filling) : Type 0 where
+  pub buffers : List ℕ
+  pub parts : FreshParts o buffers old v pieces
+  pub many : length (fresh_parts 0 (map (size_of old.setting.layout) buffers) (length (payload_of o))) ≡ length buffers
+  pub few : length buffers ≤ buffers_for (least_size old.setting.layout) (length (payload_of o))
+  pub room : length (payload_of o) ≤ room_in old.setting.layout buffers
+  pub last_is : last ≡ last_of old.setting buffers (length (payload_of o))
 
 -- ---- an offer's steps
 
@@ -78,7 +93,8 @@ pub record PlacesSplit (was now : PoolState) (old new : NicView) (o : Offer) : T
   pub search : LooksFor (needed (least_size old.setting.layout) (packed was.current) (len_of o)) was.current was.stats now.stats old found how
   pub enough : how ≢ Some empty
   pub buffers : List ℕ
-  pub many : length buffers ≡ needed (least_size old.setting.layout) (packed was.current) (len_of o)
+  pub many : taken (packed was.current) (map (size_of old.setting.layout) buffers) (len_of o) ≡ length buffers
+  pub few : length buffers ≤ needed (least_size old.setting.layout) (packed was.current) (len_of o)
   pub used : new.used ≡ old.used ++ buffers
   pub notes : piece_notes now.pieces new.pieces
       ≡ split_notes o 0 (map (place_of was.current buffers) (packing (packed was.current) (map (size_of old.setting.layout) buffers) (len_of o)))

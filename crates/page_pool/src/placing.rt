@@ -1,11 +1,10 @@
 ghost use Rattle.std.specs.Prelude.{◌≡◌, ℕ, ◌+◌, ◌*◌, ◌<◌, ◌≤◌, [], ◌∷◌, ◌++◌, length, take, drop, List, option_to_list};
-ghost use Rattle.area_layout.specs.Layout.{least_size};
+ghost use Rattle.area_layout.specs.Layout.{IsLayout, least_size};
 ghost use Rattle.board_face.specs.NicCalls.{apps_of, IsOpen};
 ghost use Rattle.board_face.specs.NicEvents.{placed};
 ghost use Rattle.board_face.specs.Tokens.{next_place, filled_by};
 ghost use Rattle.page_pool.specs.Packing.{buffers_for};
-ghost use Rattle.page_pool.specs.Placing.{PiecesStand, part_of, FreshParts};
-ghost use Rattle.page_pool.specs.Offer.{last_of};
+ghost use Rattle.page_pool.specs.Placing.{part_of, FillsFresh};
 
 use crate::pieces::PendingPieces;
 use crate::{Offer, Pending};
@@ -64,21 +63,19 @@ pub(crate) fn place_fresh<F: NicFace>(
     requires app { offer.now.app < apps_of (F.seen face.old).setting }
     requires some { 0 < length offer.now.payload.now }
     requires most { length offer.now.payload.now ≤ 65515 }
+    requires sound { IsLayout (F.seen face.old).setting.layout }
     requires few { buffers_for (least_size (F.seen face.old).setting.layout) (length offer.now.payload.now) ≤ 64 }
     requires enough { buffers_for (least_size (F.seen face.old).setting.layout) (length offer.now.payload.now) ≤ length (F.seen face.old).cache }
-    ensures places { (buffers : List ℕ) × (length buffers ≡ buffers_for (least_size (F.seen face.old).setting.layout) (length offer.now.payload.now))
-        × FreshParts offer.now (least_size (F.seen face.old).setting.layout) buffers (F.seen face.old) (F.seen face.new) pieces.new
-        × (result ≡ last_of (F.seen face.old).setting buffers (length offer.now.payload.now)) }
+    ensures places { FillsFresh offer.now (F.seen face.old) (F.seen face.new) pieces.new result }
     ensures out { (F.seen face.new).owns ≡ option_to_list result }
     ensures few { length pieces.new ≤ 64 }
     ensures beside { F.beside face.new ≡ F.beside face.old }
 {
-    let size = face.size();
     let total = offer.payload.len() as u32;
     let mut at = 0;
     while at < total {
         let mut own = face.take()?;
-        let len = size.min(total - at);
+        let len = own.size().min(total - at);
         place_part(face, &mut own, pieces, offer, at, len);
         at += len;
         if at == total {

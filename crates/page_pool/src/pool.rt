@@ -1,6 +1,8 @@
-ghost use Rattle.std.specs.Prelude.{◌≡◌, ◌≤◌};
+ghost use Rattle.std.specs.Prelude.{◌≡◌, ◌<◌, ◌≤◌};
 ghost use Rattle.board_face.specs.NicCalls.{HasNoToken};
 ghost use Rattle.board_face.specs.declared.views.nic.NicView.{NicView};
+ghost use Rattle.page_pool.specs.Offer.{fresh_for, packed};
+ghost use Rattle.page_pool.specs.Packing.{fits};
 ghost use Rattle.page_pool.specs.Pool.{new_pool, pending_count, PoolStands};
 
 use crate::pieces::PendingPieces;
@@ -98,20 +100,27 @@ impl Pool {
     }
 
     /// Whether the buffer that it fills has room for so many bytes.
-    fn has_room(&self, len: u32) -> bool {
-        self.current
-            .as_ref()
-            .is_some_and(|own| own.size().saturating_sub(own.start()) >= len)
+    fn has_room(&self, len: u32) -> bool
+        requires { 0 < len }
+        ensures { result ≡ fits (packed self.now.current) len }
+    {
+        match &self.current {
+            Some(own) => own.size().saturating_sub(own.start()) >= len,
+            None => false,
+        }
     }
 
-    /// How many fresh buffers of so many bytes a payload needs.
+    /// How many fresh buffers a payload of so many bytes needs, where none has fewer than `size` bytes.
     pub fn needed(&self, len: u32, size: u32) -> u32
+        requires size { 1024 ≤ size }
+        requires most { len ≤ 65515 }
+        ensures value { result ≡ fresh_for self.now size len }
         ensures few { result ≤ 64 }
     {
         if len <= self.split || self.has_room(len) {
             0
         } else {
-            len.div_ceil(size.max(1)).min(64)
+            len.div_ceil(size)
         }
     }
 }

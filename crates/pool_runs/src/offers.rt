@@ -15,7 +15,7 @@ use std::process::Abort;
 use std::test::*;
 use zr_kinds::Note;
 
-/// A board of one application with buffers of 1,024 bytes, and the card's pool, between two calls.
+/// A board of one application, and the card's pool, between two calls.
 #[derive(Drop)]
 struct Table {
     board: PlainBoard,
@@ -28,12 +28,22 @@ struct Table {
 }
 
 impl Table {
+    /// One area with buffers of 1,024 bytes.
     fn open(alloc: Global, buffers: u32, places: u32, split: u32) -> Result<Table, Fail>
         requires some { 1 ≤ places }
         requires few { places ≤ 256 }
         requires short { split ≤ 256 }
     {
-        let layout = Layout::new(buffers, 1, 1024).ok_or("no layout")?;
+        Table::over(alloc, &[(buffers, 1024)], places, split)
+    }
+
+    /// Areas of these numbers of buffers and their sizes.
+    fn over(alloc: Global, areas: &[(u32, u32)], places: u32, split: u32) -> Result<Table, Fail>
+        requires some { 1 ≤ places }
+        requires few { places ≤ 256 }
+        requires short { split ≤ 256 }
+    {
+        let layout = Layout::of(areas, 1).ok_or("no layout")?;
         Ok(Table {
             board: PlainBoard::open(alloc, layout, 1, places)?,
             pool: Pool::new(split),
@@ -71,7 +81,7 @@ impl Table {
 
     /// The application takes the next note, reads its bytes into `text`, and gives its piece back. The card drains its
     /// refill ring.
-    fn take(self, text: &mut [u8; 1024]) -> Result<(Table, Option<Note>), Fail> {
+    fn take(self, text: &mut [u8; 2048]) -> Result<(Table, Option<Note>), Fail> {
         self.board.sound();
         let mut app = self.board.app(0);
         let note = take_note(&mut app, text)?;
@@ -103,7 +113,7 @@ impl Table {
 }
 
 /// Takes the next note, reads its bytes, and gives its piece back.
-fn take_note<F: AppFace>(face: &mut F, text: &mut [u8; 1024]) -> Result<Option<Note>, Fail>
+fn take_note<F: AppFace>(face: &mut F, text: &mut [u8; 2048]) -> Result<Option<Note>, Fail>
     requires here { IsHere (F.seen face.old) }
     requires can { CanLend (F.seen face.old) }
     requires nothing { HasNothing (F.seen face.old) }
@@ -117,7 +127,7 @@ fn take_note<F: AppFace>(face: &mut F, text: &mut [u8; 1024]) -> Result<Option<N
         Polled::Note(note, held) => {
             let loan = face.lend(held);
             let len = loan.place().len as usize;
-            if len <= 1024 {
+            if len <= 2048 {
                 face.read(&loan, 0, &mut text[..len]);
             }
             if let Err(loan) = face.give(loan) {
@@ -142,10 +152,14 @@ fn payload(alloc: Global, first: u32, len: u32) -> Result<Vec<u8>, Fail> {
     Ok(bytes)
 }
 
-/// Offers payloads of these lengths, and then takes their notes: the places of the split ones, and for an unsplit one
+/// Offers payloads of these lengths over these areas, and then takes their notes: the places of the split ones, and for an unsplit one
 /// `None`.
-fn places(alloc: Global, lengths: &[u32]) -> Result<Vec<Option<(u32, u32, u32)>>, Fail> {
-    let mut table = Table::open(alloc, 8, 16, 64)?;
+fn places(
+    alloc: Global,
+    areas: &[(u32, u32)],
+    lengths: &[u32],
+) -> Result<Vec<Option<(u32, u32, u32)>>, Fail> {
+    let mut table = Table::over(alloc, areas, 16, 64)?;
     for &len in lengths {
         let (then, verdict) = table.offer(1, &payload(alloc, 0, len)?)?;
         table = then;
@@ -154,7 +168,7 @@ fn places(alloc: Global, lengths: &[u32]) -> Result<Vec<Option<(u32, u32, u32)>>
         }
     }
     let mut found = Vec::new(alloc);
-    let mut text = [0; 1024];
+    let mut text = [0; 2048];
     for _ in 0..64 {
         let (then, note) = table.take(&mut text)?;
         table = then;
@@ -176,18 +190,57 @@ fn places(alloc: Global, lengths: &[u32]) -> Result<Vec<Option<(u32, u32, u32)>>
 #[test]
 fn payloads_are_packed(rt: HostRuntime) -> Result<(), Fail> {
     let alloc = rt.alloc();
-    let three = places(alloc, &[2500])?;
+    let three = places(alloc, &[(8, 1024)], &[2500])?;
     assert_eq!(rt;
         three.as_slice(),
         [Some((0, 0, 1024)), Some((1, 0, 1024)), Some((2, 0, 452))].as_slice()
     );
-    let rounded = places(alloc, &[100, 100, 900])?;
+    let rounded = places(alloc, &[(8, 1024)], &[100, 100, 900])?;
     assert_eq!(rt;
         rounded.as_slice(),
         [Some((0, 0, 100)), Some((0, 128, 100)), Some((1, 0, 900))].as_slice()
     );
-    let split = places(alloc, &[64, 65])?;
+    let split = places(alloc, &[(8, 1024)], &[64, 65])?;
     assert_eq!(rt; split.as_slice(), [None, Some((0, 0, 65))].as_slice());
+    Ok(())
+}
+
+/// Fresh buffers are filled each to its own size, and those that aren't needed for that stay cached.
+#[test]
+fn buffers_of_several_sizes_are_filled(rt: HostRuntime) -> Result<(), Fail> {
+    let alloc = rt.alloc();
+    let larger_last = places(alloc, &[(2, 1024), (1, 2048)], &[2500, 1500])?;
+    assert_eq!(rt;
+        larger_last.as_slice(),
+        [
+            Some((0, 0, 1024)),
+            Some((1, 0, 1024)),
+            Some((2, 0, 452)),
+            Some((2, 512, 1500))
+        ]
+        .as_slice()
+    );
+    let larger_first = places(alloc, &[(1, 2048), (2, 1024)], &[2500])?;
+    assert_eq!(rt;
+        larger_first.as_slice(),
+        [Some((0, 0, 2048)), Some((1, 0, 452))].as_slice()
+    );
+    Ok(())
+}
+
+/// So many buffers of the least size have to be cached as hold the payload, whatever the sizes of those that are.
+#[test]
+fn larger_buffers_count_once(rt: HostRuntime) -> Result<(), Fail> {
+    let table = Table::over(rt.alloc(), &[(1, 1024), (1, 2048)], 16, 64)?;
+    let (table, verdict) = table.offer(1, &payload(rt.alloc(), 0, 2500)?)?;
+    assert_eq!(rt;
+        verdict,
+        Verdict::NoRoom {
+            cached: 2,
+            needed: 3
+        }
+    );
+    assert_eq!(rt; table.pool.stats().empty, 1);
     Ok(())
 }
 
@@ -204,7 +257,7 @@ fn frame_without_room_is_refused(rt: HostRuntime) -> Result<(), Fail> {
         }
     );
     assert_eq!(rt; table.pool.stats().empty, 1);
-    let mut text = [0; 1024];
+    let mut text = [0; 2048];
     let (_, note) = table.take(&mut text)?;
     assert!(rt; note.is_none());
     Ok(())
@@ -220,7 +273,7 @@ fn notes_wait_for_slots(rt: HostRuntime) -> Result<(), Fail> {
     let (table, verdict) = table.offer(2, b"next")?;
     assert_eq!(rt; verdict, Verdict::Busy);
     assert_eq!(rt; table.pool.pending(), 1);
-    let mut text = [0; 1024];
+    let mut text = [0; 2048];
     let (table, _) = table.take(&mut text)?;
     let (table, verdict) = table.offer(2, b"next")?;
     assert_eq!(rt; verdict, Verdict::Accepted);
@@ -260,7 +313,7 @@ struct Taken {
 
 /// Takes all notes that there are. Those of a frame come together, in the order of their bytes.
 fn take_all(rt: &impl Abort, mut table: Table, taken: &mut Taken) -> Result<Table, Fail> {
-    let mut text = [0; 1024];
+    let mut text = [0; 2048];
     for _ in 0..64 {
         let (then, note) = table.take(&mut text)?;
         table = then;
@@ -274,7 +327,7 @@ fn take_all(rt: &impl Abort, mut table: Table, taken: &mut Taken) -> Result<Tabl
         );
         taken
             .bytes
-            .extend_from_slice(&text[..(note.place.len as usize).min(1024)])?;
+            .extend_from_slice(&text[..(note.place.len as usize).min(2048)])?;
         taken.at = taken.at.saturating_add(note.place.len);
         if taken.at == note.total {
             taken.frame = taken.frame.saturating_add(1);
@@ -286,10 +339,15 @@ fn take_all(rt: &impl Abort, mut table: Table, taken: &mut Taken) -> Result<Tabl
 
 /// A drawn list of payloads is offered, while the application takes notes now and then. It answers whether the bytes that
 /// were put together are those that were offered.
-fn drawn_payloads(rt: &impl Abort, alloc: Global, seed: u64) -> Result<bool, Fail> {
+fn drawn_payloads(
+    rt: &impl Abort,
+    alloc: Global,
+    areas: &[(u32, u32)],
+    seed: u64,
+) -> Result<bool, Fail> {
     let mut state = seed;
     let places = 1 + drawn(&mut state, 8);
-    let mut table = Table::open(alloc, 8, places, 64)?;
+    let mut table = Table::over(alloc, areas, places, 64)?;
     let mut offered = Vec::new(alloc);
     let mut taken = Taken {
         bytes: Vec::new(alloc),
@@ -332,7 +390,9 @@ fn drawn_payloads(rt: &impl Abort, alloc: Global, seed: u64) -> Result<bool, Fai
 #[test]
 fn drawn_payloads_come_whole(rt: HostRuntime) -> Result<(), Fail> {
     for seed in 0..300 {
-        assert!(rt; drawn_payloads(&rt, rt.alloc(), seed)?, "seed {seed}");
+        let one = drawn_payloads(&rt, rt.alloc(), &[(8, 1024)], seed)?;
+        let several = drawn_payloads(&rt, rt.alloc(), &[(3, 1024), (2, 2048), (3, 1024)], seed)?;
+        assert!(rt; one && several, "seed {seed}");
     }
     Ok(())
 }

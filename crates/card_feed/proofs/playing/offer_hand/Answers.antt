@@ -5,6 +5,11 @@ use Rattle.page_pool.specs.Pool.{pending_count}
 use Rattle.card_feed.proofs.PlayLemmas.{put_off-idle, accepted-steps, refused-steps, next-pends}
 use Rattle.card_feed.proofs.playing.offer_hand.Goals as goal
 
+pub returns-in-Accepted-clause-later : goal.returns-in-Accepted-clause-later
+returns-in-Accepted-clause-later g c =
+    let (o, is, accepts) = c.in-Accepted.ensures.offers in
+    omega (arith, accepted-steps _ _ _ _ o c.requires.stands accepts)
+
 pub returns-in-Accepted-clause-rises : goal.returns-in-Accepted-clause-rises
 returns-in-Accepted-clause-rises g c = λ _ some.
     let (o, is, accepts) = c.in-Accepted.ensures.offers in

@@ -39,6 +39,6 @@ returns-clause-answer g c =
     let is : IsNeed c.div_ceil-needed.result c.size.result c.pool.inside.current _ c.args.offer.now =
     record { too_long = leaves.too_long; size_is = c.size.ensures.value; need_is = c.div_ceil-needed.ensures } in
     rw same
-    (PlacesSplit-fresh _ _ _ _ _ _ _ _ _ _ _ _ _ (rw same at c.requires.stands) (rw same at c.requires.none) is
-    c.size.ensures.sound c.requires.some closes c.close_current.ensures.out found.2 found.1 placed.1 placed.2 placed.3
+    (PlacesSplit-fresh _ _ _ _ _ _ _ _ _ _ _ _ (rw same at c.requires.stands) (rw same at c.requires.none) is
+    c.size.ensures.sound c.requires.some closes c.close_current.ensures.out found.2 found.1 placed
     c.place_fresh-pool-inside.ensures.out c.place_fresh-pool-inside.ensures.few)
