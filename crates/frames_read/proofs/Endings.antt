@@ -171,19 +171,22 @@ module _ (Wants : List (List ℕ) → List ℕ → Type 0) {going : Going} {left
 
   taken-by : (later : Option (List ℕ)) (fault : Fault) → IsRecordFault fault → Took left later (λ taken. TakenShows (records_from going taken) fault)
       → (fault ≡ Memory → Took left later (WantsMemory going))
-      → Took left0 later (λ taken. TakenEnds Wants (ended_of ports taken) (frames_of records) (Some fault))
+      → Took left0 later (λ taken. TakenEnds Wants ports taken (frames_of records) (Some fault))
   taken-by later = record_cases (λ fault. Took left later (λ taken. TakenShows (records_from going taken) fault)
       → (fault ≡ Memory → Took left later (WantsMemory going))
-      → Took left0 later (λ taken. TakenEnds Wants (ended_of ports taken) (frames_of records) (Some fault)))
+      → Took left0 later (λ taken. TakenEnds Wants ports taken (frames_of records) (Some fault)))
       (λ took wants. Took-then left0 left later (Holds going records) (WantsMemory going)
-      (λ taken. TakenEnds Wants (ended_of ports taken) (frames_of records) (Some Memory))
-      (λ xs ys holds wanted. inl (leads-behind xs ys holds (Some Cut) (wanting-cut going ys wanted))) read.taken (wants refl))
+      (λ taken. TakenEnds Wants ports taken (frames_of records) (Some Memory))
+      (λ xs ys holds wanted. inl (
+        leads-behind xs ys holds (Some Cut) (wanting-cut going ys wanted),
+        record { going = going; records = records; passed = xs; head = ys; parts = refl; holds = holds; frames = refl; wants = wanted },
+      )) read.taken (wants refl))
       (λ took wants. taken-shown later Version took)
       (λ took wants. taken-shown later LinkType took)
       (λ took wants. taken-shown later Cut took)
       (λ took wants. taken-shown later LongRecord took)
       (λ took wants. Took-then left0 left later (Holds going records) (λ ys. TakenShows (records_from going ys) Read)
-      (λ taken. TakenEnds Wants (ended_of ports taken) (frames_of records) (Some Read))
+      (λ taken. TakenEnds Wants ports taken (frames_of records) (Some Read))
       (λ xs ys holds shown. ⊎_elim (λ none. inl (leads-behind xs ys holds None none))
       (λ cut. inr (leads-behind xs ys holds (Some Cut) cut)) shown) read.taken took)
       (λ took wants. taken-shown later BadBlock took)
@@ -219,9 +222,9 @@ module _ (Wants : List (List ℕ) → List ℕ → Type 0) {going : Going} {left
       read.taken took in
       let by : IsFrameEnding fault = frame-kind ports (frames_of records) frame fault is in
       record {
-        taken = Took-weaker left0 later Ends (λ taken. TakenEnds Wants (ended_of ports taken) (frames_of records) (Some fault))
+        taken = Took-weaker left0 later Ends (λ taken. TakenEnds Wants ports taken (frames_of records) (Some fault))
             (λ taken ends. frame_cases (λ end. ended_of ports taken ≡ record { before = frames_of records; fault = end }
-            → TakenEnds Wants (ended_of ports taken) (frames_of records) end)
+            → TakenEnds Wants ports taken (frames_of records) end)
             (λ e. e) (λ e. e) fault by (ap (ended_of ports) (sym (append-nil taken)) ∙ ends [])) both;
         shown = all-rest left0 later Ends (λ rest. Unit {0}) (λ all. ShowsEnding (ended_of ports all) (frames_of records) (Some fault)) both (anything later)
             (λ taken rest ends _. frame_cases (λ end. ended_of ports (taken ++ rest) ≡ record { before = frames_of records; fault = end }
@@ -242,7 +245,7 @@ module _ (Wants : List (List ℕ) → List ℕ → Type 0) {going : Going} {left
       let found : Captured = record { frame = frame; original = original } in
       let more : HasRead going_now left0 later faults0 now ports (records ++ found ∷ []) = goes_on read going_now later now frame original took same goes in
       record {
-        taken = Took-weaker left0 later (Holds going_now (records ++ found ∷ [])) (λ taken. LacksMemory Wants (ended_of ports taken) (frames_of records))
+        taken = Took-weaker left0 later (Holds going_now (records ++ found ∷ [])) (λ taken. LacksMemory Wants ports taken (frames_of records))
             (λ taken holds. inr (
               frame,
               begins,
@@ -288,10 +291,10 @@ shown-opening ports all =
 
 taken-opening : (Wants : List (List ℕ) → List ℕ → Type 0) (ports : List ℕ) (taken : List ℕ) (fault : Fault) → IsOpeningFault fault
     → TakenShows (records_of taken) fault
-    → TakenEnds Wants (ended_of ports taken) [] (Some fault)
+    → TakenEnds Wants ports taken [] (Some fault)
 taken-opening Wants ports taken =
     let leads : Leads (ended_of ports taken) [] (records_of taken) = opening-ends ports taken in
-    opening_cases (λ fault. TakenShows (records_of taken) fault → TakenEnds Wants (ended_of ports taken) [] (Some fault))
+    opening_cases (λ fault. TakenShows (records_of taken) fault → TakenEnds Wants ports taken [] (Some fault))
     (λ shows. leads (Some NotPcap) shows) (λ shows. leads (Some Version) shows) (λ shows. leads (Some LinkType) shows) (λ shows. leads (Some Cut) shows)
     (λ shows. ⊎_elim (λ none. inl (leads None none)) (λ cut. inr (leads (Some Cut) cut)) shows)
     (λ shows. leads (Some BadBlock) shows)
@@ -302,7 +305,7 @@ pub ends-opening : (Wants : List (List ℕ) → List ℕ → Type 0) (left0 left
     → IfSome left0 (λ all. ShowsFault (records_of all) fault) → Took left0 left (λ taken. TakenShows (records_of taken) fault)
     → (fault ≡ Read → Rose faults0 faults) → (fault ≢ Read → faults ≡ faults0) → HasEnded Wants left0 left faults0 faults ports [] (Some fault)
 ends-opening Wants left0 left faults0 faults ports fault is shows took cause same = record {
-  taken = Took-weaker left0 left (λ taken. TakenShows (records_of taken) fault) (λ taken. TakenEnds Wants (ended_of ports taken) [] (Some fault))
+  taken = Took-weaker left0 left (λ taken. TakenShows (records_of taken) fault) (λ taken. TakenEnds Wants ports taken [] (Some fault))
       (λ taken shown. taken-opening Wants ports taken fault is shown) took;
   shown = some-weaker left0 (λ all. ShowsFault (records_of all) fault) (λ all. ShowsEnding (ended_of ports all) [] (Some fault)) shows
       (λ all shown. shown-opening ports all fault is shown);

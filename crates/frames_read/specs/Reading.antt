@@ -6,6 +6,7 @@ use Rattle.zr_kinds.specs.declared.fault.Fault.TheVariants.{Memory, NotPcap, Ver
 use Rattle.zr_io.specs.Moved.{Rose, Took}
 use Rattle.pcap_reader.specs.Records.{Captured, Records}
 use Rattle.pcapng_reader.specs.Records.{Going, records_from, records_of}
+use Rattle.pcapng_reader.specs.Capture.{WantsMemory}
 use Rattle.flow_table.specs.Flows.{flows_of}
 use Rattle.frames_read.specs.Ending.{Ended, steered_in, steered_next, BeginsFlow, ending_at, frames_of, ended_after, ended_of}
 
@@ -44,19 +45,31 @@ BreaksOff ended before = (ended ≡ record { before = before; fault = None }) �
 abbrev pub BeginsFlowAt : List ℕ → List (List ℕ) → List ℕ → Type 0
 BeginsFlowAt ports before frame = BeginsFlow (flows_of (steered_in ports before)) (steered_next ports before frame)
 
--- Behind these frames the bytes that were taken end within a record, for which there was no memory; or they hold one
+-- The bytes that were taken hold the records of these frames, and behind them the head of a record or of a block that memory is
+-- wanted for.
+pub record EndsWanting (before : List (List ℕ)) (taken : List ℕ) : Type 0 where
+  pub going : Going
+  pub records : List Captured
+  pub passed : List ℕ
+  pub head : List ℕ
+  pub parts : taken ≡ passed ++ head
+  pub holds : Holds going records passed
+  pub frames : frames_of records ≡ before
+  pub wants : WantsMemory going head
+
+-- Behind these frames the bytes that were taken end within a record or a block, for which there was no memory; or they hold one
 -- frame more, which `Wants` says to want some, and there was none.
-abbrev pub LacksMemory : (List (List ℕ) → List ℕ → Type 0) → Ended → List (List ℕ) → Type 0
-LacksMemory Wants ended before =
-    (ended ≡ record { before = before; fault = Some Cut })
-    ⊎ ((frame : List ℕ) × Wants before frame × (ended ≡ record { before = before ++ frame ∷ []; fault = None }))
+abbrev pub LacksMemory : (List (List ℕ) → List ℕ → Type 0) → List ℕ → List ℕ → List (List ℕ) → Type 0
+LacksMemory Wants ports taken before =
+    ((ended_of ports taken ≡ record { before = before; fault = Some Cut }) × EndsWanting before taken)
+    ⊎ ((frame : List ℕ) × Wants before frame × (ended_of ports taken ≡ record { before = before ++ frame ∷ []; fault = None }))
 
 -- The bytes that were taken show this ending by themselves. At a failed read they break off, and at want of memory they
 -- show what it was wanted for.
-abbrev pub TakenEnds : (List (List ℕ) → List ℕ → Type 0) → Ended → List (List ℕ) → Option Fault → Type 0
-TakenEnds Wants ended before (Some Memory) = LacksMemory Wants ended before
-TakenEnds Wants ended before (Some Read) = BreaksOff ended before
-TakenEnds Wants ended before fault = ended ≡ record { before = before; fault = fault }
+abbrev pub TakenEnds : (List (List ℕ) → List ℕ → Type 0) → List ℕ → List ℕ → List (List ℕ) → Option Fault → Type 0
+TakenEnds Wants ports taken before (Some Memory) = LacksMemory Wants ports taken before
+TakenEnds Wants ports taken before (Some Read) = BreaksOff (ended_of ports taken) before
+TakenEnds Wants ports taken before fault = ended_of ports taken ≡ record { before = before; fault = fault }
 
 -- The reading ends at this frame by this fault: by want of memory, where the frame wants some, or as the definition says.
 abbrev pub EndsAt : (List (List ℕ) → List ℕ → Type 0) → List ℕ → List (List ℕ) → List ℕ → Fault → Type 0
@@ -88,7 +101,7 @@ IsReadToEnd (Some bytes) left = IsAtEnd left
 pub record HasEnded (Wants : List (List ℕ) → List ℕ → Type 0) (left_at_first left : Option (List ℕ)) (faults_at_first faults : ℕ) (ports : List ℕ)
     (before : List (List ℕ)) (fault : Option Fault) : Type 0 where
   -- what was taken shows the ending, and so do all the bytes
-  pub taken : Took left_at_first left (λ taken. TakenEnds Wants (ended_of ports taken) before fault)
+  pub taken : Took left_at_first left (λ taken. TakenEnds Wants ports taken before fault)
   pub shown : IfSome left_at_first (λ all. ShowsEnding (ended_of ports all) before fault)
   pub at_end : fault ≡ None → IsReadToEnd left_at_first left
   pub kind : IsEnding fault
