@@ -74,6 +74,7 @@ module _ (st : State) (old : AppView) (bare : Bare st old) (is_bare : st.bare �
     here = λ _. ap (λ (v : AppView). v.left) took.view;
     polled = λ live. absurd (bare-live live);
     cause = λ other is. absurd (other is);
+    memory = λ other is. absurd (other is);
     rests = λ _. record { state = refl; view = took.view ∙ held-same; kept_is = refl };
     looks = λ _ _. inl (t, ap (λ (v : AppView). v.taken) took.view);
   }
@@ -128,6 +129,7 @@ module _ (st : State) (old : AppView) (bare : Bare st old) (is_bare : st.bare �
     here = λ _. ap (λ (v : AppView). v.left) saw.event;
     polled = λ live. absurd (bare-live live);
     cause = λ other is. absurd (other is);
+    memory = λ other is. absurd (other is);
     rests = λ _. rw saw.event (record { state = refl; view = refl; kept_is = refl });
     looks = λ _ _. inr (inl saw.rose);
   }
@@ -170,6 +172,7 @@ module _ (st : State) (old : AppView) (bare : Bare st old) (is_bare : st.bare �
     here = λ _. ap (λ (v : AppView). v.left) saw.event;
     polled = λ live. absurd (bare-live live);
     cause = λ other is. absurd (other is);
+    memory = λ other is. absurd (other is);
     rests = λ _. rw saw.event (record { state = refl; view = refl; kept_is = refl });
     looks = λ _ more. absurd (let over = ended in cc);
   })
@@ -304,6 +307,7 @@ module _ (a c : State) (u w : AppView) (kept : ℕ → Option (List ℕ)) (f : �
     here = turns.here;
     polled = λ live. not-live live;
     cause = turns.cause;
+    memory = turns.memory;
     rests = λ bare. (let r = turns.rests bare in record {
       state = r.state;
       view = ap (λ (v : AppView). app_saw v NotQuiet) r.view;
@@ -344,6 +348,7 @@ module _ (a c : State) (u w : AppView) (kept : ℕ → Option (List ℕ)) (f : �
         here = λ other. turns.here (λ e. other (ap (turn_after true) e));
         polled = λ live. not-live live;
         cause = turns.cause;
+        memory = λ other is. ap (turn_after true) (turns.memory other is);
         rests = λ bare. (let r = turns.rests bare in record {
           state = ap scrubbed_state r.state;
           view = ap (λ (v : AppView). scrubbed_view v quiet v.left) r.view;

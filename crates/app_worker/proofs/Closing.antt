@@ -292,6 +292,7 @@ turns-finished a c u w x k m f f2 done out leaves =
       here = λ other. absurd (other refl);
       polled = no-poll a (scrubbed_state c) u (scrubbed_view w quiet true) out.taken;
       cause = λ other is. absurd (other (sym out.same ∙ is));
+      memory = λ other is. absurd (other (sym out.same ∙ is));
       rests = λ bare. (let r = out.rests bare in record {
         state = ap scrubbed_state r.state;
         view = ap (λ (v : AppView). scrubbed_view v quiet true) r.view;
@@ -316,6 +317,7 @@ turns-not-quiet a c u w x k m f f2 done out steps leaves =
       here = λ _. out.left;
       polled = no-poll a c u (app_saw w NotQuiet) out.taken;
       cause = λ other is. absurd (other (sym out.same ∙ is));
+      memory = λ other is. absurd (other (sym out.same ∙ is));
       rests = λ bare. (let r = out.rests bare in record {
         state = r.state;
         view = ap (λ (v : AppView). app_saw v NotQuiet) r.view;

@@ -226,3 +226,13 @@ quit-no-write s quit is = let e : stop.Quit ≡ stop.Write = sym quit ∙ is in 
 -- what wasn't stopped wasn't stopped by its shelf
 pub no-write : (s : Stopped) → s ≡ stop.No → s ≡ stop.Write → ⊥
 no-write s none is = let e : stop.No ≡ stop.Write = sym none ∙ is in absurd (cc)
+
+-- want of memory is none of the other causes
+pub no-memory : (s : Stopped) → s ≡ stop.No → s ≡ stop.Memory → ⊥
+no-memory s none is = let e : stop.No ≡ stop.Memory = sym none ∙ is in absurd (cc)
+
+pub quit-no-memory : (s : Stopped) → s ≡ stop.Quit → s ≡ stop.Memory → ⊥
+quit-no-memory s quit is = let e : stop.Quit ≡ stop.Memory = sym quit ∙ is in absurd (cc)
+
+pub write-no-memory : (s : Stopped) → s ≡ stop.Write → s ≡ stop.Memory → ⊥
+write-no-memory s write is = let e : stop.Write ≡ stop.Memory = sym write ∙ is in absurd (cc)

@@ -34,7 +34,8 @@ use Rattle.flow_queues.proofs.Took.{Took, is-took, taken_note, kept-tokens, set-
 use Rattle.app_worker.proofs.Oldest.{ends-of}
 use Rattle.flow_queues.proofs.Indexing.{index-set}
 use Rattle.flow_queues.proofs.Resting.{rest-all, rest-set, rest-push}
-use Rattle.app_worker.proofs.Noting.{Chosen, is-chosen, TookView, TookBytes, with_note, bytes-noted, grow-noted, total-noted, many-noted}
+use Rattle.flow_queues.proofs.Choosing.{Chosen, is-chosen, bytes-noted, total-noted, many-noted}
+use Rattle.app_worker.proofs.Noting.{TookView, TookBytes, with_note, grow-noted}
 use Rattle.app_worker.proofs.Noting.{common-noted, steps-noted, moves-noted, ends-kept}
 use Rattle.app_worker.proofs.Noting.{shelves-kept, ends-noted, shelves-noted}
 use Rattle.flow_queues.specs.Taking.{Changes, EntersPiece, EntersPayload, LosesPiece, LosesPayload}

@@ -12,4 +12,5 @@ pub mod Kept
 pub mod Letting
 pub mod Stages
 pub mod Streams
+pub mod Ends
 pub mod Turns

@@ -134,6 +134,8 @@ pub record Turns (was now : State) (old new : AppView) (kept kept_now : ℕ → 
   pub polled : was.bare ≡ false → new.taken ≢ old.taken → Polled was now old new
   -- the shelf stops it only where that failed
   pub cause : was.stopped ≢ stop.Write → now.stopped ≡ stop.Write → Rose faults faults_now
+  -- and want of memory only where this turn says so
+  pub memory : was.stopped ≢ stop.Memory → now.stopped ≡ stop.Memory → result ≡ Failed memory_fault
   -- once it is stopped, it only takes notes, scrubs and leaves
   pub rests : was.bare ≡ true → Rests was now old new kept kept_now
   -- one in each turn, until it was told that none comes any more

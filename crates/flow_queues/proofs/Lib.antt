@@ -12,8 +12,11 @@ pub mod Standing
 pub mod NotesStay
 pub mod Took
 pub mod NoteComes
+pub mod Reading
+pub mod Choosing
 pub mod Indexing
 pub mod Resting
 pub mod InParts
 pub mod Bridge
 pub mod WholeFrames
+pub mod Fronts

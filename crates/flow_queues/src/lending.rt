@@ -99,6 +99,7 @@ pub fn lend_next<F: AppFace>(face: &mut F, own: &mut FlowQueue) -> Next
     requires sized { AreSized marks_of_waiting own.old.queue.kept }
     requires spare { (F.seen face.old).spares + short_bytes own.old.queue ≤ total unsplit_len (F.seen face.old).taken }
     ensures lends { LendsNext (F.seen face.old) (F.seen face.new) own.old own.new result }
+    ensures unsettled { result ≡ Next.Unsettled → (F.seen face.old).settled ≡ false }
     ensures told { result ≡ Next.Unsettled → F.tells RawOnItsWay (app_gist (F.seen face.new)) (F.beside face.new) }
     ensures no_spare { result ≡ Next.ReserveHeld → F.tells NoSpare (app_gist (F.seen face.new)) (F.beside face.new) }
     ensures beside { F.beside face.new ≡ F.beside face.old }

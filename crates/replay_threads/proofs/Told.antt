@@ -5,8 +5,9 @@ use Rattle.card_feed.specs.declared.outcome.Outcome.{Outcome}
 use Rattle.card_feed.specs.declared.plan.Plan.{Plan}
 use Rattle.run_account.specs.Laws.{RunsAreTold, RunsEndWell}
 use Rattle.run_account.specs.Ran.{HasReadOn, LacksMemoryBeside, Ran, TellsOf, told_of}
-use Rattle.run_account.specs.Running.{Running}
+use Rattle.run_account.specs.Running.{HasRun, Running, ends_of}
 use Rattle.run_account.specs.declared.run.Run.{Run}
+use Rattle.run_account.proofs.Leaving.{has-run}
 use Rattle.word_board.specs.Board.{TheDesk, card_of}
 use Rattle.replay_threads.specs.Played.{HasPlayed}
 
@@ -23,18 +24,21 @@ module _ {S T : Type 0} (left : S → Option (List ℕ)) (faults : S → ℕ) (k
       (subst (λ xs. Running left faults kept losses source played.at (mid ++ more) xs plan (card_of desk.view) desk.view.apps run) (sym last)
       (played.runs more))
 
+  all-ran : HasRun left faults kept losses source played.at all all_now plan (card_of desk.view) desk.view.apps run.feed (ends_of run.workers.items)
+  all-ran = has-run left faults kept losses source played.at all all_now plan (card_of desk.view) desk.view.apps run played.fit played.over runs
+
   pub run-told : RunsEndWell left faults kept losses → (outcome : Outcome) → TellsOf run plan.ports.items outcome
       → (at : S) × HasReadOn left faults at source_now outcome.end
       × Ran left faults kept losses source at all all_now plan (told_of outcome) (card_of desk.view) desk.view.apps
   run-told law outcome tells = (
     played.at,
     subst (HasReadOn left faults played.at source_now) (sym tells.is.end) played.ahead,
-    law source played.at all all_now plan (card_of desk.view) desk.view.apps run outcome played.ended played.fit played.over runs tells,
+    law source played.at all all_now plan (card_of desk.view) desk.view.apps run.feed (ends_of run.workers.items) outcome played.ended all-ran tells,
   )
 
   pub run-lacks : RunsAreTold left faults kept losses → LacksMemoryBeside left faults kept losses source source_now all all_now plan
   run-lacks law =
-      let told = law source played.at all all_now plan (card_of desk.view) desk.view.apps run played.ended played.fit played.over runs in
+      let told = law source played.at all all_now plan (card_of desk.view) desk.view.apps run.feed (ends_of run.workers.items) played.ended all-ran in
       inr (
         played.at,
         told.0,

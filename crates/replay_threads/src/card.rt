@@ -118,7 +118,7 @@ fn next_needs(card: &mut CardLane<'_>) -> Option<u32>
         return None;
     }
     match card.frames.peek_known() {
-        Carried::Frame(_, _, bytes) => Some(card.feed.needed(bytes, card.seat.size())),
+        Carried::Frame(_, _, bytes) => Some(card.feed.needed(bytes, &card.seat)),
         Carried::Over(_) => Some(0),
     }
 }

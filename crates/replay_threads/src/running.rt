@@ -19,6 +19,7 @@ use crate::moving::move_last;
 use crate::playing::play;
 use crate::reading::{Opened, open_reading};
 use crate::seating::{close_lanes, open_lanes};
+use area_layout::Layout;
 use card_feed::{Feed, Outcome, Plan, new_feeds_stand};
 use run_account::{Run, new_workers, runs_are_told, runs_end_well, tell};
 use std::alloc::{AllocError, Global};
@@ -47,6 +48,11 @@ fn rooms<'b, T>(
     }
 }
 
+/// How many buffers are free at first for the card alone: none where applications take some to copy into.
+fn free_at_first(plan: &Plan, layout: &Layout) -> u32 {
+    if plan.split == 0 { layout.buffers() } else { 0 }
+}
+
 /// All turns of the run of a plan, from a board at which nothing has happened, until every role is back at the desk. It takes
 /// no memory for itself.
 fn play_seated<'b, S: Source + Send, T: Shelf + Send, G: Gate + Sync, R: Threads + Wait + Sync>(
@@ -60,6 +66,7 @@ fn play_seated<'b, S: Source + Send, T: Shelf + Send, G: Gate + Sync, R: Threads
     desk: &mut Desk,
     lanes: Vec<Lane<'b, T>>,
     reading: Opened,
+    free: u32,
     run: Run,
 ) -> Run
     requires plan { IsPlan plan.now }
@@ -95,7 +102,7 @@ fn play_seated<'b, S: Source + Send, T: Shelf + Send, G: Gate + Sync, R: Threads
         spares,
         turns: 0,
         gone: 0,
-        free: if plan.split == 0 { plan.buffers } else { 0 },
+        free,
     };
     play(
         rt,
@@ -165,6 +172,7 @@ pub fn run_threads<S: Source + Send, T: Shelf + Send, G: Gate + Sync, R: Threads
         &mut desk,
         lanes,
         reading,
+        free_at_first(plan, &layout),
         Run { feed, workers },
     );
     move_last(&mut aside, 0, shelves);

@@ -9,10 +9,11 @@ use Rattle.card_feed.specs.declared.plan.Plan.{Plan}
 use Rattle.run_account.specs.Ran.{TellsOf, Ran, LacksMemory, told_of}
 use Rattle.replay_turns.specs.Following.{Follows, IsNewRun, RunsBy, moment, rounds_of}
 use Rattle.replay_turns.specs.Rounds.{IsOfPlan}
-use Rattle.run_account.specs.Running.{Running, AreOver}
+use Rattle.run_account.specs.Running.{HasRun, Running, AreOver, ends_of}
 use Rattle.replay_turns.specs.Running.{Fits, Plays}
 use Rattle.run_account.specs.declared.run.Run.{Run}
 use Rattle.run_account.proofs.Ended.{end-well, end-told}
+use Rattle.run_account.proofs.Leaving.{has-run}
 use Rattle.replay_turns.specs.Schedule.{role_of}
 use Rattle.replay_turns.proofs.BoardOver.{have-ended}
 use Rattle.replay_turns.proofs.Following.{follows-through}
@@ -74,19 +75,23 @@ module _ {S T : Type 0} (left : S → Option (List ℕ)) (faults : S → ℕ) (k
       two.runs source items plan (one.runs source items plan (begins source items (omega (arith, size, enough))))
 
   module _ (over : AreOver over_run) where
+    all-ran : HasRun left faults kept losses source now items rounds plan over_board.nic over_board.apps over_run.feed
+        (ends_of over_run.workers.items)
+    all-ran = has-run left faults kept losses source now items rounds plan over_board.nic over_board.apps over_run second.fits.roles over whole-runs
+
     pub run-told : (outcome : Outcome) → TellsOf over_run plan.ports.items outcome
         → Ran left faults kept losses source now items (take n (rounds ++ drop (length rounds) (take n (text ++ drop (length text) items)))) plan
         (told_of outcome) over_board.nic over_board.apps
     run-told outcome tells =
         subst (λ shelves. Ran left faults kept losses source now items shelves plan (told_of outcome) over_board.nic over_board.apps) (sym ends-with)
-        (end-well left faults kept losses source now items rounds plan over_board.nic over_board.apps over_run outcome
-        (have-ended over_board over_run (length rounds) second.fits over) second.fits.roles over whole-runs tells)
+        (end-well left faults kept losses source now items rounds plan over_board.nic over_board.apps over_run.feed
+        (ends_of over_run.workers.items) outcome (have-ended over_board over_run (length rounds) second.fits over) all-ran tells)
 
     pub run-lacks : LacksMemory left faults kept losses source now items
         (take n (rounds ++ drop (length rounds) (take n (text ++ drop (length text) items)))) plan
     run-lacks =
-        let told = end-told left faults kept losses source now items rounds plan over_board.nic over_board.apps over_run
-        (have-ended over_board over_run (length rounds) second.fits over) second.fits.roles over whole-runs in
+        let told = end-told left faults kept losses source now items rounds plan over_board.nic over_board.apps over_run.feed
+        (ends_of over_run.workers.items) (have-ended over_board over_run (length rounds) second.fits over) all-ran in
         inr (
           told.0,
           over_board.nic,

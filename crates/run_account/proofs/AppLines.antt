@@ -2,8 +2,8 @@
 use Rattle.std.proofs.Common.{◌≡◌, ℕ, zero, suc, ◌<◌, List, [], ◌∷◌, length, map, Option, None, Some, refl, sym, ap, subst, ◌∙◌, arith}
 use Rattle.std.specs.List.{slice_get}
 use Rattle.zr_kinds.specs.declared.outcome.AppLine.{AppLine}
+use Rattle.app_worker.specs.Ends.{AppEnd}
 use Rattle.run_account.specs.Ran.{There, line_of, lines_of}
-use Rattle.run_account.specs.declared.run.Worker.{Worker}
 
 -- what stands at a place
 pub there : {A : Type 0} (xs : List A) (i : ℕ) → i < length xs → (x : A) × (slice_get xs i ≡ Some x)
@@ -23,23 +23,23 @@ pub found-there : {A : Type 0} (o : Option A) (P : A → Type 0) → There o P �
 found-there None P is = absurd is
 found-there (Some value) P is = (value, refl, is)
 
-pub line-at : (ports : List ℕ) (workers : List Worker) (a port : ℕ) (w : Worker) → slice_get ports a ≡ Some port → slice_get workers a ≡ Some w
-    → slice_get (lines_of ports workers) a ≡ Some (line_of port w)
-line-at [] workers a port w first second = absurd (cc)
-line-at (p ∷ ports) [] a port w first second = absurd (cc)
-line-at (p ∷ ports) (v ∷ workers) zero port w first second =
+pub line-at : (ports : List ℕ) (ends : List AppEnd) (a port : ℕ) (end : AppEnd) → slice_get ports a ≡ Some port → slice_get ends a ≡ Some end
+    → slice_get (lines_of ports ends) a ≡ Some (line_of port end)
+line-at [] ends a port end first second = absurd (cc)
+line-at (p ∷ ports) [] a port end first second = absurd (cc)
+line-at (p ∷ ports) (e ∷ ends) zero port end first second =
     let same : p ≡ port = one-value first in
-    let own : v ≡ w = one-value second in
-    ap (λ q. Some (line_of q v)) same ∙ ap (λ u. Some (line_of port u)) own
-line-at (p ∷ ports) (v ∷ workers) (suc a) port w first second = line-at ports workers a port w first second
+    let own : e ≡ end = one-value second in
+    ap (λ q. Some (line_of q e)) same ∙ ap (λ u. Some (line_of port u)) own
+line-at (p ∷ ports) (e ∷ ends) (suc a) port end first second = line-at ports ends a port end first second
 
-pub many-lines : (ports : List ℕ) (workers : List Worker) → length workers ≡ length ports → length (lines_of ports workers) ≡ length ports
-many-lines [] workers many = refl
+pub many-lines : (ports : List ℕ) (ends : List AppEnd) → length ends ≡ length ports → length (lines_of ports ends) ≡ length ports
+many-lines [] ends many = refl
 many-lines (p ∷ ports) [] many = absurd (omega (arith, many))
-many-lines (p ∷ ports) (w ∷ workers) many = ap suc (many-lines ports workers (omega (arith, many)))
+many-lines (p ∷ ports) (end ∷ ends) many = ap suc (many-lines ports ends (omega (arith, many)))
 
-pub ports-of-lines : (ports : List ℕ) (workers : List Worker) → length workers ≡ length ports
-    → map (λ (app : AppLine). app.port) (lines_of ports workers) ≡ ports
-ports-of-lines [] workers many = refl
+pub ports-of-lines : (ports : List ℕ) (ends : List AppEnd) → length ends ≡ length ports
+    → map (λ (app : AppLine). app.port) (lines_of ports ends) ≡ ports
+ports-of-lines [] ends many = refl
 ports-of-lines (p ∷ ports) [] many = absurd (omega (arith, many))
-ports-of-lines (p ∷ ports) (w ∷ workers) many = ap (λ ps. p ∷ ps) (ports-of-lines ports workers (omega (arith, many)))
+ports-of-lines (p ∷ ports) (end ∷ ends) many = ap (λ ps. p ∷ ps) (ports-of-lines ports ends (omega (arith, many)))

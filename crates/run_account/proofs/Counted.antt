@@ -1,5 +1,5 @@
 -- How many bytes of a flow are counted, and how many its shelf gained.
-use Rattle.std.proofs.Common.{◌≡◌, ◌≢◌, ℕ, suc, ◌≤◌, List, [], ◌∷◌, length, true, false, ◌==◌, Option, Some, None}
+use Rattle.std.proofs.Common.{◌≡◌, ◌≢◌, ℕ, suc, List, [], ◌∷◌, length, true, false, ◌==◌, Option, Some, None}
 use Rattle.std.proofs.Common.{refl, sym, ap, subst, ◌∙◌, arith, ⊎_elim, ◌⊎◌, inl, inr}
 use Rattle.std.specs.Io.KnownBytes.{Keeps}
 use Rattle.std.proofs.lemmas.Bool.{eq-eqb, ne_eqb, cases_eq}
@@ -16,6 +16,7 @@ use Rattle.board_face.specs.declared.views.app.AppView.{AppView}
 use Rattle.flow_queues.specs.declared.queues.FlowQueue.{FlowQueue}
 use Rattle.app_worker.specs.Marks.{Mark}
 use Rattle.app_worker.specs.Core.{Each, many, AreReadAt, placed_of}
+use Rattle.app_worker.specs.Ends.{IsCounted}
 use Rattle.app_worker.specs.Kept.{flow_bytes}
 use Rattle.app_worker.specs.State.{FlowEnds}
 use Rattle.app_worker.specs.Shelves.{kept_loans, IsShelved, AreShelved, ReadsFront, IsFrontShelved, AreFronts}
@@ -47,11 +48,6 @@ gained-both None b P Q R join first second = tt
 gained-both (Some xs) None P Q R join first second = first
 gained-both (Some xs) (Some ys) P Q R join (bytes, is, p) (same, too, q) =
     (bytes, is, join bytes p (subst Q (append_cancel_left xs same bytes (sym too ∙ is)) q))
-
--- All of what was gained is counted but where the shelf failed: then there may be some bytes more.
-pub record IsCounted (stopped : Stopped) (count : ℕ) (bytes : List ℕ) : Type 0 where
-  pub counted : stopped ≢ stop.Write → count ≡ length bytes
-  pub at_least : count ≤ length bytes
 
 -- the flow of a number, with what holds of it
 pub record IsThere (P : FlowQueue → Type 0) (number count : ℕ) : Type 0 where

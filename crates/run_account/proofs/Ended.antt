@@ -9,7 +9,6 @@ use Rattle.std.proofs.KnownBytes.{Keeps-refl}
 use Rattle.std.proofs.lemmas.Bool.{cases_lt, true≢false}
 use Rattle.std.proofs.lemmas.List.Sums.{count_by-le-length}
 use Rattle.std.proofs.lemmas.Option.{slice_get_within}
-use Rattle.zr_kinds.specs.declared.behaviour.Behaviour.{Behaviour}
 use Rattle.zr_kinds.specs.declared.behaviour.Stopped.TheVariants as stop
 use Rattle.zr_kinds.specs.declared.outcome.AppLine.{AppLine}
 use Rattle.zr_kinds.specs.declared.outcome.FlowLine.{FlowLine}
@@ -23,12 +22,10 @@ use Rattle.board_face.specs.Ended.{HaveEnded}
 use Rattle.board_face.specs.Sides.{IsApp, side_in}
 use Rattle.board_face.specs.declared.views.nic.NicSide.{NicSide}
 use Rattle.board_face.specs.declared.views.app.AppSide.{AppSide}
-use Rattle.board_face.specs.declared.views.app.AppView.{AppView}
-use Rattle.app_worker.specs.Kept.{flow_bytes}
-use Rattle.app_worker.specs.State.{Quits}
+use Rattle.app_worker.specs.Ends.{AppEnd, IsCounted, IsTorn, bytes_in}
 use Rattle.card_feed.specs.Account.{AccountsFor, IsStreamedTo, kept_in}
 use Rattle.card_feed.specs.Coming.{ComesTo, is_over}
-use Rattle.card_feed.specs.Feed.{end_of}
+use Rattle.card_feed.specs.Feed.{FeedState, end_of}
 use Rattle.card_feed.specs.Offered.{AreRefused, AreSettled, offers_of}
 use Rattle.card_feed.specs.Outcomes.{AreLinesOf, line_of as flow_line_of}
 use Rattle.card_feed.specs.declared.intake.Stage.{Stage}
@@ -39,20 +36,16 @@ use Rattle.run_account.specs.Laws.{RunsAreTold, RunsEndWell}
 use Rattle.card_feed.specs.Counts.{AreCounted, is_long, long_in, searches_in}
 use Rattle.card_feed.specs.Need.{AreNeeded, RefusesByNeed}
 use Rattle.card_feed.proofs.Needing.{refuses-by-need}
-use Rattle.run_account.specs.Ran.{There, IsLineOf, IsStreamed, IsTorn, HasFailed, IsAppLine, all_loans, line_of, lines_of, AreCounts, Ran, Told, told_of}
-use Rattle.run_account.specs.Running.{RolesFit, Running, AreOver, losses_in}
-use Rattle.run_account.specs.declared.run.Run.{Run}
-use Rattle.run_account.specs.declared.run.Worker.{Worker}
+use Rattle.run_account.specs.Ran.{There, IsLineOf, IsStreamed, HasFailed, IsAppLine, all_loans, line_of, lines_of, AreCounts, Ran, Told, told_of}
+use Rattle.run_account.specs.Running.{HasRun, losses_in}
 use Rattle.run_account.proofs.AppLines.{there, one-value, is-there, line-at, many-lines, ports-of-lines}
-use Rattle.run_account.proofs.Gone.{IsGone}
-use Rattle.run_account.proofs.Accounting.{told, gone-at, line-known, side-is, accounts}
-use Rattle.run_account.proofs.Counted.{IsCounted, gained-both, flow-counted}
+use Rattle.run_account.proofs.Accounting.{IsTold, told, line-known, side-is, accounts}
+use Rattle.run_account.proofs.Counted.{gained-both}
 use Rattle.run_account.proofs.Ports.{flows-have-apps}
 use Rattle.run_account.proofs.SentFew.{frames-read, offers-few}
 use Rattle.run_account.proofs.Strays.{strays-within}
 use Rattle.run_account.proofs.Tellable.{Tells, all-told, all-tells}
-use Rattle.run_account.proofs.Torn.{flow-torn}
-use Rattle.run_account.proofs.Written.{app-below, flow-line, queues-own, written-is}
+use Rattle.run_account.proofs.Written.{all-own, app-below, flow-line, written-is}
 
 -- ---- small steps
 
@@ -77,65 +70,72 @@ same-beyond n xs ys i same behind =
     ∙ ap (slice_get ys) place
 
 module _ {S T : Type 0} (left : S → Option (List ℕ)) (faults : S → ℕ) (kept : T → ℕ → Option (List ℕ)) (losses : T → ℕ)
-    (source source_now : S) (shelves shelves_now : List T) (plan : Plan) (nic : NicSide) (apps : List AppSide) (run : Run) (told_is : Told)
-    (ended : HaveEnded nic apps) (fits : RolesFit nic apps run) (over : AreOver run)
-    (runs : Running left faults kept losses source source_now shelves shelves_now plan nic apps run)
-    (tells : Tells run plan.ports.items told_is) where
-  here-is : (a : ℕ) → a < length run.workers.items → IsApp apps a (side_in apps a)
-  here-is = side-is left faults kept losses source source_now shelves shelves_now plan nic apps run ended fits over runs
+    (source source_now : S) (shelves shelves_now : List T) (plan : Plan) (nic : NicSide) (apps : List AppSide) (feed : FeedState)
+    (ends : List AppEnd) (told_is : Told) (ended : HaveEnded nic apps)
+    (runs : HasRun left faults kept losses source source_now shelves shelves_now plan nic apps feed ends)
+    (tells : Tells feed ends plan.ports.items told_is) where
+  here-is : (a : ℕ) → a < length plan.ports.items → IsApp apps a (side_in apps a)
+  here-is = side-is left faults kept losses source source_now shelves shelves_now plan nic apps feed ends ended runs
+
+  told-at : (a : ℕ) → a < length plan.ports.items
+      → IsTold plan.split (steered_in plan.ports.items runs.frames) feed.refused nic a (side_in apps a)
+  told-at a within = told left faults kept losses source source_now shelves shelves_now plan nic apps feed ends ended runs a (side_in apps a)
+      (here-is a within)
+
+  end-there : (a : ℕ) → a < length plan.ports.items → (end : AppEnd) × (slice_get ends a ≡ Some end)
+  end-there a within = there ends a (omega (arith, within, runs.many))
 
   accounts-told : AccountsFor kept shelves shelves_now plan runs.frames told_is.refused nic apps told_is.apps
       told_is.pool.strays
   accounts-told =
       subst (λ refused. AccountsFor kept shelves shelves_now plan runs.frames refused nic apps told_is.apps told_is.pool.strays)
       (sym tells.refused)
-      (subst (λ lines. AccountsFor kept shelves shelves_now plan runs.frames run.feed.refused nic apps lines told_is.pool.strays)
+      (subst (λ lines. AccountsFor kept shelves shelves_now plan runs.frames feed.refused nic apps lines told_is.pool.strays)
       (sym tells.apps_are)
-      (subst (λ (stats : PoolStats). AccountsFor kept shelves shelves_now plan runs.frames run.feed.refused nic apps
-      (lines_of plan.ports.items run.workers.items) stats.strays) (sym tells.pool)
-      (accounts left faults kept losses source source_now shelves shelves_now plan nic apps run ended fits over runs)))
+      (subst (λ (stats : PoolStats). AccountsFor kept shelves shelves_now plan runs.frames feed.refused nic apps
+      (lines_of plan.ports.items ends) stats.strays) (sym tells.pool)
+      (accounts left faults kept losses source source_now shelves shelves_now plan nic apps feed ends ended runs)))
 
-  counts-are : AreCounts (flows_of (steered_in plan.ports.items runs.frames)) run.workers.items tells.counts
-  counts-are = subst (λ flows. AreCounts flows run.workers.items tells.counts) runs.feed.knows.flows_are tells.are
+  counts-are : AreCounts (flows_of (steered_in plan.ports.items runs.frames)) ends tells.counts
+  counts-are = subst (λ flows. AreCounts flows ends tells.counts) runs.stands.knows.flows_are tells.are
 
   lines-are : AreLinesOf (flows_of (steered_in plan.ports.items runs.frames)) tells.counts told_is.flows
-  lines-are = subst (λ flows. AreLinesOf flows tells.counts told_is.flows) runs.feed.knows.flows_are
-      (tells.flows (ports-of-lines plan.ports.items run.workers.items runs.many ∙ sym runs.feed.knows.ports_are))
+  lines-are = subst (λ flows. AreLinesOf flows tells.counts told_is.flows) runs.stands.knows.flows_are
+      (tells.flows (ports-of-lines plan.ports.items ends runs.many ∙ sym runs.stands.knows.ports_are))
 
-  app-line-at : (a port : ℕ) (w : Worker) → slice_get plan.ports.items a ≡ Some port → slice_get run.workers.items a ≡ Some w
-      → slice_get told_is.apps a ≡ Some (line_of port w)
-  app-line-at a port w port_at w_at = ap (λ lines. slice_get lines a) tells.apps_are
-      ∙ line-at plan.ports.items run.workers.items a port w port_at w_at
+  app-line-at : (a port : ℕ) (end : AppEnd) → slice_get plan.ports.items a ≡ Some port → slice_get ends a ≡ Some end
+      → slice_get told_is.apps a ≡ Some (line_of port end)
+  app-line-at a port end port_at end_at = ap (λ lines. slice_get lines a) tells.apps_are ∙ line-at plan.ports.items ends a port end port_at end_at
 
   refused-are : AreRefused plan.split (offers_of (steered_in plan.ports.items runs.frames)) told_is.refused
   refused-are =
-      let settled : AreSettled plan.split (offers_of (steered_in plan.ports.items runs.frames)) run.feed.refused None _ =
-      rw (fits.ready.fits.none over.card) at runs.feed.knows.settled in
+      let settled : AreSettled plan.split (offers_of (steered_in plan.ports.items runs.frames)) feed.refused None _ =
+      rw (runs.ready.fits.none runs.closed) at runs.stands.knows.settled in
       subst (AreRefused plan.split (offers_of (steered_in plan.ports.items runs.frames))) (sym tells.refused)
-      (subst (λ offers. AreRefused plan.split offers run.feed.refused) settled.awaits settled.refused_are)
+      (subst (λ offers. AreRefused plan.split offers feed.refused) settled.awaits settled.refused_are)
 
   counted : AreCounted plan.split (offers_of (steered_in plan.ports.items runs.frames)) told_is.refused None nic.view.dealt told_is.pool
   counted =
-      let pool : AreCounted plan.split (offers_of (steered_in plan.ports.items runs.frames)) run.feed.refused None nic.view.dealt _ =
-      rw (fits.ready.fits.none over.card) at runs.feed.knows.counted in
+      let pool : AreCounted plan.split (offers_of (steered_in plan.ports.items runs.frames)) feed.refused None nic.view.dealt _ =
+      rw (runs.ready.fits.none runs.closed) at runs.stands.knows.counted in
       subst (λ refused. AreCounted plan.split (offers_of (steered_in plan.ports.items runs.frames)) refused None nic.view.dealt told_is.pool)
       (sym tells.refused)
-      (subst (λ (stats : PoolStats). AreCounted plan.split (offers_of (steered_in plan.ports.items runs.frames)) run.feed.refused None
+      (subst (λ (stats : PoolStats). AreCounted plan.split (offers_of (steered_in plan.ports.items runs.frames)) feed.refused None
       nic.view.dealt stats) (sym tells.pool) pool)
 
   by-need : RefusesByNeed plan (offers_of (steered_in plan.ports.items runs.frames)) told_is.refused
   by-need =
-      let needed : AreNeeded nic.view.setting.layout plan.split (offers_of (steered_in plan.ports.items runs.frames)) run.feed.refused None _ _ =
-      rw (fits.ready.fits.none over.card) at runs.feed.knows.needed in
+      let needed : AreNeeded nic.view.setting.layout plan.split (offers_of (steered_in plan.ports.items runs.frames)) feed.refused None _ _ =
+      rw (runs.ready.fits.none runs.closed) at runs.stands.knows.needed in
       subst (RefusesByNeed plan (offers_of (steered_in plan.ports.items runs.frames))) (sym tells.refused)
-      (refuses-by-need plan nic.view.setting _ run.feed.refused _ _ runs.setting needed)
+      (refuses-by-need plan nic.view.setting _ feed.refused _ _ runs.setting needed)
 
   searched : searches_in told_is.pool ≤ long_in plan.split (offers_of (steered_in plan.ports.items runs.frames))
   searched = omega (arith, counted.searches)
 
   strays-few : told_is.pool.strays ≤ plan.how.stray * all_loans told_is.apps
   strays-few =
-      let most = strays-within left faults kept losses source source_now shelves shelves_now plan nic apps run ended fits over runs in
+      let most = strays-within left faults kept losses source source_now shelves shelves_now plan nic apps feed ends ended runs in
       subst (λ lines. told_is.pool.strays ≤ plan.how.stray * all_loans lines) (sym tells.apps_are) (omega (arith, counted.strays, most))
 
   -- the searches that found too few are too few themselves for their count to stop
@@ -149,31 +149,24 @@ module _ {S T : Type 0} (left : S → Option (List ℕ)) (faults : S → ℕ) (k
         searched,
         few,
         offers-few plan.ports.items runs.frames,
-        frames-read left faults kept losses source source_now shelves shelves_now plan nic apps run runs,
+        frames-read left faults source source_now plan.ports.items plan.split runs.frames feed nic.view runs.stands runs.records,
       )
 
-  one-stream : (number port : ℕ) (flow : Flow) (w : Worker) → slice_get (flows_of (steered_in plan.ports.items runs.frames)) number ≡ Some flow
-      → slice_get plan.ports.items flow.app ≡ Some port → slice_get run.workers.items flow.app ≡ Some w
-      → IsApp apps flow.app (side_in apps flow.app)
+  one-stream : (number port : ℕ) (flow : Flow) (end : AppEnd) → slice_get (flows_of (steered_in plan.ports.items runs.frames)) number ≡ Some flow
+      → slice_get plan.ports.items flow.app ≡ Some port → slice_get ends flow.app ≡ Some end → flow.app < length plan.ports.items
       → Gained (kept_in kept shelves flow.app number) (kept_in kept shelves_now flow.app number)
-      (λ bytes. IsStreamed w.state.stopped (stream_of (steered_in plan.ports.items runs.frames) told_is.refused number) bytes
-      (flow_bytes number w.state.flows))
-  one-stream number port flow w at port_at w_at here =
-      let app : AppSide = side_in apps flow.app in
-      let own = runs.worker flow.app w w_at in
-      let went : IsGone w app.view = gone-at left faults kept losses source source_now shelves shelves_now plan nic apps run ended fits over runs
-      flow.app app w here w_at in
+      (λ bytes. IsStreamed end.stopped (stream_of (steered_in plan.ports.items runs.frames) told_is.refused number) bytes
+      (bytes_in number end.flows))
+  one-stream number port flow end at port_at end_at within =
       let stream : List ℕ = stream_of (steered_in plan.ports.items runs.frames) told_is.refused number in
-      let count : ℕ = flow_bytes number w.state.flows in
+      let count : ℕ = bytes_in number end.flows in
       let streamed = give_streams kept shelves shelves_now plan runs.frames told_is.refused nic apps told_is.apps
-      told_is.pool.strays accounts-told number flow app (line_of port w) at here (app-line-at flow.app port w port_at w_at)
-      (told left faults kept losses source source_now shelves shelves_now plan nic apps run ended fits over runs flow.app app here).reads in
-      let counted = flow-counted (kept_in kept shelves flow.app) (kept_in kept shelves_now flow.app) app.view w.state.flows number w.state.stopped
-      went.bare.flows own.shelved own.failed in
+      told_is.pool.strays accounts-told number flow (side_in apps flow.app) (line_of port end) at (here-is flow.app within)
+      (app-line-at flow.app port end port_at end_at) (told-at flow.app within).reads in
       gained-both (kept_in kept shelves flow.app number) (kept_in kept shelves_now flow.app number)
-      (IsStreamedTo w.state.stopped stream) (IsCounted w.state.stopped count) (λ bytes. IsStreamed w.state.stopped stream bytes count)
+      (IsStreamedTo end.stopped stream) (IsCounted end.stopped count) (λ bytes. IsStreamed end.stopped stream bytes count)
       (λ bytes s c. record { rest = s.rest; front = s.front; whole = s.whole; counted = c.counted; at_least = c.at_least })
-      streamed counted
+      streamed ((runs.app flow.app end end_at).counted number)
 
   streams : (number : ℕ) (flow : Flow) → slice_get (flows_of (steered_in plan.ports.items runs.frames)) number ≡ Some flow
       → There (slice_get told_is.flows number) (λ line. There (slice_get told_is.apps flow.app) (λ app.
@@ -182,14 +175,12 @@ module _ {S T : Type 0} (left : S → Option (List ℕ)) (faults : S → ℕ) (k
   streams number flow at =
       let have = flows-have-apps plan.ports.items runs.frames in
       let below : flow.app < length plan.ports.items = app-below plan.ports.items _ have number flow at in
-      let within : flow.app < length run.workers.items = omega (arith, below, runs.many) in
       let (port, port_at) = there plan.ports.items flow.app below in
-      let (w, w_at) = there run.workers.items flow.app within in
-      let gained = one-stream number port flow w at port_at w_at (here-is flow.app within) in
-      is-there (slice_get told_is.flows number) (flow_line_of flow (flow_bytes number w.state.flows)) _
-      (flow-line plan.ports.items _ run.workers.items tells.counts told_is.flows have counts-are lines-are number flow w at w_at)
-      (is-there (slice_get told_is.apps flow.app) (line_of port w) _ (app-line-at flow.app port w port_at w_at)
-      (record { port = refl; base = refl; fin = refl; end = refl }, gained))
+      let (end, end_at) = end-there flow.app below in
+      is-there (slice_get told_is.flows number) (flow_line_of flow (bytes_in number end.flows)) _
+      (flow-line plan.ports.items _ ends tells.counts told_is.flows have counts-are lines-are number flow end at end_at)
+      (is-there (slice_get told_is.apps flow.app) (line_of port end) _ (app-line-at flow.app port end port_at end_at)
+      (record { port = refl; base = refl; fin = refl; end = refl }, one-stream number port flow end at port_at end_at below))
 
   others : (a number : ℕ) → option_map (λ (flow : Flow). flow.app) (slice_get (flows_of (steered_in plan.ports.items runs.frames)) number) ≢ Some a
       → Keeps (kept_in kept shelves a number) (kept_in kept shelves_now a number)
@@ -202,69 +193,58 @@ module _ {S T : Type 0} (left : S → Option (List ℕ)) (faults : S → ℕ) (k
       subst (λ now. Keeps (kept_in kept shelves a number) now) (sym same) (Keeps-refl (kept_in kept shelves a number)))
       (cases_lt a (length plan.ports.items))
 
-  one-app : (a port : ℕ) (w : Worker) → slice_get plan.ports.items a ≡ Some port → slice_get run.workers.items a ≡ Some w
-      → IsApp apps a (side_in apps a)
-      → IsAppLine plan.how port (losses_in losses shelves a) (losses_in losses shelves_now a) told_is.flows (line_of port w)
-  one-app a port w port_at w_at here =
-      let app : AppSide = side_in apps a in
-      let own = runs.worker a w w_at in
-      let went : IsGone w app.view = gone-at left faults kept losses source source_now shelves shelves_now plan nic apps run ended fits over runs
-      a app w here w_at in
-      let has = told left faults kept losses source source_now shelves shelves_now plan nic apps run ended fits over runs a app here in
-      let queues = queues-own (flows_of (steered_in plan.ports.items runs.frames)) a app.view.taken _ has.taken has.own w.state.flows went.bare.flows in
+  one-app : (a port : ℕ) (end : AppEnd) → slice_get plan.ports.items a ≡ Some port → slice_get ends a ≡ Some end → a < length plan.ports.items
+      → IsAppLine plan.how port (losses_in losses shelves a) (losses_in losses shelves_now a) told_is.flows (line_of port end)
+  one-app a port end port_at end_at within =
+      let went = runs.app a end end_at in
+      let has = told-at a within in
       record {
         port_is = refl;
-        written = written-is plan.ports.items (flows_of (steered_in plan.ports.items runs.frames)) run.workers.items tells.counts told_is.flows
-            (flows-have-apps plan.ports.items runs.frames) counts-are lines-are runs.plan_is.distinct runs.many a port w port_at w_at queues
-            went.bare.distinct went.common.written;
-        copies = own.copies;
-        loans = own.counts went.left;
-        quits = subst (λ (how : Behaviour). Quits how.quit w.state.written w.state.stopped) own.how_is went.common.quits;
-        later = own.later;
-        cause = own.cause;
-        still = own.still;
+        written = written-is plan.ports.items (flows_of (steered_in plan.ports.items runs.frames)) ends tells.counts told_is.flows
+            (flows-have-apps plan.ports.items runs.frames) counts-are lines-are runs.plan_is.distinct runs.many a port end port_at end_at
+            (all-own (flows_of (steered_in plan.ports.items runs.frames)) a (side_in apps a).view.taken _ has.taken has.own end.flows went.noted)
+            went.once went.written;
+        copies = went.copies;
+        loans = went.counts;
+        quits = went.quits;
+        later = went.later;
+        cause = went.cause;
+        still = went.still;
       }
 
   app-lines : (a port : ℕ) → slice_get plan.ports.items a ≡ Some port
       → There (slice_get told_is.apps a) (IsAppLine plan.how port (losses_in losses shelves a) (losses_in losses shelves_now a) told_is.flows)
   app-lines a port port_at =
-      let within : a < length run.workers.items = omega (arith, slice_get_within plan.ports.items a port port_at, runs.many) in
-      let (w, w_at) = there run.workers.items a within in
-      is-there (slice_get told_is.apps a) (line_of port w) _ (app-line-at a port w port_at w_at)
-      (one-app a port w port_at w_at (here-is a within))
+      let within = slice_get_within plan.ports.items a port port_at in
+      let (end, end_at) = end-there a within in
+      is-there (slice_get told_is.apps a) (line_of port end) _ (app-line-at a port end port_at end_at) (one-app a port end port_at end_at within)
 
   -- where its shelf failed
   failed-at : (a : ℕ) (app : AppLine) → slice_get told_is.apps a ≡ Some app → app.stopped ≡ stop.Write
       → HasFailed kept shelves shelves_now (flows_of (steered_in plan.ports.items runs.frames)) told_is.flows a (side_in apps a).view
   failed-at a line at is_write =
-      let known = line-known left faults kept losses source source_now shelves shelves_now plan nic apps run ended fits over runs a line
+      let known = line-known left faults kept losses source source_now shelves shelves_now plan nic apps feed ends ended runs a line
       (ap (λ lines. slice_get lines a) (sym tells.apps_are) ∙ at) in
-      let w : Worker = known.worker in
-      let w_at = known.worker_at in
-      let own = runs.worker a w w_at in
-      let v : AppView = (side_in apps a).view in
-      let here = here-is a (slice_get_within run.workers.items a w w_at) in
-      let went : IsGone w v = gone-at left faults kept losses source source_now shelves shelves_now plan nic apps run ended fits over runs
-      a (side_in apps a) w here w_at in
-      let has = told left faults kept losses source source_now shelves shelves_now plan nic apps run ended fits over runs a (side_in apps a) here in
-      let fronts = own.failed (sym (ap (λ (l : AppLine). l.stopped) known.is) ∙ is_write) in
+      let end : AppEnd = known.end in
+      let within = slice_get_within plan.ports.items a known.port known.port_at in
+      let fails = (runs.app a end known.end_at).torn (sym (ap (λ (l : AppLine). l.stopped) known.is) ∙ is_write) (told-at a within).whole in
       record {
-        torn = fronts.torn;
+        torn = fails.torn;
         each = λ number flow flow_line flow_at goes flow_line_at.
-            let same : slice_get run.workers.items flow.app ≡ Some w = ap (slice_get run.workers.items) goes ∙ w_at in
-            let is : flow_line_of flow (flow_bytes number w.state.flows) ≡ flow_line = one-value (sym (flow-line plan.ports.items _ run.workers.items
-            tells.counts told_is.flows (flows-have-apps plan.ports.items runs.frames) counts-are lines-are number flow w flow_at same) ∙ flow_line_at) in
-            subst (λ (l : FlowLine). Gained (kept_in kept shelves a number) (kept_in kept shelves_now a number) (IsTorn v fronts.torn number l.bytes)) is
-            (flow-torn (kept_in kept shelves a) (kept_in kept shelves_now a) v w.state.flows went.bare.flows has.whole went.bare.loans fronts
-            (own.fronts has.whole) number);
+            let same : slice_get ends flow.app ≡ Some end = ap (slice_get ends) goes ∙ known.end_at in
+            let is : flow_line_of flow (bytes_in number end.flows) ≡ flow_line = one-value (sym (flow-line plan.ports.items _ ends
+            tells.counts told_is.flows (flows-have-apps plan.ports.items runs.frames) counts-are lines-are number flow end flow_at same)
+            ∙ flow_line_at) in
+            subst (λ (l : FlowLine). Gained (kept_in kept shelves a number) (kept_in kept shelves_now a number)
+            (IsTorn (side_in apps a).view fails.torn number l.bytes)) is (fails.each number);
       }
 
   ran : Ran left faults kept losses source source_now shelves shelves_now plan told_is nic apps
   ran = record {
     before = runs.frames;
     ended = subst (HasEnded _ (left source) (left source_now) (faults source) (faults source_now) plan.ports.items runs.frames) (sym tells.end)
-        (comes-over _ left faults source source_now plan.ports.items run.feed.stage runs.frames (fits.ready.fits.over over.card) runs.feed.comes);
-    tally = tells.tally ∙ runs.feed.knows.tally_is;
+        (comes-over _ left faults source source_now plan.ports.items feed.stage runs.frames (runs.ready.fits.over runs.closed) runs.stands.comes);
+    tally = tells.tally ∙ runs.stands.knows.tally_is;
     refused = refused-are;
     need = by-need;
     searches = searched;
@@ -274,7 +254,7 @@ module _ {S T : Type 0} (left : S → Option (List ℕ)) (faults : S → ℕ) (k
     many_flows = lines-are.many;
     others = others;
     app = app-lines;
-    many_apps = ap length tells.apps_are ∙ many-lines plan.ports.items run.workers.items runs.many;
+    many_apps = ap length tells.apps_are ∙ many-lines plan.ports.items ends runs.many;
     failed = failed-at;
     many_shelves = runs.many_shelves;
     beyond = runs.beyond;
@@ -285,8 +265,8 @@ module _ {S T : Type 0} (left : S → Option (List ℕ)) (faults : S → ℕ) (k
 -- Once all are gone, the outcome that is told is that of the run.
 pub end-well : {S T : Type 0} (left : S → Option (List ℕ)) (faults : S → ℕ) (kept : T → ℕ → Option (List ℕ)) (losses : T → ℕ)
     → RunsEndWell left faults kept losses
-end-well left faults kept losses source source_now shelves shelves_now plan nic apps run outcome ended fits over runs tells =
-    ran left faults kept losses source source_now shelves shelves_now plan nic apps run (told_of outcome) ended fits over runs
+end-well left faults kept losses source source_now shelves shelves_now plan nic apps feed ends outcome ended runs tells =
+    ran left faults kept losses source source_now shelves shelves_now plan nic apps feed ends (told_of outcome) ended runs
     (record {
       counts = tells.counts;
       are = tells.are;
@@ -301,7 +281,7 @@ end-well left faults kept losses source source_now shelves shelves_now plan nic 
 -- And there is something to tell, whether there is memory for it or not.
 pub end-told : {S T : Type 0} (left : S → Option (List ℕ)) (faults : S → ℕ) (kept : T → ℕ → Option (List ℕ)) (losses : T → ℕ)
     → RunsAreTold left faults kept losses
-end-told left faults kept losses source source_now shelves shelves_now plan nic apps run ended fits over runs =
-    let told_is = all-told run plan.ports.items in
-    let tells = all-tells run plan.ports.items in
-    (told_is, tells.end, ran left faults kept losses source source_now shelves shelves_now plan nic apps run told_is ended fits over runs tells)
+end-told left faults kept losses source source_now shelves shelves_now plan nic apps feed ends ended runs =
+    let told_is = all-told feed ends plan.ports.items in
+    let tells = all-tells feed ends plan.ports.items in
+    (told_is, tells.end, ran left faults kept losses source source_now shelves shelves_now plan nic apps feed ends told_is ended runs tells)

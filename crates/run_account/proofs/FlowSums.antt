@@ -5,9 +5,8 @@ use Rattle.std.proofs.Common.{refl, ap, subst, ◌∙◌, arith, ⊎_elim}
 use Rattle.std.specs.List.{slice_get, sum_by}
 use Rattle.std.proofs.lemmas.Bool.{eq-eqb, ne_eqb, cases_eq}
 use Rattle.std.proofs.lemmas.List.Sums.{sum_by-cons}
-use Rattle.flow_queues.specs.declared.queues.FlowQueue.{FlowQueue}
-use Rattle.app_worker.specs.Core.{total, Each, many}
-use Rattle.app_worker.specs.Kept.{flow_bytes}
+use Rattle.app_worker.specs.Core.{total, Each}
+use Rattle.app_worker.specs.Ends.{bytes_in, times}
 
 -- ---- sums over so many numbers from one on
 
@@ -65,47 +64,43 @@ over-one number bytes from (suc k) above below = ⊎_elim
 
 -- ---- flows
 
-one-of : (number : ℕ) (f : FlowQueue) (fs : List FlowQueue) → f.number ≡ number → many number (f ∷ fs) ≡ 1 + many number fs
-one-of number f fs same = let test : (f.number == number) ≡ true = eq-eqb f.number number same in rw test refl
-
-none-of : (number : ℕ) (f : FlowQueue) (fs : List FlowQueue) → f.number ≢ number → many number (f ∷ fs) ≡ many number fs
-none-of number f fs other = let test : (f.number == number) ≡ false = ne_eqb f.number number other in rw test (omega arith)
-
-pub no-bytes : (number : ℕ) (own : List FlowQueue) → many number own ≡ 0 → flow_bytes number own ≡ 0
+no-bytes : (number : ℕ) (flows : List (ℕ × ℕ)) → times number flows ≡ 0 → bytes_in number flows ≡ 0
 no-bytes number [] none = refl
 no-bytes number (f ∷ fs) none = ⊎_elim
-    (λ (same : f.number ≡ number). absurd (omega (arith, none, one-of number f fs same)))
-    (λ (other : f.number ≢ number).
-    let test : (f.number == number) ≡ false = ne_eqb f.number number other in
-    rw test (no-bytes number fs (omega (arith, none, none-of number f fs other))))
-    (cases_eq f.number number)
+    (λ (same : f.0 ≡ number).
+    let test : (f.0 == number) ≡ true = eq-eqb f.0 number same in
+    let one : times number (f ∷ fs) ≡ 1 + times number fs = rw test refl in
+    absurd (omega (arith, none, one)))
+    (λ (other : f.0 ≢ number).
+    let test : (f.0 == number) ≡ false = ne_eqb f.0 number other in
+    rw test (no-bytes number fs (omega (arith, none))))
+    (cases_eq f.0 number)
 
-first-bytes : (f : FlowQueue) (fs : List FlowQueue) (n : ℕ) → many f.number (f ∷ fs) ≤ 1
-    → flow_bytes n (f ∷ fs) ≡ only f.number f.bytes n + flow_bytes n fs
+first-bytes : (f : ℕ × ℕ) (fs : List (ℕ × ℕ)) (n : ℕ) → times f.0 (f ∷ fs) ≤ 1 → bytes_in n (f ∷ fs) ≡ only f.0 f.1 n + bytes_in n fs
 first-bytes f fs n one = ⊎_elim
-    (λ (same : f.number ≡ n).
-    let test : (f.number == n) ≡ true = eq-eqb f.number n same in
-    let counted : many f.number (f ∷ fs) ≡ 1 + many f.number fs = one-of f.number f fs refl in
-    let others : many n fs ≡ 0 = subst (λ k. many k fs ≡ 0) same (omega (arith, one, counted)) in
-    let none : flow_bytes n fs ≡ 0 = no-bytes n fs others in
+    (λ (same : f.0 ≡ n).
+    let test : (f.0 == n) ≡ true = eq-eqb f.0 n same in
+    let own : (f.0 == f.0) ≡ true = eq-eqb f.0 f.0 refl in
+    let counted : times f.0 (f ∷ fs) ≡ 1 + times f.0 fs = rw own refl in
+    let none : bytes_in n fs ≡ 0 = no-bytes n fs (subst (λ k. times k fs ≡ 0) same (omega (arith, one, counted))) in
     rw (test, none) (omega arith))
-    (λ (other : f.number ≢ n).
-    let test : (f.number == n) ≡ false = ne_eqb f.number n other in
+    (λ (other : f.0 ≢ n).
+    let test : (f.0 == n) ≡ false = ne_eqb f.0 n other in
     rw test (omega arith))
-    (cases_eq f.number n)
+    (cases_eq f.0 n)
 
-fewer : (f : FlowQueue) (fs : List FlowQueue) (n : ℕ) → many n (f ∷ fs) ≤ 1 → many n fs ≤ 1
+fewer : (f : ℕ × ℕ) (fs : List (ℕ × ℕ)) (n : ℕ) → times n (f ∷ fs) ≤ 1 → times n fs ≤ 1
 fewer f fs n one = omega (arith, one)
 
 -- where each flow has a number of its own, below so many, the bytes of all are those of all numbers
-pub bytes-by-number : (own : List FlowQueue) (count : ℕ) → ((number : ℕ) → many number own ≤ 1) → Each (λ f. f.number < count) own
-    → over (λ n. flow_bytes n own) 0 count ≡ total (λ f. f.bytes) own
+pub bytes-by-number : (flows : List (ℕ × ℕ)) (count : ℕ) → ((number : ℕ) → times number flows ≤ 1) → Each (λ f. f.0 < count) flows
+    → over (λ n. bytes_in n flows) 0 count ≡ total (λ f. f.1) flows
 bytes-by-number [] count one below = over-zero 0 count
 bytes-by-number (f ∷ fs) count one below =
-    let same : over (λ n. flow_bytes n (f ∷ fs)) 0 count ≡ over (λ n. only f.number f.bytes n + flow_bytes n fs) 0 count =
-    over-same (λ n. flow_bytes n (f ∷ fs)) (λ n. only f.number f.bytes n + flow_bytes n fs) 0 count (λ n. first-bytes f fs n (one f.number)) in
-    let parts : over (λ n. only f.number f.bytes n + flow_bytes n fs) 0 count ≡ over (only f.number f.bytes) 0 count + over (λ n. flow_bytes n fs) 0 count =
-    over-add (only f.number f.bytes) (λ n. flow_bytes n fs) 0 count in
-    let first : over (only f.number f.bytes) 0 count ≡ f.bytes = over-one f.number f.bytes 0 count (omega arith) (omega (arith, below.0)) in
-    let later : over (λ n. flow_bytes n fs) 0 count ≡ total (λ g. g.bytes) fs = bytes-by-number fs count (λ n. fewer f fs n (one n)) below.1 in
+    let same : over (λ n. bytes_in n (f ∷ fs)) 0 count ≡ over (λ n. only f.0 f.1 n + bytes_in n fs) 0 count =
+    over-same (λ n. bytes_in n (f ∷ fs)) (λ n. only f.0 f.1 n + bytes_in n fs) 0 count (λ n. first-bytes f fs n (one f.0)) in
+    let parts : over (λ n. only f.0 f.1 n + bytes_in n fs) 0 count ≡ over (only f.0 f.1) 0 count + over (λ n. bytes_in n fs) 0 count =
+    over-add (only f.0 f.1) (λ n. bytes_in n fs) 0 count in
+    let first : over (only f.0 f.1) 0 count ≡ f.1 = over-one f.0 f.1 0 count (omega arith) (omega (arith, below.0)) in
+    let later : over (λ n. bytes_in n fs) 0 count ≡ total (λ g. g.1) fs = bytes-by-number fs count (λ n. fewer f fs n (one n)) below.1 in
     omega (arith, same, parts, first, later)

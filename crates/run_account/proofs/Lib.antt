@@ -12,6 +12,7 @@ pub mod Accounting
 pub mod Written
 pub mod Tellable
 pub mod Torn
+pub mod Leaving
 pub mod Shares
 pub mod Strays
 pub mod Ended

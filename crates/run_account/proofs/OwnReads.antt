@@ -1,5 +1,5 @@
 -- What the shelf of an application that is gone has of a flow.
-use Rattle.std.proofs.Common.{◌≡◌, ◌≢◌, ℕ, List, [], ◌∷◌, ◌++◌, true, Option, Some, None, refl, sym, ap, subst, ◌∙◌, ⊎_elim}
+use Rattle.std.proofs.Common.{◌≡◌, ◌≢◌, ℕ, List, [], ◌∷◌, ◌++◌, Option, Some, None, refl, sym, ap, subst, ◌∙◌, ⊎_elim}
 use Rattle.std.proofs.Common.{append-nil}
 use Rattle.std.specs.Io.KnownBytes.{Keeps}
 use Rattle.zr_kinds.specs.declared.behaviour.Behaviour.{Behaviour}
@@ -11,10 +11,9 @@ use Rattle.board_face.specs.declared.views.app.TakenNote.{TakenNote}
 use Rattle.board_face.specs.declared.views.app.AppSide.{AppSide}
 use Rattle.app_worker.specs.Marks.{AreWholeFrames, Mark, marks_of}
 use Rattle.app_worker.specs.Core.{AreReadAt}
+use Rattle.app_worker.specs.Ends.{AppEnd, HasLeft}
 use Rattle.app_worker.specs.Streams.{IsFront}
 use Rattle.card_feed.specs.Account.{IsFlowRead}
-use Rattle.run_account.specs.Running.{WorkerRuns}
-use Rattle.run_account.specs.declared.run.Worker.{Worker}
 use Rattle.run_account.proofs.Counted.{is-no, read-length}
 
 -- no mark, so no byte
@@ -30,26 +29,26 @@ nothing-gained (Some xs) None taken reads gained = absurd gained
 nothing-gained (Some xs) (Some ys) taken reads (bytes, is, front) =
     is ∙ ap (λ more. xs ++ more) (no-byte taken reads front.read front.rest bytes front.parts front.are) ∙ append-nil xs
 
-module _ (first kept : ℕ → Option (List ℕ)) (losses losses_now : ℕ) (how : Behaviour) (app : AppSide) (w : Worker)
-    (runs : WorkerRuns first kept losses losses_now how app.view w) (whole : AreWholeFrames app.view.taken) (number : ℕ) where
-  pub flow-read : w.left ≡ true → Gained (first number) (kept number) (IsFlowRead app w.state.stopped number)
-  flow-read left =
+module _ (first kept : ℕ → Option (List ℕ)) (losses losses_now : ℕ) (how : Behaviour) (app : AppSide) (end : AppEnd)
+    (has : HasLeft how first kept losses losses_now app.view end) (whole : AreWholeFrames app.view.taken) (number : ℕ) where
+  pub flow-read : Gained (first number) (kept number) (IsFlowRead app end.stopped number)
+  flow-read =
       let marks : List Mark = marks_of number app.view.taken in
       ⊎_elim
-      (λ (no : w.state.stopped ≡ stop.No).
-      Gained-weaker (first number) (kept number) (AreReadAt app.view.taken app.view.reads marks) (IsFlowRead app w.state.stopped number)
+      (λ (no : end.stopped ≡ stop.No).
+      Gained-weaker (first number) (kept number) (AreReadAt app.view.taken app.view.reads marks) (IsFlowRead app end.stopped number)
       (λ bytes are. record {
         front = record { read = marks; rest = []; parts = sym (append-nil marks); are = are };
         whole = λ goes. sym (read-length app.view.taken app.view.reads marks bytes are);
       })
-      (runs.whole left no whole number))
-      (λ (other : w.state.stopped ≢ stop.No).
-      Gained-weaker (first number) (kept number) (IsFront app.view.taken app.view.reads marks) (IsFlowRead app w.state.stopped number)
+      (has.whole no whole number))
+      (λ (other : end.stopped ≢ stop.No).
+      Gained-weaker (first number) (kept number) (IsFront app.view.taken app.view.reads marks) (IsFlowRead app end.stopped number)
       (λ bytes front. record { front = front; whole = λ goes. absurd (other goes) })
-      (runs.fronts whole number))
-      (is-no w.state.stopped)
+      (has.fronts whole number))
+      (is-no end.stopped)
 
   -- of a flow that has no mark it has nothing
   pub no-flow-read : marks_of number app.view.taken ≡ [] → Keeps (first number) (kept number)
   no-flow-read none = nothing-gained (first number) (kept number) app.view.taken app.view.reads
-      (subst (λ marks. Gained (first number) (kept number) (IsFront app.view.taken app.view.reads marks)) none (runs.fronts whole number))
+      (subst (λ marks. Gained (first number) (kept number) (IsFront app.view.taken app.view.reads marks)) none (has.fronts whole number))

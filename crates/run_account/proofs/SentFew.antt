@@ -10,16 +10,13 @@ use Rattle.flow_table.specs.Flows.{Flow, flows_with}
 use Rattle.flow_table.specs.Steered.{Steered, steer, steered_from, steered_of, segments_of}
 use Rattle.frames_read.specs.Ending.{steered_in}
 use Rattle.board_face.specs.Relay.{IsProper, as_taken}
-use Rattle.board_face.specs.declared.views.nic.NicSide.{NicSide}
+use Rattle.board_face.specs.declared.views.nic.NicView.{NicView}
 use Rattle.board_face.specs.declared.views.nic.SentNote.{SentNote}
-use Rattle.board_face.specs.declared.views.app.AppSide.{AppSide}
 use Rattle.page_pool.specs.Frames.{Offered}
 use Rattle.app_worker.specs.Core.{total}
 use Rattle.app_worker.specs.State.{taken_len}
+use Rattle.card_feed.specs.Feed.{FeedState, FeedStands}
 use Rattle.card_feed.specs.Offered.{AreSettled, Awaits, has_payload, offered_after, offers_of, without}
-use Rattle.card_feed.specs.declared.plan.Plan.{Plan}
-use Rattle.run_account.specs.Running.{Running}
-use Rattle.run_account.specs.declared.run.Run.{Run}
 use Rattle.run_account.proofs.NoteSums.{note_len, AreFew, frames-few}
 
 -- ---- frames
@@ -99,14 +96,13 @@ taken-sum (s ∷ notes) = ap (λ n. note_len s + n) (taken-sum notes)
 
 -- ---- a run
 
-module _ {S T : Type 0} (left : S → Option (List ℕ)) (faults : S → ℕ) (kept : T → ℕ → Option (List ℕ)) (losses : T → ℕ)
-    (source source_now : S) (shelves shelves_now : List T) (plan : Plan) (nic : NicSide) (apps : List AppSide) (run : Run)
-    (runs : Running left faults kept losses source source_now shelves shelves_now plan nic apps run) where
+module _ {S : Type 0} (left : S → Option (List ℕ)) (faults : S → ℕ) (source source_now : S) (ports : List ℕ) (split : ℕ) (frames : List (List ℕ))
+    (feed : FeedState) (v : NicView) (stands : FeedStands left faults source source_now ports split frames feed v)
+    (records : feed.tally.records ≤ 16777216) where
   -- no more frames were read than are read at most
-  pub frames-read : length runs.frames ≤ 16777216
-  frames-read = let read = ap (λ t. t.records) runs.feed.knows.tally_is in let most = runs.records in omega (arith, read, most)
+  pub frames-read : length frames ≤ 16777216
+  frames-read = let read = ap (λ t. t.records) stands.knows.tally_is in omega (arith, read, records)
 
   -- the notes that were sent tell of no more bytes than the records have
-  pub notes-few : All IsProper nic.view.sent → AreFew most_sent nic.view.sent
-  notes-few proper =
-      sent-few plan.split plan.ports.items runs.frames run.feed.refused run.feed.at_hand nic.view.sent _ runs.feed.knows.settled frames-read proper
+  pub notes-few : All IsProper v.sent → AreFew most_sent v.sent
+  notes-few proper = sent-few split ports frames feed.refused feed.at_hand v.sent _ stands.knows.settled frames-read proper

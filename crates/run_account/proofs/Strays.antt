@@ -13,7 +13,7 @@ use Rattle.zr_kinds.specs.declared.outcome.AppLine.{AppLine}
 use Rattle.board_face.specs.Ended.{HaveEnded, IsServed}
 use Rattle.board_face.specs.Holders.{sent_to}
 use Rattle.board_face.specs.Relay.{IsNoLoanStray}
-use Rattle.board_face.specs.Sides.{side_in}
+use Rattle.board_face.specs.Sides.{IsApp, side_in}
 use Rattle.board_face.specs.declared.views.nic.NicSide.{NicSide}
 use Rattle.board_face.specs.declared.views.nic.Dealt.{Dealt}
 use Rattle.zr_kinds.specs.declared.ring.Rqe.{Rqe}
@@ -24,16 +24,15 @@ use Rattle.board_face.specs.declared.views.app.AppSide.{AppSide}
 use Rattle.board_face.proofs.Tallies.{weight, weight-le, tally}
 use Rattle.page_pool.specs.Dealing.{is_stray, strays_in}
 use Rattle.app_worker.specs.Core.{total}
+use Rattle.app_worker.specs.Ends.{AppEnd}
 use Rattle.app_worker.specs.State.{raw_entries, loan_entries, taken_len}
+use Rattle.card_feed.specs.Feed.{FeedState}
 use Rattle.card_feed.specs.declared.plan.Plan.{Plan}
 use Rattle.run_account.specs.Ran.{all_loans, lines_of}
-use Rattle.run_account.specs.Running.{RolesFit, Running, AreOver}
-use Rattle.run_account.specs.declared.run.Run.{Run}
-use Rattle.run_account.specs.declared.run.Worker.{Worker}
+use Rattle.run_account.specs.Running.{HasRun}
 use Rattle.run_account.proofs.Accounting.{line-known, side-is}
 use Rattle.run_account.proofs.AppLines.{many-lines}
 use Rattle.run_account.proofs.FlowSums.{over}
-use Rattle.run_account.proofs.Gone.{IsGone, gone}
 use Rattle.run_account.proofs.NoteSums.{note_len}
 use Rattle.run_account.proofs.SentFew.{most_sent, notes-few, own-few, taken-sum}
 use Rattle.run_account.proofs.Shares.{shares}
@@ -103,43 +102,42 @@ strays-raw (w ∷ ws) (d ∷ ds) few none = omega (
 -- ---- of a run
 
 module _ {S T : Type 0} (left : S → Option (List ℕ)) (faults : S → ℕ) (kept : T → ℕ → Option (List ℕ)) (losses : T → ℕ)
-    (source source_now : S) (shelves shelves_now : List T) (plan : Plan) (nic : NicSide) (apps : List AppSide) (run : Run)
-    (ended : HaveEnded nic apps) (fits : RolesFit nic apps run) (are_over : AreOver run)
-    (runs : Running left faults kept losses source source_now shelves shelves_now plan nic apps run) where
-  served-at : (a : ℕ) → a < length run.workers.items → IsServed nic (side_in apps a)
-  served-at a within =
-      let here = side-is left faults kept losses source source_now shelves shelves_now plan nic apps run ended fits are_over runs a within in
-      subst (IsServed nic) here.is (ended.served a (side_in apps a) here.there)
+    (source source_now : S) (shelves shelves_now : List T) (plan : Plan) (nic : NicSide) (apps : List AppSide) (feed : FeedState)
+    (ends : List AppEnd) (ended : HaveEnded nic apps)
+    (runs : HasRun left faults kept losses source source_now shelves shelves_now plan nic apps feed ends) where
+  here-is : (a : ℕ) (end : AppEnd) → slice_get ends a ≡ Some end → IsApp apps a (side_in apps a)
+  here-is a end at = side-is left faults kept losses source source_now shelves shelves_now plan nic apps feed ends ended runs a
+      (omega (arith, slice_get_within ends a end at, runs.many))
+
+  served-at : (a : ℕ) (end : AppEnd) → slice_get ends a ≡ Some end → IsServed nic (side_in apps a)
+  served-at a end at = let here = here-is a end at in subst (IsServed nic) here.is (ended.served a (side_in apps a) here.there)
 
   -- what an application took is what was sent to it
-  took-few : (a : ℕ) → a < length run.workers.items → total taken_len (side_in apps a).view.taken ≤ most_sent
-  took-few a within =
+  took-few : (a : ℕ) (end : AppEnd) → slice_get ends a ≡ Some end → total taken_len (side_in apps a).view.taken ≤ most_sent
+  took-few a end at =
       let v = (side_in apps a).view in
-      let few = notes-few left faults kept losses source source_now shelves shelves_now plan nic apps run runs ended.proper in
+      let few = notes-few left faults source source_now plan.ports.items plan.split runs.frames feed nic.view runs.stands runs.records ended.proper in
       let taken : total taken_len v.taken ≡ total note_len (sent_to v.app nic) =
-      ap (total taken_len) (served-at a within).taken ∙ taken-sum (sent_to v.app nic) in
+      ap (total taken_len) (served-at a end at).taken ∙ taken-sum (sent_to v.app nic) in
       let own = own-few v.app nic.view.sent in
       let bytes = few.bytes in
       omega (arith, taken, own.1, bytes)
 
   -- the loans of an application are too few for their count to stop
-  loans-are : (a : ℕ) (w : Worker) → slice_get run.workers.items a ≡ Some w → w.state.loans ≡ length (side_in apps a).view.returned
-  loans-are a w at =
-      let went : IsGone w (side_in apps a).view = gone nic apps run fits are_over a w at in
-      let took = took-few a (slice_get_within run.workers.items a w at) in
-      let none : length (side_in apps a).view.loans ≡ 0 = ap length went.bare.loans in
-      let bound = went.common.bound in
-      let counted = went.common.loans in
-      omega (arith, took, none, bound, counted)
+  loans-are : (a : ℕ) (end : AppEnd) → slice_get ends a ≡ Some end → end.loans ≡ length (side_in apps a).view.returned
+  loans-are a end at =
+      let went = runs.app a end at in
+      let bound = went.bound in
+      let counted = went.loans in
+      omega (arith, took-few a end at, bound, counted)
 
-  app-strays : (a : ℕ) (w : Worker) → slice_get run.workers.items a ≡ Some w
-      → tally (λ (d : Dealt). d.app == a) (filter (λ (d : Dealt). is_stray d.fate) nic.view.dealt) ≤ plan.how.stray * w.state.loans
-  app-strays a w at =
+  app-strays : (a : ℕ) (end : AppEnd) → slice_get ends a ≡ Some end
+      → tally (λ (d : Dealt). d.app == a) (filter (λ (d : Dealt). is_stray d.fate) nic.view.dealt) ≤ plan.how.stray * end.loans
+  app-strays a end at =
       let app : AppSide = side_in apps a in
-      let within = slice_get_within run.workers.items a w at in
-      let here = side-is left faults kept losses source source_now shelves shelves_now plan nic apps run ended fits are_over runs a within in
-      let went : IsGone w app.view = gone nic apps run fits are_over a w at in
-      let served : IsServed nic app = served-at a within in
+      let here = here-is a end at in
+      let went = runs.app a end at in
+      let served : IsServed nic app = served-at a end at in
       let own : List Dealt = filter (λ (d : Dealt). d.app == app.view.app) nic.view.dealt in
       let dealt : length own ≤ length app.view.written = omega (
         arith,
@@ -152,29 +150,28 @@ module _ {S T : Type 0} (left : S → Option (List ℕ)) (faults : S → ℕ) (k
       ≡ tally (λ (d : Dealt). is_stray d.fate) own =
       tally-swap (λ (d : Dealt). d.app == a) (λ (d : Dealt). is_stray d.fate) nic.view.dealt
       ∙ ap (λ b. tally (λ (d : Dealt). is_stray d.fate) (filter (λ (d : Dealt). d.app == b) nic.view.dealt)) (sym here.number) in
-      let follow : raw_entries app.view + w.state.stray.left ≤ plan.how.stray * loan_entries app.view =
-      subst (λ how. raw_entries app.view + w.state.stray.left ≤ how.stray * loan_entries app.view) (runs.worker a w at).how_is went.common.strays in
-      let given = went.common.entries in
-      let most : plan.how.stray * loan_entries app.view ≤ plan.how.stray * w.state.loans =
-      mul-le-mul_left plan.how.stray (omega (arith, given, loans-are a w at)) in
+      let follow = went.strays in
+      let given = went.entries in
+      let most : plan.how.stray * loan_entries app.view ≤ plan.how.stray * end.loans =
+      mul-le-mul_left plan.how.stray (omega (arith, given, loans-are a end at)) in
       omega (arith, raw, swapped, follow, most)
 
-  pub strays-within : strays_in nic.view.dealt ≤ plan.how.stray * all_loans (lines_of plan.ports.items run.workers.items)
+  pub strays-within : strays_in nic.view.dealt ≤ plan.how.stray * all_loans (lines_of plan.ports.items ends)
   strays-within =
       let strays : List Dealt = filter (λ (d : Dealt). is_stray d.fate) nic.view.dealt in
-      let lines : List AppLine = lines_of plan.ports.items run.workers.items in
+      let lines : List AppLine = lines_of plan.ports.items ends in
       let all : over (λ a. tally (λ (d : Dealt). d.app == a) strays) 0 (length plan.ports.items) ≡ length strays =
       shares (length plan.ports.items) strays
       (All-filter (λ (d : Dealt). is_stray d.fate) (λ d. d.app < length plan.ports.items) nic.view.dealt runs.dealt) in
-      let many : length lines ≡ length plan.ports.items = many-lines plan.ports.items run.workers.items runs.many in
+      let many : length lines ≡ length plan.ports.items = many-lines plan.ports.items ends runs.many in
       let most : over (λ a. tally (λ (d : Dealt). d.app == a) strays) 0 (length lines) ≤ plan.how.stray * all_loans lines =
       within-loans (λ a. tally (λ (d : Dealt). d.app == a) strays) plan.how.stray lines 0
       (λ i line at.
-      let known = line-known left faults kept losses source source_now shelves shelves_now plan nic apps run ended fits are_over runs i line at in
+      let known = line-known left faults kept losses source source_now shelves shelves_now plan nic apps feed ends ended runs i line at in
       let place : i ≡ 0 + i = omega arith in
       subst (λ n. tally (λ (d : Dealt). d.app == n) strays ≤ plan.how.stray * line.loans) place
       (subst (λ (l : AppLine). tally (λ (d : Dealt). d.app == i) strays ≤ plan.how.stray * l.loans) (sym known.is)
-      (app-strays i known.worker known.worker_at))) in
+      (app-strays i known.end known.end_at))) in
       let same : over (λ a. tally (λ (d : Dealt). d.app == a) strays) 0 (length lines)
       ≡ over (λ a. tally (λ (d : Dealt). d.app == a) strays) 0 (length plan.ports.items) =
       ap (over (λ a. tally (λ (d : Dealt). d.app == a) strays) 0) many in

@@ -3,26 +3,28 @@ use Rattle.std.specs.Prelude.{◌≡◌, ℕ, List, Option}
 use Rattle.board_face.specs.Ended.{HaveEnded}
 use Rattle.board_face.specs.declared.views.nic.NicSide.{NicSide}
 use Rattle.board_face.specs.declared.views.app.AppSide.{AppSide}
-use Rattle.card_feed.specs.Feed.{end_of}
+use Rattle.app_worker.specs.Ends.{AppEnd}
+use Rattle.card_feed.specs.Feed.{FeedState, end_of}
 use Rattle.card_feed.specs.declared.outcome.Outcome.{Outcome}
 use Rattle.card_feed.specs.declared.plan.Plan.{Plan}
-use Rattle.run_account.specs.Ran.{Ran, TellsOf, Told, told_of}
-use Rattle.run_account.specs.Running.{AreOver, RolesFit, Running}
-use Rattle.run_account.specs.declared.run.Run.{Run}
+use Rattle.run_account.specs.Ran.{Ran, TellsOfEnds, Told, told_of}
+use Rattle.run_account.specs.Running.{HasRun}
 
 -- The outcome that is told is that of the run.
 abbrev pub RunsEndWell : {S T : Type 0} → (S → Option (List ℕ)) → (S → ℕ) → (T → ℕ → Option (List ℕ)) → (T → ℕ) → Type 0
 RunsEndWell {S} {T} left faults kept losses =
-    (source source_now : S) (shelves shelves_now : List T) (plan : Plan) (nic : NicSide) (apps : List AppSide) (run : Run) (outcome : Outcome)
-    → HaveEnded nic apps → RolesFit nic apps run → AreOver run
-    → Running left faults kept losses source source_now shelves shelves_now plan nic apps run
-    → TellsOf run plan.ports.items outcome
+    (source source_now : S) (shelves shelves_now : List T) (plan : Plan) (nic : NicSide) (apps : List AppSide) (feed : FeedState)
+    (ends : List AppEnd) (outcome : Outcome)
+    → HaveEnded nic apps
+    → HasRun left faults kept losses source source_now shelves shelves_now plan nic apps feed ends
+    → TellsOfEnds feed ends plan.ports.items outcome
     → Ran left faults kept losses source source_now shelves shelves_now plan (told_of outcome) nic apps
 
 -- There is something to tell of the run, whether there is memory for it or not, and what ended the reading is as the feed has it.
 abbrev pub RunsAreTold : {S T : Type 0} → (S → Option (List ℕ)) → (S → ℕ) → (T → ℕ → Option (List ℕ)) → (T → ℕ) → Type 0
 RunsAreTold {S} {T} left faults kept losses =
-    (source source_now : S) (shelves shelves_now : List T) (plan : Plan) (nic : NicSide) (apps : List AppSide) (run : Run)
-    → HaveEnded nic apps → RolesFit nic apps run → AreOver run
-    → Running left faults kept losses source source_now shelves shelves_now plan nic apps run
-    → (told : Told) × (told.end ≡ end_of run.feed.stage) × Ran left faults kept losses source source_now shelves shelves_now plan told nic apps
+    (source source_now : S) (shelves shelves_now : List T) (plan : Plan) (nic : NicSide) (apps : List AppSide) (feed : FeedState)
+    (ends : List AppEnd)
+    → HaveEnded nic apps
+    → HasRun left faults kept losses source source_now shelves shelves_now plan nic apps feed ends
+    → (told : Told) × (told.end ≡ end_of feed.stage) × Ran left faults kept losses source source_now shelves shelves_now plan told nic apps

@@ -1,7 +1,7 @@
 -- What a run leaves: the streams on their shelves, what its outcome says, and roles that account for it. It is over the sides of the
 -- roles alone, so it is the same for every board.
-use Rattle.std.specs.Prelude.{◌≡◌, ◌≢◌, ℕ, ◌+◌, ◌-◌, ◌*◌, ◌^◌, ◌<◌, ◌≤◌, ◌==◌, min, ◌⊎◌}
-use Rattle.std.specs.Prelude.{if◌then◌else◌, List, [], ◌∷◌, ◌++◌, length, take, drop, sum_by}
+use Rattle.std.specs.Prelude.{◌≡◌, ◌≢◌, ℕ, ◌-◌, ◌*◌, ◌^◌, ◌≤◌, ◌==◌, min, ◌⊎◌}
+use Rattle.std.specs.Prelude.{if◌then◌else◌, List, [], ◌∷◌, ◌++◌, length, drop, sum_by}
 use Rattle.std.specs.Prelude.{Option, Some, None, option_map}
 use Rattle.std.specs.List.{slice_get}
 use Rattle.std.specs.Option.{is_some}
@@ -26,21 +26,18 @@ use Rattle.board_face.specs.Sides.{side_in}
 use Rattle.board_face.specs.declared.views.nic.NicSide.{NicSide}
 use Rattle.board_face.specs.declared.views.app.AppSide.{AppSide}
 use Rattle.board_face.specs.declared.views.app.AppView.{AppView}
-use Rattle.app_worker.specs.Core.{most_at_once}
-use Rattle.app_worker.specs.Kept.{flow_bytes}
-use Rattle.app_worker.specs.Marks.{marks_of}
-use Rattle.app_worker.specs.Shelves.{AreOfOneLoan}
-use Rattle.app_worker.specs.State.{Quits, loan_entries}
+use Rattle.app_worker.specs.Ends.{AppEnd, IsTorn, bytes_in}
+use Rattle.app_worker.specs.State.{Quits}
 use Rattle.card_feed.specs.Account.{AccountsFor, kept_in}
 use Rattle.card_feed.specs.Counts.{long_in, searches_in}
+use Rattle.card_feed.specs.Feed.{FeedState}
 use Rattle.card_feed.specs.Need.{RefusesByNeed}
 use Rattle.card_feed.specs.Offered.{AreRefused, WantsRoom, offers_of}
 use Rattle.card_feed.specs.Outcomes.{IsOutcomeOf, flow_end}
 use Rattle.card_feed.specs.declared.outcome.Outcome.{Outcome}
 use Rattle.card_feed.specs.declared.plan.Plan.{Plan}
-use Rattle.run_account.specs.Running.{losses_in}
+use Rattle.run_account.specs.Running.{ends_of, losses_in}
 use Rattle.run_account.specs.declared.run.Run.{Run}
-use Rattle.run_account.specs.declared.run.Worker.{Worker}
 
 -- what holds of something that is there
 abbrev pub There : {A : Type 0} → Option A → (A → Type 0) → Type 0
@@ -64,14 +61,6 @@ pub record IsStreamed (stopped : Stopped) (stream bytes : List ℕ) (count : ℕ
   pub whole : stopped ≡ stop.No → bytes ≡ stream
   pub counted : stopped ≢ stop.Write → count ≡ length bytes
   pub at_least : count ≤ length bytes
-
--- A flow of an application whose shelf failed at the flow `torn`. All of what another gained is counted. Of that flow there may
--- be up to 4,096 bytes more than are counted, all of one loan, which no entry gave back. An append that went well may be
--- among them.
-pub record IsTorn (v : AppView) (torn number count : ℕ) (bytes : List ℕ) : Type 0 where
-  pub exact : number ≢ torn → count ≡ length bytes
-  pub at_once : length bytes ≤ count + most_at_once
-  pub more : count < length bytes → AreOfOneLoan v.taken (drop (loan_entries v) v.returned) (drop count (take (length bytes) (marks_of number v.taken)))
 
 -- The shelf of an application failed at one of its flows, and at no other.
 pub record HasFailed {T : Type 0} (kept : T → ℕ → Option (List ℕ)) (shelves shelves_now : List T) (flows : List Flow) (lines : List FlowLine)
@@ -101,33 +90,37 @@ pub record IsAppLine (how : Behaviour) (port losses losses_now : ℕ) (flows : L
 abbrev pub all_loans : List AppLine → ℕ
 all_loans apps = sum_by (λ (app : AppLine). app.loans) apps
 
--- the line of an application, as its state has it
-abbrev pub line_of : ℕ → Worker → AppLine
-line_of port w = record {
+-- the line of an application that has left with this
+abbrev pub line_of : ℕ → AppEnd → AppLine
+line_of port end = record {
   port = port;
-  written = w.state.written;
-  loans = w.state.loans;
-  copied = w.state.copied;
-  stopped = w.state.stopped;
+  written = end.written;
+  loans = end.loans;
+  copied = end.copied;
+  stopped = end.stopped;
 }
 
 -- the lines of the applications, in the order of the ports
-abbrev pub lines_of : List ℕ → List Worker → List AppLine
-lines_of [] workers = []
+abbrev pub lines_of : List ℕ → List AppEnd → List AppLine
+lines_of [] ends = []
 lines_of (port ∷ ports) [] = []
-lines_of (port ∷ ports) (w ∷ workers) = line_of port w ∷ lines_of ports workers
+lines_of (port ∷ ports) (end ∷ ends) = line_of port end ∷ lines_of ports ends
 
 -- how many bytes of each flow its application wrote
-pub record AreCounts (flows : List Flow) (workers : List Worker) (counts : List ℕ) : Type 0 where
+pub record AreCounts (flows : List Flow) (ends : List AppEnd) (counts : List ℕ) : Type 0 where
   pub many : length counts ≡ length flows
-  pub each : (number : ℕ) (flow : Flow) (w : Worker) → slice_get flows number ≡ Some flow → slice_get workers flow.app ≡ Some w
-      → slice_get counts number ≡ Some (flow_bytes number w.state.flows)
+  pub each : (number : ℕ) (flow : Flow) (end : AppEnd) → slice_get flows number ≡ Some flow → slice_get ends flow.app ≡ Some end
+      → slice_get counts number ≡ Some (bytes_in number end.flows)
+
+-- the outcome that is told of what the card keeps and the applications left with
+pub record TellsOfEnds (feed : FeedState) (ends : List AppEnd) (ports : List ℕ) (outcome : Outcome) : Type 0 where
+  pub counts : List ℕ
+  pub are : AreCounts feed.flows ends counts
+  pub is : IsOutcomeOf feed (lines_of ports ends) counts outcome
 
 -- the outcome that is told of what the roles keep
-pub record TellsOf (run : Run) (ports : List ℕ) (outcome : Outcome) : Type 0 where
-  pub counts : List ℕ
-  pub are : AreCounts run.feed.flows run.workers.items counts
-  pub is : IsOutcomeOf run.feed (lines_of ports run.workers.items) counts outcome
+abbrev pub TellsOf : Run → List ℕ → Outcome → Type 0
+TellsOf run ports outcome = TellsOfEnds run.feed (ends_of run.workers.items) ports outcome
 
 -- ---- the whole run
 

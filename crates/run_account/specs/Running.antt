@@ -1,6 +1,6 @@
 -- What the roles of a run keep, and how that stands to their sides and to what was read, sent and written since the first turn. It is
 -- over the sides of the roles alone, so it is the same for every board.
-use Rattle.std.specs.Prelude.{◌≡◌, ◌≢◌, ℕ, ◌<◌, ◌≤◌, true, false, List, All, length, drop, Option, Some, None, option_map}
+use Rattle.std.specs.Prelude.{◌≡◌, ◌≢◌, ℕ, ◌<◌, ◌≤◌, true, false, List, All, length, map, drop, Option, Some, None, option_map}
 use Rattle.std.specs.List.{slice_get}
 use Rattle.zr_kinds.specs.declared.behaviour.Behaviour.{Behaviour}
 use Rattle.zr_kinds.specs.declared.behaviour.Stopped.TheVariants as stop
@@ -10,13 +10,14 @@ use Rattle.board_face.specs.Sides.{side_in}
 use Rattle.board_face.specs.declared.views.nic.NicSide.{NicSide}
 use Rattle.board_face.specs.declared.views.app.AppSide.{AppSide}
 use Rattle.board_face.specs.declared.views.app.AppView.{AppView}
+use Rattle.app_worker.specs.Ends.{AppEnd, HasLeft, end_of}
 use Rattle.app_worker.specs.Kept.{new_state, IsFresh}
 use Rattle.app_worker.specs.Marks.{AreWholeFrames}
 use Rattle.app_worker.specs.Shelves.{AreShelved, AreFronts}
 use Rattle.app_worker.specs.State.{AppStands}
 use Rattle.app_worker.specs.Streams.{HasFronts, HasAll}
 use Rattle.card_feed.specs.Account.{kept_in}
-use Rattle.card_feed.specs.Feed.{IsReady, FeedStands}
+use Rattle.card_feed.specs.Feed.{FeedState, IsReady, FeedStands}
 use Rattle.card_feed.specs.Plan.{IsPlan, layout_of}
 use Rattle.card_feed.specs.declared.plan.Plan.{Plan}
 use Rattle.run_account.specs.declared.run.Run.{Run}
@@ -89,7 +90,31 @@ pub record Running {S T : Type 0} (left : S → Option (List ℕ)) (faults : S �
   pub records : run.feed.tally.records ≤ 16777216
   pub dealt : All (λ d. d.app < length plan.ports.items) nic.view.dealt
 
+-- what the applications leave, once they have left
+abbrev pub ends_of : List Worker → List AppEnd
+ends_of workers = map (λ (w : Worker). end_of w.state) workers
+
 -- The card was closed and every application has left.
 pub record AreOver (run : Run) : Type 0 where
   pub card : run.feed.closed ≡ true
   pub apps : All (λ (w : Worker). w.left ≡ true) run.workers.items
+
+-- The run of a plan that is over, as plain data: these frames were read and the card stands by them and was closed, each application
+-- has left with this, and no other shelf was touched.
+pub record HasRun {S T : Type 0} (left : S → Option (List ℕ)) (faults : S → ℕ) (kept : T → ℕ → Option (List ℕ)) (losses : T → ℕ)
+    (source source_now : S) (shelves shelves_now : List T) (plan : Plan) (nic : NicSide) (apps : List AppSide) (feed : FeedState)
+    (ends : List AppEnd) : Type 0 where
+  pub plan_is : IsPlan plan
+  pub frames : List (List ℕ)
+  pub stands : FeedStands left faults source source_now plan.ports.items plan.split frames feed nic.view
+  pub ready : IsReady feed nic.view
+  pub closed : feed.closed ≡ true
+  pub setting : nic.view.setting ≡ record { layout = layout_of plan; places = plan.ring }
+  pub many : length ends ≡ length plan.ports.items
+  pub app : (a : ℕ) (end : AppEnd) → slice_get ends a ≡ Some end
+      → HasLeft plan.how (kept_in kept shelves a) (kept_in kept shelves_now a) (losses_in losses shelves a) (losses_in losses shelves_now a)
+      (side_in apps a).view end
+  pub many_shelves : length shelves_now ≡ length shelves
+  pub beyond : drop (length plan.ports.items) shelves_now ≡ drop (length plan.ports.items) shelves
+  pub records : feed.tally.records ≤ 16777216
+  pub dealt : All (λ d. d.app < length plan.ports.items) nic.view.dealt

@@ -1,7 +1,8 @@
 //! What is told of a run that is over.
 
 ghost use Rattle.std.specs.Prelude.{◌≡◌, ◌≤◌, length, IfOk};
-ghost use Rattle.run_account.specs.Running.{AreOver};
+ghost use Rattle.app_worker.specs.Ends.{end_of};
+ghost use Rattle.run_account.specs.Running.{AreOver, ends_of};
 ghost use Rattle.run_account.specs.Ran.{line_of, lines_of, AreCounts, TellsOf};
 
 use crate::{Run, Worker};
@@ -11,7 +12,7 @@ use zr_kinds::AppLine;
 
 /// The line of an application.
 fn app_line(port: u16, worker: &Worker) -> AppLine
-    ensures { result ≡ line_of port worker.now }
+    ensures { result ≡ line_of port (end_of worker.now.state) }
 {
     AppLine {
         port,
@@ -25,7 +26,7 @@ fn app_line(port: u16, worker: &Worker) -> AppLine
 /// The lines of the applications, in the order of the ports.
 fn app_lines(alloc: Global, ports: &[u16], workers: &[Worker]) -> Result<Vec<AppLine>, AllocError>
     requires { length workers.now ≡ length ports.now }
-    ensures { IfOk result (λ lines. lines.items ≡ lines_of ports.now workers.now) }
+    ensures { IfOk result (λ lines. lines.items ≡ lines_of ports.now (ends_of workers.now)) }
 {
     let mut lines = Vec::with_capacity(alloc, workers.len())?;
     for (app, port) in ports.iter().enumerate() {
@@ -37,7 +38,7 @@ fn app_lines(alloc: Global, ports: &[u16], workers: &[Worker]) -> Result<Vec<App
 /// How many bytes of each flow were written.
 fn bytes_of_flows(alloc: Global, run: &Run) -> Result<Vec<u64>, AllocError>
     requires { length run.now.feed.ports ≤ length run.now.workers.items }
-    ensures { IfOk result (λ counts. AreCounts run.now.feed.flows run.now.workers.items counts.items) }
+    ensures { IfOk result (λ counts. AreCounts run.now.feed.flows (ends_of run.now.workers.items) counts.items) }
 {
     let mut bytes = Vec::with_capacity(alloc, run.feed.flows() as usize)?;
     for flow in 0..run.feed.flows() {

@@ -111,8 +111,7 @@ pub fn plan_of(alloc: Global, setup: &Setup) -> Result<Plan, Fail>
     }
     let plan = Plan {
         ports: ports_of(alloc, setup.both)?,
-        buffers,
-        size,
+        areas: vec![in alloc; (buffers, size)]?,
         ring,
         split,
         how,

@@ -1,5 +1,5 @@
 -- Each round that did something goes on and brings the run nearer to its end; one in which nothing was done finds it over.
-use Rattle.std.proofs.Common.{◌<◌, suc, length, subst}
+use Rattle.std.proofs.Common.{◌<◌, suc, length, refl, subst}
 use Rattle.std.specs.Prelude.{MatchBool}
 use Rattle.replay_turns.specs.Steps.{run_steps}
 use Rattle.replay_turns.specs.Stuck.{AreStuck}
@@ -8,6 +8,9 @@ use Rattle.replay_turns.proofs.Following.{follows-round}
 use Rattle.replay_turns.proofs.StepsLeft.{still-of, left-falls}
 use Rattle.replay_turns.proofs.Turns.{plays-through}
 use Rattle.replay_turns.proofs.playing.play_rounds.Goals as goal
+
+pub loop-alloc-init : goal.loop-alloc-init
+loop-alloc-init g c = (record { fits = c.requires.fits; workers = refl; many = refl; runs = λ first firsts plan runs. runs }, 0, refl)
 
 pub loop-alloc-preserved : goal.loop-alloc-preserved
 loop-alloc-preserved g c =
