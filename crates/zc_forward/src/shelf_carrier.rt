@@ -108,7 +108,7 @@ impl<T: Shelf> Carrier for ShelfCarrier<T> {
         ensures beside { self.new ≡ record self.old { shelf = self.new.shelf } }
     {
         let Some(flow) = flow_of(&self.out, tag) else {
-            return Err(Failed);
+            unreachable!()
         };
         self.shelf.append(flow, piece)
     }

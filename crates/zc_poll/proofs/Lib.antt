@@ -1,0 +1,9 @@
+pub mod Marking
+pub mod Views
+pub mod Noted
+pub mod Keeping
+pub mod Released
+pub mod Passing
+pub mod Lends
+pub mod Whole
+pub mod Untouched

@@ -1,0 +1,24 @@
+use Rattle.std.proofs.Common.{◌≡◌}
+use Rattle.std.specs.Prelude.{Result, Ok, Err, MatchResult}
+use Rattle.zr_kinds.specs.declared.place.Place.{Place}
+use Rattle.board_face.specs.AppCalls.{AppOnlySaw}
+use Rattle.board_face.specs.AppEvents.{gave}
+use Rattle.board_face.specs.declared.views.app.AppLook.TheVariants.{RefillInUse}
+use Rattle.board_face.specs.declared.views.app.AppView.{AppView}
+use Rattle.zc_poll.specs.Standing.{Desk, StreamStands}
+use Rattle.zc_poll.specs.DeskOf.{desk_of}
+use Rattle.zc_poll.proofs.Keeping.{stands-gave, saw-stands}
+use Rattle.zc_poll.proofs.stream.LoanStream.give.Goals as goal
+use Rattle.board_face.specs.AppCalls.{HasLoan}
+
+by-answer : {A : Type 0} (st : Desk) (old new : AppView) (loan : Place) (result : Result A Place) → StreamStands st old → HasLoan old loan
+    → MatchResult result (λ _. new ≡ gave old loan) (λ back. (back ≡ loan) × AppOnlySaw RefillInUse old new) → StreamStands st new
+by-answer st old new loan (Ok done) stands out is = stands-gave st old loan stands out new is
+by-answer st old new loan (Err back) stands out is = saw-stands st old new RefillInUse is.1.event stands
+
+pub returns-clause-stands : goal.returns-clause-stands
+returns-clause-stands g c =
+    let stands = rw (← c.self.view_is) at c.requires.stands in
+    let out = rw (← c.self.view_is) at c.requires.out in
+    by-answer (desk_of c.self.inside.queues) (g.F.AppFace.seen c.self.inside.face) (g.F.AppFace.seen c.give.new.self) c.args.loan c.give.result stands out
+    c.give.ensures.view

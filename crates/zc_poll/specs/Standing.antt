@@ -1,0 +1,101 @@
+-- What a stream keeps beside its face, as plain data, and how that stands to what the face has seen.
+use Rattle.std.specs.Prelude.{◌≡◌, ℕ, ◌+◌, ◌<◌, ◌≤◌, ◌⊎◌, Bool, true, false, List, [], length, map, IsSome}
+use Rattle.zr_kinds.specs.CopyingReceiver.{next_missing}
+use Rattle.board_face.specs.declared.views.app.HeldPiece.{HeldPiece}
+use Rattle.board_face.specs.declared.views.app.TakenNote.{TakenNote}
+use Rattle.board_face.specs.declared.views.app.AppView.{AppView}
+use Rattle.flow_queues.specs.declared.queues.FlowQueue.{FlowQueue}
+use Rattle.flow_queues.specs.declared.queues.Lending.{Lending}
+use Rattle.flow_queues.specs.Core.{total, Each, many, LieApart, own_notes, BeginAt, placed_of, over_kept, held_len, short_bytes, unsplit_len, Stands}
+use Rattle.flow_queues.specs.Flows.{IsAtRest, RestBut, IsIndex, facts_of}
+
+pub record Desk : Type 0 where
+  pub app : ℕ
+  -- how many notes were taken into the queues
+  pub notes : ℕ
+  pub flows : List FlowQueue
+  -- the place of each flow, by its number
+  pub index : List (ℕ × ℕ)
+  -- the place of the flow that may have a piece in order
+  pub active : ℕ
+  -- it gives no more items
+  pub stopped : Bool
+  -- it was told that no note comes any more
+  pub ended : Bool
+
+-- how many bytes the note's piece has
+abbrev pub taken_len : TakenNote → ℕ
+taken_len t = t.note.place.len
+
+-- what was given of a flow has its place
+pub record IsFound (taken : List TakenNote) (flow : FlowQueue) : Type 0 where
+  pub begun : BeginAt flow.queue.base (own_notes flow.number taken)
+  pub below : (p : ℕ) → p < flow.bytes → IsSome ((placed_of flow taken).at p)
+
+-- notes enter the queues, and pieces are lent
+pub record Going (st : Desk) (v : AppView) : Type 0 where
+  -- the loans that are out
+  pub out : List Lending
+  pub stands : Stands st.notes st.flows [] out v
+  pub rest : RestBut st.active st.flows
+  pub index : IsIndex st.index st.flows
+  -- each spare was for a byte that came in a note, and is for one that isn't kept any more
+  pub spares : v.spares + total (λ f. short_bytes f.queue) st.flows ≤ total unsplit_len v.taken
+  -- each loan was of a byte that was taken, and is of one that isn't kept any more
+  pub bound : length v.loans + length v.returned + total held_len v.helds + total (λ f. short_bytes f.queue) st.flows ≤ total taken_len v.taken
+
+-- all that is in order of each flow's notes was given
+pub record IsWhole (st : Desk) (v : AppView) : Type 0 where
+  pub flows : Each (λ f. f.bytes ≡ next_missing (placed_of f v.taken)) st.flows
+  -- and no other flow has a note
+  pub known : (number : ℕ) → many number st.flows ≡ 0 → own_notes number v.taken ≡ []
+
+-- whatever it does
+pub record Common (st : Desk) (v : AppView) : Type 0 where
+  pub here : v.left ≡ false
+  -- no raw entry is on its way, since none was pushed
+  pub settled : v.settled ≡ true
+  pub counted : v.scrubbed ≡ false
+  pub owns : v.owns ≡ []
+  pub app : v.app ≡ st.app
+  pub ended : v.ended ≡ st.ended
+  pub apart : LieApart v
+  pub found : Each (IsFound v.taken) st.flows
+  pub distinct : (number : ℕ) → many number st.flows ≤ 1
+  -- there were never more loans than bytes were taken
+  pub few : length v.loans + length v.returned ≤ total taken_len v.taken
+
+-- between two steps
+pub record StreamStands (st : Desk) (v : AppView) : Type 0 where
+  pub common : Common st v
+  pub going : st.stopped ≡ false → st.ended ≡ false → Going st v
+  -- it has no piece once it was stopped, or no note comes any more
+  pub released : (st.stopped ≡ true) ⊎ (st.ended ≡ true) → v.helds ≡ []
+  pub whole : st.ended ≡ true → st.stopped ≡ false → IsWhole st v
+
+-- no piece is in order
+abbrev pub NoneInOrder : Desk → Type 0
+NoneInOrder st = st.stopped ≡ false → Each IsAtRest st.flows
+
+-- ---- all pieces are given up
+
+-- all that is held is kept by the queues
+pub record CanStop (st : Desk) (v : AppView) : Type 0 where
+  pub apart : LieApart v
+  pub helds : (f : HeldPiece → ℕ) → total f v.helds ≡ total (λ flow. over_kept f flow.queue) st.flows
+
+pub record MayRelease (st : Desk) (v : AppView) : Type 0 where
+  pub going : st.stopped ≡ false → st.ended ≡ false → CanStop st v
+  pub released : (st.stopped ≡ true) ⊎ (st.ended ≡ true) → v.helds ≡ []
+
+-- they are, and nothing else changed
+pub record IsReleased (was now : Desk) (old new : AppView) : Type 0 where
+  pub view : new ≡ record old { helds = [] }
+  pub same : now ≡ record was { flows = now.flows }
+  pub facts : map facts_of now.flows ≡ map facts_of was.flows
+
+-- and for good
+pub record IsStopped (was now : Desk) (old new : AppView) : Type 0 where
+  pub view : new ≡ record old { helds = [] }
+  pub same : now ≡ record was { flows = now.flows; stopped = true }
+  pub facts : map facts_of now.flows ≡ map facts_of was.flows

@@ -1,0 +1,141 @@
+-- What a step does.
+use Rattle.std.specs.Prelude.{◌≡◌, ℕ, ◌+◌, ◌-◌, ◌^◌, ◌<◌, min, true, false, not, if◌then◌else◌, List, [], ◌∷◌, ◌++◌, length}
+use Rattle.std.specs.Prelude.{Option, Some, None, slice_get, Result, Ok, Err}
+use Rattle.std.specs.declared.alloc.AllocError.{AllocError}
+use Rattle.futures.specs.declared.task.Poll.{Poll}
+use Rattle.futures.specs.declared.task.Poll.TheVariants.{Ready, Pending}
+use Rattle.board_face.specs.AppCalls.{AppOnlySaw, HasLoan, ToldEnd}
+use Rattle.board_face.specs.Looks.{AppRose, AppLooksStay}
+use Rattle.board_face.specs.declared.views.app.AppLook.TheVariants.{NoNote as no_note, NoSpare as no_spare}
+use Rattle.board_face.specs.declared.views.app.LentPiece.{LentPiece}
+use Rattle.board_face.specs.declared.views.app.TakenNote.{TakenNote}
+use Rattle.board_face.specs.declared.views.app.AppView.{AppView}
+use Rattle.flow_queues.specs.declared.queues.Lending.{Lending}
+use Rattle.flow_queues.specs.Marks.{AreWholeFrames, marks_of}
+use Rattle.flow_queues.specs.Core.{total, IsIn, lent_piece, marks_of_loan}
+use Rattle.zc_poll.specs.declared.step.Lent.{Lent}
+use Rattle.zc_poll.specs.declared.step.Waits.{Waits}
+use Rattle.zc_poll.specs.declared.step.Waits.TheVariants.{NoNote, ReserveHeld, Enough}
+use Rattle.zc_poll.specs.declared.step.Step.{Step}
+use Rattle.zc_poll.specs.declared.step.Step.TheVariants.{Item, Waiting, Memory, Ended}
+use Rattle.zc_poll.specs.declared.taking.Taken.{Taken}
+use Rattle.zc_poll.specs.declared.taking.Taken.TheVariants.{Did as took_one, NoNote as saw_none, Ended as told_end, Memory as had_no_memory}
+use Rattle.zc_poll.specs.Standing.{Desk, Common, StreamStands, NoneInOrder, CanStop}
+use Rattle.zc_poll.specs.Items.{Given, HasGiven, marks_given, IsAt}
+
+-- a count of bytes, with so many more: it stays at 2^64 - 1
+abbrev pub counted_on : ℕ → ℕ → ℕ
+counted_on bytes len = min (bytes + len) (2 ^ 64 - 1)
+
+-- notes were taken, pieces cut, given up and lent, and spares filled; nothing else changed
+pub record OnlySteps (old new : AppView) : Type 0 where
+  pub view : new ≡ record old {
+    settled = new.settled;
+    ended = new.ended;
+    spares = new.spares;
+    picked = new.picked;
+    helds = new.helds;
+    loans = new.loans;
+    taken = new.taken;
+    looks = new.looks;
+  }
+  pub more : List TakenNote
+  pub taken : new.taken ≡ old.taken ++ more
+  pub looks : AppLooksStay old new
+
+-- nothing was lent
+pub record Unlent (was now : Desk) (old new : AppView) : Type 0 where
+  pub loans : new.loans ≡ old.loans
+  pub spares : new.spares ≡ old.spares
+  pub items : (items : List Given) → HasGiven items was.flows old.taken → HasGiven items now.flows new.taken
+
+-- the item that it is, of a loan
+abbrev pub given_as : Lent → Lending → Given
+given_as lent lending = record { flow = lent.flow; lending = lending }
+
+-- One loan was lent, which is this item.
+pub record IsItem (was now : Desk) (old new : AppView) (lent : Lent) : Type 0 where
+  pub lending : Lending
+  pub loan : lending.loan ≡ lent.loan
+  -- it is out, and no other was lent
+  pub held : HasLoan new lent.loan
+  pub out : IsIn (lent_piece new.taken lending) new.loans
+  pub lends : (f : LentPiece → ℕ) → total f new.loans ≡ total f old.loans + f (lent_piece new.taken lending)
+  -- its bytes come from this note, and one spare was taken where they travelled in it
+  pub note : TakenNote
+  pub is : slice_get new.taken lending.note ≡ Some note
+  pub copied : lent.copied ≡ not note.note.split
+  pub spares : new.spares ≡ old.spares + (if lent.copied then 1 else 0)
+  -- the places of its bytes are numbers of 64 bits
+  pub fits : lent.position + lent.loan.len < 2 ^ 64
+  -- they stand there among those of the flow
+  pub place : AreWholeFrames new.taken → IsAt (marks_of lent.flow new.taken) lent.position (marks_of_loan lending)
+  -- as many came before in the flow's items
+  pub items : (items : List Given) → HasGiven items was.flows old.taken
+      → (lent.position ≡ length (marks_given lent.flow items)) × HasGiven (items ++ given_as lent lending ∷ []) now.flows new.taken
+  pub going : (was.stopped ≡ false) × (now.stopped ≡ false)
+  pub more : now.ended ≡ false
+
+-- what it waits for
+abbrev pub WaitsFor : Waits → Desk → AppView → AppView → Type 0
+WaitsFor NoNote now old new = AppRose no_note old new × NoneInOrder now
+WaitsFor ReserveHeld now old new = AppRose no_spare old new
+WaitsFor Enough now old new = (length new.taken ≡ length old.taken + old.setting.places) × NoneInOrder now
+
+abbrev pub Steps : Desk → Desk → AppView → AppView → Step → Type 0
+Steps was now old new (Item lent) = IsItem was now old new lent
+Steps was now old new (Waiting why) = Unlent was now old new × WaitsFor why now old new × (now.stopped ≡ was.stopped) × (now.ended ≡ false)
+Steps was now old new Memory = Unlent was now old new × (was.stopped ≡ false) × (now.stopped ≡ true) × (now.ended ≡ false)
+Steps was now old new Ended = Unlent was now old new × (now.stopped ≡ was.stopped) × (now.ended ≡ true)
+
+-- what a poll gives is what one step gives
+abbrev pub PollGives : Desk → Desk → AppView → AppView → Poll (Option (Result Lent AllocError)) → Type 0
+PollGives was now old new (Ready (Some (Ok lent))) = Steps was now old new (Item lent)
+PollGives was now old new (Ready (Some (Err failed))) = Steps was now old new Memory
+PollGives was now old new (Ready None) = Steps was now old new Ended
+PollGives was now old new Pending = (why : Waits) × Steps was now old new (Waiting why)
+
+-- ---- parts of a step
+
+-- so many notes were taken, and nothing was lent
+pub record Passed (count : ℕ) (was now : Desk) (old new : AppView) : Type 0 where
+  pub stands : StreamStands now new
+  pub only : OnlySteps old new
+  pub unlent : Unlent was now old new
+  pub longer : length new.taken ≡ length old.taken + count
+  pub stopped : now.stopped ≡ was.stopped
+  pub more : now.ended ≡ false
+
+pub record Stepped (was now : Desk) (old new : AppView) (step : Step) : Type 0 where
+  pub stands : StreamStands now new
+  pub only : OnlySteps old new
+  pub steps : Steps was now old new step
+
+-- no more than one note was taken for it
+abbrev pub IsShort : Step → Type 0
+IsShort (Waiting Enough) = ⊥
+IsShort step = Unit {0}
+
+-- what was next was lent, or nothing is in order
+abbrev pub Offers : Desk → Desk → AppView → AppView → Option Step → Type 0
+Offers was now old new None = (now ≡ was) × (new ≡ old) × NoneInOrder was
+Offers was now old new (Some step) = Stepped was now old new step × IsShort step
+
+abbrev pub Takes : Desk → Desk → AppView → AppView → Option Step → Type 0
+Takes was now old new None = Passed 1 was now old new
+Takes was now old new (Some step) = Stepped was now old new step × IsShort step
+
+-- A note was taken, and there was no memory for it.
+pub record Wants (was now : Desk) (old new : AppView) : Type 0 where
+  pub common : Common now new
+  pub can : CanStop now new
+  pub only : OnlySteps old new
+  pub unlent : Unlent was now old new
+  pub going : (was.stopped ≡ false) × (now.stopped ≡ false)
+  pub more : now.ended ≡ false
+
+abbrev pub LooksFor : Desk → Desk → AppView → AppView → Taken → Type 0
+LooksFor was now old new took_one = Passed 1 was now old new
+LooksFor was now old new saw_none = (now ≡ was) × AppOnlySaw no_note old new
+LooksFor was now old new told_end = (now ≡ was) × ToldEnd old new
+LooksFor was now old new had_no_memory = Wants was now old new

@@ -1,0 +1,59 @@
+//! What is next in the stream of a flow is an item.
+ghost use Rattle.std.specs.Prelude.{◌≡◌, ◌≢◌, false, ℕ, ◌+◌, Some, None, Option};
+ghost use Rattle.tcp_reorder.specs.Queue.{IsSound};
+ghost use Rattle.board_face.specs.AppEvents.{app_gist};
+ghost use Rattle.board_face.specs.declared.views.app.AppLook.TheVariants.{NoSpare};
+ghost use Rattle.zc_poll.specs.Standing.{StreamStands};
+ghost use Rattle.zc_poll.specs.Steps.{Offers, IsShort};
+ghost use Rattle.zc_poll.specs.Steps.{counted_on};
+ghost use Rattle.zc_poll.specs.DeskOf.{desk_of};
+ghost use Rattle.zc_poll.specs.declared.step.Step.TheVariants.{Waiting};
+ghost use Rattle.zc_poll.specs.declared.step.Waits.TheVariants.{NoNote, ReserveHeld};
+
+use crate::queues::Queues;
+use crate::step::{Lent, Step, Waits};
+use board_face::AppFace;
+use flow_queues::{FlowQueue, Lending, Next, lend_next};
+
+/// The item that a loan is, which counts its bytes.
+fn item(own: &mut FlowQueue, lending: Lending, copied: bool) -> Lent
+    ensures flow { own.new ≡ record own.old { bytes = counted_on own.old.bytes lending.loan.len } }
+    ensures sound { IsSound own.old.queue }
+    ensures item { result ≡ record { flow = own.old.number; position = own.old.bytes; loan = lending.loan; copied = copied } }
+{
+    let _next = own.queue.next_position();
+    let position = own.bytes;
+    own.bytes = position.saturating_add(u64::from(lending.loan.place().len));
+    Lent {
+        flow: own.number,
+        position,
+        loan: lending.loan,
+        copied,
+    }
+}
+
+/// Lends the piece that is next in the stream of the active flow. `None` says that no piece is in order.
+pub fn offer<F: AppFace>(face: &mut F, st: &mut Queues) -> Option<Step>
+    requires stands { StreamStands (desk_of st.old) (F.seen face.old) }
+    requires more { st.old.ended ≡ false }
+    ensures offers { Offers (desk_of st.old) (desk_of st.new) (F.seen face.old) (F.seen face.new) result }
+    ensures kind { result ≢ Some (Waiting NoNote) }
+    ensures told { result ≡ Some (Waiting ReserveHeld) → F.tells NoSpare (app_gist (F.seen face.new)) (F.beside face.new) }
+    ensures beside { F.beside face.new ≡ F.beside face.old }
+{
+    if st.stopped {
+        return None;
+    }
+    if st.active >= st.flows.len() {
+        return None;
+    }
+    let own = &mut st.flows[st.active];
+    match lend_next(face, own) {
+        Next::Lent(lending) => Some(Step::Item(item(own, lending, false))),
+        Next::LentCopy(lending) => Some(Step::Item(item(own, lending, true))),
+        Next::NoneInOrder => None,
+        Next::ReserveHeld => Some(Step::Waiting(Waits::ReserveHeld)),
+        // Nothing was pushed raw, so this is never reached.
+        Next::Unsettled => unreachable!(),
+    }
+}

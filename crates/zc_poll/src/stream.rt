@@ -1,0 +1,211 @@
+ghost use Rattle.std.specs.Prelude.{◌≡◌, ◌+◌, ◌<◌, ◌≤◌, [], ℕ, List, length, Ok, Err, Some, None, true, false, IfErr, MatchResult, OnSome};
+ghost use Rattle.futures.specs.Poll.{IfReady, OnPending};
+ghost use Rattle.futures.specs.Task.{Covers, Keeps};
+ghost use Rattle.futures.specs.declared.task.Poll.TheVariants.{Ready};
+ghost use Rattle.board_face.specs.Looks.{AppTold};
+ghost use Rattle.board_face.specs.NotNow.{HasWritten, HasWrittenRingful};
+ghost use Rattle.board_face.specs.AppCalls.{HasLoan, AppOnlySaw, ShowsCopy};
+ghost use Rattle.board_face.specs.AppEvents.{app_gist, has_read, loan_origin, gave, abandoned};
+ghost use Rattle.board_face.specs.declared.views.app.AppLook.TheVariants.{NoNote as no_note, NoSpare as no_spare, RefillInUse, NotQuiet};
+ghost use Rattle.board_face.specs.declared.views.app.AppView.{AppView};
+ghost use Rattle.flow_queues.specs.declared.queues.Lending.{Lending};
+ghost use Rattle.flow_queues.specs.Marks.{marks_from};
+ghost use Rattle.flow_queues.specs.Core.{IsIn, lent_piece, AreReadAt};
+ghost use Rattle.zc_poll.specs.Standing.{StreamStands};
+ghost use Rattle.zc_poll.specs.Items.{Given, HasGiven};
+ghost use Rattle.zc_poll.specs.Steps.{Steps, OnlySteps, PollGives};
+ghost use Rattle.zc_poll.specs.Fresh.{IsUntouched, new_desk, has_left};
+ghost use Rattle.zc_poll.specs.declared.step.Step.TheVariants.{Waiting, Ended};
+ghost use Rattle.zc_poll.specs.declared.step.Waits.TheVariants.{NoNote, ReserveHeld};
+
+use crate::lending::offer;
+use crate::queues::{Queues, stop};
+use crate::step::{Lent, Step, Waits};
+use crate::taking::take_note;
+use board_face::{AppFace, Loan};
+use futures::Stream;
+use futures::task::{Context, Poll};
+use std::alloc::{AllocError, Global};
+use std::collections::BTreeMap;
+use std::marker::Model;
+
+/// The loans of an application, one after another.
+#[derive(Drop)]
+pub struct LoanStream<F> {
+    face: F,
+    queues: Queues,
+}
+
+impl<F> Model for LoanStream<F> {
+    ghost use Rattle.zc_poll.specs.DeskOf.{desk_of};
+    ghost use Rattle.zc_poll.specs.Streaming.{Streaming};
+
+    ghost Value = { Streaming F };
+
+    ghost view = { λ s. record { face = s.face; desk = desk_of s.queues } };
+}
+
+impl<F: AppFace> LoanStream<F> {
+    /// A stream of this application's loans, of which none was given yet. Takes no memory.
+    pub fn new(alloc: Global, face: F, app: u32) -> LoanStream<F>
+        requires { IsUntouched app (F.seen face) }
+        ensures stream { result ≡ record { face = face; desk = new_desk app } }
+        ensures stands { StreamStands result.desk (F.seen result.face) }
+        ensures items { HasGiven [] result.desk.flows (F.seen result.face).taken }
+    {
+        LoanStream {
+            face,
+            queues: Queues {
+                alloc,
+                app,
+                notes: 0,
+                flows: Vec::new(alloc),
+                index: BTreeMap::new(alloc),
+                active: 0,
+                stopped: false,
+                ended: false,
+            },
+        }
+    }
+
+    /// One step: the next item, or why there is none. It takes as many notes for it as a ring has places, at most. Once it
+    /// answered `Ended` it answers that again, and asks nothing.
+    pub fn step(&mut self) -> Step
+        requires stands { StreamStands self.old.desk (F.seen self.old.face) }
+        ensures stands { StreamStands self.new.desk (F.seen self.new.face) }
+        ensures steps { Steps self.old.desk self.new.desk (F.seen self.old.face) (F.seen self.new.face) result }
+        ensures only { OnlySteps (F.seen self.old.face) (F.seen self.new.face) }
+        ensures again { self.old.desk.ended ≡ true → (result ≡ Step.Ended) × (self.new ≡ self.old) }
+        ensures no_note { result ≡ Waiting NoNote → F.tells no_note (app_gist (F.seen self.new.face)) (F.beside self.new.face) }
+        ensures no_spare { result ≡ Waiting ReserveHeld → F.tells no_spare (app_gist (F.seen self.new.face)) (F.beside self.new.face) }
+        ensures beside { F.beside self.new.face ≡ F.beside self.old.face }
+    {
+        if self.queues.ended {
+            return Step::Ended;
+        }
+        if let Some(step) = offer(&mut self.face, &mut self.queues) {
+            return step;
+        }
+        let mut left = self.face.places();
+        while left > 0 {
+            if let Some(step) = take_note(&mut self.face, &mut self.queues) {
+                return step;
+            }
+            if let Some(step) = offer(&mut self.face, &mut self.queues) {
+                return step;
+            }
+            left -= 1;
+        }
+        Step::Waiting(Waits::Enough)
+    }
+
+    /// Reads bytes of a loan, from its byte `from` on.
+    pub fn read(&mut self, loan: &Loan, from: u32, into: &mut [u8])
+        requires stands { StreamStands self.old.desk (F.seen self.old.face) }
+        requires out { HasLoan (F.seen self.old.face) loan.now }
+        requires within { from + length into.old ≤ loan.now.len }
+        ensures stands { StreamStands self.new.desk (F.seen self.new.face) }
+        ensures desk { self.new.desk ≡ self.old.desk }
+        ensures view { F.seen self.new.face ≡ has_read (F.seen self.old.face) loan.now from into.new }
+        ensures copied { ShowsCopy (loan_origin (F.seen self.old.face) loan.now) from into.new }
+        // The bytes are those at the loan's marks.
+        ensures text { (lending : Lending) → lending.loan ≡ loan.now → lending.note < length (F.seen self.old.face).taken
+            → IsIn (lent_piece (F.seen self.old.face).taken lending) (F.seen self.old.face).loans
+            → AreReadAt (F.seen self.new.face).taken (F.seen self.new.face).reads (marks_from lending.note (lending.at + from) (length into.new)) into.new }
+        ensures beside { F.beside self.new.face ≡ F.beside self.old.face }
+    {
+        self.face.read(loan, from, into);
+    }
+
+    /// Gives a loan back by a refill entry. `Err` says that the next refill slot was seen in use.
+    pub fn give(&mut self, loan: Loan) -> Result<(), Loan>
+        requires stands { StreamStands self.old.desk (F.seen self.old.face) }
+        requires out { HasLoan (F.seen self.old.face) loan }
+        ensures stands { StreamStands self.new.desk (F.seen self.new.face) }
+        ensures desk { self.new.desk ≡ self.old.desk }
+        ensures view { MatchResult result
+            (λ _. F.seen self.new.face ≡ gave (F.seen self.old.face) loan)
+            (λ back. (back ≡ loan) × AppOnlySaw RefillInUse (F.seen self.old.face) (F.seen self.new.face)) }
+        ensures full { IfErr result (λ _. HasWrittenRingful (F.seen self.old.face)) }
+        ensures told { AppTold (λ look. F.tells look (app_gist (F.seen self.old.face)) (F.beside self.old.face))
+            (F.seen self.old.face) (F.seen self.new.face) }
+        ensures beside { F.beside self.new.face ≡ F.beside self.old.face }
+    {
+        self.face.give(loan)
+    }
+
+    /// Gives a loan up without an entry.
+    pub fn abandon(&mut self, loan: Loan)
+        requires stands { StreamStands self.old.desk (F.seen self.old.face) }
+        requires out { HasLoan (F.seen self.old.face) loan }
+        ensures stands { StreamStands self.new.desk (F.seen self.new.face) }
+        ensures desk { self.new.desk ≡ self.old.desk }
+        ensures view { F.seen self.new.face ≡ abandoned (F.seen self.old.face) loan }
+        ensures beside { F.beside self.new.face ≡ F.beside self.old.face }
+    {
+        self.face.abandon(loan);
+    }
+
+    /// Gives all pieces up. The stream goes on taking notes, and gives no more items.
+    pub fn stop(&mut self)
+        requires stands { StreamStands self.old.desk (F.seen self.old.face) }
+        ensures stands { StreamStands self.new.desk (F.seen self.new.face) }
+        ensures stopped { (self.new.desk.stopped ≡ true) × (self.new.desk.ended ≡ self.old.desk.ended) }
+        ensures view { F.seen self.new.face ≡ record (F.seen self.old.face) { helds = [] } }
+        ensures items { (items : List Given) → HasGiven items self.old.desk.flows (F.seen self.old.face).taken
+            → HasGiven items self.new.desk.flows (F.seen self.new.face).taken }
+        ensures beside { F.beside self.new.face ≡ F.beside self.old.face }
+    {
+        stop(&mut self.face, &mut self.queues);
+    }
+
+    /// Scrubs and leaves, once no loan is out. `Err` says that a refill slot was seen in use.
+    pub fn close(self) -> Result<F, LoanStream<F>>
+        requires stands { StreamStands self.desk (F.seen self.face) }
+        requires ended { self.desk.ended ≡ true }
+        requires none { (F.seen self.face).loans ≡ [] }
+        ensures left { MatchResult result
+            (λ face. F.seen face ≡ has_left (F.seen self.face))
+            (λ back. (back.desk ≡ self.desk) × StreamStands back.desk (F.seen back.face) × AppOnlySaw NotQuiet (F.seen self.face) (F.seen back.face)) }
+        ensures some { IfErr result (λ _. HasWritten (F.seen self.face)) }
+        ensures told { IfErr result (λ back. AppTold (λ look. F.tells look (app_gist (F.seen self.face)) (F.beside self.face))
+            (F.seen self.face) (F.seen back.face)) }
+        ensures beside { MatchResult result (λ face. F.beside face ≡ F.beside self.face) (λ back. F.beside back.face ≡ F.beside self.face) }
+    {
+        let LoanStream { face, queues } = self;
+        let mut face = face;
+        if !face.quiet() {
+            return Err(LoanStream { face, queues });
+        }
+        face.scrub();
+        face.leave();
+        Ok(face)
+    }
+}
+
+impl<F: AppFace + Drop> Stream for LoanStream<F> {
+    type Item = Result<Lent, AllocError>;
+
+    ghost can_poll = { λ s. StreamStands s.desk (F.seen s.face) };
+
+    fn poll_next(&mut self, cx: &mut Context<'_>) -> Poll<Option<Result<Lent, AllocError>>>
+        requires { StreamStands self.old.desk (F.seen self.old.face) }
+        ensures goes { IfReady result (λ o. OnSome o (StreamStands self.new.desk (F.seen self.new.face))) }
+        ensures again { OnPending result (StreamStands self.new.desk (F.seen self.new.face)) }
+        ensures registered { OnPending result (Covers cx.new (λ source. ⊥)) }
+        ensures kept { Keeps cx.old cx.new }
+        // It gives what one step gives.
+        ensures gives { PollGives self.old.desk self.new.desk (F.seen self.old.face) (F.seen self.new.face) result }
+        // Once it was the end it is the end again, and nothing is asked.
+        ensures ended { self.old.desk.ended ≡ true → (result ≡ Ready None) × (self.new ≡ self.old) }
+        ensures only { OnlySteps (F.seen self.old.face) (F.seen self.new.face) }
+        ensures beside { F.beside self.new.face ≡ F.beside self.old.face }
+    {
+        match self.step() {
+            Step::Item(lent) => Poll::Ready(Some(Ok(lent))),
+            Step::Waiting(_) => cx.yield_now(),
+            Step::Memory => Poll::Ready(Some(Err(AllocError))),
+            Step::Ended => Poll::Ready(None),
+        }
+    }
+}
