@@ -11,11 +11,12 @@ _zcrx() {
     case $before in
     --buffers) COMPREPLY=($(compgen -W "64 256 1024 4096" -- "$word")) ;;
     --size) COMPREPLY=($(compgen -W "1024 2048 4096 8192 16384 32768 65536" -- "$word")) ;;
+    --areas) COMPREPLY=($(compgen -W "256:2048,16:65536 1024:1024,256:4096" -- "$word")) ;;
     --ring) COMPREPLY=($(compgen -W "1 64 256" -- "$word")) ;;
     --split) COMPREPLY=($(compgen -W "0 64 128 256" -- "$word")) ;;
     --turns) COMPREPLY=($(compgen -W "n n0" -- "$word")) ;;
     --hold | --leak | --stray | --quit) ;;
-    *) COMPREPLY=($(compgen -W "--buffers --size --ring --split --hold --leak --stray --quit --turns" -- "$word")) ;;
+    *) COMPREPLY=($(compgen -W "--buffers --size --areas --ring --split --hold --leak --stray --quit --turns" -- "$word")) ;;
     esac
 }
 

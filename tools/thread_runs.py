@@ -152,6 +152,11 @@ def draw_options(draw):
         "--stray": draw.choice([0, 0, 1, 16]),
     }
     if draw.random() < 0.3:
+        del options["--buffers"], options["--size"]
+        options["--areas"] = ",".join(
+            f"{draw.choice([1, 2, 16, 64])}:{draw.choice([1024, 2048, 4096, 65536])}" for _ in range(draw.randint(1, 4))
+        )
+    if draw.random() < 0.3:
         options["--quit"] = draw.choice([0, 1, 100, 2000])
     return options
 

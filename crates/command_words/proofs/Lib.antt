@@ -6,6 +6,8 @@ pub mod Walking
 pub mod Asked
 pub mod Adding
 pub mod Ranges
+pub mod AreaRanges
+pub mod AreaParts
 pub mod Porting
 pub mod Told
 pub mod Answering

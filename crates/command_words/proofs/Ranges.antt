@@ -17,11 +17,11 @@ abbrev Within : ℕ → ℕ → ℕ → Type 0
 Within least most n = (least ≤ n) × (n ≤ most)
 
 -- what a test lets through
-passed : {A : Type 0} (test : Bool) (x y : A) → (if test then Some x else None) ≡ Some y → (test ≡ true) × (x ≡ y)
+pub passed : {A : Type 0} (test : Bool) (x y : A) → (if test then Some x else None) ≡ Some y → (test ≡ true) × (x ≡ y)
 passed true x y is = (refl, same_Some x y is)
 passed false x y is = cc
 
-and_parts : (a b : Bool) → (a && b) ≡ true → (a ≡ true) × (b ≡ true)
+pub and_parts : (a b : Bool) → (a && b) ≡ true → (a ≡ true) × (b ≡ true)
 and_parts true b h = (refl, h)
 and_parts false b h = let bad : false ≡ true = h in cc
 
@@ -38,7 +38,7 @@ pub read-within : (least most : ℕ) (value : Option ℕ) (n : ℕ) → option_a
 read-within least most None n is = cc
 read-within least most (Some number) n is = within-within least most number n is
 
-number_or-within : (default least most : ℕ) (said : Option Text) (n : ℕ) → Within least most default → number_or default least most said ≡ Some n
+pub number_or-within : (default least most : ℕ) (said : Option Text) (n : ℕ) → Within least most default → number_or default least most said ≡ Some n
     → Within least most n
 number_or-within default least most None n known is = subst (Within least most) (same_Some default n is) known
 number_or-within default least most (Some word) n known is = read-within least most (value_of word) n is
@@ -53,11 +53,10 @@ first-or n size rest P here there among = go (n == size) refl
     go true e = let same : n ≡ size = grind (arith, nat_tests, e) in subst P same here
     go false e = there (rw e at among)
 
-IsSize : ℕ → Type 0
+abbrev pub IsSize : ℕ → Type 0
 IsSize size = IsPowerOfTwo size × Within 1024 65536 size
 
 size-among : (size : ℕ) → list_any (λ n. n == size) sizes ≡ true → IsSize size
-unfolding IsSize
 size-among size =
     first-or 1024 size _ IsSize ((10, refl), (omega arith, omega arith)) (
     first-or 2048 size _ IsSize ((11, refl), (omega arith, omega arith)) (
@@ -67,7 +66,7 @@ size-among size =
     first-or 32768 size _ IsSize ((15, refl), (omega arith, omega arith)) (
     first-or 65536 size false IsSize ((16, refl), (omega arith, omega arith)) (λ none. cc)))))))
 
-size_of-sized : (said : Option Text) (size : ℕ) → size_of said ≡ Some size → IsSize size
+pub size_of-sized : (said : Option Text) (size : ℕ) → size_of said ≡ Some size → IsSize size
 size_of-sized said size is =
     option_and_then_some (λ size. if list_any (λ n. n == size) sizes then Some size else None) (number_or 4096 1024 65536 said) size is
     (λ number read chosen. let through = passed (list_any (λ n. n == number) sizes) number size chosen in
@@ -92,28 +91,19 @@ behaviour_of-kept value how is =
     )))))
 
 pub options_of-in_range : (value : Text → Option Text) (options : Options) → options_of value ≡ Some options → AreInRange options
-unfolding options_of AreKept IsSize
+unfolding options_of AreKept
 options_of-in_range value options is =
-    option_and_then_some _ (number_or 64 1 4096 (value (codes "buffers"))) options is (λ buffers buffers_is with_buffers.
-    option_and_then_some _ (size_of (value (codes "size"))) options with_buffers (λ size size_is with_size.
-    option_and_then_some _ (number_or 64 1 256 (value (codes "ring"))) options with_size (λ ring ring_is with_ring.
+    option_and_then_some _ (number_or 64 1 256 (value (codes "ring"))) options is (λ ring ring_is with_ring.
     option_and_then_some _ (number_or 0 0 256 (value (codes "split"))) options with_ring (λ split split_is with_split.
     option_and_then_some _ (behaviour_of value) options with_split (λ how how_is whole.
-    let through = passed (nat_le (buffers * size) 67108864) _ options whole in
-    let fits = through.0 in
-    let sized = size_of-sized (value (codes "size")) size size_is in
     let kept = behaviour_of-kept value how how_is in
-    subst AreInRange through.1 (record {
-      buffers = number_or-within 64 1 4096 (value (codes "buffers")) buffers (omega arith, omega arith) buffers_is;
-      power = sized.0;
-      size = sized.1;
-      bytes = grind (arith, nat_tests, fits);
+    subst AreInRange (same_Some _ options whole) (record {
       ring = number_or-within 64 1 256 (value (codes "ring")) ring (omega arith, omega arith) ring_is;
       split = (number_or-within 0 0 256 (value (codes "split")) split (omega arith, omega arith) split_is).1;
       hold = kept.0;
       leak = kept.1;
       stray = kept.2;
-    }))))))
+    }))))
 
 -- ---- the text of turns
 

@@ -3,121 +3,137 @@ use Rattle.std.specs.Prelude.{◌≡◌, ℕ, List, [], ◌∷◌, Option, Some,
 use Rattle.std.proofs.Common.{refl}
 use Rattle.command_words.specs.Assigned.{Text, assigned, sorted}
 use Rattle.command_words.specs.Options.{behaviour_of, options_of}
+use Rattle.command_words.specs.Areas.{pool_of}
 use Rattle.command_words.specs.Words.{Shown, make, reading_of, replay}
 use Rattle.command_words.specs.declared.options.Options.{Options}
 
 -- what stands for options that aren't said
 abbrev usual : Options
-usual = record { buffers = 64; size = 4096; ring = 64; split = 0; how = record { hold = 0; leak = 0; stray = 0; quit = None } }
+usual = record { ring = 64; split = 0; how = record { hold = 0; leak = 0; stray = 0; quit = None } }
 
 abbrev shown : List ℕ → Option Shown
-shown ports = Some (replay (record { ports = ports; options = usual; turns = None }))
+shown ports = Some (replay (record { ports = ports; areas = (64, 4096) ∷ []; options = usual; turns = None }))
 
 one_port : reading_of (codes "replay" ∷ codes "9000" ∷ []) ≡ shown (9000 ∷ [])
-unfolding assigned options_of behaviour_of
+unfolding assigned pool_of options_of behaviour_of
 one_port = refl
 
 in_order : reading_of (codes "replay" ∷ codes "9001" ∷ codes "9000" ∷ []) ≡ shown (9001 ∷ 9000 ∷ [])
-unfolding assigned options_of behaviour_of
+unfolding assigned pool_of options_of behaviour_of
 in_order = refl
 
 leading_zero : reading_of (codes "replay" ∷ codes "09000" ∷ []) ≡ shown (9000 ∷ [])
-unfolding assigned options_of behaviour_of
+unfolding assigned pool_of options_of behaviour_of
 leading_zero = refl
 
 after_closing : reading_of (codes "replay" ∷ codes "9000" ∷ codes "--" ∷ codes "9001" ∷ []) ≡ shown (9000 ∷ 9001 ∷ [])
-unfolding assigned options_of behaviour_of
+unfolding assigned pool_of options_of behaviour_of
 after_closing = refl
 
 largest : reading_of (codes "replay" ∷ codes "65535" ∷ []) ≡ shown (65535 ∷ [])
-unfolding assigned options_of behaviour_of
+unfolding assigned pool_of options_of behaviour_of
 largest = refl
 
 too_large : reading_of (codes "replay" ∷ codes "65536" ∷ []) ≡ None
-unfolding assigned options_of behaviour_of
+unfolding assigned pool_of options_of behaviour_of
 too_large = refl
 
 port_0 : reading_of (codes "replay" ∷ codes "0" ∷ []) ≡ None
-unfolding assigned options_of behaviour_of
+unfolding assigned pool_of options_of behaviour_of
 port_0 = refl
 
 digits_19 : reading_of (codes "replay" ∷ codes "0000000000000009000" ∷ []) ≡ None
-unfolding assigned options_of behaviour_of
+unfolding assigned pool_of options_of behaviour_of
 digits_19 = refl
 
 signed : reading_of (codes "replay" ∷ codes "+9000" ∷ []) ≡ None
-unfolding assigned options_of behaviour_of
+unfolding assigned pool_of options_of behaviour_of
 signed = refl
 
 no_words : reading_of [] ≡ None
 no_words = refl
 
 no_ports : reading_of (codes "replay" ∷ []) ≡ None
-unfolding assigned options_of behaviour_of
+unfolding assigned pool_of options_of behaviour_of
 no_ports = refl
 
 same_port : reading_of (codes "replay" ∷ codes "9000" ∷ codes "9000" ∷ []) ≡ None
-unfolding assigned options_of behaviour_of
+unfolding assigned pool_of options_of behaviour_of
 same_port = refl
 
 abbrev digits : List Text
 digits = codes "1" ∷ codes "2" ∷ codes "3" ∷ codes "4" ∷ codes "5" ∷ codes "6" ∷ codes "7" ∷ codes "8" ∷ []
 
 eight_ports : reading_of (codes "replay" ∷ digits) ≡ shown (1 ∷ 2 ∷ 3 ∷ 4 ∷ 5 ∷ 6 ∷ 7 ∷ 8 ∷ [])
-unfolding assigned options_of behaviour_of
+unfolding assigned pool_of options_of behaviour_of
 eight_ports = refl
 
 nine_ports : reading_of (codes "replay" ∷ codes "9" ∷ digits) ≡ None
-unfolding assigned options_of behaviour_of
+unfolding assigned pool_of options_of behaviour_of
 nine_ports = refl
 
 help : reading_of (codes "replay" ∷ codes "--help" ∷ []) ≡ None
-unfolding assigned options_of behaviour_of
+unfolding assigned pool_of options_of behaviour_of
 help = refl
 
 unknown_option : reading_of (codes "replay" ∷ codes "--sizes=1024" ∷ codes "9000" ∷ []) ≡ None
-unfolding assigned options_of behaviour_of
+unfolding assigned pool_of options_of behaviour_of
 unknown_option = refl
 
 -- ---- options
 
 abbrev told : Options → Option Text → Option Shown
-told options turns = Some (replay (record { ports = 9000 ∷ []; options = options; turns = turns }))
+told options turns = Some (replay (record { ports = 9000 ∷ []; areas = (64, 4096) ∷ []; options = options; turns = turns }))
+
+abbrev over : List (ℕ × ℕ) → Option Shown
+over areas = Some (replay (record { ports = 9000 ∷ []; areas = areas; options = usual; turns = None }))
 
 largest_area : reading_of (codes "replay" ∷ codes "--buffers" ∷ codes "1024" ∷ codes "--size=65536" ∷ codes "9000" ∷ [])
-    ≡ told (record usual { buffers = 1024; size = 65536 }) None
-unfolding assigned options_of behaviour_of
+    ≡ over ((1024, 65536) ∷ [])
+unfolding assigned pool_of options_of behaviour_of
 largest_area = refl
 
 area_too_large : reading_of (codes "replay" ∷ codes "--buffers" ∷ codes "4096" ∷ codes "--size" ∷ codes "65536" ∷ codes "9000" ∷ []) ≡ None
-unfolding assigned options_of behaviour_of
+unfolding assigned pool_of options_of behaviour_of
 area_too_large = refl
 
+two_areas : reading_of (codes "replay" ∷ codes "--areas" ∷ codes "2:1024,1:2048" ∷ codes "9000" ∷ []) ≡ over ((2, 1024) ∷ (1, 2048) ∷ [])
+unfolding assigned pool_of options_of behaviour_of
+two_areas = refl
+
+five_areas : reading_of (codes "replay" ∷ codes "--areas=1:1024,1:1024,1:1024,1:1024,1:1024" ∷ codes "9000" ∷ []) ≡ None
+unfolding assigned pool_of options_of behaviour_of
+five_areas = refl
+
+areas_and_size : reading_of (codes "replay" ∷ codes "--areas" ∷ codes "1:1024" ∷ codes "--size" ∷ codes "1024" ∷ codes "9000" ∷ []) ≡ None
+unfolding assigned pool_of options_of behaviour_of
+areas_and_size = refl
+
 no_power_of_two : reading_of (codes "replay" ∷ codes "--size" ∷ codes "1000" ∷ codes "9000" ∷ []) ≡ None
-unfolding assigned options_of behaviour_of
+unfolding assigned pool_of options_of behaviour_of
 no_power_of_two = refl
 
 no_place : reading_of (codes "replay" ∷ codes "--ring" ∷ codes "0" ∷ codes "9000" ∷ []) ≡ None
-unfolding assigned options_of behaviour_of
+unfolding assigned pool_of options_of behaviour_of
 no_place = refl
 
 each_behaviour : reading_of (codes "replay" ∷ codes "9000" ∷ codes "--hold=4096" ∷ codes "--leak" ∷ codes "2" ∷ codes "--stray=16" ∷ codes "--quit"
     ∷ codes "0100" ∷ [])
     ≡ told (record usual { how = record { hold = 4096; leak = 2; stray = 16; quit = Some 100 } }) None
-unfolding assigned options_of behaviour_of
+unfolding assigned pool_of options_of behaviour_of
 each_behaviour = refl
 
 some_turns : reading_of (codes "replay" ∷ codes "--split=256" ∷ codes "--turns" ∷ codes "nn0n" ∷ codes "9000" ∷ [])
     ≡ told (record usual { split = 256 }) (Some (codes "nn0n"))
-unfolding assigned options_of behaviour_of
+unfolding assigned pool_of options_of behaviour_of
 some_turns = refl
 
 no_such_application : reading_of (codes "replay" ∷ codes "--turns" ∷ codes "n1" ∷ codes "9000" ∷ []) ≡ None
-unfolding assigned options_of behaviour_of
+unfolding assigned pool_of options_of behaviour_of
 no_such_application = refl
 
 no_turns : reading_of (codes "replay" ∷ codes "--turns=" ∷ codes "9000" ∷ []) ≡ None
-unfolding assigned options_of behaviour_of
+unfolding assigned pool_of options_of behaviour_of
 no_turns = refl
 
 -- ---- a seed and a number of frames

@@ -2,4 +2,5 @@ pub mod Numbers
 pub mod Assigned
 pub mod Asking
 pub mod Options
+pub mod Areas
 pub mod Words

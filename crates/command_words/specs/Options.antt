@@ -1,8 +1,7 @@
 -- The options of `replay`: each with its range, and what stands for it where it isn't said.
-use Rattle.std.specs.Prelude.{ℕ, ◌≤◌, ◌<◌, ◌≡◌, ◌+◌, ◌*◌, ◌⊎◌, Bool, List, [], ◌∷◌, length, nat_le, nat_lt, ◌==◌}
+use Rattle.std.specs.Prelude.{ℕ, ◌≤◌, ◌<◌, ◌≡◌, ◌+◌, ◌⊎◌, Bool, List, [], ◌∷◌, length, nat_le, nat_lt, ◌==◌}
 use Rattle.std.specs.Prelude.{◌&&◌, ◌||◌}
 use Rattle.std.specs.Prelude.{if◌then◌else◌, Option, Some, None, option_map, option_and_then, codes, All}
-use Rattle.std.specs.Int.{IsPowerOfTwo}
 use Rattle.std.specs.List.{list_all, list_any}
 use Rattle.zr_kinds.specs.declared.behaviour.Behaviour.{Behaviour}
 use Rattle.command_words.specs.Assigned.{Text}
@@ -12,7 +11,7 @@ use Rattle.command_words.specs.declared.options.Options.{Options}
 -- the options of `replay`, without their dashes
 abbrev pub option_names : List Text
 option_names =
-    codes "buffers" ∷ codes "size" ∷ codes "ring" ∷ codes "split" ∷ codes "hold" ∷ codes "leak" ∷ codes "stray"
+    codes "areas" ∷ codes "buffers" ∷ codes "size" ∷ codes "ring" ∷ codes "split" ∷ codes "hold" ∷ codes "leak" ∷ codes "stray"
     ∷ codes "quit" ∷ codes "turns" ∷ []
 
 -- what follows of a value that is there
@@ -45,17 +44,13 @@ behaviour_of value =
     given (quit_of (value (codes "quit"))) (λ quit.
     Some (record { hold = hold; leak = leak; stray = stray; quit = quit })))))
 
--- the numbers of a replay; all buffers together have at most 64 MiB
+-- the numbers of a replay, but for those of its areas
 unfoldable pub options_of : (Text → Option Text) → Option Options
 options_of value =
-    given (number_or 64 1 4096 (value (codes "buffers"))) (λ buffers.
-    given (size_of (value (codes "size"))) (λ size.
     given (number_or 64 1 256 (value (codes "ring"))) (λ ring.
     given (number_or 0 0 256 (value (codes "split"))) (λ split.
     given (behaviour_of value) (λ how.
-    if nat_le (buffers * size) 67108864
-    then Some (record { buffers = buffers; size = size; ring = ring; split = split; how = how })
-    else None)))))
+    Some (record { ring = ring; split = split; how = how }))))
 
 -- `n`, or the digit of one of so many applications
 abbrev pub is_turn : ℕ → ℕ → Bool
@@ -73,10 +68,6 @@ turns_of apps (Some text) = if are_turns apps text then Some (Some text) else No
 
 -- the numbers are in their ranges
 pub record AreInRange (options : Options) : Type 0 where
-  pub buffers : (1 ≤ options.buffers) × (options.buffers ≤ 4096)
-  pub power : IsPowerOfTwo options.size
-  pub size : (1024 ≤ options.size) × (options.size ≤ 65536)
-  pub bytes : options.buffers * options.size ≤ 67108864
   pub ring : (1 ≤ options.ring) × (options.ring ≤ 256)
   pub split : options.split ≤ 256
   pub hold : options.how.hold ≤ 4096

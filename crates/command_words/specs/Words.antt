@@ -3,6 +3,7 @@ use Rattle.std.specs.Prelude.{ℕ, ◌≤◌, ⊤, List, [], ◌∷◌, length, 
 use Rattle.std.specs.Prelude.{codes, All, IfSome}
 use Rattle.std.specs.List.{IsDistinct}
 use Rattle.std.specs.Str.{bytes_eq}
+use Rattle.area_layout.specs.Layout.{MakeLayout}
 use Rattle.command_words.specs.declared.reading.Command.{Command}
 use Rattle.command_words.specs.declared.reading.Replay.{Replay}
 use Rattle.command_words.specs.declared.making.Make.{Make}
@@ -10,10 +11,13 @@ use Rattle.command_words.specs.declared.options.Options.{Options}
 use Rattle.command_words.specs.Numbers.{ports_of, up_to}
 use Rattle.command_words.specs.Assigned.{Text, Said, sorted, value_said}
 use Rattle.command_words.specs.Options.{AreInRange, AreTurns, given, option_names, options_of, turns_of}
+use Rattle.command_words.specs.Areas.{pool_of}
 
--- what `replay` is told: its ports, in the order given, its numbers, and whose turns it goes by, if that is said
+-- what `replay` is told: its ports, in the order given, its areas, each by its number of buffers and their size, its other
+-- numbers, and whose turns it goes by, if that is said
 pub record ReplayShown : Type 0 where
   pub ports : List ℕ
+  pub areas : List (ℕ × ℕ)
   pub options : Options
   pub turns : Option Text
 
@@ -24,19 +28,28 @@ pub data Shown : Type 0 where
 
 -- a command as its definition shows it
 abbrev pub replay_shown : Replay → ReplayShown
-replay_shown told = record { ports = told.ports.items; options = told.options; turns = option_map (λ text. text.now) told.turns }
+replay_shown told = record {
+  ports = told.ports.items;
+  areas = told.areas.items;
+  options = told.options;
+  turns = option_map (λ text. text.now) told.turns;
+}
 
 abbrev pub command_shown : Command → Shown
 command_shown (Command.Replay told) = replay (replay_shown told)
 command_shown (Command.Make told) = make told
 command_shown Command.Check = check
 
--- what a replay to these ports is told by the value of each option
-abbrev pub told_of : (Text → Option Text) → List ℕ → Option ReplayShown
-told_of value ports =
+-- what a replay to these ports is told by the value of each option, but for those of its areas
+abbrev pub told_with : (Text → Option Text) → List ℕ → List (ℕ × ℕ) → Option ReplayShown
+told_with value ports areas =
     given (options_of value) (λ options.
     given (turns_of (length ports) (value (codes "turns"))) (λ turns.
-    Some (record { ports = ports; options = options; turns = turns })))
+    Some (record { ports = ports; areas = areas; options = options; turns = turns })))
+
+-- what it is told by the value of each option
+abbrev pub told_of : (Text → Option Text) → List ℕ → Option ReplayShown
+told_of value ports = given (pool_of value) (told_with value ports)
 
 abbrev pub replay_of : Option Said → Option ReplayShown
 replay_of = option_and_then (λ said. given (ports_of said.words) (told_of (λ name. value_said name said.options)))
@@ -77,6 +90,7 @@ pub record IsPortList (ports : List ℕ) : Type 0 where
 -- what a replay may be told
 pub record IsReplay (told : Replay) : Type 0 where
   pub ports : IsPortList told.ports.items
+  pub areas : MakeLayout told.areas.items (length told.ports.items)
   pub options : AreInRange told.options
   pub turns : IfSome told.turns (λ text. AreTurns (length told.ports.items) text.now)
 

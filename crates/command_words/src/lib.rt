@@ -2,6 +2,7 @@
 //! numbers are read here.
 #![tactic(auto)]
 
+mod areas;
 mod assign;
 mod making;
 mod numbers;

@@ -5,17 +5,14 @@ ghost use Rattle.std.specs.List.{list_all};
 ghost use Rattle.clap.specs.Words.{found_of, first_value};
 ghost use Rattle.command_words.specs.Options.{are_turns, behaviour_of, is_turn, number_or, options_of, quit_of, size_of, turns_of};
 
+use crate::areas::few_areas;
 use crate::numbers;
 use clap::ArgMatches;
 use zr_kinds::Behaviour;
 
-/// The numbers of a replay.
+/// The numbers of a replay, but for those of its areas.
 #[derive(Clone, Copy, Debug, PartialEq, Eq)]
 pub struct Options {
-    /// How many buffers the pool has.
-    pub buffers: u32,
-    /// The size of a buffer in bytes.
-    pub size: u32,
     /// How many places each ring has.
     pub ring: u32,
     /// The greatest payload that travels in its note, in bytes.
@@ -25,19 +22,19 @@ pub struct Options {
 }
 
 /// The names of the options, without their dashes.
-pub static NAMES: [&str; 9] = [
-    "buffers", "size", "ring", "split", "hold", "leak", "stray", "quit", "turns",
+pub static NAMES: [&str; 10] = [
+    "areas", "buffers", "size", "ring", "split", "hold", "leak", "stray", "quit", "turns",
 ];
 
 /// The range of an option's number, and the number that stands for it where it isn't said.
 #[derive(Clone, Copy)]
-struct Number {
+pub(crate) struct Number {
     default: u32,
     least: u32,
     most: u32,
 }
 
-const BUFFERS: Number = Number {
+pub(crate) const BUFFERS: Number = Number {
     default: 64,
     least: 1,
     most: 4096,
@@ -74,15 +71,12 @@ const STRAY: Number = Number {
     most: 16,
 };
 
-/// The most bytes that the buffers may have together: 64 MiB.
-const MOST_BYTES: u64 = 67_108_864;
-
 /// The most characters that a text of turns may have.
 const MOST_TURNS: usize = 4096;
 
 impl Number {
     /// The number that was said.
-    fn read(self, word: Option<&str>) -> Option<u32>
+    pub(crate) fn read(self, word: Option<&str>) -> Option<u32>
         ensures { result ≡ number_or self.default self.least self.most (option_map (λ w. w.now) word.entry) }
     {
         match word {
@@ -92,7 +86,7 @@ impl Number {
     }
 }
 
-fn read_size(word: Option<&str>) -> Option<u32>
+pub(crate) fn read_size(word: Option<&str>) -> Option<u32>
     ensures { result ≡ size_of (option_map (λ w. w.now) word.entry) }
 {
     let size = SIZE.read(word)?;
@@ -133,21 +127,10 @@ fn read_behaviour(said: &ArgMatches) -> Option<Behaviour>
 pub fn read_options(said: &ArgMatches) -> Option<Options>
     ensures { result ≡ options_of (λ name. first_value (found_of said.now) name) }
 {
-    let buffers = BUFFERS.read(said.get_str("buffers"))?;
-    let size = read_size(said.get_str("size"))?;
     let ring = RING.read(said.get_str("ring"))?;
     let split = SPLIT.read(said.get_str("split"))?;
     let how = read_behaviour(said)?;
-    if u64::from(buffers) * u64::from(size) > MOST_BYTES {
-        return None;
-    }
-    Some(Options {
-        buffers,
-        size,
-        ring,
-        split,
-        how,
-    })
+    Some(Options { ring, split, how })
 }
 
 fn is_turn(letter: u8, apps: usize) -> bool
@@ -187,6 +170,7 @@ pub fn read_turns<'a>(said: &ArgMatches<'a>, apps: usize) -> Option<Option<&'a s
 /// Whether an option of this name takes a value. Which letters a text of turns may have, the ports say.
 pub(crate) fn takes(name: &str, value: &str) -> bool {
     match name {
+        "areas" => few_areas(value).is_some(),
         "buffers" => BUFFERS.read(Some(value)).is_some(),
         "size" => read_size(Some(value)).is_some(),
         "ring" => RING.read(Some(value)).is_some(),
@@ -201,6 +185,7 @@ pub(crate) fn takes(name: &str, value: &str) -> bool {
 /// Which values an option takes, for people to read.
 pub(crate) fn range_of(name: &str) -> &'static str {
     match name {
+        "areas" => "1 to 4 areas as COUNT:SIZE, with commas between",
         "buffers" => "a number from 1 to 4096",
         "size" => "a power of two from 1024 to 65536",
         "ring" => "a number from 1 to 256",
@@ -209,13 +194,5 @@ pub(crate) fn range_of(name: &str) -> &'static str {
         "stray" => "a number from 0 to 16",
         "quit" => "a number of at most 18 digits",
         _ => "1 to 4096 letters n and digits of the ports, counted from 0",
-    }
-}
-
-/// Whether the buffers, by the values that were said, have no more bytes together than they may.
-pub(crate) fn pool_fits(buffers: Option<&str>, size: Option<&str>) -> bool {
-    match (BUFFERS.read(buffers), read_size(size)) {
-        (Some(buffers), Some(size)) => u64::from(buffers) * u64::from(size) <= MOST_BYTES,
-        _ => false,
     }
 }

@@ -7,8 +7,9 @@ ghost use Rattle.command_words.specs.Numbers.{ports_of};
 ghost use Rattle.command_words.specs.Assigned.{if_any, sorted};
 ghost use Rattle.command_words.specs.Asking.{port_id};
 ghost use Rattle.command_words.specs.Options.{option_names};
-ghost use Rattle.command_words.specs.Words.{IsCommand, command_shown, reading_of, replay_of, replay_shown, told_of};
+ghost use Rattle.command_words.specs.Words.{IsCommand, command_shown, reading_of, replay_of, replay_shown, told_of, told_with};
 
+use crate::areas::read_pool;
 use crate::making::{Make, read_make};
 use crate::options::{NAMES, Options, read_options, read_turns};
 use crate::{assign, numbers};
@@ -28,6 +29,8 @@ pub enum Command<'a> {
 pub struct Replay<'a> {
     /// The destination ports whose flows are followed, in the order given: application `a` has the port at place `a`.
     pub ports: Vec<u16>,
+    /// The areas of the pool, each with its number of buffers and their size in bytes.
+    pub areas: Vec<(u32, u32)>,
     pub options: Options,
     /// Whose turns come first, one a letter: `n` for the card, a digit for the application with that number.
     pub turns: Option<&'a str>,
@@ -62,17 +65,37 @@ fn ports_said(alloc: Global, said: &ArgMatches) -> Result<Option<Vec<u16>>, Allo
     }
 }
 
-fn with_ports<'a>(said: &ArgMatches<'a>, ports: Vec<u16>) -> Option<Replay<'a>>
+fn with_areas<'a>(
+    said: &ArgMatches<'a>,
+    ports: Vec<u16>,
+    areas: Vec<(u32, u32)>,
+) -> Option<Replay<'a>>
     requires { length ports.items ≤ 8 }
-    ensures { option_map replay_shown result ≡ told_of (λ name. first_value (found_of said.now) name) ports.items }
+    ensures { option_map replay_shown result
+        ≡ told_with (λ name. first_value (found_of said.now) name) ports.items areas.items }
 {
     let options = read_options(said)?;
     let turns = read_turns(said, ports.len())?;
     Some(Replay {
         ports,
+        areas,
         options,
         turns,
     })
+}
+
+fn with_ports<'a>(
+    alloc: Global,
+    said: &ArgMatches<'a>,
+    ports: Vec<u16>,
+) -> Result<Option<Replay<'a>>, AllocError>
+    requires { length ports.items ≤ 8 }
+    ensures { IfOk result (λ r. option_map replay_shown r ≡ told_of (λ name. first_value (found_of said.now) name) ports.items) }
+{
+    match read_pool(alloc, said)? {
+        Some(areas) => Ok(with_areas(said, ports, areas)),
+        None => Ok(None),
+    }
 }
 
 fn read_replay<'a>(alloc: Global, words: &'a [&'a str]) -> Result<Option<Replay<'a>>, AllocError>
@@ -85,7 +108,7 @@ fn read_replay<'a>(alloc: Global, words: &'a [&'a str]) -> Result<Option<Replay<
     let Some(ports) = ports_said(alloc, &said)? else {
         return Ok(None);
     };
-    Ok(with_ports(&said, ports))
+    with_ports(alloc, &said, ports)
 }
 
 /// The command that the words after the program's name ask for; `None` where they ask for none.

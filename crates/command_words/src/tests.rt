@@ -118,8 +118,6 @@ fn other_words_have_no_reading(rt: HostRuntime) -> Result<(), Fail> {
 
 /// What stands for options that aren't said.
 const USUAL: Options = Options {
-    buffers: 64,
-    size: 4096,
     ring: 64,
     split: 0,
     how: Behaviour {
@@ -133,51 +131,8 @@ const USUAL: Options = Options {
 #[test]
 fn numbers_of_options_are_read(rt: HostRuntime) -> Result<(), Fail> {
     let how = USUAL.how;
-    let rows: [(&[&str], Options); 19] = [
+    let rows: [(&[&str], Options); 13] = [
         (&["9000"], USUAL),
-        (
-            &["--buffers", "1", "9"],
-            Options {
-                buffers: 1,
-                ..USUAL
-            },
-        ),
-        (
-            &["9", "--buffers=4096"],
-            Options {
-                buffers: 4096,
-                ..USUAL
-            },
-        ),
-        (
-            &["--size=1024", "9"],
-            Options {
-                size: 1024,
-                ..USUAL
-            },
-        ),
-        (
-            &["--size=0016384", "9"],
-            Options {
-                size: 16_384,
-                ..USUAL
-            },
-        ),
-        (
-            &["--size", "65536", "9"],
-            Options {
-                size: 65_536,
-                ..USUAL
-            },
-        ),
-        (
-            &["--buffers=1024", "--size=65536", "9"],
-            Options {
-                buffers: 1024,
-                size: 65_536,
-                ..USUAL
-            },
-        ),
         (&["--ring", "1", "9"], Options { ring: 1, ..USUAL }),
         (&["--ring", "256", "9"], Options { ring: 256, ..USUAL }),
         (&["--split", "0", "9"], USUAL),
@@ -232,7 +187,6 @@ fn numbers_of_options_are_read(rt: HostRuntime) -> Result<(), Fail> {
         (
             &["--size=2048", "9", "--ring", "7", "8", "--hold=3"],
             Options {
-                size: 2048,
                 ring: 7,
                 how: Behaviour { hold: 3, ..how },
                 ..USUAL
@@ -245,6 +199,49 @@ fn numbers_of_options_are_read(rt: HostRuntime) -> Result<(), Fail> {
         let words = with_replay(rt.alloc(), options)?;
         match read_words(rt.alloc(), words.as_slice())? {
             Some(Command::Replay(replay)) => assert_eq!(&rt; replay.options, want, "{options:?}"),
+            _ => assert!(&rt; false, "{options:?} aren't read"),
+        }
+    }
+    Ok(())
+}
+
+/// Each area by its number of buffers and their size.
+#[test]
+fn areas_are_read(rt: HostRuntime) -> Result<(), Fail> {
+    let rows: [(&[&str], &[(u32, u32)]); 14] = [
+        (&["9000"], &[(64, 4096)]),
+        (&["--buffers", "1", "9"], &[(1, 4096)]),
+        (&["9", "--buffers=4096"], &[(4096, 4096)]),
+        (&["--size=1024", "9"], &[(64, 1024)]),
+        (&["--size=0016384", "9"], &[(64, 16_384)]),
+        (&["--size", "65536", "9"], &[(64, 65_536)]),
+        (&["--buffers=1024", "--size=65536", "9"], &[(1024, 65_536)]),
+        (&["--areas", "1:1024", "9"], &[(1, 1024)]),
+        (&["--areas=4096:1024", "9"], &[(4096, 1024)]),
+        (&["--areas=2:1024,1:2048", "9"], &[(2, 1024), (1, 2048)]),
+        (
+            &["9", "--areas", "01:01024,1:1024"],
+            &[(1, 1024), (1, 1024)],
+        ),
+        (
+            &["--areas=1:65536,2:1024,3:4096", "9"],
+            &[(1, 65_536), (2, 1024), (3, 4096)],
+        ),
+        (
+            &["--areas=1023:65536,1:16384,1:16384,2:16384", "9"],
+            &[(1023, 65_536), (1, 16_384), (1, 16_384), (2, 16_384)],
+        ),
+        (
+            &["--areas", "1024:1024,1024:1024,1024:2048,1024:1024", "9"],
+            &[(1024, 1024), (1024, 1024), (1024, 2048), (1024, 1024)],
+        ),
+    ];
+    for (options, want) in rows {
+        let words = with_replay(rt.alloc(), options)?;
+        match read_words(rt.alloc(), words.as_slice())? {
+            Some(Command::Replay(replay)) => {
+                assert_eq!(&rt; replay.areas.as_slice(), want, "{options:?}");
+            }
             _ => assert!(&rt; false, "{options:?} aren't read"),
         }
     }
@@ -294,6 +291,39 @@ fn turns_have_at_most_4096_characters(rt: HostRuntime) -> Result<(), Fail> {
     turns.push('n')?;
     let words = ["replay", "--turns", turns.as_str(), "9000"];
     assert!(&rt; read_words(rt.alloc(), words.as_slice())?.is_none());
+    Ok(())
+}
+
+#[test]
+fn other_areas_have_no_reading(rt: HostRuntime) -> Result<(), Fail> {
+    let rows: [&[&str]; 17] = [
+        &["--areas", "", "9000"],
+        &["--areas", "1024", "9000"],
+        &["--areas", "0:1024", "9000"],
+        &["--areas", "4097:1024", "9000"],
+        &["--areas", "1:512", "9000"],
+        &["--areas", "1:1025", "9000"],
+        &["--areas", "1:131072", "9000"],
+        &["--areas", "+1:1024", "9000"],
+        &["--areas", "1:1024:1", "9000"],
+        &["--areas", "1:1024,", "9000"],
+        &["--areas", ",1:1024", "9000"],
+        &["--areas", "1:1024,1:1024,1:1024,1:1024,1:1024", "9000"],
+        &["--areas", "2048:1024,2049:1024", "9000"],
+        &["--areas=1023:65536,1:16384,1:16384,3:16384", "9000"],
+        &["--areas", "1:1024", "--size", "1024", "9000"],
+        &["--buffers=64", "9000", "--areas=1:1024"],
+        &["--areas=1:1024", "--areas=1:1024", "9000"],
+    ];
+    for options in rows {
+        let words = with_replay(rt.alloc(), options)?;
+        let reading = read_words(rt.alloc(), words.as_slice())?;
+        assert!(&rt; reading.is_none(), "{options:?} have a reading");
+        assert!(&rt;
+            what_is_wrong(words.as_slice()).is_some(),
+            "nothing is wrong with {options:?}"
+        );
+    }
     Ok(())
 }
 
@@ -396,7 +426,7 @@ fn options_out_of_form_are_refused(rt: HostRuntime) -> Result<(), Fail> {
 /// What a person reads of words without a reading.
 #[test]
 fn the_first_wrong_word_is_named(rt: HostRuntime) -> Result<(), Fail> {
-    let rows: [(&[&str], &str); 22] = [
+    let rows: [(&[&str], &str); 25] = [
         (&[], "there is no command"),
         (&["--help"], "'--help' is no command"),
         (&["replay"], "there is no port"),
@@ -436,6 +466,18 @@ fn the_first_wrong_word_is_named(rt: HostRuntime) -> Result<(), Fail> {
         (
             &["replay", "--buffers", "4096", "--size", "65536", "1"],
             "--buffers times --size is above 67108864",
+        ),
+        (
+            &["replay", "--areas", "1:1000", "1"],
+            "--areas takes 1 to 4 areas as COUNT:SIZE, with commas between, not '1:1000'",
+        ),
+        (
+            &["replay", "--areas", "4096:1024,1:1024", "1"],
+            "--areas has more than 4096 buffers, or more than 67108864 bytes, together",
+        ),
+        (
+            &["replay", "--areas", "1:1024", "--buffers", "64", "1"],
+            "--areas stands without --buffers and --size",
         ),
         (
             &["replay", "--turns", "n1", "1"],

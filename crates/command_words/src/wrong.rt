@@ -1,8 +1,9 @@
 //! What is wrong with words that have no reading, for people to read. No clause speaks of it: `read_words` decides.
 
+use crate::areas::{few_areas, fit_together};
 use crate::making::MOST_FRAMES;
 use crate::numbers::{read_port, read_up_to};
-use crate::options::{NAMES, are_turns, pool_fits, range_of, takes};
+use crate::options::{BUFFERS, NAMES, are_turns, range_of, read_size, takes};
 use arrayvec::ArrayVec;
 use std::fmt;
 
@@ -35,6 +36,10 @@ pub enum Wrong<'a> {
     NinthPort(&'a str),
     /// The buffers have too many bytes together.
     TooManyBytes,
+    /// The areas have too many buffers or bytes together.
+    TooLargeAreas,
+    /// Beside areas neither a number of buffers nor a size may stand.
+    BesideAreas,
     /// `make` takes no such number here.
     NoNumber {
         value: &'a str,
@@ -63,6 +68,12 @@ impl fmt::Display for Wrong<'_> {
             Wrong::Portless => f.write_str("there is no port"),
             Wrong::NinthPort(word) => write!(f, "'{word}' is a ninth port, and there may be 8"),
             Wrong::TooManyBytes => f.write_str("--buffers times --size is above 67108864"),
+            Wrong::TooLargeAreas => {
+                f.write_str(
+                    "--areas has more than 4096 buffers, or more than 67108864 bytes, together",
+                )
+            }
+            Wrong::BesideAreas => f.write_str("--areas stands without --buffers and --size"),
             Wrong::NoNumber { value, range } => write!(f, "make takes {range}, not '{value}'"),
             Wrong::NotTwoNumbers => f.write_str("make wants two numbers"),
             Wrong::Further(word) => write!(f, "check takes no word more, as '{word}'"),
@@ -80,9 +91,9 @@ in the current folder, and prints a report. Options, with what stands for each:
   --buffers 64   1 to 4096 buffers            --hold 0    loans kept unread, to 4096
   --size 4096    their bytes, a power of two  --leak 0    loans kept to the end, to 4096
                  from 1024 to 65536           --stray 0   entries behind each, to 16
-  --ring 64      1 to 256 places in a ring    --quit N    stop after so many bytes
-  --split 0      longest payload in a note,   --turns T   n the card, 0 to 7 an application:
-                 to 256                                   by turns on one thread
+  --areas A      or 1 to 4 COUNT:SIZE, by ,   --quit N    stop after so many bytes
+  --ring 64      1 to 256 places in a ring    --turns T   n the card, 0 to 7 an application:
+  --split 0      payload in a note, to 256                by turns on one thread
 make writes a capture: a seed to 4294967295, 0 to 1000000 frames. zcrx(1) has the rest.
 ";
 
@@ -90,6 +101,7 @@ make writes a capture: a seed to 4294967295, 0 to 1000000 frames. zcrx(1) has th
 #[derive(Drop)]
 struct Said<'a> {
     named: [bool; NAMES.len()],
+    areas: Option<&'a str>,
     buffers: Option<&'a str>,
     size: Option<&'a str>,
     turns: Option<&'a str>,
@@ -100,6 +112,7 @@ impl<'a> Said<'a> {
     fn nothing() -> Said<'a> {
         Said {
             named: [false; NAMES.len()],
+            areas: None,
             buffers: None,
             size: None,
             turns: None,
@@ -127,6 +140,7 @@ impl<'a> Said<'a> {
             return Err(Wrong::Value { name, value, range });
         }
         match name {
+            "areas" => self.areas = Some(value),
             "buffers" => self.buffers = Some(value),
             "size" => self.size = Some(value),
             "turns" => self.turns = Some(value),
@@ -158,9 +172,27 @@ impl<'a> Said<'a> {
                 value: text,
                 range: range_of("turns"),
             }),
-            _ if pool_fits(self.buffers, self.size) => None,
-            _ => Some(Wrong::TooManyBytes),
+            _ => wrong_pool(self.areas, self.buffers, self.size),
         }
+    }
+}
+
+/// What is wrong with the areas, by the values that were said.
+fn wrong_pool<'a>(
+    areas: Option<&'a str>,
+    number: Option<&'a str>,
+    size: Option<&'a str>,
+) -> Option<Wrong<'a>> {
+    if let Some(areas) = areas {
+        return match few_areas(areas) {
+            _ if number.is_some() || size.is_some() => Some(Wrong::BesideAreas),
+            Some(areas) if fit_together(&areas) => None,
+            _ => Some(Wrong::TooLargeAreas),
+        };
+    }
+    match (BUFFERS.read(number), read_size(size)) {
+        (Some(buffers), Some(size)) if fit_together(&[(buffers, size)]) => None,
+        _ => Some(Wrong::TooManyBytes),
     }
 }
 

@@ -118,15 +118,16 @@ shown-number = ending_cases (λ end. (ended : Ended) (before : List (List ℕ)) 
 
 -- what was taken ends as all bytes do, unless memory ran out or a read failed
 same-ending : (Wants : List (List ℕ) → List ℕ → Type 0) (end : Option Fault) → IsEnding end
-    → ((taken all : Ended) (before : List (List ℕ)) → TakenEnds Wants taken before end → ShowsEnding all before end → taken ≡ all)
+    → ((ports taken : List ℕ) (all : Ended) (before : List (List ℕ)) → TakenEnds Wants ports taken before end → ShowsEnding all before end
+    → ended_of ports taken ≡ all)
     ⊎ ((end ≡ Some Memory) ⊎ (end ≡ Some Read))
-same-ending Wants = ending_cases (λ end. ((taken all : Ended) (before : List (List ℕ)) → TakenEnds Wants taken before end → ShowsEnding all before end
-    → taken ≡ all) ⊎ ((end ≡ Some Memory) ⊎ (end ≡ Some Read)))
-    (inl (λ taken all before ends shows. ends ∙ sym shows)) (inr (inl refl)) (inl (λ taken all before ends shows. ends ∙ sym shows))
-    (inl (λ taken all before ends shows. ends ∙ sym shows)) (inl (λ taken all before ends shows. ends ∙ sym shows))
-    (inl (λ taken all before ends shows. ends ∙ sym shows)) (inl (λ taken all before ends shows. ends ∙ sym shows)) (inr (inr refl))
-    (inl (λ taken all before ends shows. ends ∙ sym shows)) (inl (λ taken all before ends shows. ends ∙ sym shows))
-    (inl (λ taken all before ends shows. ends ∙ sym shows))
+same-ending Wants = ending_cases (λ end. ((ports taken : List ℕ) (all : Ended) (before : List (List ℕ)) → TakenEnds Wants ports taken before end
+    → ShowsEnding all before end → ended_of ports taken ≡ all) ⊎ ((end ≡ Some Memory) ⊎ (end ≡ Some Read)))
+    (inl (λ ports taken all before ends shows. ends ∙ sym shows)) (inr (inl refl)) (inl (λ ports taken all before ends shows. ends ∙ sym shows))
+    (inl (λ ports taken all before ends shows. ends ∙ sym shows)) (inl (λ ports taken all before ends shows. ends ∙ sym shows))
+    (inl (λ ports taken all before ends shows. ends ∙ sym shows)) (inl (λ ports taken all before ends shows. ends ∙ sym shows)) (inr (inr refl))
+    (inl (λ ports taken all before ends shows. ends ∙ sym shows)) (inl (λ ports taken all before ends shows. ends ∙ sym shows))
+    (inl (λ ports taken all before ends shows. ends ∙ sym shows))
 
 -- by which endings something may have been read on behind them
 pub record IsApart (end : Option Fault) : Type 0 where
@@ -261,9 +262,9 @@ module _ {S T : Type 0} {left : S → Option (List ℕ)} {failed : S → ℕ} {k
   ends-at = ⊎_elim
       (λ same. inl (some-weaker (left source) _ _ replayed.ended.shown (λ all shows.
       Took-weaker (left source) (left at)
-      (λ taken. TakenEnds (WantsRoom plan.split plan.ports.items) (ended_of plan.ports.items taken) replayed.before outcome.end)
+      (λ taken. TakenEnds (WantsRoom plan.split plan.ports.items) plan.ports.items taken replayed.before outcome.end)
       (λ taken. ended_of plan.ports.items taken ≡ ended_of plan.ports.items all)
-      (λ taken ends. same (ended_of plan.ports.items taken) (ended_of plan.ports.items all) replayed.before ends shows) replayed.ended.taken)))
+      (λ taken ends. same plan.ports.items taken (ended_of plan.ports.items all) replayed.before ends shows) replayed.ended.taken)))
       (λ hidden. inr hidden)
       (same-ending (WantsRoom plan.split plan.ports.items) outcome.end replayed.ended.kind)
 
@@ -280,10 +281,10 @@ module _ {S T : Type 0} {left : S → Option (List ℕ)} {failed : S → ℕ} {k
       let all_ends : ended_of plan.ports.items all ≡ ended =
       subst (λ e. ShowsEnding (ended_of plan.ports.items all) replayed.before e) flows shows in
       Took-then (left source) (left at) (left source_now)
-      (λ taken. TakenEnds wants (ended_of plan.ports.items taken) replayed.before outcome.end) (λ more. Unit {0})
+      (λ taken. TakenEnds wants plan.ports.items taken replayed.before outcome.end) (λ more. Unit {0})
       (λ taken. ended_of plan.ports.items taken ≡ ended_of plan.ports.items all)
       (λ taken more ends any. ended_of-behind plan.ports.items taken more ended refl
-      (subst (λ e. TakenEnds wants (ended_of plan.ports.items taken) replayed.before e) flows ends) ∙ sym all_ends)
+      (subst (λ e. TakenEnds wants plan.ports.items taken replayed.before e) flows ends) ∙ sym all_ends)
       replayed.ended.taken ahead.taken)
 
   reached-of : IfSome (left source) (λ all. Took (left source) (left source_now) (λ taken. ended_of plan.ports.items taken ≡ ended_of plan.ports.items all))
@@ -319,11 +320,10 @@ module _ {S T : Type 0} {left : S → Option (List ℕ)} {failed : S → ℕ} {k
       (ahead.same (λ e. cc) (λ e. cc)) (
         replayed.ended.cause by_read,
         Took-weaker (left source) (left at)
-            (λ taken. TakenEnds (WantsRoom plan.split plan.ports.items) (ended_of plan.ports.items taken) replayed.before outcome.end)
+            (λ taken. TakenEnds (WantsRoom plan.split plan.ports.items) plan.ports.items taken replayed.before outcome.end)
             (λ taken. IsBrokenOff (ended_of plan.ports.items taken).fault)
             (λ taken ends. broken_off (ended_of plan.ports.items taken) replayed.before
-            (subst (λ e. TakenEnds (WantsRoom plan.split plan.ports.items)
-            (ended_of plan.ports.items taken) replayed.before e) by_read ends)) replayed.ended.taken,
+            (subst (λ e. TakenEnds (WantsRoom plan.split plan.ports.items) plan.ports.items taken replayed.before e) by_read ends)) replayed.ended.taken,
       )) others) causes.cases
 
   shelf-failed : lost ≡ true → HasLost losses shelves shelves_now (length plan.ports.items)
@@ -434,7 +434,7 @@ told_well refusals refusals_now said answer (Err unreported.Write) still is not_
 module _ {S T O : Type 0} {left : S → Option (List ℕ)} {failed : S → ℕ} {kept : T → ℕ → Option (List ℕ)} {losses : T → ℕ}
     (sent : O → Option (List ℕ)) (refusals : O → ℕ) {source source_now : S} {shelves shelves_now : List T} (out out_now : O)
     {plan : Plan} {outcome : Told} {answer : ℕ} where
-  pub replays : (told : ReplayShown) (card_now : Card) → IsPlanOf told.ports told.options plan
+  pub replays : (told : ReplayShown) (card_now : Card) → IsPlanOf told plan
       → RanWith left failed kept losses source source_now shelves shelves_now card_now told.turns plan outcome
       → Tells (sent out) (sent out_now) (refusals out) (refusals out_now) outcome answer
       → Replays left failed kept losses sent refusals source source_now shelves shelves_now out out_now card_now told answer

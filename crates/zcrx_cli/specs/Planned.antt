@@ -1,12 +1,11 @@
 -- The plan of a replay, by what it is told.
-use Rattle.std.specs.Prelude.{◌≡◌, ℕ, List}
-use Rattle.command_words.specs.declared.options.Options.{Options}
+use Rattle.std.specs.Prelude.{◌≡◌}
+use Rattle.command_words.specs.Words.{ReplayShown}
 use Rattle.card_feed.specs.declared.plan.Plan.{Plan}
 
-pub record IsPlanOf (ports : List ℕ) (options : Options) (plan : Plan) : Type 0 where
-  pub ports_are : plan.ports.items ≡ ports
-  pub buffers : plan.buffers ≡ options.buffers
-  pub size : plan.size ≡ options.size
-  pub ring : plan.ring ≡ options.ring
-  pub split : plan.split ≡ options.split
-  pub how : plan.how ≡ options.how
+pub record IsPlanOf (told : ReplayShown) (plan : Plan) : Type 0 where
+  pub ports_are : plan.ports.items ≡ told.ports
+  pub areas_are : plan.areas.items ≡ told.areas
+  pub ring : plan.ring ≡ told.options.ring
+  pub split : plan.split ≡ told.options.split
+  pub how : plan.how ≡ told.options.how

@@ -79,7 +79,7 @@ pub record Replays {S T O : Type 0} (left : S → Option (List ℕ)) (failed : S
     (sent : O → Option (List ℕ)) (refusals : O → ℕ)
     (source source_now : S) (shelves shelves_now : List T) (out out_now : O) (card_now : Card) (told : ReplayShown) (answer : ℕ) : Type 0 where
   pub plan : Plan
-  pub planned : IsPlanOf told.ports told.options plan
+  pub planned : IsPlanOf told plan
   -- The stream theorem, what the lines of the report say, and the board in the card.
   pub outcome : Told
   pub ran : RanWith left failed kept losses source source_now shelves shelves_now card_now told.turns plan outcome
@@ -146,12 +146,12 @@ pub record Lacks {S T O : Type 0} (left : S → Option (List ℕ)) (failed : S �
   pub card_is : card_now ≡ Card.Blank
   pub out_is : out_now ≡ out
   pub plan : Plan
-  pub planned : IsPlanOf told.ports told.options plan
+  pub planned : IsPlanOf told plan
   pub lacks : LacksMemoryBy left failed kept losses source source_now shelves shelves_now told.turns plan
 
--- a replay of these ports and options, by these turns
-abbrev pub asked_by : List ℕ → Options → Option (List ℕ) → ReplayShown
-asked_by ports options turns = record { ports = ports; options = options; turns = turns }
+-- a replay of these ports, areas and options, by these turns
+abbrev pub asked_by : List ℕ → List (ℕ × ℕ) → Options → Option (List ℕ) → ReplayShown
+asked_by ports areas options turns = record { ports = ports; areas = areas; options = options; turns = turns }
 
 -- what a replay leaves, with memory or without
 abbrev pub RepliesTo : {S T O : Type 0} → (S → Option (List ℕ)) → (S → ℕ) → (T → ℕ → Option (List ℕ)) → (T → ℕ)

@@ -50,7 +50,8 @@ fn meaning(fault: Fault, front: &[u8]) -> &'static str {
         Fault::Memory => "there was no memory for all of it (fewer --buffers, or a smaller --size)",
         Fault::Usage => "the words have no reading",
         Fault::NotPcap => no_capture(front),
-        Fault::Version => "the capture's major version isn't 2, or 1 of a pcapng section",
+        Fault::Version =>
+            "the capture's major version isn't 2, or that of a pcapng section isn't 1",
         Fault::LinkType =>
             "the capture, or an interface of its packets, isn't of Ethernet (capture at one interface, not at 'any')",
         Fault::Cut => cut_short(front),

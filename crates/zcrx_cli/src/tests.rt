@@ -1,6 +1,7 @@
 //! Replays over memory.
 
 mod alone;
+mod areas;
 mod blocks;
 mod checking;
 mod closing;

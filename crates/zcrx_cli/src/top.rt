@@ -1,8 +1,9 @@
 //! The top call: a command's words, a source, eight shelves and a sink.
 
-ghost use Rattle.std.specs.Prelude.{◌≡◌, ◌≢◌, ℕ, ◌≤◌, ◌<◌, ◌⊎◌, None, Some, IfSome, IfOk, IfErr, OnErr, Ok, map, length, take, nat_eq, vec_len};
+ghost use Rattle.std.specs.Prelude.{◌≡◌, ◌≢◌, ℕ, ◌≤◌, ◌<◌, ◌⊎◌, List, Option, None, Some, IfSome, IfOk, IfErr, OnErr, Ok, map, length, take, nat_eq, vec_len};
 ghost use Rattle.std.specs.Io.KnownBytes.{Appends};
 ghost use Rattle.zr_io.specs.Moved.{Rose};
+ghost use Rattle.area_layout.specs.Layout.{MakeLayout};
 ghost use Rattle.cap_make.specs.GeneratedCapture.{generated_capture};
 ghost use Rattle.command_words.specs.Options.{AreInRange};
 ghost use Rattle.command_words.specs.Words.{IsPortList, reading_of, replay};
@@ -45,23 +46,21 @@ fn tell<O: Sink>(alloc: Global, outcome: &Outcome, out: &mut O) -> u8
     answer(status, write_report(alloc, &report, out))
 }
 
-fn plan_of(ports: Vec<u16>, options: Options) -> Plan
-    requires ports { IsPortList ports.items }
-    requires options { AreInRange options }
+fn plan_of(command: Asked) -> Plan
+    requires ports { IsPortList command.ports.items }
+    requires areas { MakeLayout command.areas.items (length command.ports.items) }
+    requires options { AreInRange command.options }
     ensures plan { IsPlan result }
-    ensures told { IsPlanOf ports.items options result }
+    ensures told { (turns : Option (List ℕ)) → IsPlanOf (asked_by command.ports.items command.areas.items command.options turns) result }
 {
-    let Options {
-        buffers,
-        size,
-        ring,
-        split,
-        how,
-    } = options;
+    let Asked {
+        ports,
+        areas,
+        options: Options { ring, split, how },
+    } = command;
     Plan {
         ports,
-        buffers,
-        size,
+        areas,
         ring,
         split,
         how,
@@ -120,6 +119,7 @@ fn play_beside<S: Source + Send, T: Shelf + Send, G: Gate + Sync, R: Threads + W
 #[derive(Drop)]
 struct Asked {
     ports: Vec<u16>,
+    areas: Vec<(u32, u32)>,
     options: Options,
 }
 
@@ -135,14 +135,15 @@ fn replay_alone<S: Source, T: Shelf, O: Sink>(
     card: &mut Card,
 ) -> u8
     requires ports { IsPortList command.ports.items }
+    requires areas { MakeLayout command.areas.items (length command.ports.items) }
     requires options { AreInRange command.options }
     requires turns { AreTurns (length command.ports.items) turns.now }
     requires shelves { vec_len shelves.old ≡ 8 }
     requires blank { card.old ≡ Card.Blank }
     ensures replays { RepliesTo S.left S.faults T.kept T.faults O.sent O.faults source.old source.new shelves.old.items shelves.new.items out.old out.new
-        card.new (asked_by command.ports.items command.options (Some turns.now)) result }
+        card.new (asked_by command.ports.items command.areas.items command.options (Some turns.now)) result }
 {
-    let plan = plan_of(command.ports, command.options);
+    let plan = plan_of(command);
     match play_turns(alloc, random, source, shelves, &plan, turns, card) {
         Ok(outcome) => tell(alloc, &outcome, out),
         Err(_) => Fault::Memory.number(),
@@ -162,14 +163,14 @@ fn replay<S: Source + Send, T: Shelf + Send, O: Sink, G: Gate + Sync, R: Threads
     card: &mut Card,
 ) -> u8
     requires ports { IsPortList command.ports.items }
+    requires areas { MakeLayout command.areas.items (length command.ports.items) }
     requires options { AreInRange command.options }
     requires shelves { vec_len shelves.old ≡ 8 }
     requires blank { card.old ≡ Card.Blank }
     ensures replays { RepliesTo S.left S.faults T.kept T.faults O.sent O.faults source.old source.new shelves.old.items shelves.new.items out.old out.new
-        card.new (asked_by command.ports.items command.options None) result }
+        card.new (asked_by command.ports.items command.areas.items command.options None) result }
 {
-    let Asked { ports, options } = command;
-    let plan = plan_of(ports, options);
+    let plan = plan_of(command);
     match play_beside(rt, alloc, random, source, shelves, &plan, gate, card) {
         Ok(outcome) => tell(alloc, &outcome, out),
         Err(_) => Fault::Memory.number(),
@@ -211,9 +212,10 @@ fn run_alone<S: Source, T: Shelf, O: Sink>(
     ensures answers { IfOk result (Answers S.left S.faults T.kept T.faults O.sent O.faults source.old source.new shelves.old.items shelves.new.items
         out.old out.new card.new (reading_of (map (λ w. w.now) words.now))) }
     ensures alone { IfOk result (λ answer. IsThreaded (reading_of (map (λ w. w.now) words.now)) → answer ≡ 1) }
-    ensures asks { IfErr result (λ t. reading_of (map (λ w. w.now) words.now) ≡ Some (replay (asked_by t.command.ports.items t.command.options None))) }
+    ensures asks { IfErr result (λ t. reading_of (map (λ w. w.now) words.now) ≡ Some (replay (asked_by t.command.ports.items t.command.areas.items t.command.options None))) }
     ensures untouched { OnErr result (IsUntouched source.old source.new shelves.old.items shelves.new.items out.old out.new × (card.new ≡ Card.Blank)) }
-    ensures asked { IfErr result (λ t. IsPortList t.command.ports.items × AreInRange t.command.options) }
+    ensures asked { IfErr result (λ t. IsPortList t.command.ports.items × MakeLayout t.command.areas.items (length t.command.ports.items)
+        × AreInRange t.command.options) }
     ensures shelves { OnErr result (vec_len shelves.new ≡ 8) }
 {
     match read_words(alloc, words) {
@@ -222,13 +224,18 @@ fn run_alone<S: Source, T: Shelf, O: Sink>(
                 Command::Replay(
                     Replay {
                         ports,
+                        areas,
                         options,
                         turns,
                     },
                 ),
             ),
         ) => {
-            let command = Asked { ports, options };
+            let command = Asked {
+                ports,
+                areas,
+                options,
+            };
             match turns {
                 Some(text) => Ok(replay_alone(
                     alloc, random, command, text, source, shelves, out, card,
@@ -292,7 +299,7 @@ pub fn zcrx<S: Source + Send, T: Shelf + Send, O: Sink, G: Gate + Sync, R: Threa
     ensures untouched { reading_of (map (λ w. w.now) words.now) ≡ None
         → IsUntouched source.old source.new shelves.old.items shelves.new.items out.old out.new × (card.new ≡ Card.Blank) }
 
-    // To replay: the stream theorem, what the status and the report say, and the board. To make: the capture.
+    // To replay: the stream theorem, what the status and the report say, and the board. To make: the capture. To check: what was found.
     ensures replays { IfSome (reading_of (map (λ w. w.now) words.now))
         (Commands S.left S.faults T.kept T.faults O.sent O.faults source.old source.new shelves.old.items shelves.new.items out.old out.new
         card.new result) }

@@ -23,17 +23,18 @@ pub fn bytes_from(alloc: Global, position: usize, count: usize) -> Result<Vec<u8
 
 /// A flow to port 9000, and what its replay has to leave.
 #[derive(Clone, Copy)]
-struct Case<'a> {
-    words: &'a [&'a str],
-    buffers: u32,
+pub struct Case<'a> {
+    pub words: &'a [&'a str],
+    pub buffers: u32,
     /// How many bytes each frame has, in sequence from 1000.
-    payloads: &'a [usize],
+    pub payloads: &'a [usize],
     /// How many bytes of the stream come out.
-    written: usize,
-    report: &'a str,
+    pub written: usize,
+    pub report: &'a str,
 }
 
-fn check_case(
+/// Replays a case, and compares what is left.
+pub fn check_case(
     rt: &(impl Abort + AllocGlobal + RandomSource + Threads + Wait + Sync),
     case: &Case<'_>,
 ) -> Result<(), Fail> {
