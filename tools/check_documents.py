@@ -102,10 +102,13 @@ def options_of_code():
         )
     }
     options = {name: numbers[const] for const, name in re.findall(r'(\w+)\.read\(said\.get_str\("(\w+)"\)\)', code)}
+    pool = read("crates/command_words/src/areas.rt")
+    options["areas"] = (1, number(re.search(r"MOST_AREAS: usize = ([\d_]+)", pool).group(1)), None)
+    options["buffers"] = numbers["BUFFERS"]
     options["size"] = numbers["SIZE"]
     options["quit"] = "any number"
     options["turns"] = (1, number(re.search(r"MOST_TURNS: usize = ([\d_]+)", code).group(1)), None)
-    most_bytes = number(re.search(r"MOST_BYTES: u64 = ([\d_]+)", code).group(1))
+    most_bytes = number(re.search(r"MOST_BYTES: u64 = ([\d_]+)", pool).group(1))
     return {name: options.get(name) for name in names}, most_bytes
 
 
@@ -240,8 +243,9 @@ def check_crates():
         if crate in wanted and crate not in stands_on:
             stands_on.add(crate)
             waiting += wanted[crate]
-    if f"the {len(stands_on)} crates that the program stands on" not in " ".join(read("README.md").split()):
-        say("README.md", f"the program stands on {len(stands_on)} crates")
+    below = len(stands_on) - 1
+    if f"the {below} crates that the program stands on" not in " ".join(read("README.md").split()):
+        say("README.md", f"the program stands on {below} crates")
 
 
 # ---- links, files and names

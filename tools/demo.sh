@@ -27,6 +27,6 @@ echo "zcrx make 7 2000, replayed:"
 "$zcrx" replay --buffers 2000 9000 9001 9002 9003 <made.pcap
 status=$?
 echo
-echo "Next: crates/zcrx_cli/out/zcrx_cli replay PORT.. < CAPTURE, in an empty folder, with a classic pcap capture of your own"
+echo "Next: crates/zcrx_cli/out/zcrx_cli replay PORT.. < CAPTURE, in an empty folder, with a pcap or pcapng capture of your own"
 echo "(tcpdump -w CAPTURE). docs/USE.md has the options, the report and the statuses; make install puts it in place as zcrx."
 exit $status

@@ -9,15 +9,15 @@ pub enum Fault {
     Memory,
     /// The command's words have no reading.
     Usage,
-    /// The first four bytes are no magic of a classic capture.
+    /// The first four bytes are neither a magic of a classic capture nor the type of a pcapng section header.
     NotPcap,
-    /// The capture's major version isn't 2.
+    /// The major version isn't 2 in a classic capture, or isn't 1 in a section of a pcapng capture.
     Version,
-    /// The capture's frames aren't Ethernet.
+    /// The frames of a classic capture, or of the interface that a pcapng packet names, aren't Ethernet.
     LinkType,
-    /// The bytes end within a header or a frame.
+    /// The bytes end within a header, a frame or a block.
     Cut,
-    /// A record states more than 262,144 captured bytes.
+    /// A record or packet block states more than 262,144 captured bytes.
     LongRecord,
     /// The source failed.
     Read,

@@ -19,7 +19,7 @@ pub struct Tally {
     pub bad: u32,
 }
 
-/// How a flow ended, by the FIN and RST of its segments (RFC 9293, 3.6 and 3.5.2) and by the bytes that its stream had.
+/// How a flow ended, by the FIN and RST of its segments (RFC 9293, 3.6 and 3.5.3) and by the bytes that its stream had.
 #[derive(Clone, Copy, Debug, PartialEq, Eq)]
 pub enum FlowEnd {
     /// No segment had FIN or RST.
