@@ -6,18 +6,22 @@ ghost use Rattle.area_layout.specs.Layout.{buffers_before, number_in_area, end_o
 use std::marker::Model;
 use zr_kinds::{Place, Rqe};
 
-const MAX_AREAS: usize = 4;
+/// The most areas that there may be.
+pub const MAX_AREAS: usize = 4;
 
-const MAX_BUFFERS: u32 = 4096;
+/// The most pool buffers that all areas may have together.
+pub const MAX_BUFFERS: u32 = 4096;
 
 const MAX_RESERVES: u32 = 8;
 
-const MIN_SIZE: u32 = 1024;
+/// The least size of a buffer, in bytes.
+pub const MIN_SIZE: u32 = 1024;
 
-const MAX_SIZE: u32 = 65_536;
+/// The greatest size of a buffer, in bytes. Sizes are powers of two.
+pub const MAX_SIZE: u32 = 65_536;
 
-/// How many bytes the pool buffers may have together: 64 MiB.
-const MAX_BYTES: u64 = 67_108_864;
+/// The most bytes that the pool buffers may have together: 64 MiB.
+pub const MAX_BYTES: u64 = 67_108_864;
 
 const WORD_BYTES: u64 = 8;
 
@@ -155,7 +159,7 @@ impl Layout {
         self.begin_of(buffer) / WORD_BYTES
     }
 
-    /// How many bytes lie before the place where all buffers stand one behind another, by the order of their numbers.
+    /// How many bytes lie before the place if all buffers stand one behind another, in the order of their numbers.
     pub fn byte_of(&self, p: &Place) -> u64
         requires { LiesIn self.now p.now }
         ensures value { result ≡ begin_of self.now p.now.buffer + p.now.offset }

@@ -39,15 +39,16 @@ note_words_at nic a = 1 + length (next_slot nic.inside.note_slots a).words
 abbrev pub loaded_note : AppSide → Note
 loaded_note app = note_of (1 ∷ app.inside.note_slot.words)
 
--- ---- the writer
-
--- the bytes that the words tell of which it has loaded
+-- the bytes that they tell of
 abbrev pub loaded_bytes : AppSide → List ℕ
 loaded_bytes app = take (loaded_note app).total (linear_of (1 ∷ app.inside.note_slot.words))
 
--- how many words it loads of the slot at least, the flag among them: those of the fields, and of an unsplit note those of its bytes
+-- how many words it loads of a note's slot at least, the flag among them: those of the fields, and of an unsplit note those of its
+-- bytes
 abbrev pub note_loads : Note → ℕ
 note_loads note = if note.split then note_fields else min note_width (note_fields + text_count note.total)
+
+-- ---- the writer
 
 -- It looks at the flag of its next slot, and 0 says that the slot is free. No word changes. The card looks there before it stores
 -- words of a note.

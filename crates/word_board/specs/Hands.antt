@@ -24,7 +24,7 @@ pub record NicRests (nic : NicSide) : Type 0 where
   pub entry : nic.inside.entry ≡ None
   pub hands : nic.inside.hands ≡ []
 
--- what it has cached or fills are buffers of the pool, of the layout's size
+-- what it has cached or fills are buffers of the pool, each of the size that the layout gives it
 pub record NicLies (setting : Setting) (nic : NicSide) : Type 0 where
   pub cached : All (λ b. b < pool_buffers setting.layout) nic.view.cache
   pub owns : All (λ o. (o.buffer < pool_buffers setting.layout) × (o.size ≡ size_of setting.layout o.buffer)) nic.view.owns

@@ -2,7 +2,7 @@ ghost use Rattle.std.specs.Prelude.{◌≡◌};
 ghost use Rattle.zr_kinds.specs.Fault.{number_of};
 
 /// What went wrong in a command. Each fault has a number, which is the status that the program ends with; 0 stands
-/// for no fault, and 12 for none any more.
+/// for no fault. No fault has the number 12.
 #[derive(Clone, Copy, Debug, PartialEq, Eq)]
 pub enum Fault {
     /// Want of memory.

@@ -1,4 +1,4 @@
-/// Where bytes lie in the area.
+/// Where bytes lie in the buffers of the areas.
 #[derive(Clone, Copy, Debug, PartialEq, Eq)]
 pub struct Place {
     /// The number of the buffer, from 0.

@@ -5,7 +5,7 @@ use zr_kinds::Place;
 /// What is the same for all that share a board, from its opening on.
 #[derive(Drop)]
 pub struct Setting {
-    /// How the area is cut into buffers: those of the pool, and one reserve for each application.
+    /// How the areas are cut into buffers: those of the pool, and one reserve for each application.
     pub layout: Layout,
     /// How many slots each ring has.
     pub places: u32,
