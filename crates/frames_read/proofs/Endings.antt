@@ -10,7 +10,8 @@ use Rattle.zr_kinds.specs.declared.fault.Fault.TheVariants.{TooManyFrames, BadBl
 use Rattle.zr_io.specs.Moved.{Rose, Took}
 use Rattle.zr_io.proofs.Moved.{Took-then, Took-weaker, Rose-earlier}
 use Rattle.pcap_reader.specs.Records.{Captured, Records, no_record, with_record}
-use Rattle.pcap_reader.specs.Capture.{ShowsFault, TakenShows}
+use Rattle.pcap_reader.specs.Capture.{ShowsFault, BrokeOff, TakenShows, IsOutOfForm, OfFronts}
+use Rattle.pcap_reader.proofs.Joined.{fronts-then, fronts-weaker, Took-both}
 use Rattle.pcapng_reader.specs.Records.{Going, records_from, records_of}
 use Rattle.pcapng_reader.specs.Capture.{IsOpeningFault, IsRecordFault, WantsMemory}
 use Rattle.pcapng_reader.proofs.Goings.{wanting-cut}
@@ -18,6 +19,7 @@ use Rattle.flow_table.specs.Steered.{Steered}
 use Rattle.flow_table.specs.Flows.{Flow, flows_of, number_of_flow}
 use Rattle.frames_read.specs.Ending.{Ended, ended_after, steered_in, steered_next, flow_ending, ending_at, frames_of, ended_of}
 use Rattle.frames_read.specs.Reading.{Holds, GoesThrough, HasRead, HasEnded, ShowsEnding, TakenEnds, LacksMemory, EndsAt, IsEnding, IsReadToEnd}
+use Rattle.frames_read.specs.Reading.{RunsOut, RunsOutBefore, IsShown}
 use Rattle.frames_read.proofs.Reading.{Holds-more, frames-append, ended_after-none, GoesThrough-nothing, GoesThrough-more, ended_of-end, ended_of-fault}
 use Rattle.frames_read.proofs.Reading.{ended_of-frame}
 
@@ -121,20 +123,49 @@ shown-fault ended before records leads = record_cases (λ fault. ShowsFault reco
     (λ shows. tt) (λ shows. leads (Some Version) shows) (λ shows. leads (Some LinkType) shows) (λ shows. leads (Some Cut) shows)
     (λ shows. leads (Some LongRecord) shows) (λ shows. tt) (λ shows. leads (Some BadBlock) shows)
 
+-- ---- shorter fronts of what was taken
+
+runs-none : (ended : Ended) (before : List (List ℕ)) → ended ≡ record { before = before; fault = None } → RunsOut ended
+runs-none ended before is = inl (ap (λ (e : Ended). e.fault) is)
+
+runs-cut : (ended : Ended) (before : List (List ℕ)) → ended ≡ record { before = before; fault = Some Cut } → RunsOut ended
+runs-cut ended before is = inr (ap (λ (e : Ended). e.fault) is)
+
+runs-out : (ended : Ended) (before : List (List ℕ)) (records : Records) → Leads ended before records → BrokeOff records → RunsOut ended
+runs-out ended before records leads broke =
+    ⊎_elim (λ none. runs-none ended before (leads None none)) (λ cut. runs-cut ended before (leads (Some Cut) cut)) broke
+
+shown-record : (fault : Fault) → IsRecordFault fault → IsShown (Some fault) → IsOutOfForm fault
+shown-record = record_cases (λ fault. IsShown (Some fault) → IsOutOfForm fault) (λ is. is) (λ is. is) (λ is. is) (λ is. is) (λ is. is) (λ is. is) (λ is. is)
+
+-- behind the records that were read, what was taken now
+least-then : (going : Going) (left0 left later : Option (List ℕ)) (faults0 faults : ℕ) (ports : List ℕ) (records : List Captured)
+    → HasRead going left0 left faults0 faults ports records → Took left later (OfFronts (λ front. BrokeOff (records_from going front)))
+    → Took left0 later (RunsOutBefore ports)
+least-then going left0 left later faults0 faults ports records read alone =
+    Took-then left0 left later (λ xs. Holds going records xs × RunsOutBefore ports xs) (OfFronts (λ front. BrokeOff (records_from going front)))
+    (RunsOutBefore ports)
+    (λ xs ys before fronts. fronts-then (λ front. RunsOut (ended_of ports front)) xs ys before.1
+    (fronts-weaker _ _ ys (λ front broke. runs-out (ended_of ports (xs ++ front)) (frames_of records) (records_from going front)
+    (λ end shown. ended_of-fault ports going records read.through xs front end before.0 shown) broke) fronts))
+    (Took-both left0 left (Holds going records) (RunsOutBefore ports) read.taken read.least) alone
+
 -- ---- the turns
 
 module _ {going : Going} {left0 left : Option (List ℕ)} {faults0 faults : ℕ} {ports : List ℕ} {records : List Captured}
     (read : HasRead going left0 left faults0 faults ports records) where
   pub goes_on : (going_now : Going) (later : Option (List ℕ)) (now : ℕ) (frame : List ℕ) (original : ℕ)
       → Took left later (λ taken. (rest : List ℕ) → records_from going (taken ++ rest) ≡ with_record frame original (records_from going_now rest))
+      → Took left later (OfFronts (λ front. BrokeOff (records_from going front)))
       → now ≡ faults → ending_at ports (frames_of records) frame ≡ None
       → HasRead going_now left0 later faults0 now ports (records ++ record { frame = frame; original = original } ∷ [])
-  goes_on going_now later now frame original took same goes =
+  goes_on going_now later now frame original took alone same goes =
       let found : Captured = record { frame = frame; original = original } in
       let frames : frames_of (records ++ found ∷ []) ≡ frames_of records ++ frame ∷ [] = frames-append records (found ∷ []) in
       record {
         taken = Took-then left0 left later (Holds going records) _ (Holds going_now (records ++ found ∷ []))
             (λ xs ys holds shows. Holds-more going going_now records frame original xs ys holds shows) read.taken took;
+        least = least-then going left0 left later faults0 faults ports records read alone;
         still = same ∙ read.still;
         through = subst (λ all. GoesThrough ports all) (sym frames) (GoesThrough-more ports (frames_of records) frame read.through goes);
       }
@@ -157,6 +188,7 @@ module _ (Wants : List (List ℕ) → List ℕ → Type 0) {going : Going} {left
         taken = Took-then left0 left later (Holds going records) (λ ys. records_from going ys ≡ no_record None) _ ends read.taken took;
         shown = all-rest left0 left (Holds going records) (λ rest. records_from going rest ≡ no_record None) _ read.taken
             (all-taken left later _ took at_end) ends;
+        least = λ is. absurd is;
         at_end = λ _. read_to_end left0 left later (Holds going records) read.taken at_end;
         kind = tt;
         cause = λ is. absurd (cc);
@@ -194,13 +226,15 @@ module _ (Wants : List (List ℕ) → List ℕ → Type 0) {going : Going} {left
   -- a fault of the capture, a failed read, or want of memory for a record
   pub ends-by : (later : Option (List ℕ)) (now : ℕ) (fault : Fault) → IsRecordFault fault
       → IfSome left (λ all. ShowsFault (records_from going all) fault) → Took left later (λ taken. TakenShows (records_from going taken) fault)
+      → (IsOutOfForm fault → Took left later (OfFronts (λ front. BrokeOff (records_from going front))))
       → (fault ≡ Memory → Took left later (WantsMemory going)) → (fault ≡ Read → Rose faults now) → (fault ≢ Read → now ≡ faults)
       → HasEnded Wants left0 later faults0 now ports (frames_of records) (Some fault)
-  ends-by later now fault is shows took wants cause same = record {
+  ends-by later now fault is shows took alone wants cause same = record {
     taken = taken-by later fault is took wants;
     shown = all-rest left0 left (Holds going records) (λ rest. ShowsFault (records_from going rest) fault) _ read.taken shows
         (λ xs rest holds shown. shown-fault (ended_of ports (xs ++ rest)) (frames_of records) (records_from going rest)
         (leads-behind xs rest holds) fault is shown);
+    least = λ shown. least-then going left0 left later faults0 faults ports records read (alone (shown-record fault is shown));
     at_end = λ none. absurd (cc);
     kind = kind-fault fault is;
     cause = λ by. Rose-earlier faults0 faults now (let unchanged : faults ≡ faults0 = read.still in omega arith) (cause (cc));
@@ -210,8 +244,9 @@ module _ (Wants : List (List ℕ) → List ℕ → Type 0) {going : Going} {left
   -- a frame that ends it
   pub ends-at : (going_now : Going) (later : Option (List ℕ)) (now : ℕ) → now ≡ faults → (frame : List ℕ) (original : ℕ) (fault : Fault)
       → Took left later (λ taken. (rest : List ℕ) → records_from going (taken ++ rest) ≡ with_record frame original (records_from going_now rest))
+      → Took left later (OfFronts (λ front. BrokeOff (records_from going front)))
       → ending_at ports (frames_of records) frame ≡ Some fault → HasEnded Wants left0 later faults0 now ports (frames_of records) (Some fault)
-  ends-at going_now later now same frame original fault took is =
+  ends-at going_now later now same frame original fault took alone is =
       let Ends : List ℕ → Type 0 = λ taken. (rest : List ℕ)
       → ended_of ports (taken ++ rest) ≡ record { before = frames_of records; fault = Some fault } in
       let both : Took left0 later Ends =
@@ -230,6 +265,7 @@ module _ (Wants : List (List ℕ) → List ℕ → Type 0) {going : Going} {left
             (λ taken rest ends _. frame_cases (λ end. ended_of ports (taken ++ rest) ≡ record { before = frames_of records; fault = end }
             → ShowsEnding (ended_of ports (taken ++ rest)) (frames_of records) end)
             (λ e. e) (λ e. e) fault by (ends rest));
+        least = λ _. least-then going left0 left later faults0 faults ports records read alone;
         at_end = λ none. absurd (cc);
         kind = frame_cases IsEnding tt tt fault by;
         cause = λ failed. absurd (frame_cases (λ end. end ≡ Some Read → ⊥) (λ e. cc) (λ e. cc) fault by failed);
@@ -239,11 +275,13 @@ module _ (Wants : List (List ℕ) → List ℕ → Type 0) {going : Going} {left
   -- no memory for what the frame wants
   pub ends-wanting : (going_now : Going) (later : Option (List ℕ)) (now : ℕ) (frame : List ℕ) (original : ℕ)
       → Took left later (λ taken. (rest : List ℕ) → records_from going (taken ++ rest) ≡ with_record frame original (records_from going_now rest))
+      → Took left later (OfFronts (λ front. BrokeOff (records_from going front)))
       → now ≡ faults → ending_at ports (frames_of records) frame ≡ None → Wants (frames_of records) frame
       → HasEnded Wants left0 later faults0 now ports (frames_of records) (Some Memory)
-  ends-wanting going_now later now frame original took same goes begins =
+  ends-wanting going_now later now frame original took alone same goes begins =
       let found : Captured = record { frame = frame; original = original } in
-      let more : HasRead going_now left0 later faults0 now ports (records ++ found ∷ []) = goes_on read going_now later now frame original took same goes in
+      let more : HasRead going_now left0 later faults0 now ports (records ++ found ∷ []) =
+      goes_on read going_now later now frame original took alone same goes in
       record {
         taken = Took-weaker left0 later (Holds going_now (records ++ found ∷ [])) (λ taken. LacksMemory Wants ports taken (frames_of records))
             (λ taken holds. inr (
@@ -253,6 +291,7 @@ module _ (Wants : List (List ℕ) → List ℕ → Type 0) {going : Going} {left
                   ∙ ap (λ frames. record { before = frames; fault = None }) (frames-append records (found ∷ [])),
             )) more.taken;
         shown = all-rest left0 later (Holds going_now (records ++ found ∷ [])) (λ rest. Unit {0}) _ more.taken (anything later) (λ taken rest _ _. tt);
+        least = λ is. absurd is;
         at_end = λ none. absurd (cc);
         kind = tt;
         cause = λ failed. absurd (cc);
@@ -299,16 +338,26 @@ taken-opening Wants ports taken =
     (λ shows. ⊎_elim (λ none. inl (leads None none)) (λ cut. inr (leads (Some Cut) cut)) shows)
     (λ shows. leads (Some BadBlock) shows)
 
+-- no byte was taken behind the file header, or the first section header
+opening-least : (left0 left : Option (List ℕ)) (ports : List ℕ) → Took left0 left (OfFronts (λ front. BrokeOff (records_of front)))
+    → Took left0 left (RunsOutBefore ports)
+opening-least left0 left ports alone = Took-weaker left0 left (OfFronts (λ front. BrokeOff (records_of front))) (RunsOutBefore ports)
+    (λ taken fronts. fronts-weaker _ _ taken
+    (λ front broke. runs-out (ended_of ports front) [] (records_of front) (opening-ends ports front) broke) fronts) alone
+
 -- the file header, or the first section header, was refused
 pub ends-opening : (Wants : List (List ℕ) → List ℕ → Type 0) (left0 left : Option (List ℕ)) (faults0 faults : ℕ) (ports : List ℕ)
     (fault : Fault) → IsOpeningFault fault
     → IfSome left0 (λ all. ShowsFault (records_of all) fault) → Took left0 left (λ taken. TakenShows (records_of taken) fault)
+    → (IsOutOfForm fault → Took left0 left (OfFronts (λ front. BrokeOff (records_of front))))
     → (fault ≡ Read → Rose faults0 faults) → (fault ≢ Read → faults ≡ faults0) → HasEnded Wants left0 left faults0 faults ports [] (Some fault)
-ends-opening Wants left0 left faults0 faults ports fault is shows took cause same = record {
+ends-opening Wants left0 left faults0 faults ports fault is shows took alone cause same = record {
   taken = Took-weaker left0 left (λ taken. TakenShows (records_of taken) fault) (λ taken. TakenEnds Wants ports taken [] (Some fault))
       (λ taken shown. taken-opening Wants ports taken fault is shown) took;
   shown = some-weaker left0 (λ all. ShowsFault (records_of all) fault) (λ all. ShowsEnding (ended_of ports all) [] (Some fault)) shows
       (λ all shown. shown-opening ports all fault is shown);
+  least = λ shown. opening-least left0 left ports (alone (opening_cases (λ fault. IsShown (Some fault) → IsOutOfForm fault)
+      (λ is. is) (λ is. is) (λ is. is) (λ is. is) (λ is. is) (λ is. is) fault is shown));
   at_end = λ none. absurd (cc);
   kind = opening_cases (λ fault. IsEnding (Some fault)) tt tt tt tt tt tt fault is;
   cause = λ by. cause (cc);
@@ -318,9 +367,11 @@ ends-opening Wants left0 left faults0 faults ports fault is shows took cause sam
 -- it was read
 pub reads-nothing : (going : Going) (left0 left : Option (List ℕ)) (faults0 faults : ℕ) (ports : List ℕ)
     → Took left0 left (λ taken. (rest : List ℕ) → records_of (taken ++ rest) ≡ records_from going rest)
+    → Took left0 left (OfFronts (λ front. BrokeOff (records_of front)))
     → faults ≡ faults0 → HasRead going left0 left faults0 faults ports []
-reads-nothing going left0 left faults0 faults ports took same = record {
+reads-nothing going left0 left faults0 faults ports took alone same = record {
   taken = took;
+  least = opening-least left0 left ports alone;
   still = same;
   through = GoesThrough-nothing ports;
 }
@@ -332,18 +383,19 @@ module _ (Wants : List (List ℕ) → List ℕ → Type 0) {going : Going} {left
     (read : HasRead going left0 left faults0 faults ports records) where
   pub ends-frame : (going_now : Going) (later : Option (List ℕ)) (now : ℕ) (frame : List ℕ) (original : ℕ)
       → Took left later (λ taken. (rest : List ℕ) → records_from going (taken ++ rest) ≡ with_record frame original (records_from going_now rest))
+      → Took left later (OfFronts (λ front. BrokeOff (records_from going front)))
       → now ≡ faults
       → (fault : Fault) → EndsAt Wants ports (frames_of records) frame fault
       → HasEnded Wants left0 later faults0 now ports (frames_of records) (Some fault)
-  ends-frame going_now later now frame original took same fault refused = by_fault fault refused
+  ends-frame going_now later now frame original took alone same fault refused = by_fault fault refused
     where
       at : (fault : Fault) → ending_at ports (frames_of records) frame ≡ Some fault
           → HasEnded Wants left0 later faults0 now ports (frames_of records) (Some fault)
-      at fault is = ends-at Wants read going_now later now same frame original fault took is
+      at fault is = ends-at Wants read going_now later now same frame original fault took alone is
 
       by_fault : (fault : Fault) → EndsAt Wants ports (frames_of records) frame fault
           → HasEnded Wants left0 later faults0 now ports (frames_of records) (Some fault)
-      by_fault Memory (goes, wants) = ends-wanting Wants read going_now later now frame original took same goes wants
+      by_fault Memory (goes, wants) = ends-wanting Wants read going_now later now frame original took alone same goes wants
       by_fault Usage is = at Usage is
       by_fault NotPcap is = at NotPcap is
       by_fault Version is = at Version is

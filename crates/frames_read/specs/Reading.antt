@@ -5,6 +5,7 @@ use Rattle.zr_kinds.specs.declared.fault.Fault.{Fault}
 use Rattle.zr_kinds.specs.declared.fault.Fault.TheVariants.{Memory, NotPcap, Version, LinkType, Cut, LongRecord, Read, TooManyFlows, TooManyFrames, BadBlock}
 use Rattle.zr_io.specs.Moved.{Rose, Took}
 use Rattle.pcap_reader.specs.Records.{Captured, Records}
+use Rattle.pcap_reader.specs.Capture.{IsOutOfForm, OfFronts}
 use Rattle.pcapng_reader.specs.Records.{Going, records_from, records_of}
 use Rattle.pcapng_reader.specs.Capture.{WantsMemory}
 use Rattle.flow_table.specs.Flows.{flows_of}
@@ -24,10 +25,19 @@ abbrev pub GoesThrough : List ℕ → List (List ℕ) → Type 0
 GoesThrough ports frames = (more : List (List ℕ)) (fault : Option Fault)
     → ended_after ports [] (frames ++ more) fault ≡ ended_after ports frames more fault
 
+-- The reading of these bytes runs out: it comes to their end, or they are cut.
+abbrev pub RunsOut : Ended → Type 0
+RunsOut ended = (ended.fault ≡ None) ⊎ (ended.fault ≡ Some Cut)
+
+-- these bytes end with what ends their reading, if anything does: the reading of each shorter front runs out
+abbrev pub RunsOutBefore : List ℕ → List ℕ → Type 0
+RunsOutBefore ports taken = OfFronts (λ front. RunsOut (ended_of ports front)) taken
+
 -- These records were read, and no read failed.
 pub record HasRead (going : Going) (left_at_first left : Option (List ℕ)) (faults_at_first faults : ℕ) (ports : List ℕ)
     (records : List Captured) : Type 0 where
   pub taken : Took left_at_first left (Holds going records)
+  pub least : Took left_at_first left (RunsOutBefore ports)
   pub still : faults ≡ faults_at_first
   pub through : GoesThrough ports (frames_of records)
 
@@ -91,6 +101,13 @@ IsEnding (Some TooManyFrames) = Unit {0}
 IsEnding (Some BadBlock) = Unit {0}
 IsEnding (Some fault) = ⊥
 
+-- the endings that bytes show which are there: what is out of form, or one flow or frame too many
+abbrev pub IsShown : Option Fault → Type 0
+IsShown None = ⊥
+IsShown (Some TooManyFlows) = Unit {0}
+IsShown (Some TooManyFrames) = Unit {0}
+IsShown (Some fault) = IsOutOfForm fault
+
 -- a source that tells its bytes was read to its end
 abbrev pub IsReadToEnd : Option (List ℕ) → Option (List ℕ) → Type 0
 IsReadToEnd None left = Unit {0}
@@ -103,6 +120,8 @@ pub record HasEnded (Wants : List (List ℕ) → List ℕ → Type 0) (left_at_f
   -- what was taken shows the ending, and so do all the bytes
   pub taken : Took left_at_first left (λ taken. TakenEnds Wants ports taken before fault)
   pub shown : IfSome left_at_first (λ all. ShowsEnding (ended_of ports all) before fault)
+  -- nothing was taken behind the bytes that show it
+  pub least : IsShown fault → Took left_at_first left (RunsOutBefore ports)
   pub at_end : fault ≡ None → IsReadToEnd left_at_first left
   pub kind : IsEnding fault
   -- A read failed only where the source's count of faults rose. If it ended otherwise, that count stood still: the

@@ -1,7 +1,8 @@
 -- How the steps of a reading go together.
 use Rattle.std.proofs.Common.{◌≡◌, ℕ, ◌<◌, ◌≤◌, List, [], ◌∷◌, ◌++◌, inl, inr, length, take, Option, Some, None, IfSome, refl, sym}
 use Rattle.std.proofs.Common.{Result, Ok, Err}
-use Rattle.std.proofs.Common.{ap, ◌∙◌, subst, arith, append-nil, length-take-le, take_all}
+use Rattle.std.proofs.Common.{ap, ◌∙◌, subst, arith, append-nil, length-append, length-take-le, take_all}
+use Rattle.std.proofs.lemmas.List.{append_cancel_right}
 use Rattle.std.specs.Io.KnownBytes.{Keeps, IsAtEnd, Consumes}
 use Rattle.zr_kinds.specs.declared.fault.Fault.{Fault}
 use Rattle.zr_kinds.specs.declared.fault.Fault.TheVariants.{Memory, NotPcap, Version, LinkType, Cut, LongRecord, Read}
@@ -9,10 +10,10 @@ use Rattle.zr_io.specs.Moved.{Took}
 use Rattle.zr_io.proofs.Moved.{Took-nothing, Took-consumed, Took-then, Took-weaker}
 use Rattle.pcap_reader.specs.Records.{ByteOrder, Records, no_record, with_record, captured_len, header_fault, records_in, records_of}
 use Rattle.pcap_reader.specs.Capture.{ShowsFault, BrokeOff, TakenShows, HeaderShows, TakenHeaderShows, IsOpeningFault, IsRecordFault, WantsMemory}
-use Rattle.pcap_reader.specs.Capture.{Reading, Opens, OpensBehind}
+use Rattle.pcap_reader.specs.Capture.{OfFronts, Reading, Opens, OpensBehind}
 use Rattle.pcap_reader.specs.Steps.{Stops, HeaderStops, BreaksOff, IsHeaderOf, BodyStops}
 use Rattle.pcap_reader.specs.declared.capture.Record.{Record}
-use Rattle.pcap_reader.proofs.HeaderLaws.{records_of-fault}
+use Rattle.pcap_reader.proofs.HeaderLaws.{records_of-fault, header_fault-cut}
 use Rattle.pcap_reader.proofs.RecordLaws.{records_in-whole, records_in-headless, records_in-none, records_in-long, records_in-bodiless}
 
 -- ---- facts of all the bytes that were left
@@ -49,6 +50,42 @@ pub Keeps-same : (a : Option (List ℕ)) → Keeps a a
 Keeps-same None = tt
 Keeps-same (Some xs) = refl
 
+-- ---- shorter fronts of what was taken
+
+-- of nothing there are none
+pub no-fronts : (P : List ℕ → Type 0) → OfFronts P []
+no-fronts P [] more e some = absurd (omega (arith, ap length e))
+no-fronts P (byte ∷ front) more e some = absurd cc
+
+-- those of bytes that were taken by two calls
+pub fronts-then : (P : List ℕ → Type 0) (xs ys : List ℕ) → OfFronts P xs → OfFronts (λ front. P (xs ++ front)) ys → OfFronts P (xs ++ ys)
+fronts-then P [] ys first second front more e some = second front more e some
+fronts-then P (x ∷ xs) ys first second [] more e some = first [] (x ∷ xs) refl (omega arith)
+fronts-then P (x ∷ xs) ys first second (f ∷ front) more e some =
+    let same : x ≡ f = cc in
+    let rest : xs ++ ys ≡ front ++ more = cc in
+    subst (λ byte. P (byte ∷ front)) same
+    (fronts-then (λ l. P (x ∷ l)) xs ys (λ part behind is left. first (x ∷ part) behind (ap (λ l. x ∷ l) is) left) second front more rest some)
+
+-- those of so many bytes are fewer
+pub fronts-short : (P : List ℕ → Type 0) (xs : List ℕ) → ((front : List ℕ) → length front < length xs → P front) → OfFronts P xs
+fronts-short P xs holds front more e some = holds front (omega (arith, ap length e, length-append front more))
+
+pub fronts-weaker : (P Q : List ℕ → Type 0) (xs : List ℕ) → ((front : List ℕ) → P front → Q front) → OfFronts P xs → OfFronts Q xs
+fronts-weaker P Q xs weaken fronts front more e some = weaken front (fronts front more e some)
+
+-- two facts of what was taken
+pub Took-both : (a b : Option (List ℕ)) (P Q : List ℕ → Type 0) → Took a b P → Took a b Q → Took a b (λ xs. P xs × Q xs)
+Took-both None b P Q first second = tt
+Took-both (Some xs) None P Q first second = absurd first
+Took-both (Some xs) (Some ys) P Q (bs, e, p) (cs, f, q) = (bs, e, (p, subst Q (append_cancel_right cs bs ys (sym f ∙ e)) q))
+
+-- those of what two calls took, one after the other
+pub Took-fronts : (P : List ℕ → Type 0) (a b c : Option (List ℕ)) (Q : List ℕ → Type 0) → ((xs : List ℕ) → Q xs → OfFronts P xs) → Took a b Q
+    → Took b c (OfFronts (λ ys. (xs : List ℕ) → Q xs → P (xs ++ ys))) → Took a c (OfFronts P)
+Took-fronts P a b c Q first took fronts = Took-then a b c Q (OfFronts (λ ys. (xs : List ℕ) → Q xs → P (xs ++ ys))) (OfFronts P)
+    (λ xs ys q second. fronts-then P xs ys (first xs q) (λ front more e some. second front more e some xs q)) took fronts
+
 -- ---- steps that break off
 
 -- a later step broke off
@@ -57,11 +94,12 @@ pub Stops-then : (Comes : Fault → Type 0) (reading : List ℕ → Records) (a 
     → ((xs ys : List ℕ) → P xs → Q ys → reading (xs ++ ys) ≡ no_record (Some Cut)) → Took a b P → BreaksOff b c Q fault
     → Stops Comes reading a c fault
 Stops-then Comes reading a b c P Q Read read cut shows took broke =
-    (read, always a, Took-then a b c P Q _ (λ xs ys p q. inr (shows xs ys p q)) took broke)
+    (read, always a, Took-then a b c P Q _ (λ xs ys p q. inr (shows xs ys p q)) took broke, λ is. absurd is)
 Stops-then Comes reading a b c P Q Cut read cut shows took broke = (
   cut,
   all_then a b P Q _ shows took broke.0,
   Took-then a b c P Q _ shows took broke.1,
+  λ is. absurd is,
 )
 Stops-then Comes reading a b c P Q _ read cut shows took broke = absurd broke
 
@@ -69,12 +107,14 @@ Stops-then Comes reading a b c P Q _ read cut shows took broke = absurd broke
 pub Stops-front : (Comes : Fault → Type 0) (reading : List ℕ → Records) (a b : Option (List ℕ)) (front : List ℕ) (fault : Fault) → Comes fault
     → ((rest : List ℕ) → reading (front ++ rest) ≡ no_record (Some fault))
     → ((records : Records) → records ≡ no_record (Some fault) → ShowsFault records fault)
-    → ((records : Records) → records ≡ no_record (Some fault) → TakenShows records fault) → Consumes a b front → Stops Comes reading a b fault
-Stops-front Comes reading a b front fault comes shows fits taken consumed =
+    → ((records : Records) → records ≡ no_record (Some fault) → TakenShows records fault) → OfFronts (λ part. BrokeOff (reading part)) front
+    → Consumes a b front → Stops Comes reading a b fault
+Stops-front Comes reading a b front fault comes shows fits taken fronts consumed =
     let alone : reading front ≡ no_record (Some fault) = ap reading (sym (append-nil front)) ∙ shows [] in (
       comes,
       all_by_front a b front _ (λ rest. fits (reading (front ++ rest)) (shows rest)) consumed,
       Took-consumed a b front _ consumed (taken (reading front) alone),
+      λ is. Took-consumed a b front (OfFronts (λ part. BrokeOff (reading part))) consumed fronts,
     )
 
 -- ---- the file header
@@ -82,8 +122,8 @@ Stops-front Comes reading a b front fault comes shows fits taken consumed =
 -- what is wanted of the header broke off
 pub HeaderStops-broken : (fault_in : List ℕ → Option Fault) (a b : Option (List ℕ)) (P : List ℕ → Type 0) (fault : Fault)
     → ((xs : List ℕ) → P xs → fault_in xs ≡ Some Cut) → BreaksOff a b P fault → HeaderStops fault_in a b fault
-HeaderStops-broken fault_in a b P Read shows broke = (tt, always a, Took-weaker a b P _ shows broke)
-HeaderStops-broken fault_in a b P Cut shows broke = (tt, all_weaker a P _ shows broke.0, Took-weaker a b P _ shows broke.1)
+HeaderStops-broken fault_in a b P Read shows broke = (tt, always a, Took-weaker a b P _ shows broke, λ is. absurd is)
+HeaderStops-broken fault_in a b P Cut shows broke = (tt, all_weaker a P _ shows broke.0, Took-weaker a b P _ shows broke.1, λ is. absurd is)
 HeaderStops-broken fault_in a b P _ shows broke = absurd broke
 
 -- the fields behind the magic stopped, which have the header's fault behind it
@@ -95,18 +135,22 @@ HeaderStops-within fault_in later a b first fault same stops = (
       (λ ys shows. subst (λ (found : Option Fault). HeaderShows found fault) (sym (same ys)) shows) stops.1,
   Took-weaker a b (λ ys. TakenHeaderShows (later ys) fault) (λ ys. TakenHeaderShows (fault_in (first ++ ys)) fault)
       (λ ys shows. subst (λ (found : Option Fault). TakenHeaderShows found fault) (sym (same ys)) shows) stops.2,
+  λ is. Took-weaker a b (OfFronts (λ ys. later ys ≡ Some Cut)) (OfFronts (λ ys. fault_in (first ++ ys) ≡ Some Cut))
+      (λ ys fronts. fronts-weaker _ _ ys (λ front cut. same front ∙ cut) fronts) (stops.3 is),
 )
 
 -- a front that was taken has a fault, whatever follows it
 pub HeaderStops-front : (fault_in : List ℕ → Option Fault) (a b : Option (List ℕ)) (front : List ℕ) (fault : Fault) → IsOpeningFault fault
     → ((rest : List ℕ) → fault_in (front ++ rest) ≡ Some fault)
     → ((found : Option Fault) → found ≡ Some fault → HeaderShows found fault)
-    → ((found : Option Fault) → found ≡ Some fault → TakenHeaderShows found fault) → Consumes a b front → HeaderStops fault_in a b fault
-HeaderStops-front fault_in a b front fault comes shows fits taken consumed =
+    → ((found : Option Fault) → found ≡ Some fault → TakenHeaderShows found fault) → OfFronts (λ part. fault_in part ≡ Some Cut) front
+    → Consumes a b front → HeaderStops fault_in a b fault
+HeaderStops-front fault_in a b front fault comes shows fits taken fronts consumed =
     let alone : fault_in front ≡ Some fault = ap fault_in (sym (append-nil front)) ∙ shows [] in (
       comes,
       all_by_front a b front _ (λ rest. fits (fault_in (front ++ rest)) (shows rest)) consumed,
       Took-consumed a b front _ consumed (taken (fault_in front) alone),
+      λ is. Took-consumed a b front (OfFronts (λ part. fault_in part ≡ Some Cut)) consumed fronts,
     )
 
 -- the first bytes have a fault, whatever follows them
@@ -118,20 +162,35 @@ HeaderStops-nothing fault_in a first fault comes shows fits taken = (
   comes,
   all_weaker a (λ _. Unit {0}) _ (λ rest _. fits (fault_in (first ++ rest)) (shows rest)) (always a),
   Took-nothing a a _ (Keeps-same a) (taken (fault_in (first ++ [])) (shows [])),
+  λ is. Took-nothing a a (OfFronts (λ ys. fault_in (first ++ ys) ≡ Some Cut)) (Keeps-same a) (no-fronts _),
 )
 
+-- no byte was taken behind the header
+header-alone : (a b c : Option (List ℕ)) (first : List ℕ) → length first ≡ 4 → Took a b (λ xs. xs ≡ first)
+    → Took b c (OfFronts (λ ys. header_fault (first ++ ys) ≡ Some Cut)) → Took a c (OfFronts (λ taken. header_fault taken ≡ Some Cut))
+header-alone a b c first four front fronts =
+    Took-then a b c (λ xs. xs ≡ first) (OfFronts (λ ys. header_fault (first ++ ys) ≡ Some Cut)) (OfFronts (λ taken. header_fault taken ≡ Some Cut))
+    (λ xs ys same later. subst (λ (l : List ℕ). OfFronts (λ taken. header_fault taken ≡ Some Cut) (l ++ ys)) (sym same)
+    (fronts-then _ first ys (fronts-short _ first (λ part short. header_fault-cut part (omega arith))) later)) front fronts
+
 -- the four bytes of a magic, and a header behind them
-pub Opens-behind : (a b c : Option (List ℕ)) (first : List ℕ) (result : Result Reading Fault) → Consumes a b first
+pub Opens-behind : (a b c : Option (List ℕ)) (first : List ℕ) (result : Result Reading Fault) → length first ≡ 4 → Consumes a b first
     → OpensBehind first b c result → Opens a c result
-Opens-behind a b c first (Ok capture) consumed opens =
-    (opens.0, Took-then a b c (λ xs. xs ≡ first) _ _ (λ xs ys same good rest. subst (λ (l : List ℕ). records_of ((l ++ ys) ++ rest) ≡ records_in capture.order rest) (sym same) (good rest)) (Took-consumed a b first _ consumed refl) opens.1)
-Opens-behind a b c first (Err fault) consumed opens =
+Opens-behind a b c first (Ok capture) four consumed opens =
+    let front = Took-consumed a b first (λ xs. xs ≡ first) consumed refl in (
+      opens.0,
+      Took-then a b c (λ xs. xs ≡ first) _ _
+          (λ xs ys same good rest. subst (λ (l : List ℕ). records_of ((l ++ ys) ++ rest) ≡ records_in capture.order rest) (sym same) (good rest)) front opens.1,
+      header-alone a b c first four front opens.2,
+    )
+Opens-behind a b c first (Err fault) four consumed opens =
     let front = Took-consumed a b first (λ xs. xs ≡ first) consumed refl in (
       opens.0,
       all_then a b (λ xs. xs ≡ first) _ (λ all. HeaderShows (header_fault all) fault)
           (λ xs ys same shows. subst (λ (l : List ℕ). HeaderShows (header_fault (l ++ ys)) fault) (sym same) shows) front opens.1,
       Took-then a b c (λ xs. xs ≡ first) _ (λ taken. TakenHeaderShows (header_fault taken) fault)
           (λ xs ys same shows. subst (λ (l : List ℕ). TakenHeaderShows (header_fault (l ++ ys)) fault) (sym same) shows) front opens.2,
+      λ is. header-alone a b c first four front (opens.3 is),
     )
 
 -- what the header shows, all the bytes show
@@ -157,6 +216,8 @@ Stops-opening a b fault stops = (
   stops.0,
   all_weaker a _ _ (λ all shows. shown_by all fault stops.0 shows) stops.1,
   Took-weaker a b _ _ (λ taken shows. taken_by taken fault stops.0 shows) stops.2,
+  λ is. Took-weaker a b (OfFronts (λ front. header_fault front ≡ Some Cut)) (OfFronts (λ front. BrokeOff (records_of front)))
+      (λ taken fronts. fronts-weaker _ _ taken (λ front cut. inr (records_of-fault front Cut cut)) fronts) (stops.3 is),
 )
 
 -- ---- records
@@ -171,7 +232,7 @@ pub Stops-headless : (order : ByteOrder) (a b : Option (List ℕ)) (room : ℕ) 
     → Stops IsRecordFault (records_in order) a b fault
 Stops-headless order a b room fault size read took =
     subst (Stops IsRecordFault (records_in order) a b) (sym read)
-    (tt, always a, Took-weaker a b _ _ (λ xs short. headless order xs (omega arith)) took)
+    (tt, always a, Took-weaker a b _ _ (λ xs short. headless order xs (omega arith)) took, λ is. absurd is)
 
 -- the bytes end within a header
 pub Stops-cut : (order : ByteOrder) (a b : Option (List ℕ)) (header : List ℕ) (n : ℕ) → 0 < n → n < 16 → n ≤ length header
@@ -180,7 +241,7 @@ pub Stops-cut : (order : ByteOrder) (a b : Option (List ℕ)) (header : List ℕ
 Stops-cut order a b header n some short within consumed end =
     let size = length-take-le n header within in
     let shows = records_in-headless order (take n header) (omega arith) (omega arith) in
-    (tt, all_by_end a b (take n header) _ shows consumed end, Took-consumed a b (take n header) _ consumed shows)
+    (tt, all_by_end a b (take n header) _ shows consumed end, Took-consumed a b (take n header) _ consumed shows, λ is. absurd is)
 
 -- a header that states too many bytes
 pub Stops-long : (order : ByteOrder) (a b : Option (List ℕ)) (header : List ℕ) (n : ℕ) → length header ≡ 16 → 16 ≤ n
@@ -189,6 +250,7 @@ pub Stops-long : (order : ByteOrder) (a b : Option (List ℕ)) (header : List �
 Stops-long order a b header n whole all long consumed =
     Stops-front IsRecordFault (records_in order) a b header LongRecord tt (λ rest. records_in-long order header rest whole long) (λ records e. e)
     (λ records e. e)
+    (fronts-short _ header (λ front short. headless order front (omega arith)))
     (subst (Consumes a b) (take_all n header (omega arith)) consumed)
 
 bodiless : (order : ByteOrder) (found : Record) (header body : List ℕ) → IsHeaderOf order found header → length body < found.captured
@@ -204,7 +266,7 @@ pub Stops-bodiless : (order : ByteOrder) (a b c : Option (List ℕ)) (found : Re
     → Stops IsRecordFault (records_in order) a c fault
 Stops-bodiless order a b c found Memory took stops =
     let none : Took b c (λ ys. length ys < found.captured) = Took-nothing b c _ stops.1 stops.0 in
-    (tt, always a, Took-then a b c (IsHeaderOf order found) _ _ (λ xs ys p q. inr (bodiless order found xs ys p q)) took none)
+    (tt, always a, Took-then a b c (IsHeaderOf order found) _ _ (λ xs ys p q. inr (bodiless order found xs ys p q)) took none, λ is. absurd is)
 Stops-bodiless order a b c found Read took stops =
     Stops-then IsRecordFault (records_in order) a b c (IsHeaderOf order found) (λ ys. length ys < found.captured) Read tt tt (bodiless order found) took stops
 Stops-bodiless order a b c found Cut took stops =
@@ -240,3 +302,11 @@ pub Took-record : (order : ByteOrder) (a b c : Option (List ℕ)) (found : Recor
     → Took a c (λ taken. (rest : List ℕ) → records_in order (taken ++ rest) ≡ with_record frame found.original (records_in order rest))
 Took-record order a b c found frame took size consumed =
     Took-then a b c (IsHeaderOf order found) (λ ys. ys ≡ frame) _ (whole_record order found frame size) took (Took-consumed b c frame _ consumed refl)
+
+-- and nothing behind it
+pub Took-record-alone : (order : ByteOrder) (a b c : Option (List ℕ)) (found : Record) (frame : List ℕ) → Took a b (IsHeaderOf order found)
+    → length frame ≡ found.captured → Consumes b c frame → Took a c (OfFronts (λ front. BrokeOff (records_in order front)))
+Took-record-alone order a b c found frame took size consumed =
+    Took-fronts (λ front. BrokeOff (records_in order front)) a b c (IsHeaderOf order found)
+    (λ header h. let whole = h.whole in fronts-short _ header (λ front short. headless order front (omega arith))) took
+    (Took-consumed b c frame _ consumed (fronts-short _ frame (λ front short header h. inr (bodiless order found header front h (omega arith)))))

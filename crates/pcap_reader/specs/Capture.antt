@@ -2,7 +2,7 @@
 use Rattle.std.specs.Prelude.{◌≡◌, ℕ, ◌<◌, ◌≤◌, List, ◌++◌, length, Option, Some, None, Result, Ok, Err, IsErrOf, IfSome, ◌⊎◌}
 use Rattle.std.specs.Io.KnownBytes.{Keeps, IsAtEnd}
 use Rattle.zr_kinds.specs.declared.fault.Fault.{Fault}
-use Rattle.zr_kinds.specs.declared.fault.Fault.TheVariants.{Memory, NotPcap, Version, LinkType, Cut, LongRecord, Read}
+use Rattle.zr_kinds.specs.declared.fault.Fault.TheVariants.{Memory, NotPcap, Version, LinkType, Cut, LongRecord, Read, BadBlock}
 use Rattle.zr_io.specs.Moved.{Rose, Took}
 use Rattle.pcap_reader.specs.Records.{ByteOrder, Records, no_record, with_record, captured_len, header_fault, records_in, records_of}
 use Rattle.pcap_reader.specs.declared.capture.Record.{Record}
@@ -27,6 +27,19 @@ abbrev pub TakenShows : Records → Fault → Type 0
 TakenShows taken Memory = BrokeOff taken
 TakenShows taken Read = BrokeOff taken
 TakenShows taken fault = taken ≡ no_record (Some fault)
+
+-- the faults of bytes that are there, and not those of bytes that end, of memory or of a read
+abbrev pub IsOutOfForm : Fault → Type 0
+IsOutOfForm NotPcap = Unit {0}
+IsOutOfForm Version = Unit {0}
+IsOutOfForm LinkType = Unit {0}
+IsOutOfForm LongRecord = Unit {0}
+IsOutOfForm BadBlock = Unit {0}
+IsOutOfForm fault = ⊥
+
+-- No byte was taken behind those that tell: of each shorter front this holds.
+abbrev pub OfFronts : (List ℕ → Type 0) → List ℕ → Type 0
+OfFronts P taken = (front more : List ℕ) → taken ≡ front ++ more → 0 < length more → P front
 
 -- At `Read` the source's count of faults rose. In every other outcome it stood still: no read failed.
 pub record HasReadCause {T : Type 0} (before now : ℕ) (result : Result T Fault) : Type 0 where
@@ -66,28 +79,36 @@ TakenHeaderShows found Read = found ≡ Some Cut
 TakenHeaderShows found fault = found ≡ Some fault
 
 -- `Ok` took a file header: whatever follows it, the capture's records are the records of what follows. A fault is
--- that of the file header, in all the bytes and in those that were taken.
+-- that of the file header, in all the bytes and in those that were taken. Nothing was taken behind it: each
+-- shorter front of a header is cut.
 abbrev pub Opens : Option (List ℕ) → Option (List ℕ) → Result Reading Fault → Type 0
 Opens old new (Ok capture) =
     (capture.fault ≡ None) × Took old new (λ taken. (rest : List ℕ) → records_of (taken ++ rest) ≡ records_in capture.order rest)
+    × Took old new (OfFronts (λ front. header_fault front ≡ Some Cut))
 Opens old new (Err fault) =
     IsOpeningFault fault × IfSome old (λ all. HeaderShows (header_fault all) fault)
     × Took old new (λ taken. TakenHeaderShows (header_fault taken) fault)
+    × (IsOutOfForm fault → Took old new (OfFronts (λ front. header_fault front ≡ Some Cut)))
 
 -- The same where the first bytes were taken before.
 abbrev pub OpensBehind : List ℕ → Option (List ℕ) → Option (List ℕ) → Result Reading Fault → Type 0
 OpensBehind first old new (Ok capture) =
     (capture.fault ≡ None) × Took old new (λ taken. (rest : List ℕ) → records_of ((first ++ taken) ++ rest) ≡ records_in capture.order rest)
+    × Took old new (OfFronts (λ front. header_fault (first ++ front) ≡ Some Cut))
 OpensBehind first old new (Err fault) =
     IsOpeningFault fault × IfSome old (λ all. HeaderShows (header_fault (first ++ all)) fault)
     × Took old new (λ taken. TakenHeaderShows (header_fault (first ++ taken)) fault)
+    × (IsOutOfForm fault → Took old new (OfFronts (λ front. header_fault (first ++ front) ≡ Some Cut)))
 
 -- `Ok(Some(_))` took one record and no more: whatever follows it, the first record is this frame, and the others are
--- those of what follows. `Ok(None)` is the end. A fault is that of all the bytes, and those that were taken show it.
+-- those of what follows. `Ok(None)` is the end. A fault is that of all the bytes, and those that were taken show it. Nothing
+-- was taken behind the record, nor behind a header that is out of form: each shorter front breaks off.
 abbrev pub Gives : ByteOrder → Option (List ℕ) → Option (List ℕ) → List ℕ → Result (Option Record) Fault → Type 0
 Gives order old new frame (Ok (Some found)) =
     (found.captured ≡ length frame) × Took old new
     (λ taken. (rest : List ℕ) → records_in order (taken ++ rest) ≡ with_record frame found.original (records_in order rest))
+    × Took old new (OfFronts (λ front. BrokeOff (records_in order front)))
 Gives order old new frame (Ok None) = IsAtEnd old × Keeps old new
 Gives order old new frame (Err fault) =
     IsRecordFault fault × IfSome old (λ all. ShowsFault (records_in order all) fault) × Took old new (λ taken. TakenShows (records_in order taken) fault)
+    × (IsOutOfForm fault → Took old new (OfFronts (λ front. BrokeOff (records_in order front))))

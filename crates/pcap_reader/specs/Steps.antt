@@ -6,13 +6,16 @@ use Rattle.zr_kinds.specs.declared.fault.Fault.TheVariants.{Memory, Cut, Read}
 use Rattle.zr_io.specs.Moved.{Took}
 use Rattle.pcap_reader.specs.declared.order.ByteOrder.TheVariants.{Little, Big}
 use Rattle.pcap_reader.specs.Records.{ByteOrder, Records, captured_len, original_len, order_of, fields_fault, records_in, records_of}
-use Rattle.pcap_reader.specs.Capture.{ShowsFault, TakenShows, HeaderShows, TakenHeaderShows, IsOpeningFault, IsRecordFault}
+use Rattle.pcap_reader.specs.Capture.{ShowsFault, BrokeOff, TakenShows, HeaderShows, TakenHeaderShows, IsOpeningFault, IsRecordFault, IsOutOfForm}
+use Rattle.pcap_reader.specs.Capture.{OfFronts}
 use Rattle.pcap_reader.specs.declared.capture.Record.{Record}
 
--- a fault is that of all the bytes, by what they read as, and those that were taken show it
+-- A fault is that of all the bytes, by what they read as, and those that were taken show it. Nothing was taken behind what is out
+-- of form.
 abbrev pub Stops : (Fault → Type 0) → (List ℕ → Records) → Option (List ℕ) → Option (List ℕ) → Fault → Type 0
 Stops Comes reading old new fault =
     Comes fault × IfSome old (λ all. ShowsFault (reading all) fault) × Took old new (λ taken. TakenShows (reading taken) fault)
+    × (IsOutOfForm fault → Took old new (OfFronts (λ front. BrokeOff (reading front))))
 
 -- A step broke off: what it took has a fact, as being too short. At `Cut` all that was left has it.
 abbrev pub BreaksOff : Option (List ℕ) → Option (List ℕ) → (List ℕ → Type 0) → Fault → Type 0
@@ -46,6 +49,7 @@ magic_in Big = 0xa1 ∷ 0xb2 ∷ 0xc3 ∷ 0xd4 ∷ []
 abbrev pub HeaderStops : (List ℕ → Option Fault) → Option (List ℕ) → Option (List ℕ) → Fault → Type 0
 HeaderStops fault_in old new fault =
     IsOpeningFault fault × IfSome old (λ all. HeaderShows (fault_in all) fault) × Took old new (λ taken. TakenHeaderShows (fault_in taken) fault)
+    × (IsOutOfForm fault → Took old new (OfFronts (λ front. fault_in front ≡ Some Cut)))
 
 -- what is wrong with the fields behind a magic
 abbrev pub fault_of_fields : ByteOrder → List ℕ → Option Fault
@@ -57,7 +61,9 @@ behind_magic_in order bytes = records_of (magic_in order ++ bytes)
 
 -- the fields behind the magic
 abbrev pub TakesFields : ByteOrder → Option (List ℕ) → Option (List ℕ) → Result (Unit {0}) Fault → Type 0
-TakesFields order old new (Ok _) = Took old new (λ taken. (rest : List ℕ) → behind_magic_in order (taken ++ rest) ≡ records_in order rest)
+TakesFields order old new (Ok _) =
+    Took old new (λ taken. (rest : List ℕ) → behind_magic_in order (taken ++ rest) ≡ records_in order rest)
+    × Took old new (OfFronts (λ front. fault_of_fields order front ≡ Some Cut))
 TakesFields order old new (Err fault) = HeaderStops (fault_of_fields order) old new fault
 
 -- ---- a record

@@ -14,10 +14,10 @@ use Rattle.pcap_reader.specs.declared.capture.Record.{Record}
 use Rattle.pcap_reader.specs.Records as classic_form
 use Rattle.pcap_reader.specs.Capture as classic_capture
 use Rattle.pcap_reader.specs.Records.{no_record, with_record}
-use Rattle.pcap_reader.specs.Capture.{HeaderShows, TakenHeaderShows}
+use Rattle.pcap_reader.specs.Capture.{HeaderShows, TakenHeaderShows, IsOutOfForm, OfFronts}
 use Rattle.pcap_reader.proofs.HeaderLaws.{header_fault-cut}
 use Rattle.pcap_reader.proofs.RecordLaws.{records_in-none}
-use Rattle.pcap_reader.proofs.Joined.{always, all_weaker, all_then}
+use Rattle.pcap_reader.proofs.Joined.{always, all_weaker, all_then, fronts-then, fronts-short, fronts-weaker}
 use Rattle.pcapng_reader.specs.Blocks.{Section, is_section_header, block_fault, blocks_in, no_section}
 use Rattle.pcapng_reader.specs.Records.{classic, records_of, opening_fault}
 use Rattle.pcapng_reader.specs.Capture.{IsOpeningFault, IsRecordFault, Opens, Gives}
@@ -87,24 +87,42 @@ module _ (a b c : Option (List ℕ)) (first : List ℕ) (four : length first ≡
   took_first : Took a b (λ xs. xs ≡ first)
   took_first = Took-consumed a b first _ consumed refl
 
+  -- no byte was taken behind the header
+  opens-alone : (later : List ℕ → Option Fault) → ((ys : List ℕ) → opening_fault (first ++ ys) ≡ later ys)
+      → Took b c (OfFronts (λ ys. later ys ≡ Some Cut)) → Took a c (OfFronts (λ taken. opening_fault taken ≡ Some Cut))
+  opens-alone later same fronts = Took-then a b c (λ xs. xs ≡ first) (OfFronts (λ ys. later ys ≡ Some Cut)) (OfFronts (λ taken. opening_fault taken ≡ Some Cut))
+      (λ xs ys e cut. subst (λ (l : List ℕ). OfFronts (λ taken. opening_fault taken ≡ Some Cut) (l ++ ys)) (sym e)
+      (fronts-then _ first ys (fronts-short _ first (λ part short. opening-short part (omega arith)))
+      (fronts-weaker _ _ ys (λ part is. same part ∙ is) cut))) took_first fronts
+
+  pub alone-blocks : is_section_header first ≡ true → Took b c (OfFronts (λ ys. fault_from no_section first ys ≡ Some Cut))
+      → Took a c (OfFronts (λ taken. opening_fault taken ≡ Some Cut))
+  alone-blocks is fronts = opens-alone (fault_from no_section first) (opening-blocks first four is) fronts
+
+  pub alone-classic : is_section_header first ≡ false → Took b c (OfFronts (λ ys. classic_form.header_fault (first ++ ys) ≡ Some Cut))
+      → Took a c (OfFronts (λ taken. opening_fault taken ≡ Some Cut))
+  alone-classic is fronts = opens-alone (λ ys. classic_form.header_fault (first ++ ys)) (opening-classic first four is) fronts
+
   -- a fault behind the first bytes
   opens_fault : (later : List ℕ → Option Fault) (fault : Fault) → IsOpeningFault fault → ((ys : List ℕ) → opening_fault (first ++ ys) ≡ later ys)
       → IfSome b (λ ys. HeaderShows (later ys) fault)
       → Took b c (λ ys. TakenHeaderShows (later ys) fault)
+      → (IsOutOfForm fault → Took b c (OfFronts (λ ys. later ys ≡ Some Cut)))
       → Opens a c (Err fault)
-  opens_fault later fault is same shows taken = (
+  opens_fault later fault is same shows taken fronts = (
     is,
     all_then a b (λ xs. xs ≡ first) (λ ys. HeaderShows (later ys) fault) _
         (λ xs ys e p. subst (λ (found : Option Fault). HeaderShows found fault) (sym (ap (λ (l : List ℕ). opening_fault (l ++ ys)) e ∙ same ys)) p) took_first shows,
     Took-then a b c (λ xs. xs ≡ first) (λ ys. TakenHeaderShows (later ys) fault) _
         (λ xs ys e p. subst (λ (found : Option Fault). TakenHeaderShows found fault) (sym (ap (λ (l : List ℕ). opening_fault (l ++ ys)) e ∙ same ys)) p)
         took_first taken,
+    λ bad. opens-alone later same (fronts bad),
   )
 
   pub opens-blocks-fault : is_section_header first ≡ true → (fault : Fault) → BlockStops IsHeaderFault (fault_from no_section first) b c fault
       → Opens a c (Err fault)
   opens-blocks-fault is fault stops = opens_fault (fault_from no_section first) fault (header_opens fault stops.0) (opening-blocks first four is)
-      (all_same b fault stops.0 stops.1) (taken_same fault stops.0 stops.2)
+      (all_same b fault stops.0 stops.1) (taken_same fault stops.0 stops.2) stops.3
     where
       all_same : (o : Option (List ℕ)) (f : Fault) → IsHeaderFault f → IfSome o (λ ys. BlockShows (fault_from no_section first ys) f)
           → IfSome o (λ ys. HeaderShows (fault_from no_section first ys) f)
@@ -116,7 +134,7 @@ module _ (a b c : Option (List ℕ)) (first : List ℕ) (four : length first ≡
 
   pub opens-classic-fault : is_section_header first ≡ false → (fault : Fault) → classic_capture.OpensBehind first b c (Err fault) → Opens a c (Err fault)
   opens-classic-fault is fault stops =
-      opens_fault (λ ys. classic_form.header_fault (first ++ ys)) fault (classic_opens fault stops.0) (opening-classic first four is) stops.1 stops.2
+      opens_fault (λ ys. classic_form.header_fault (first ++ ys)) fault (classic_opens fault stops.0) (opening-classic first four is) stops.1 stops.2 stops.3
 
   pub took-blocks : (now : Section) → is_section_header first ≡ true
       → Took b c (λ ys. (rest : List ℕ) → blocks_in no_section ((first ++ ys) ++ rest) ≡ blocks_in now rest)
@@ -138,11 +156,12 @@ module _ (a b c : Option (List ℕ)) (first : List ℕ) (four : length first ≡
 
 -- the first four bytes couldn't be read
 pub opening-broken : (a b : Option (List ℕ)) (room : ℕ) (fault : Fault) → room ≡ 4 → BreaksOff a b (λ xs. length xs < room) fault → Opens a b (Err fault)
-opening-broken a b room Read four broke = (tt, always a, Took-weaker a b _ _ (λ xs short. opening-short xs (omega arith)) broke)
+opening-broken a b room Read four broke = (tt, always a, Took-weaker a b _ _ (λ xs short. opening-short xs (omega arith)) broke, λ is. absurd is)
 opening-broken a b room Cut four broke = (
   tt,
   all_weaker a _ _ (λ xs short. opening-short xs (omega arith)) broke.0,
   Took-weaker a b _ _ (λ xs short. opening-short xs (omega arith)) broke.1,
+  λ is. absurd is,
 )
 opening-broken a b room _ four broke = absurd broke
 
@@ -167,10 +186,11 @@ classic-gives order later old new frame (Ok (Some found)) same gives = (
   gives.0,
   subst (λ (o : ByteOrder). Took old new (λ taken. (rest : List ℕ)
       → classic_form.records_in order (taken ++ rest) ≡ with_record frame found.original (classic_form.records_in o rest))) (sym same) gives.1,
+  gives.2,
 )
 classic-gives order later old new frame (Ok None) same gives =
     (at_end old new gives.0 gives.1, Took-nothing old new _ gives.1 (records_in-none order))
-classic-gives order later old new frame (Err fault) same gives = (classic_comes fault gives.0, gives.1, gives.2)
+classic-gives order later old new frame (Err fault) same gives = (classic_comes fault gives.0, gives.1, gives.2, gives.3)
 
 pub order-kept : (result : Result (Option Record) Fault) (old new : classic_capture.Reading)
     → MatchResult result (λ _. new ≡ old) (λ fault. new ≡ record old { fault = Some fault })

@@ -6,11 +6,11 @@ use Rattle.zr_kinds.specs.declared.fault.Fault.TheVariants.{NotPcap, Version, Li
 use Rattle.zr_io.proofs.Moved.{Took-weaker}
 use Rattle.pcap_reader.specs.Records as classic_form
 use Rattle.pcap_reader.specs.Records.{no_record}
-use Rattle.pcap_reader.specs.Capture.{ShowsFault, TakenShows, HeaderShows, TakenHeaderShows}
+use Rattle.pcap_reader.specs.Capture.{ShowsFault, BrokeOff, TakenShows, HeaderShows, TakenHeaderShows, OfFronts}
 use Rattle.pcap_reader.specs.Steps.{Stops}
 use Rattle.pcap_reader.proofs.HeaderLaws as classic_header
 use Rattle.pcap_reader.proofs.RecordLaws.{records_in-none, records_in-bodiless}
-use Rattle.pcap_reader.proofs.Joined.{all_weaker}
+use Rattle.pcap_reader.proofs.Joined.{all_weaker, fronts-weaker}
 use Rattle.pcapng_reader.specs.declared.kind.Kind.TheVariants.{SectionHeader, InterfaceDescription, EnhancedPacket, SimplePacket, Other}
 use Rattle.pcapng_reader.specs.Blocks.{Kind, is_section_header, kind_of, fixed_len, block_fault, blocks_in, no_section}
 use Rattle.pcapng_reader.specs.Records.{Going, classic, blocks, records_from, records_of, opening_fault}
@@ -76,10 +76,15 @@ taken_by taken BadBlock is shows = opening-records taken BadBlock shows
 taken_by taken Read is shows = inr (opening-records taken Cut shows)
 taken_by taken _ is shows = absurd is
 
+-- a header that is cut holds no record
+pub opening-breaks : (taken : List ℕ) → OfFronts (λ front. opening_fault front ≡ Some Cut) taken → OfFronts (λ front. BrokeOff (records_of front)) taken
+opening-breaks taken cut = fronts-weaker _ _ taken (λ front is. inr (opening-records front Cut is)) cut
+
 -- a fault there ends the capture before its first record
 pub opening-stops : (a b : Option (List ℕ)) (fault : Fault) → Opens a b (Err fault) → Stops IsOpeningFault records_of a b fault
 opening-stops a b fault stops = (
   stops.0,
   all_weaker a _ _ (λ all shows. shown_by all fault stops.0 shows) stops.1,
   Took-weaker a b _ _ (λ taken shows. taken_by taken fault stops.0 shows) stops.2,
+  λ is. Took-weaker a b (OfFronts (λ front. opening_fault front ≡ Some Cut)) (OfFronts (λ front. BrokeOff (records_of front))) opening-breaks (stops.3 is),
 )

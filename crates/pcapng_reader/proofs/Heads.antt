@@ -1,12 +1,12 @@
 -- What the first bytes of a block tell.
 use Rattle.std.proofs.Common.{◌≡◌, ℕ, ◌+◌, ◌-◌, ◌<◌, ◌≤◌, List, ◌++◌, length, take, drop, Bool, true, false, ◌||◌, Option, Some, None, refl, sym}
 use Rattle.std.proofs.Common.{ap, ◌∙◌, subst, arith, append_assoc, length-append, option_copied, Bor, length-take-le, length-drop}
-use Rattle.std.proofs.Common.{Ok, Err}
+use Rattle.std.proofs.Common.{Ok, Err, ⊎_elim}
 use Rattle.std.specs.Option.{ok_or}
 use Rattle.std.specs.Slice.{IsItemAt}
 use Rattle.std.specs.List.{slice_get}
 use Rattle.std.proofs.lemmas.Option.{slice_get_past, slice_get_read}
-use Rattle.std.proofs.lemmas.Bool.{cond-true}
+use Rattle.std.proofs.lemmas.Bool.{cases_lt, cond-true}
 use Rattle.std.proofs.lemmas.List.{take-append-drop, take-append-le, take_all}
 use Rattle.zr_kinds.specs.declared.fault.Fault.{Fault}
 use Rattle.zr_kinds.specs.declared.fault.Fault.TheVariants.{Cut, BadBlock}
@@ -15,9 +15,10 @@ use Rattle.pcap_reader.specs.Records.{number}
 use Rattle.pcap_reader.proofs.RecordLaws.{number_at-append}
 use Rattle.pcapng_reader.specs.Blocks.{Section, Kind, is_section_header, kind_of, begin_len, fixed_len, order_told, total_len, is_too_many, misfits, block_fault}
 use Rattle.pcapng_reader.specs.declared.kind.Kind.TheVariants.{SectionHeader}
-use Rattle.pcapng_reader.specs.Steps.{IsBegun, MayCome}
+use Rattle.pcapng_reader.specs.declared.head.Head.{Head}
+use Rattle.pcapng_reader.specs.Steps.{IsBegun, MayCome, IsHead, head_bytes, IsCutBefore}
 use Rattle.pcapng_reader.proofs.BlockLaws.{eight, begins_within, fixed_most, kind-append, order-append, begun-append, begun-front, fault-begin, fault-magic}
-use Rattle.pcapng_reader.proofs.BlockLaws.{fault-refused, fault-short, section_header-append}
+use Rattle.pcapng_reader.proofs.BlockLaws.{fault-refused, fault-short, fault-start, section_header-append}
 
 -- ---- parts of lists
 
@@ -76,6 +77,25 @@ kind_of_first order first bytes four front is =
     let all : bytes ≡ first ++ drop 4 bytes = sym (take-append-drop 4 bytes) ∙ ap (λ (l : List ℕ). l ++ drop 4 bytes) front in
     cond-true (is_section_header bytes) _ _ (ap is_section_header all ∙ section_header-append first (drop 4 bytes) (omega arith) ∙ is)
 
+-- Each shorter front of a block's fixed bytes is cut.
+pub head-cuts : (s : Section) (kind : Kind) (order : ByteOrder) (total : ℕ) (head : List ℕ) → length head ≡ fixed_len kind
+    → IsBegun s kind order total head → MayCome s kind total → IsCutBefore (block_fault s) head
+head-cuts s kind order total head whole h may front more e some = ⊎_elim
+    (λ (short : length front < 8). fault-start s front short)
+    (λ (long : 8 ≤ length front). ⊎_elim
+    (λ (short : length front < begin_len kind). fault-begin s kind front (kind_here long) short)
+    (λ (begun : begin_len kind ≤ length front). fault-short s kind order total front
+    (begun-front s kind order total front more begun (subst (IsBegun s kind order total) e h)) may
+    (omega (arith, whole, ap length e, length-append front more)))
+    (cases_lt (length front) (begin_len kind)))
+    (cases_lt (length front) 8)
+  where
+    kind_here : 8 ≤ length front → kind_of s.order front ≡ kind
+    kind_here long = sym (kind-append s.order front more (omega arith)) ∙ ap (kind_of s.order) (sym e) ∙ h.is
+
+pub head_cut : (s : Section) (head : Head) → IsHead s head → IsCutBefore (block_fault s) (head_bytes head)
+head_cut s head h = head-cuts s head.kind head.order head.total (head_bytes head) h.whole h.begun h.may
+
 -- ---- a block that begins with eight bytes
 
 module _ (s : Section) (start : List ℕ) (eight_of : length start ≡ 8) where
@@ -106,6 +126,13 @@ module _ (s : Section) (start : List ℕ) (eight_of : length start ≡ 8) where
 
       len_here : length (take (begin_len kind) bytes) ≡ begin_len kind
       len_here = let fits = begin_fits in length-take-le (begin_len kind) bytes (omega arith)
+
+      -- fewer of them don't tell the order
+      pub begin-cuts : IsCutBefore (λ xs. block_fault s (start ++ xs)) more
+      begin-cuts part rest e some =
+          let here = len_here in
+          start-cut kind part is
+          (omega (arith, here, ap length taken, length-append start more, ap length e, length-append part rest))
 
       -- a magic of neither order
       pub magic-bad : order_told s kind bytes ≡ None → (rest : List ℕ) → block_fault s (start ++ (more ++ rest)) ≡ Some BadBlock

@@ -7,28 +7,33 @@ use Rattle.zr_kinds.specs.declared.fault.Fault.TheVariants.{Memory, Version, Lin
 use Rattle.zr_io.specs.Moved.{Took}
 use Rattle.zr_io.proofs.Moved.{Took-nothing, Took-consumed, Took-then}
 use Rattle.pcap_reader.specs.Records.{Records, no_record, with_record}
-use Rattle.pcap_reader.specs.Capture.{ShowsFault, BrokeOff, TakenShows}
-use Rattle.pcap_reader.proofs.Joined.{always, all_weaker, all_then}
+use Rattle.pcap_reader.specs.Capture.{ShowsFault, BrokeOff, TakenShows, OfFronts}
+use Rattle.pcap_reader.proofs.Joined.{always, all_weaker, all_then, fronts-then, fronts-short, fronts-weaker, Took-both}
 use Rattle.pcapng_reader.specs.Blocks.{Section, block_fault, blocks_in}
 use Rattle.pcapng_reader.specs.Records.{blocks}
 use Rattle.pcapng_reader.specs.Capture.{IsRecordFault, WantsHere, WantsAt, Gives}
-use Rattle.pcapng_reader.specs.Steps.{BlockShows, TakenBlockShows, BlockStops, fault_from, TakesStart}
+use Rattle.pcapng_reader.specs.Steps.{BlockShows, TakenBlockShows, BlockStops, IsCutBefore, fault_from, TakesStart}
 use Rattle.pcapng_reader.proofs.BlockLaws.{fault-start, blocks_in-none, blocks_in-fault}
 
 -- these bytes are passed over: whatever follows, the records are those of what follows
 abbrev pub Over : Section → Section → List ℕ → Type 0
 Over s now passed = (rest : List ℕ) → blocks_in s (passed ++ rest) ≡ blocks_in now rest
 
+-- each shorter front breaks off
+abbrev pub BreaksBefore : Section → List ℕ → Type 0
+BreaksBefore s taken = OfFronts (λ front. BrokeOff (blocks_in s front)) taken
+
 -- bytes that are passed over, and the first ones of a block behind them
 abbrev pub OverTo : Section → Section → List ℕ → List ℕ → Type 0
-OverTo s now start taken = (passed : List ℕ) × (taken ≡ passed ++ start) × Over s now passed
+OverTo s now start taken = (passed : List ℕ) × (taken ≡ passed ++ start) × Over s now passed × BreaksBefore s passed
 
 over_none : (s now : Section) (xs : List ℕ) → Over s now xs → blocks_in s xs ≡ no_record None
 over_none s now xs over = ap (blocks_in s) (sym (append-nil xs)) ∙ over [] ∙ blocks_in-none now
 
 over_to : (s now : Section) (start xs ys : List ℕ) → OverTo s now start xs → blocks_in s (xs ++ ys) ≡ blocks_in now (start ++ ys)
 over_to s now start xs ys h =
-    ap (λ (l : List ℕ). blocks_in s (l ++ ys)) h.1 ∙ ap (blocks_in s) (append_assoc h.0 start ys) ∙ h.2 (start ++ ys)
+    let over = h.2 in
+    ap (λ (l : List ℕ). blocks_in s (l ++ ys)) h.1 ∙ ap (blocks_in s) (append_assoc h.0 start ys) ∙ over (start ++ ys)
 
 start_cut : (s : Section) (bytes : List ℕ) → 0 < length bytes → length bytes < 8 → blocks_in s bytes ≡ no_record (Some Cut)
 start_cut s bytes some short = blocks_in-fault s bytes Cut some (fault-start s bytes short)
@@ -36,6 +41,17 @@ start_cut s bytes some short = blocks_in-fault s bytes Cut some (fault-start s b
 start_broke : (s : Section) (bytes : List ℕ) → length bytes < 8 → BrokeOff (blocks_in s bytes)
 start_broke s [] short = inl (blocks_in-none s)
 start_broke s (byte ∷ bytes) short = inr (start_cut s (byte ∷ bytes) (omega arith) short)
+
+-- the first bytes of a block, and the rest of it
+block_breaks : (s now : Section) (start : List ℕ) → length start ≡ 8 → (xs ys : List ℕ) → OverTo s now start xs
+    → IsCutBefore (fault_from now start) ys → BreaksBefore s (xs ++ ys)
+block_breaks s now start eight xs ys h cut =
+    let over = h.2 in
+    fronts-then (λ front. BrokeOff (blocks_in s front)) xs ys
+    (subst (BreaksBefore s) (sym h.1) (fronts-then (λ front. BrokeOff (blocks_in s front)) h.0 start h.3
+    (fronts-short _ start (λ front short. subst BrokeOff (sym (over front)) (start_broke now front (omega arith))))))
+    (fronts-weaker _ _ ys (λ front is. inr (over_to s now start xs front h
+    ∙ blocks_in-fault now (start ++ front) Cut (omega (arith, length-append start front)) is)) cut)
 
 -- nothing is passed over at first
 pub over-nothing : (s : Section) → Over s s []
@@ -64,7 +80,7 @@ taken_shown records s bytes LongRecord is same some shows = same ∙ blocks_in-f
 taken_shown records s bytes BadBlock is same some shows = same ∙ blocks_in-fault s bytes BadBlock some shows
 taken_shown records s bytes _ is same some shows = absurd is
 
-module _ (s now : Section) (a b : Option (List ℕ)) (over : Took a b (Over s now)) where
+module _ (s now : Section) (a b : Option (List ℕ)) (over : Took a b (Over s now)) (breaks : Took a b (BreaksBefore s)) where
   -- the end
   pub gives-end : (later : Section) (c : Option (List ℕ)) (frame : List ℕ) → IsAtEnd c → Keeps b c → Gives (blocks s) (blocks later) a c frame (Ok None)
   gives-end later c frame end kept = (
@@ -82,19 +98,27 @@ module _ (s now : Section) (a b : Option (List ℕ)) (over : Took a b (Over s no
     always a,
     Took-then a b c (Over s now) (λ ys. length ys < 8) _
         (λ xs ys passed short. subst BrokeOff (sym (passed ys)) (start_broke now ys short)) over stops,
+    λ is. absurd is,
   )
   gives-startless later c frame Cut stops = (
     tt,
     all_then a b (Over s now) (λ ys. (0 < length ys) × (length ys < 8)) _ (λ xs ys passed p. passed ys ∙ start_cut now ys p.0 p.1) over stops.0,
     Took-then a b c (Over s now) (λ ys. (0 < length ys) × (length ys < 8)) _ (λ xs ys passed p. passed ys ∙ start_cut now ys p.0 p.1) over stops.1,
+    λ is. absurd is,
   )
   gives-startless later c frame _ stops = absurd stops
 
-  module _ (start : List ℕ) (some : 0 < length start) (b' c : Option (List ℕ)) (consumed : Consumes b b' start) where
+  module _ (start : List ℕ) (eight : length start ≡ 8) (b' c : Option (List ℕ)) (consumed : Consumes b b' start) where
     took_to : Took a b' (OverTo s now start)
     took_to =
-        Took-then a b b' (Over s now) (λ ys. ys ≡ start) _ (λ xs ys passed same. (xs, ap (λ (l : List ℕ). xs ++ l) same, passed)) over
-        (Took-consumed b b' start _ consumed refl)
+        Took-then a b b' (λ xs. Over s now xs × BreaksBefore s xs) (λ ys. ys ≡ start) _
+        (λ xs ys passed same. (xs, ap (λ (l : List ℕ). xs ++ l) same, passed.0, passed.1))
+        (Took-both a b (Over s now) (BreaksBefore s) over breaks) (Took-consumed b b' start _ consumed refl)
+
+    -- no byte was taken behind the block
+    pub block-alone : Took b' c (IsCutBefore (fault_from now start)) → Took a c (BreaksBefore s)
+    block-alone cut = Took-then a b' c (OverTo s now start) (IsCutBefore (fault_from now start)) (BreaksBefore s)
+        (block_breaks s now start eight) took_to cut
 
     -- the block stopped
     pub gives-stop : (later : Section) (frame : List ℕ) (fault : Fault) → BlockStops IsRecordFault (fault_from now start) b' c fault
@@ -107,6 +131,7 @@ module _ (s now : Section) (a b : Option (List ℕ)) (over : Took a b (Over s no
       Took-then a b' c (OverTo s now start) (λ ys. TakenBlockShows (fault_from now start ys) fault) _
           (λ xs ys p shows. taken_shown (blocks_in s (xs ++ ys)) now (start ++ ys) fault stops.0 (over_to s now start xs ys p)
           (omega (arith, length-append start ys)) shows) took_to stops.2,
+      λ is. block-alone (stops.3 is),
     )
 
     -- memory was wanted within the block

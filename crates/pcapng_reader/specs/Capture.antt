@@ -6,7 +6,7 @@ use Rattle.zr_kinds.specs.declared.fault.Fault.TheVariants.{Memory, NotPcap, Ver
 use Rattle.zr_io.specs.Moved.{Took}
 use Rattle.pcap_reader.specs.Records.{no_record, with_record}
 use Rattle.pcap_reader.specs.Capture as classic_form
-use Rattle.pcap_reader.specs.Capture.{ShowsFault, TakenShows, HeaderShows, TakenHeaderShows}
+use Rattle.pcap_reader.specs.Capture.{ShowsFault, BrokeOff, TakenShows, HeaderShows, TakenHeaderShows, IsOutOfForm, OfFronts}
 use Rattle.pcap_reader.specs.declared.capture.Record.{Record}
 use Rattle.pcapng_reader.specs.Blocks.{Section, Kind, kind_of, fixed_len, captured_len, block_fault, blocks_in}
 use Rattle.pcapng_reader.specs.declared.kind.Kind.TheVariants.{InterfaceDescription, EnhancedPacket, SimplePacket}
@@ -70,23 +70,29 @@ WantsMemory (blocks section) taken = WantsAt section taken
 -- ---- the calls
 
 -- `Ok` took a file header, or the first section header: whatever follows it, the capture's records are the records of
--- what follows. A fault is that of this header, in all the bytes and in those that were taken.
+-- what follows. A fault is that of this header, in all the bytes and in those that were taken. Nothing was taken behind it: each
+-- shorter front of a header is cut.
 abbrev pub Opens : Option (List ℕ) → Option (List ℕ) → Result Reading Fault → Type 0
 Opens old new (Ok capture) =
     (capture.fault ≡ None) × Took old new (λ taken. (rest : List ℕ) → records_of (taken ++ rest) ≡ records_from capture.going rest)
+    × Took old new (OfFronts (λ front. opening_fault front ≡ Some Cut))
 Opens old new (Err fault) =
     IsOpeningFault fault × IfSome old (λ all. HeaderShows (opening_fault all) fault)
     × Took old new (λ taken. TakenHeaderShows (opening_fault taken) fault)
+    × (IsOutOfForm fault → Took old new (OfFronts (λ front. opening_fault front ≡ Some Cut)))
 
 -- `Ok(Some(_))` took one record, and blocks before it that are no packets: whatever follows, the first record is this
 -- frame, and the others are those of what follows. `Ok(None)` is the end, and took such blocks alone. A fault is that of
--- all the bytes, and those that were taken show it.
+-- all the bytes, and those that were taken show it. Nothing was taken behind the record, nor behind what is out of form: each shorter
+-- front breaks off.
 abbrev pub Gives : Going → Going → Option (List ℕ) → Option (List ℕ) → List ℕ → Result (Option Record) Fault → Type 0
 Gives going going_now old new frame (Ok (Some found)) =
     (found.captured ≡ length frame) × Took old new
     (λ taken. (rest : List ℕ) → records_from going (taken ++ rest) ≡ with_record frame found.original (records_from going_now rest))
+    × Took old new (OfFronts (λ front. BrokeOff (records_from going front)))
 Gives going going_now old new frame (Ok None) =
     IfSome old (λ all. IsAtEnd new) × Took old new (λ taken. records_from going taken ≡ no_record None)
 Gives going going_now old new frame (Err fault) =
     IsRecordFault fault × IfSome old (λ all. ShowsFault (records_from going all) fault)
     × Took old new (λ taken. TakenShows (records_from going taken) fault)
+    × (IsOutOfForm fault → Took old new (OfFronts (λ front. BrokeOff (records_from going front))))

@@ -6,6 +6,7 @@ use Rattle.zr_kinds.specs.declared.fault.Fault.TheVariants.{Memory, Version, Lin
 use Rattle.zr_io.specs.Moved.{Took}
 use Rattle.pcap_reader.specs.declared.order.ByteOrder.{ByteOrder}
 use Rattle.pcap_reader.specs.Records.{number, with_record}
+use Rattle.pcap_reader.specs.Capture.{IsOutOfForm, OfFronts}
 use Rattle.pcap_reader.specs.Steps.{BreaksOff}
 use Rattle.pcap_reader.specs.declared.capture.Record.{Record}
 use Rattle.pcapng_reader.specs.declared.section as code
@@ -51,10 +52,15 @@ TakenBlockShows found Memory = found ≡ Some Cut
 TakenBlockShows found Read = found ≡ Some Cut
 TakenBlockShows found fault = found ≡ Some fault
 
+-- no byte was taken behind those that have a fault or make the block whole: each shorter front is cut
+abbrev pub IsCutBefore : (List ℕ → Option Fault) → List ℕ → Type 0
+IsCutBefore fault_in taken = OfFronts (λ front. fault_in front ≡ Some Cut) taken
+
 -- a fault of the block, in all the bytes and in those that were taken
 abbrev pub BlockStops : (Fault → Type 0) → (List ℕ → Option Fault) → Option (List ℕ) → Option (List ℕ) → Fault → Type 0
 BlockStops Comes fault_in old new fault =
     Comes fault × IfSome old (λ all. BlockShows (fault_in all) fault) × Took old new (λ taken. TakenBlockShows (fault_in taken) fault)
+    × (IsOutOfForm fault → Took old new (IsCutBefore fault_in))
 
 -- what is wrong with the block whose first bytes were taken before
 abbrev pub fault_from : Section → List ℕ → List ℕ → Option Fault
@@ -99,6 +105,7 @@ TakesHead s start old new (Err fault) = BlockStops IsHeaderFault (fault_from s s
 abbrev pub PassesBlock : (Fault → Type 0) → Section → Section → List ℕ → Option (List ℕ) → Option (List ℕ) → Result (Unit {0}) Fault → Type 0
 PassesBlock Comes s now front old new (Ok _) =
     (now.others ≡ s.others + 1) × Took old new (λ taken. (rest : List ℕ) → blocks_in s ((front ++ taken) ++ rest) ≡ blocks_in now rest)
+    × Took old new (IsCutBefore (fault_from s front))
 PassesBlock Comes s now front old new (Err fault) = BlockStops Comes (fault_from s front) old new fault
 
 -- the faults of an interface's block
@@ -138,6 +145,7 @@ abbrev pub TakesPacket : Section → List ℕ → Option (List ℕ) → Option (
 TakesPacket s front old new frame (Ok found) =
     (found.captured ≡ length frame) × Took old new
     (λ taken. (rest : List ℕ) → blocks_in s ((front ++ taken) ++ rest) ≡ with_record frame found.original (blocks_in s rest))
+    × Took old new (IsCutBefore (fault_from s front))
 TakesPacket s front old new frame (Err fault) = BlockStops IsRecordFault (fault_from s front) old new fault
 
 -- the rest of a block of either sort
@@ -159,4 +167,5 @@ abbrev pub OpensBlocks : List ℕ → Option (List ℕ) → Option (List ℕ) �
 OpensBlocks first old new (Ok capture) =
     (capture.fault ≡ None) × Took old new
     (λ taken. (rest : List ℕ) → blocks_in no_section ((first ++ taken) ++ rest) ≡ blocks_in (told capture.section) rest)
+    × Took old new (IsCutBefore (fault_from no_section first))
 OpensBlocks first old new (Err fault) = BlockStops IsHeaderFault (fault_from no_section first) old new fault

@@ -3,7 +3,7 @@ use Rattle.std.proofs.Common.{◌≡◌, sym, subst}
 use Rattle.std.proofs.lemmas.Result.{err_from_is_err_and}
 use Rattle.zr_kinds.specs.declared.fault.Fault.TheVariants.{Memory}
 use Rattle.pcap_reader.specs.Steps.{BodyStops}
-use Rattle.pcap_reader.proofs.Joined.{Stops-bodiless, Took-record, Took-wanting}
+use Rattle.pcap_reader.proofs.Joined.{Stops-bodiless, Took-record, Took-record-alone, Took-wanting}
 use Rattle.pcap_reader.proofs.capture.read_next.Goals as goal
 
 pub returns-in_err-read_body-clause-gives : goal.returns-in_err-read_body-clause-gives
@@ -15,8 +15,11 @@ returns-in_err-read_body-clause-gives g c =
 pub returns-clause-gives : goal.returns-clause-gives
 returns-clause-gives g c =
     let header = rw c.in-Some.is at c.in_ok-record.ensures.takes in
-    let body = c.in_ok-read_body.ensures.takes in
-    (sym body.0, Took-record c.args.order _ _ _ c.in-Some.record c.read_body.new.into.items header body.0 body.1)
+    let body = c.in_ok-read_body.ensures.takes in (
+      sym body.0,
+      Took-record c.args.order _ _ _ c.in-Some.record c.read_body.new.into.items header body.0 body.1,
+      Took-record-alone c.args.order _ _ _ c.in-Some.record c.read_body.new.into.items header body.0 body.1,
+    )
 
 pub returns-in_err-read_body-clause-memory : goal.returns-in_err-read_body-clause-memory
 returns-in_err-read_body-clause-memory g c = λ same.

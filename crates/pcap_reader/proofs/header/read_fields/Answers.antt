@@ -6,7 +6,7 @@ use Rattle.zr_io.proofs.Moved.{Took-consumed}
 use Rattle.pcap_reader.specs.Records.{number}
 use Rattle.pcap_reader.specs.Steps.{fault_of_fields}
 use Rattle.pcap_reader.proofs.HeaderLaws.{fault_of_fields-cut, fault_of_fields-version, fault_of_fields-link, behind_magic-good}
-use Rattle.pcap_reader.proofs.Joined.{HeaderStops-broken, HeaderStops-front}
+use Rattle.pcap_reader.proofs.Joined.{HeaderStops-broken, HeaderStops-front, fronts-short}
 use Rattle.pcap_reader.proofs.RecordLaws.{number_in}
 use Rattle.pcap_reader.proofs.header.read_fields.Goals as goal
 
@@ -25,7 +25,7 @@ returns-then-number16-ne-MAJOR_VERSION-clause-takes g c =
     let whole : length fields ≡ 20 = omega arith in
     let other = λ (e : number order 2 fields ≡ 2). c.if-number16-ne-MAJOR_VERSION.true (c.number16.ensures ∙ e) in
     HeaderStops-front (fault_of_fields order) _ _ fields Version tt (λ rest. fault_of_fields-version order fields rest whole other)
-    (λ found e. e) (λ found e. e)
+    (λ found e. e) (λ found e. e) (fronts-short _ fields (λ front short. fault_of_fields-cut order front (omega arith)))
     c.in_ok-fill_whole.ensures.fills
 
 pub returns-then-number32-ne-ETHERNET-clause-takes :
@@ -38,7 +38,7 @@ returns-then-number32-ne-ETHERNET-clause-takes g c =
     let two = sym c.number16.ensures ∙ c.if-number16-ne-MAJOR_VERSION.false in
     let other = λ (e : number order 4 (drop 16 fields) % 65536 ≡ 1). c.if-number32-ne-ETHERNET.true (ap (λ (n : ℕ). n % 65536) (sym link) ∙ e) in
     HeaderStops-front (fault_of_fields order) _ _ fields LinkType tt (λ rest. fault_of_fields-link order fields rest whole two other)
-    (λ found e. e) (λ found e. e)
+    (λ found e. e) (λ found e. e) (fronts-short _ fields (λ front short. fault_of_fields-cut order front (omega arith)))
     c.in_ok-fill_whole.ensures.fills
 
 pub returns-clause-takes : goal.returns-clause-takes
@@ -48,5 +48,8 @@ returns-clause-takes g c =
     let whole : length fields ≡ 20 = omega arith in
     let link = number_in order 16 4 fields c.number32.result whole c.number32.ensures in
     let two = sym c.number16.ensures ∙ c.if-number16-ne-MAJOR_VERSION.false in
-    let ethernet = ap (λ (n : ℕ). n % 65536) link ∙ c.if-number32-ne-ETHERNET.false in
-    Took-consumed _ _ fields _ c.in_ok-fill_whole.ensures.fills (λ rest. behind_magic-good order fields rest whole two ethernet)
+    let ethernet = ap (λ (n : ℕ). n % 65536) link ∙ c.if-number32-ne-ETHERNET.false in (
+      Took-consumed _ _ fields _ c.in_ok-fill_whole.ensures.fills (λ rest. behind_magic-good order fields rest whole two ethernet),
+      Took-consumed _ _ fields _ c.in_ok-fill_whole.ensures.fills
+          (fronts-short _ fields (λ front short. fault_of_fields-cut order front (omega arith))),
+    )

@@ -9,7 +9,7 @@ use Rattle.pcapng_reader.specs.declared.kind.Kind.TheVariants.{InterfaceDescript
 use Rattle.pcapng_reader.specs.Blocks.{Section, Kind, Interface, fixed_len, fixed_fault, is_packet, section_behind, order_told}
 use Rattle.pcapng_reader.specs.Steps.{told, head_bytes, IsInterfaceFault}
 use Rattle.pcapng_reader.proofs.BlockLaws.{fits-room, fixed_most}
-use Rattle.pcapng_reader.proofs.BlockSteps.{end-stops}
+use Rattle.pcapng_reader.proofs.BlockSteps.{end-stops, end-alone}
 use Rattle.pcapng_reader.proofs.Heads.{number_of}
 use Rattle.pcapng_reader.proofs.WholeBlocks.{head-alone, head-wants, block-passed, section-same}
 use Rattle.pcapng_reader.proofs.blocks.add_interface.Goals as goal
@@ -45,6 +45,7 @@ returns-then-is_err-clause-passes g c =
       Took-nothing _ _ _ (Keeps-same _)
           (head-alone s head.kind head.order head.total (head_bytes head) h.whole h.begun h.may
           (ap (λ (k : Kind). fixed_fault s k head.order (head_bytes head)) c.requires.kind)),
+      λ is. absurd is,
     )
 
 pub returns-then-is_err-clause-memory : goal.returns-then-is_err-clause-memory
@@ -86,4 +87,7 @@ returns-clause-passes g c =
           [] tail c.room.result (omega arith) last _ (ap is_packet c.requires.kind)
           (added s head.kind head.order (head_bytes head) _ _ _ c.requires.kind h.begun.tells link snap
           (search rules))) c.in_ok-read_end.ensures.takes,
+      end-alone s head.kind head.order head.total (head_bytes head) h.whole h.begun h.may
+          (ap (λ (k : Kind). fixed_fault s k head.order (head_bytes head)) c.requires.kind)
+          [] c.room.result (omega arith) _ _ c.in_ok-read_end.ensures.takes,
     )

@@ -11,7 +11,7 @@ use Rattle.pcapng_reader.specs.declared.kind.Kind.TheVariants.{SectionHeader}
 use Rattle.pcapng_reader.specs.Blocks.{Section, Kind, fixed_len, fixed_fault, is_packet, section_behind, order_told}
 use Rattle.pcapng_reader.specs.Steps.{told, head_bytes, fault_from, IsHeaderFault}
 use Rattle.pcapng_reader.proofs.BlockLaws.{fits-room, fixed_most, head-fault}
-use Rattle.pcapng_reader.proofs.BlockSteps.{stops-before, end-stops}
+use Rattle.pcapng_reader.proofs.BlockSteps.{stops-before, end-stops, end-alone}
 use Rattle.pcapng_reader.proofs.Heads.{number_of}
 use Rattle.pcapng_reader.proofs.WholeBlocks.{block-passed, section-same}
 use Rattle.pcapng_reader.proofs.blocks.begin_section.Goals as goal
@@ -85,4 +85,7 @@ returns-clause-passes g c =
           h.whole h.begun h.may (this_version s head.kind head.order (head_bytes head) c.number16.result c.requires.kind major c.if-number16-ne-MAJOR_VERSION.false)
           [] tail c.room.result (omega arith) last _ (ap is_packet c.requires.kind)
           (begun s head.kind head.order (head_bytes head) (told c.begin.new.self) c.requires.kind h.begun.tells c.begin.ensures)) c.in_ok-read_end.ensures.takes,
+      end-alone s head.kind head.order head.total (head_bytes head) h.whole h.begun h.may
+          (this_version s head.kind head.order (head_bytes head) c.number16.result c.requires.kind major c.if-number16-ne-MAJOR_VERSION.false)
+          [] c.room.result (omega arith) _ _ c.in_ok-read_end.ensures.takes,
     )

@@ -5,7 +5,7 @@ use Rattle.zr_io.proofs.Moved.{Took-weaker}
 use Rattle.pcapng_reader.specs.Blocks.{Kind, fixed_fault, is_packet, section_behind}
 use Rattle.pcapng_reader.specs.Steps.{told, head_bytes, IsHeaderFault}
 use Rattle.pcapng_reader.proofs.BlockLaws.{fits-room}
-use Rattle.pcapng_reader.proofs.BlockSteps.{end-stops}
+use Rattle.pcapng_reader.proofs.BlockSteps.{end-stops, end-alone}
 use Rattle.pcapng_reader.proofs.WholeBlocks.{block-passed}
 use Rattle.pcapng_reader.proofs.blocks.pass_over.Goals as goal
 
@@ -31,4 +31,7 @@ returns-clause-passes g c =
       Took-weaker _ _ _ _ (λ tail last. block-passed s head.kind head.order head.total (head_bytes head) h.whole h.begun h.may
           (ap (λ (k : Kind). fixed_fault s k head.order (head_bytes head)) c.requires.kind) [] tail c.room.result (omega arith) last _
           (ap is_packet c.requires.kind) (ap (λ (k : Kind). section_behind s k (head_bytes head)) c.requires.kind)) c.in_ok-read_end.ensures.takes,
+      end-alone s head.kind head.order head.total (head_bytes head) h.whole h.begun h.may
+          (ap (λ (k : Kind). fixed_fault s k head.order (head_bytes head)) c.requires.kind) [] c.room.result (omega arith) _ _
+          c.in_ok-read_end.ensures.takes,
     )

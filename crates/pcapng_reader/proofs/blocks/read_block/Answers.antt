@@ -6,7 +6,8 @@ use Rattle.pcap_reader.specs.Records.{with_record}
 use Rattle.pcapng_reader.specs.Blocks.{blocks_in}
 use Rattle.pcapng_reader.specs.Capture.{IsRecordFault, WantsHere}
 use Rattle.pcapng_reader.specs.Steps.{told, head_bytes, fault_from, IsHeaderFault, IsInterfaceFault}
-use Rattle.pcapng_reader.proofs.BlockSteps.{stops-behind, stops-weaker, took-behind, header_comes, interface_comes}
+use Rattle.pcapng_reader.proofs.BlockSteps.{stops-behind, cut-behind, stops-weaker, took-behind, header_comes, interface_comes}
+use Rattle.pcapng_reader.proofs.Heads.{head_cut}
 use Rattle.pcapng_reader.proofs.blocks.read_block.Goals as goal
 
 pub returns-in_err-head-clause-takes : goal.returns-in_err-head-clause-takes
@@ -23,7 +24,7 @@ returns-in_err-begin_section-in-SectionHeader-clause-takes g c =
     let s = told c.args.section.now in
     let front = head_bytes c.in_ok-head.head in
     rw (p.1, p.2)
-    (stops-behind IsRecordFault s c.args.start front _ _ _ _ c.in_ok-head.ensures.takes
+    (stops-behind s c.args.start front (head_cut s c.in_ok-head.head c.in_ok-head.ensures.is) _ _ _ c.in_ok-head.ensures.takes IsRecordFault _
     (stops-weaker IsHeaderFault (fault_from s front) IsRecordFault _ _ _ header_comes c.in_err-begin_section-in-SectionHeader.ensures.passes))
 
 pub returns-in_ok-begin_section-in-SectionHeader-clause-takes :
@@ -34,6 +35,7 @@ returns-in_ok-begin_section-in-SectionHeader-clause-takes g c =
       passes.0,
       took-behind c.args.start (head_bytes c.in_ok-head.head) _ _ _
           (λ block. (rest : List ℕ) → blocks_in s (block ++ rest) ≡ blocks_in (told c.begin_section.new.section) rest) c.in_ok-head.ensures.takes passes.1,
+      cut-behind s c.args.start (head_bytes c.in_ok-head.head) (head_cut s c.in_ok-head.head c.in_ok-head.ensures.is) _ _ _ c.in_ok-head.ensures.takes passes.2,
     )
 
 pub returns-in_err-add_interface-in-InterfaceDescription-clause-takes :
@@ -44,7 +46,7 @@ returns-in_err-add_interface-in-InterfaceDescription-clause-takes g c =
     let s = told c.args.section.now in
     let front = head_bytes c.in_ok-head.head in
     rw (p.1, p.2)
-    (stops-behind IsRecordFault s c.args.start front _ _ _ _ c.in_ok-head.ensures.takes
+    (stops-behind s c.args.start front (head_cut s c.in_ok-head.head c.in_ok-head.ensures.is) _ _ _ c.in_ok-head.ensures.takes IsRecordFault _
     (stops-weaker IsInterfaceFault (fault_from s front) IsRecordFault _ _ _ interface_comes c.in_err-add_interface-in-InterfaceDescription.ensures.passes))
 
 pub returns-in_ok-add_interface-in-InterfaceDescription-clause-takes :
@@ -55,6 +57,7 @@ returns-in_ok-add_interface-in-InterfaceDescription-clause-takes g c =
       passes.0,
       took-behind c.args.start (head_bytes c.in_ok-head.head) _ _ _
           (λ block. (rest : List ℕ) → blocks_in s (block ++ rest) ≡ blocks_in (told c.add_interface.new.section) rest) c.in_ok-head.ensures.takes passes.1,
+      cut-behind s c.args.start (head_bytes c.in_ok-head.head) (head_cut s c.in_ok-head.head c.in_ok-head.ensures.is) _ _ _ c.in_ok-head.ensures.takes passes.2,
     )
 
 pub returns-in_err-pass_over-in-Other-clause-takes :
@@ -65,7 +68,7 @@ returns-in_err-pass_over-in-Other-clause-takes g c =
     let s = told c.args.section.now in
     let front = head_bytes c.in_ok-head.head in
     rw (p.1, p.2)
-    (stops-behind IsRecordFault s c.args.start front _ _ _ _ c.in_ok-head.ensures.takes
+    (stops-behind s c.args.start front (head_cut s c.in_ok-head.head c.in_ok-head.ensures.is) _ _ _ c.in_ok-head.ensures.takes IsRecordFault _
     (stops-weaker IsHeaderFault (fault_from s front) IsRecordFault _ _ _ header_comes c.in_err-pass_over-in-Other.ensures.passes))
 
 pub returns-in_ok-pass_over-in-Other-clause-takes :
@@ -76,6 +79,7 @@ returns-in_ok-pass_over-in-Other-clause-takes g c =
       passes.0,
       took-behind c.args.start (head_bytes c.in_ok-head.head) _ _ _
           (λ block. (rest : List ℕ) → blocks_in s (block ++ rest) ≡ blocks_in (told c.pass_over.new.section) rest) c.in_ok-head.ensures.takes passes.1,
+      cut-behind s c.args.start (head_bytes c.in_ok-head.head) (head_cut s c.in_ok-head.head c.in_ok-head.ensures.is) _ _ _ c.in_ok-head.ensures.takes passes.2,
     )
 
 pub returns-in_err-add_interface-in-InterfaceDescription-clause-memory :
@@ -102,7 +106,8 @@ returns-in_err-read_packet-in-EnhancedPacket-clause-takes g c =
     let r = c.from_residual-in_err-read_packet-in-EnhancedPacket in
     let p = err_from_is_err_and r.result r.ensures.1 in
     rw (p.1, p.2)
-    (stops-behind IsRecordFault (told c.args.section.now) c.args.start (head_bytes c.in_ok-head.head) _ _ _ _ c.in_ok-head.ensures.takes
+    (stops-behind (told c.args.section.now) c.args.start (head_bytes c.in_ok-head.head)
+    (head_cut (told c.args.section.now) c.in_ok-head.head c.in_ok-head.ensures.is) _ _ _ c.in_ok-head.ensures.takes IsRecordFault _
     c.in_err-read_packet-in-EnhancedPacket.ensures.takes)
 
 pub returns-in-EnhancedPacket-clause-takes : goal.returns-in-EnhancedPacket-clause-takes
@@ -116,5 +121,7 @@ returns-in-EnhancedPacket-clause-takes g c =
         took-behind c.args.start (head_bytes c.in_ok-head.head) _ _ _
             (λ block. (rest : List ℕ) → blocks_in s (block ++ rest) ≡ with_record c.read_packet.new.into.items found.original (blocks_in s rest))
             c.in_ok-head.ensures.takes takes.1,
+        cut-behind s c.args.start (head_bytes c.in_ok-head.head) (head_cut s c.in_ok-head.head c.in_ok-head.ensures.is) _ _ _
+            c.in_ok-head.ensures.takes takes.2,
       ),
     )

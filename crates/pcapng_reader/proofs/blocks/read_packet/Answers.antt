@@ -9,13 +9,13 @@ use Rattle.zr_io.proofs.Moved.{Took-consumed, Took-nothing, Took-then}
 use Rattle.pcap_reader.specs.Records.{with_record}
 use Rattle.pcap_reader.specs.Steps.{BodyStops}
 use Rattle.pcap_reader.specs.declared.capture.Record.{Record}
-use Rattle.pcap_reader.proofs.Joined.{always}
+use Rattle.pcap_reader.proofs.Joined.{always, fronts-short}
 use Rattle.pcapng_reader.specs.declared.head.Head.{Head}
 use Rattle.pcapng_reader.specs.Blocks.{Section, fixed_len, is_packet, block_fault, blocks_in}
 use Rattle.pcapng_reader.specs.Capture.{IsRecordFault, WantsHere}
-use Rattle.pcapng_reader.specs.Steps.{told, head_bytes, fault_from, IsHead, IsPacket, BlockStops, TakesEnd}
+use Rattle.pcapng_reader.specs.Steps.{told, head_bytes, fault_from, IsHead, IsPacket, BlockStops, IsCutBefore, TakesEnd}
 use Rattle.pcapng_reader.proofs.BlockLaws.{head-fault, head-cut}
-use Rattle.pcapng_reader.proofs.BlockSteps.{stops-broken, stops-then, packet-stops, end-stops}
+use Rattle.pcapng_reader.proofs.BlockSteps.{stops-broken, stops-then, cut-then, packet-stops, end-stops, end-alone}
 use Rattle.pcapng_reader.proofs.WholeBlocks.{head-alone, packet-wants, packet_keeps, block-record}
 use Rattle.pcapng_reader.proofs.blocks.read_packet.Goals as goal
 
@@ -27,8 +27,12 @@ module _ (s : Section) (head : Head) (h : IsHead s head) (found : Record) (is : 
   -- the captured bytes weren't taken whole
   body-stops : (a b : Option (List ℕ)) (fault : Fault) → BodyStops found.captured a b fault
       → BlockStops IsRecordFault (fault_from s (head_bytes head)) a b fault
-  body-stops a b Memory stops =
-      (tt, always a, Took-nothing a b _ stops.1 (head-alone s head.kind head.order head.total (head_bytes head) h.whole h.begun h.may is.0))
+  body-stops a b Memory stops = (
+    tt,
+    always a,
+    Took-nothing a b _ stops.1 (head-alone s head.kind head.order head.total (head_bytes head) h.whole h.begun h.may is.0),
+    λ bad. absurd bad,
+  )
   body-stops a b fault stops =
       stops-broken IsRecordFault (fault_from s (head_bytes head)) a b (λ xs. length xs < found.captured) fault tt tt
       (λ xs short. head-cut s head.kind head.order head.total (head_bytes head) h.whole h.begun h.may is.0 xs
@@ -46,13 +50,28 @@ module _ (s : Section) (head : Head) (h : IsHead s head) (found : Record) (is : 
   module _ (a b c : Option (List ℕ)) (frame : List ℕ) (room : ℕ) (whole : length frame ≡ found.captured)
       (rest : room + (fixed_len head.kind + 4) ≡ head.total) (consumed : Consumes a b frame)
     where
+      same_frame : (xs ys : List ℕ) → xs ≡ frame → block_fault s (head_bytes head ++ (xs ++ ys)) ≡ block_fault s (head_bytes head ++ (frame ++ ys))
+      same_frame xs ys same = ap (λ (l : List ℕ). block_fault s (head_bytes head ++ (l ++ ys))) same
+
+      frame_cuts : (xs : List ℕ) → xs ≡ frame → IsCutBefore (fault_from s (head_bytes head)) xs
+      frame_cuts xs same = fronts-short _ xs (λ part short.
+          head-cut s head.kind head.order head.total (head_bytes head) h.whole h.begun h.may is.0 part
+          (let fits = is.4 in omega (arith, ap length same)))
+
       tail-stops : (fault : Fault) → TakesEnd head.order head.total (room - found.captured) b c (Err fault)
           → BlockStops IsRecordFault (fault_from s (head_bytes head)) a c fault
       tail-stops fault ends =
           stops-then IsRecordFault (fault_from s (head_bytes head)) (λ ys. block_fault s (head_bytes head ++ (frame ++ ys))) a b c (λ xs. xs ≡ frame) fault
-          (λ xs ys same. ap (λ (l : List ℕ). block_fault s (head_bytes head ++ (l ++ ys))) same) (Took-consumed a b frame _ consumed refl)
+          same_frame frame_cuts (Took-consumed a b frame _ consumed refl)
           (end-stops s head.kind head.order head.total (head_bytes head) h.whole h.begun h.may is.0 frame (room - found.captured) (size frame room whole rest)
           IsRecordFault b c fault tt tt tt ends)
+
+      packet-alone : TakesEnd head.order head.total (room - found.captured) b c (Ok tt) → Took a c (IsCutBefore (fault_from s (head_bytes head)))
+      packet-alone ends =
+          cut-then IsRecordFault (fault_from s (head_bytes head)) (λ ys. block_fault s (head_bytes head ++ (frame ++ ys))) a b c (λ xs. xs ≡ frame)
+          same_frame frame_cuts (Took-consumed a b frame _ consumed refl)
+          (end-alone s head.kind head.order head.total (head_bytes head) h.whole h.begun h.may is.0 frame (room - found.captured) (size frame room whole rest)
+          b c ends)
 
       took-packet : is_packet head.kind ≡ true → TakesEnd head.order head.total (room - found.captured) b c (Ok tt)
           → Took a c (λ taken. (more : List ℕ) → blocks_in s ((head_bytes head ++ taken) ++ more) ≡ with_record frame found.original (blocks_in s more))
@@ -104,4 +123,6 @@ returns-clause-takes g c =
       sym body.0,
       took-packet (told c.args.section.now) c.args.head.now c.requires.head c.in_ok-record.record c.in_ok-record.ensures _ _ _
           c.read_body.new.into.items c.room.result body.0 (omega arith) body.1 c.requires.kind c.in_ok-read_end.ensures.takes,
+      packet-alone (told c.args.section.now) c.args.head.now c.requires.head c.in_ok-record.record c.in_ok-record.ensures _ _ _
+          c.read_body.new.into.items c.room.result body.0 (omega arith) body.1 c.in_ok-read_end.ensures.takes,
     )

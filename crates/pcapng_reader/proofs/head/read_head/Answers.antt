@@ -9,6 +9,7 @@ use Rattle.pcapng_reader.specs.Blocks.{begin_len, block_fault}
 use Rattle.pcapng_reader.specs.Steps.{told, fault_from, IsHeaderFault}
 use Rattle.pcapng_reader.proofs.BlockSteps.{breaks-then, stops-broken, stops-bad}
 use Rattle.pcapng_reader.proofs.Heads.{told_of, none_told, may_come, start-cut, begun_of, magic-bad, total-bad, more-cut, later_whole, later_begun}
+use Rattle.pcapng_reader.proofs.Heads.{begin-cuts}
 use Rattle.pcapng_reader.proofs.head.read_head.Goals as goal
 
 pub returns-in_err-fill_part-clause-takes : goal.returns-in_err-fill_part-clause-takes
@@ -34,6 +35,7 @@ returns-in_err-order-clause-takes g c =
     rw (p.1, p.2, none.1)
     (stops-bad IsHeaderFault (fault_from s start) _ _ (λ t. take (begin_len kind) bytes ≡ start ++ t) tt
     (λ xs rest taken. magic-bad s start (omega arith) kind c.of-kind.ensures bytes (omega arith) front xs taken (sym c.order_told.ensures ∙ none.0) rest)
+    (λ xs taken. begin-cuts s start (omega arith) kind c.of-kind.ensures bytes (omega arith) front xs taken)
     (Took-weaker _ _ _ _ (λ t e. ap (λ (n : ℕ). take n bytes) (sym c.begin_len-begun.ensures) ∙ e
     ∙ ap (λ (l : List ℕ). l ++ t) (take_at c.copy_from_slice.new.self _ 8 (omega arith) ∙ c.copy_from_slice.ensures.after))
     c.in_ok-fill_part.ensures.fills))
@@ -51,6 +53,7 @@ returns-then-refuses-clause-takes g c =
     let h = begun_of s start (omega arith) kind c.of-kind.ensures bytes (omega arith) front order total tells (number_in order 4 24 bytes total (omega arith) c.number32-total.ensures) in
     stops-bad IsHeaderFault (fault_from s start) _ _ (λ t. take (begin_len kind) bytes ≡ start ++ t) tt
     (λ xs rest taken. total-bad s start (omega arith) kind c.of-kind.ensures bytes (omega arith) front xs taken order total h (sym c.refuses.ensures ∙ c.if-refuses.true) rest)
+    (λ xs taken. begin-cuts s start (omega arith) kind c.of-kind.ensures bytes (omega arith) front xs taken)
     (Took-weaker _ _ _ _ (λ t e. ap (λ (n : ℕ). take n bytes) (sym c.begin_len-begun.ensures) ∙ e
     ∙ ap (λ (l : List ℕ). l ++ t) (take_at c.copy_from_slice.new.self _ 8 (omega arith) ∙ c.copy_from_slice.ensures.after))
     c.in_ok-fill_part.ensures.fills)

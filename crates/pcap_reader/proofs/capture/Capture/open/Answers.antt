@@ -12,4 +12,4 @@ returns-in_err-fill_whole-clause-opens g c =
     rw (p.1, p.2) (HeaderStops-broken header_fault _ _ _ _ (λ xs short. header_fault-cut xs (omega arith)) c.in_err-fill_whole.ensures.fills)
 
 pub returns-clause-opens : goal.returns-clause-opens
-returns-clause-opens g c = Opens-behind _ _ _ c.fill_whole.new.into _ c.in_ok-fill_whole.ensures.fills c.open_rest.ensures.opens
+returns-clause-opens g c = Opens-behind _ _ _ c.fill_whole.new.into _ (omega arith) c.in_ok-fill_whole.ensures.fills c.open_rest.ensures.opens

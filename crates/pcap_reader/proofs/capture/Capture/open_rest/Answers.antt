@@ -8,7 +8,7 @@ use Rattle.zr_io.proofs.Moved.{Took-weaker}
 use Rattle.pcap_reader.specs.Records.{ByteOrder, order_of, header_fault, records_of, records_in}
 use Rattle.pcap_reader.specs.Steps.{IsMagicOf, fault_of_fields, behind_magic_in}
 use Rattle.pcap_reader.proofs.HeaderLaws.{records_of-told, header_fault-told, header_fault-other}
-use Rattle.pcap_reader.proofs.Joined.{HeaderStops-nothing, HeaderStops-within}
+use Rattle.pcap_reader.proofs.Joined.{HeaderStops-nothing, HeaderStops-within, fronts-weaker}
 use Rattle.pcap_reader.proofs.capture.Capture.open_rest.Goals as goal
 
 opened : (order : ByteOrder) (magic fields : List ℕ) → IsMagicOf order magic
@@ -47,4 +47,8 @@ pub returns-clause-opens : goal.returns-clause-opens
 returns-clause-opens g c =
     let order = c.in_ok-order.order in
     let is = magic_of c.args.first c.order_of.result order (omega arith) c.order_of.ensures c.in_ok-order.ensures.value in
-    (refl, Took-weaker _ _ _ _ (λ fields good. opened order c.args.first fields is good) c.in_ok-read_fields.ensures.takes)
+    let takes = c.in_ok-read_fields.ensures.takes in (
+      refl,
+      Took-weaker _ _ _ _ (λ fields good. opened order c.args.first fields is good) takes.0,
+      Took-weaker _ _ _ _ (λ fields fronts. fronts-weaker _ _ fields (λ front cut. header_fault-told order c.args.first front is ∙ cut) fronts) takes.1,
+    )

@@ -3,6 +3,7 @@ use Rattle.std.proofs.Common.{length, sym, ◌∙◌, arith}
 use Rattle.std.proofs.lemmas.Result.{err_from_is_err_and}
 use Rattle.pcapng_reader.specs.Steps.{told}
 use Rattle.pcapng_reader.proofs.Forms.{opening-broken, opens-blocks-fault, opens-classic-fault, took-blocks, took-classic}
+use Rattle.pcapng_reader.proofs.Forms.{alone-blocks, alone-classic}
 use Rattle.pcapng_reader.proofs.any.AnyCapture.open.Goals as goal
 
 pub returns-in_err-fill_whole-clause-opens : goal.returns-in_err-fill_whole-clause-opens
@@ -23,6 +24,8 @@ returns-then-is_section_header-clause-opens g c =
       opens.0,
       took-blocks _ _ _ c.fill_whole.new.into (omega arith) c.in_ok-fill_whole.ensures.fills (told c.in_ok-capture.capture.section)
           (sym c.is_section_header.ensures ∙ c.if-is_section_header.true) opens.1,
+      alone-blocks _ _ _ c.fill_whole.new.into (omega arith) c.in_ok-fill_whole.ensures.fills
+          (sym c.is_section_header.ensures ∙ c.if-is_section_header.true) opens.2,
     )
 
 pub returns-in_err-capture-2-clause-opens : goal.returns-in_err-capture-2-clause-opens
@@ -38,4 +41,6 @@ returns-clause-opens g c =
       opens.0,
       took-classic _ _ _ c.fill_whole.new.into (omega arith) c.in_ok-fill_whole.ensures.fills c.in_ok-capture-2.capture.order
           (sym c.is_section_header.ensures ∙ c.if-is_section_header.false) opens.1,
+      alone-classic _ _ _ c.fill_whole.new.into (omega arith) c.in_ok-fill_whole.ensures.fills
+          (sym c.is_section_header.ensures ∙ c.if-is_section_header.false) opens.2,
     )

@@ -4,14 +4,18 @@ use Rattle.std.proofs.lemmas.Result.{err_from_is_err_and}
 use Rattle.std.proofs.lemmas.List.{take_at, take_all}
 use Rattle.zr_kinds.specs.declared.fault.Fault.{Fault}
 use Rattle.zr_io.proofs.Moved.{Took-weaker}
+use Rattle.pcap_reader.proofs.Joined.{fronts-short}
 use Rattle.pcap_reader.specs.declared.order.ByteOrder.TheVariants.{Little}
-use Rattle.pcapng_reader.specs.Blocks.{Section, blocks_in, no_section}
-use Rattle.pcapng_reader.specs.Steps.{told, head_bytes, fault_from, BlockStops, IsHeaderFault}
+use Rattle.pcapng_reader.specs.Blocks.{Section, block_fault, blocks_in, no_section}
+use Rattle.pcapng_reader.specs.Steps.{told, head_bytes, fault_from, BlockStops, IsCutBefore, IsHeaderFault}
 use Rattle.pcapng_reader.proofs.BlockLaws.{fault-start}
-use Rattle.pcapng_reader.proofs.BlockSteps.{stops-broken, stops-behind, took-behind}
-use Rattle.pcapng_reader.proofs.Heads.{kind_of_first}
+use Rattle.pcapng_reader.proofs.BlockSteps.{stops-broken, stops-behind, cut-behind, took-behind}
+use Rattle.pcapng_reader.proofs.Heads.{kind_of_first, head_cut}
 use Rattle.pcapng_reader.proofs.WholeBlocks.{section-same}
 use Rattle.pcapng_reader.proofs.blocks.BlockCapture.open_rest.Goals as goal
+
+start_cuts : (start : List ℕ) → length start ≡ 8 → IsCutBefore (block_fault no_section) start
+start_cuts start eight = fronts-short _ start (λ front short. fault-start no_section front (omega arith))
 
 in_section : (s t : Section) (front : List ℕ) (a b : Option (List ℕ)) (fault : Fault) → s ≡ t → BlockStops IsHeaderFault (fault_from s front) a b fault
     → BlockStops IsHeaderFault (fault_from t front) a b fault
@@ -32,9 +36,9 @@ returns-in_err-head-clause-opens g c =
     let start = c.fill_part.new.bytes in
     let same = section-same Little Little c.new.result.items [] 0 refl c.new.ensures.items in
     rw (p.1, p.2)
-    (stops-behind IsHeaderFault no_section c.args.first start _ _ _ _
+    (stops-behind no_section c.args.first start (start_cuts start (omega arith)) _ _ _
     (Took-weaker _ _ _ _ (λ t e. ap (λ (l : List ℕ). l ++ t) (sym (take_at c.copy_from_slice.new.self _ 4 (omega arith) ∙ c.copy_from_slice.ensures.after))
-    ∙ sym e ∙ take_all 8 start (omega arith)) c.in_ok-fill_part.ensures.fills)
+    ∙ sym e ∙ take_all 8 start (omega arith)) c.in_ok-fill_part.ensures.fills) IsHeaderFault _
     (in_section _ _ start _ _ _ same c.in_err-head.ensures.takes))
 
 pub begin_section-requires-clause-kind : goal.begin_section-requires-clause-kind
@@ -50,10 +54,11 @@ returns-in_err-begin_section-clause-opens g c =
     let front = head_bytes c.in_ok-head.head in
     let same = section-same Little Little c.new.result.items [] 0 refl c.new.ensures.items in
     rw (p.1, p.2)
-    (stops-behind IsHeaderFault no_section c.args.first start _ _ _ _
+    (stops-behind no_section c.args.first start (start_cuts start (omega arith)) _ _ _
     (Took-weaker _ _ _ _ (λ t e. ap (λ (l : List ℕ). l ++ t) (sym (take_at c.copy_from_slice.new.self _ 4 (omega arith) ∙ c.copy_from_slice.ensures.after))
-    ∙ sym e ∙ take_all 8 start (omega arith)) c.in_ok-fill_part.ensures.fills)
-    (stops-behind IsHeaderFault no_section start front _ _ _ _ c.in_ok-head.ensures.takes
+    ∙ sym e ∙ take_all 8 start (omega arith)) c.in_ok-fill_part.ensures.fills) IsHeaderFault _
+    (stops-behind no_section start front (subst (λ (n : Section). IsCutBefore (block_fault n) front) same (head_cut _ c.in_ok-head.head c.in_ok-head.ensures.is))
+    _ _ _ c.in_ok-head.ensures.takes IsHeaderFault _
     (in_section _ _ front _ _ _ same c.in_err-begin_section.ensures.passes)))
 
 pub returns-clause-opens : goal.returns-clause-opens
@@ -69,4 +74,10 @@ returns-clause-opens g c =
           (took-behind start front _ _ _ (λ block. (rest : List ℕ) → blocks_in no_section (block ++ rest) ≡ blocks_in now rest) c.in_ok-head.ensures.takes
           (Took-weaker _ _ _ _ (λ ys passes rest. ap (λ (s : Section). blocks_in s ((front ++ ys) ++ rest)) (sym same) ∙ passes rest)
           c.in_ok-begin_section.ensures.passes.1)),
+      cut-behind no_section c.args.first start (start_cuts start (omega arith)) _ _ _
+          (Took-weaker _ _ _ _ (λ t e. ap (λ (l : List ℕ). l ++ t) (sym (take_at c.copy_from_slice.new.self _ 4 (omega arith) ∙ c.copy_from_slice.ensures.after))
+          ∙ sym e ∙ take_all 8 start (omega arith)) c.in_ok-fill_part.ensures.fills)
+          (cut-behind no_section start front (subst (λ (n : Section). IsCutBefore (block_fault n) front) same (head_cut _ c.in_ok-head.head c.in_ok-head.ensures.is))
+          _ _ _ c.in_ok-head.ensures.takes
+          (Took-weaker _ _ _ _ (λ ys cut. subst (λ (n : Section). IsCutBefore (fault_from n front) ys) same cut) c.in_ok-begin_section.ensures.passes.2)),
     )
