@@ -1,7 +1,7 @@
 -- A frame was accepted, or refused, once the earlier notes were sent.
 use Rattle.std.proofs.Common.{◌≡◌, ℕ, List, [], ◌∷◌, ◌++◌, length, refl, sym, ap, subst, ◌∙◌, arith, true, false, Option, Some, None}
 use Rattle.std.proofs.Common.{nat_le}
-use Rattle.std.specs.Prelude.{Bool, MatchBool}
+use Rattle.std.specs.Prelude.{reverse, Bool, MatchBool}
 use Rattle.std.proofs.lemmas.List.{append-nil}
 use Rattle.std.proofs.lemmas.Bool.{leb-true, leb-false}
 use Rattle.board_face.specs.Looks.{NicLooksStay}
@@ -86,6 +86,7 @@ Accepts-short was pool old flushed new o short more sent_more all few view looks
       many = rw few refl;
       few = omega arith;
       used = used ∙ sym (append-nil old.used);
+      cached = sym (ap (λ (v : NicView). v.cache) view) ∙ sym (append-nil new.cache);
       notes = notes ∙ rw (sent, few) refl;
       shows = rw few (record {
         short = λ le. (record { app = o.app; note = short_note o; bytes = payload_of o }, refl, whole_shows o);
@@ -205,6 +206,7 @@ Accepts-split was pool placed now old flushed filled new o all long places sends
       many = rw long (rw (setting, current) at places.many);
       few = rw long (rw (setting, current) at places.few);
       used = used;
+      cached = places.cached ∙ ap (λ (v : NicView). v.cache ++ reverse places.buffers) (sym sends.view);
       notes = sends.notes ∙ rw (no_short, sent, long) (ap (λ notes. all_notes was old ++ notes) (rw (setting, current) at places.notes));
       shows = rw long (record { short = λ le. absurd (omega (arith, le, leb-false _ _ long)); long = λ more. rw (setting, current) at places.shows });
       current = rw long (now_current ∙ rw (setting, current) at places.current);

@@ -107,6 +107,7 @@ PlacesSplit-current was old new o current pieces stands none app some most fills
       many = rw (was_is, there) refl;
       few = omega arith;
       used = rw (fills.event, append-nil) refl;
+      cached = rw (fills.event, append-nil) refl;
       notes = rw (fills.event, fills.pieces_are, no_pieces, was_is, there, start, take-length) refl;
       shows = rw (was_is, there, start) (one_shows o (next_place own len) some refl);
       current = rw (fills.now_is, was_is, there) refl;
@@ -186,7 +187,7 @@ LacksRoom-empty was stats old begin new o cached need size stands none is closes
       };
     }
 
-packed_into-fresh : (setting : Setting) (own : Option Filling) (buffers : List ℕ) (len : ℕ) → fits (packed own) len ≡ false
+pub packed_into-fresh : (setting : Setting) (own : Option Filling) (buffers : List ℕ) (len : ℕ) → fits (packed own) len ≡ false
     → packed_into setting own buffers len ≡ last_of setting buffers len
 packed_into-fresh setting None buffers len too_long = refl
 packed_into-fresh setting (Some own) buffers len too_long = rw too_long refl
@@ -221,6 +222,7 @@ PlacesSplit-fresh was stats old begin found new o how need size current pieces s
       many = rw is.too_long (rw setting at fills.many);
       few = rw is.too_long (rw setting at fills.few);
       used = rw (parts.used, used) refl;
+      cached = fills.cached;
       notes = rw is.too_long (notes ∙ ap (λ places. split_notes o 0 places) (sym places));
       shows = rw is.too_long (subst (λ places. ShowRest (offered o) 0 (split_notes o 0 places)) (sym places) (fresh_shows o
           old.setting.layout buffers layout_there (rw setting at fills.room)));

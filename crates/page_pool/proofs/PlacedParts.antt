@@ -1,11 +1,12 @@
 -- One more part was placed.
 use Rattle.std.proofs.Common.{◌≡◌, ℕ, zero, suc, ◌+◌, ◌-◌, ◌*◌, ◌<◌, ◌≤◌, min, List, [], ◌∷◌, ◌++◌, length, map, take, drop}
-use Rattle.std.proofs.Common.{append_assoc, length-append, refl, sym, ap, ◌∙◌, arith, true, ◌&&◌, nat_lt, Some}
-use Rattle.std.proofs.lemmas.List.{append-nil, map-append, length-map}
+use Rattle.std.proofs.Common.{append_assoc, length-append, inl, inr, refl, sym, ap, ◌∙◌, arith, true, ◌&&◌, nat_lt, Some}
+use Rattle.std.specs.Prelude.{◌≢◌, ◌⊎◌, Bool, false, if◌then◌else◌, reverse}
+use Rattle.std.proofs.lemmas.List.{append-nil, map-append, length-map, reverse-append, same_from_push}
 use Rattle.std.proofs.lemmas.Grind.{div_ceil_times}
 use Rattle.std.proofs.lemmas.List.Sums.{sum_by-cons, sum_by_push}
 use Rattle.std.proofs.Math.Nat.{lt_of_mul-lt-mul_right}
-use Rattle.std.proofs.lemmas.List.Elements.{All-push, All-nil}
+use Rattle.std.proofs.lemmas.List.Elements.{All-push, All-nil, All-contains, Contains-push}
 use Rattle.zr_kinds.specs.declared.place.Place.{Place}
 use Rattle.board_face.specs.Looks.{same_nic_look}
 use Rattle.area_layout.specs.Layout.{Shape, IsLayout, pool_buffers, least_size, size_of}
@@ -27,7 +28,7 @@ use Rattle.page_pool.specs.Pool.{piece_notes}
 use Rattle.page_pool.specs.Packing.{buffers_for, fresh_parts}
 use Rattle.page_pool.specs.Offer.{payload_of, split_note, split_notes, last_of}
 use Rattle.page_pool.proofs.Entries.{grown, freed_by}
-use Rattle.page_pool.specs.Placing.{PiecesStand, part_of, fresh_places, room_in, FreshParts, FreshSoFar, FillsFresh}
+use Rattle.page_pool.specs.Placing.{PiecesStand, part_of, fresh_places, room_in, FreshParts, IsLastHeld, FreshSoFar, FillsFresh}
 
 -- ---- numbers
 
@@ -180,6 +181,7 @@ FreshSoFar-none o v pieces owns none nothing enough = record {
   };
   reached = refl;
   owns = owns;
+  cached = inl (sym (append-nil v.cache));
 }
 
 -- the buffer was closed
@@ -234,6 +236,43 @@ fewer-parts o old v pieces at l so before =
     (omega (arith, room-least old.setting.layout so.buffers l, so.reached, before)) in
     omega (arith, needed, so.parts.many)
 
+-- the buffer that is taken next was cached from the begin on
+cached-took : (buffers : List ℕ) (old v t : NicView) (own : Filling) → (old.cache ≡ v.cache ++ reverse buffers) ⊎ IsLastHeld v → TookBuffer v t own
+    → old.cache ≡ t.cache ++ reverse (buffers ++ own.buffer ∷ [])
+cached-took buffers old v t own (inl same) took_one =
+    same ∙ ap (λ c. c ++ reverse buffers) took_one.last ∙ append_assoc t.cache (own.buffer ∷ []) (reverse buffers)
+    ∙ ap (λ bs. t.cache ++ bs) (sym (reverse-append buffers (own.buffer ∷ [])))
+cached-took buffers old v t own (inr top) took_one =
+    let same = same_from_push top.others t.cache top.buffer own.buffer (sym top.last ∙ took_one.last) in
+    absurd (top.held (rw same.1 took_one.apart))
+
+-- a buffer that came to be free as it was closed holds its part still
+cached-shut : (own : Filling) (old t u : NicView) (buffers bytes : List ℕ) (n : ℕ) → old.cache ≡ t.cache ++ reverse buffers
+    → Closed (placed t own bytes) u (filled_by own n) → (old.cache ≡ u.cache ++ reverse buffers) ⊎ IsLastHeld u
+cached-shut own old t u buffers bytes n same closed =
+    let w : NicView = placed t own bytes in
+    let is_free : Bool = closed.last && nat_lt own.buffer (pool_buffers w.setting.layout) in
+    let has_room : Bool = nat_lt (length w.cache) cache_room in
+    let cache : u.cache ≡ w.cache ++ freed_by w own.buffer closed.last = ap (λ (x : NicView). x.cache) closed.event
+    ∙ grown is_free has_room w.cache own.buffer in
+    let pieces : u.pieces ≡ t.pieces ++ record { place = next_place own (length bytes); bytes = bytes } ∷ [] = rw closed.event refl in
+    kept is_free has_room cache pieces
+  where
+    kept : (f r : Bool) → u.cache ≡ t.cache ++ (if f then (if r then own.buffer ∷ [] else []) else [])
+        → u.pieces ≡ t.pieces ++ record { place = next_place own (length bytes); bytes = bytes } ∷ []
+        → (old.cache ≡ u.cache ++ reverse buffers) ⊎ IsLastHeld u
+    kept false r cache pieces = inl (same ∙ ap (λ c. c ++ reverse buffers) (sym (cache ∙ append-nil t.cache)))
+    kept true false cache pieces = inl (same ∙ ap (λ c. c ++ reverse buffers) (sym (cache ∙ append-nil t.cache)))
+    kept true true cache pieces = inr (record {
+      others = t.cache;
+      buffer = own.buffer;
+      last = cache;
+      held = λ nothing. All-contains (λ (p : PlacedText). p.place.buffer ≢ own.buffer) u.pieces (record {
+        place = next_place own (length bytes);
+        bytes = bytes;
+      }) nothing.pieces (rw pieces (Contains-push t.pieces _)) refl;
+    })
+
 -- one buffer was filled and closed, and some bytes are left
 pub FreshSoFar-next : (o : Offer) (old v t u : NicView) (own : Filling) (pieces : List Pending) (at n : ℕ) (bytes : List ℕ)
     → FreshSoFar o old v pieces at → TookBuffer v t own
@@ -260,6 +299,7 @@ FreshSoFar-next o old v t u own pieces at n bytes so took_one n_is bytes_are len
           let out : (placed t own bytes).owns ≡ filled_by own n ∷ [] = owns-placed v t own bytes so.owns took_one
           ∙ ap (λ k. filled_by own k ∷ []) len_is in
           rw (closed.event, out, same_filling-refl (filled_by own n)) refl;
+      cached = cached-shut own old t u (so.buffers ++ own.buffer ∷ []) bytes n (cached-took so.buffers old v t own so.cached took_one) closed;
     }
 
 -- the last part was placed
@@ -292,6 +332,7 @@ FreshSoFar-last o old v t own pieces at n bytes l so took_one n_is bytes_are len
       room = omega (arith, sum_by_push (size_of layout) so.buffers own.buffer, all, at_is, size_enough);
       last_is = ap (λ (f : Filling). Some (filled_by f n)) own_is ∙ ap (λ k. Some (filled_by (fresh old.setting own.buffer) k)) n_rest
           ∙ sym (last_of-push old.setting own.buffer so.buffers L);
+      cached = cached-took so.buffers old v t own so.cached took_one;
     }
 
 -- a buffer is cached as long as one is needed

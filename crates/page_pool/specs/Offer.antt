@@ -1,6 +1,6 @@
 -- What becomes of a frame that is offered.
 use Rattle.std.specs.Prelude.{◌≡◌, ◌≢◌, ℕ, ◌+◌, ◌-◌, ◌<◌, ◌≤◌, nat_le, true, false, if◌then◌else◌, List, [], ◌∷◌, ◌++◌}
-use Rattle.std.specs.Prelude.{length, map, take, drop, slice_index, Option, Some, None}
+use Rattle.std.specs.Prelude.{length, map, take, drop, reverse, slice_index, Option, Some, None}
 use Rattle.zr_kinds.specs.declared.place.Note.{Note}
 use Rattle.zr_kinds.specs.declared.place.Place.{Place}
 use Rattle.zr_kinds.specs.declared.outcome.PoolStats.{PoolStats}
@@ -158,6 +158,8 @@ pub record Accepts (was now : PoolState) (old new : NicView) (o : Offer) : Type 
   pub many : taken_for was old buffers o ≡ length buffers
   pub few : length buffers ≤ needed_for was old o
   pub used : new.used ≡ old.used ++ buffers
+  -- Each was the last in the cache as it was taken. Those that were found and not taken stay there.
+  pub cached : found.cache ≡ new.cache ++ reverse buffers
   pub notes : all_notes now new ≡ all_notes was old ++ frame_notes was.split o (places_for was old buffers o)
   pub shows : ShowsFrame was.split (offered o) (frame_notes was.split o (places_for was old buffers o))
   pub current : now.current ≡ current_after was old buffers o

@@ -1,11 +1,11 @@
 -- Parts of a payload that were placed.
 use Rattle.std.specs.Prelude.{◌≡◌, ◌≢◌, ℕ, zero, suc, ◌+◌, ◌-◌, ◌%◌, ◌<◌, ◌≤◌, min, true, false, List, [], ◌∷◌}
-use Rattle.std.specs.Prelude.{◌++◌, length, map, sum_by, take, All, Option, Some, None}
+use Rattle.std.specs.Prelude.{◌++◌, length, map, reverse, sum_by, take, All, ◌⊎◌, Option, Some, None}
 use Rattle.zr_kinds.specs.declared.place.Place.{Place}
 use Rattle.board_face.specs.Looks.{NicLooksStay}
 use Rattle.board_face.specs.Texts.{IsSplitNote}
 use Rattle.board_face.specs.Tokens.{next_place, filled_by}
-use Rattle.board_face.specs.NicCalls.{apps_of}
+use Rattle.board_face.specs.NicCalls.{apps_of, HasNothingIn}
 use Rattle.board_face.specs.declared.views.parts.Filling.{Filling}
 use Rattle.board_face.specs.declared.views.nic.NicView.{NicView}
 use Rattle.page_pool.specs.declared.pool.Pending.{Pending}
@@ -51,12 +51,20 @@ pub record FreshParts (o : Offer) (buffers : List ℕ) (old v : NicView) (pieces
   pub looks : NicLooksStay old v
   pub enough : buffers_for (least_size old.setting.layout) (length (payload_of o)) ≤ length buffers + length v.cache
 
--- So far: each fresh buffer that was taken is full and closed.
+-- The buffer that entered the cache last isn't to be taken, as a text lies in it.
+pub record IsLastHeld (v : NicView) : Type 0 where
+  pub others : List ℕ
+  pub buffer : ℕ
+  pub last : v.cache ≡ others ++ buffer ∷ []
+  pub held : HasNothingIn v buffer → ⊥
+
+-- So far: each fresh buffer that was taken is full and closed. The others are cached still, unless one came back as it was closed.
 pub record FreshSoFar (o : Offer) (old v : NicView) (pieces : List Pending) (at : ℕ) : Type 0 where
   pub buffers : List ℕ
   pub parts : FreshParts o buffers old v pieces
   pub reached : at ≡ room_in old.setting.layout buffers
   pub owns : v.owns ≡ []
+  pub cached : (old.cache ≡ v.cache ++ reverse buffers) ⊎ IsLastHeld v
 
 -- The payload lies in fresh buffers: each that was taken is used, all but the last to its end.
 pub record FillsFresh (o : Offer) (old v : NicView) (pieces : List Pending) (last : Option Filling) : Type 0 where
@@ -66,6 +74,7 @@ pub record FillsFresh (o : Offer) (old v : NicView) (pieces : List Pending) (las
   pub few : length buffers ≤ buffers_for (least_size old.setting.layout) (length (payload_of o))
   pub room : length (payload_of o) ≤ room_in old.setting.layout buffers
   pub last_is : last ≡ last_of old.setting buffers (length (payload_of o))
+  pub cached : old.cache ≡ v.cache ++ reverse buffers
 
 -- ---- an offer's steps
 
@@ -96,6 +105,7 @@ pub record PlacesSplit (was now : PoolState) (old new : NicView) (o : Offer) : T
   pub many : taken (packed was.current) (map (size_of old.setting.layout) buffers) (len_of o) ≡ length buffers
   pub few : length buffers ≤ needed (least_size old.setting.layout) (packed was.current) (len_of o)
   pub used : new.used ≡ old.used ++ buffers
+  pub cached : found.cache ≡ new.cache ++ reverse buffers
   pub notes : piece_notes now.pieces new.pieces
       ≡ split_notes o 0 (map (place_of was.current buffers) (packing (packed was.current) (map (size_of old.setting.layout) buffers) (len_of o)))
   pub shows : ShowRest (offered o) 0 (split_notes o 0 (map (place_of was.current buffers)
