@@ -1,7 +1,7 @@
--- The areas that are read, with some reserves, make a layout.
-use Rattle.std.proofs.Common.{◌≡◌, ◌≤◌, ◌<◌, ◌+◌, ◌*◌, ◌&&◌, ℕ, Bool, true, false, zero, suc, refl, subst, ap, ◌∙◌, arith}
+-- The areas that are read, with some reserves, make a layout; and those that make one are read.
+use Rattle.std.proofs.Common.{◌≡◌, ◌≤◌, ◌*◌, ℕ, Bool, true, false, zero, suc, refl, subst, ap, ◌∙◌, arith}
 use Rattle.std.proofs.Common.{List, [], ◌∷◌, length, Option, Some, None, option_map, All, codes}
-use Rattle.std.specs.Prelude.{option_and_then, nat_le, sum_by, if◌then◌else◌}
+use Rattle.std.specs.Prelude.{◌↔◌, nat_le, sum_by, if◌then◌else◌}
 use Rattle.std.specs.List.{list_any, before_first, after_first, slice_split}
 use Rattle.std.proofs.lemmas.List.Splits.{length-slice_split}
 use Rattle.std.proofs.lemmas.Option.{option_and_then_some, same_Some}
@@ -83,6 +83,21 @@ module _ (reserves : ℕ) (kept : (1 ≤ reserves) × (reserves ≤ 8)) where
       let within : length found ≤ 4 = grind (arith, nat_tests, equal, four) in
       subst (λ (l : List (ℕ × ℕ)). MakeLayout l reserves) fit.1 (makes found reserves (omega arith, within) made.0 fit.0 kept)))
 
+  -- and the other way round
+  pub areas-read : (text : Text) (areas : List (ℕ × ℕ)) → all_areas (slice_split is_comma text) ≡ Some areas
+      → (areas_of text ≡ Some areas) ↔ MakeLayout areas reserves
+  areas-read text areas all = (
+    areas-make text areas,
+    λ m.
+        let most = m.few.1 in
+        let buffers = m.buffers in
+        let bytes = m.bytes in
+        let few : nat_le (length areas) 4 ≡ true = grind (arith, nat_tests, most) in
+        let number_fits : nat_le (sum_by (λ (a : ℕ × ℕ). a.0) areas) 4096 ≡ true = grind (arith, nat_tests, buffers) in
+        let bytes_fit : nat_le (sum_by (λ (a : ℕ × ℕ). a.0 * a.1) areas) 67108864 ≡ true = grind (arith, nat_tests, bytes) in
+        rw (all, few, number_fits, bytes_fit) refl,
+  )
+
   -- one area
   one-makes : (number size : Option Text) (areas : List (ℕ × ℕ)) → one_area number size ≡ Some areas → MakeLayout areas reserves
   one-makes number size areas is =
@@ -100,6 +115,18 @@ module _ (reserves : ℕ) (kept : (1 ≤ reserves) × (reserves ≤ 8)) where
         bytes = omega arith;
         kept = kept;
       })))
+
+  -- and the other way round
+  pub one-read : (number size : Option Text) (buffers bytes : ℕ) → number_or 64 1 4096 number ≡ Some buffers → size_of size ≡ Some bytes
+      → (one_area number size ≡ Some ((buffers, bytes) ∷ [])) ↔ MakeLayout ((buffers, bytes) ∷ []) reserves
+  one-read number size buffers bytes number_is size_is = (
+    one-makes number size ((buffers, bytes) ∷ []),
+    λ m.
+        let most = m.bytes in
+        let product : buffers * bytes ≤ 67108864 = omega (arith, most) in
+        let fits : nat_le (buffers * bytes) 67108864 ≡ true = grind (arith, nat_tests, product) in
+        rw (number_is, size_is, fits) refl,
+  )
 
   either-makes : (text number size : Option Text) (areas : List (ℕ × ℕ)) → areas_or text number size ≡ Some areas → MakeLayout areas reserves
   either-makes None number size areas is = one-makes number size areas is

@@ -1,5 +1,5 @@
 -- The numbers and the text of turns that are read are in their ranges.
-use Rattle.std.proofs.Common.{◌≡◌, ◌≤◌, ◌<◌, ◌+◌, ◌*◌, ◌&&◌, ◌||◌, ◌⊎◌, ℕ, Bool, true, false, refl, subst, arith}
+use Rattle.std.proofs.Common.{◌≡◌, ◌≤◌, ◌<◌, ◌+◌, ◌&&◌, ◌||◌, ◌⊎◌, ℕ, Bool, true, false, refl, subst, arith}
 use Rattle.std.proofs.Common.{length, Option, Some, None, All, codes}
 use Rattle.std.specs.Prelude.{IfSome, option_and_then, nat_le, nat_lt, if◌then◌else◌, ◌==◌}
 use Rattle.std.specs.Int.{IsPowerOfTwo}

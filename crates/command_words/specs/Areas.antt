@@ -29,7 +29,7 @@ abbrev pub fit_together : List (ℕ × ℕ) → Bool
 fit_together areas =
     nat_le (sum_by (λ (a : ℕ × ℕ). a.0) areas) 4096 && nat_le (sum_by (λ (a : ℕ × ℕ). a.0 * a.1) areas) 67108864
 
--- at most four areas
+-- the areas of these parts; None where a part is no area, or where there are more than four
 abbrev pub few_areas : List Text → Option (List (ℕ × ℕ))
 few_areas parts = given (all_areas parts) (λ areas. if nat_le (length areas) 4 then Some areas else None)
 

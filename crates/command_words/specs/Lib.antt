@@ -4,3 +4,4 @@ pub mod Asking
 pub mod Options
 pub mod Areas
 pub mod Words
+pub mod Laws

@@ -6,18 +6,10 @@ ghost use Rattle.clap.specs.Words.{found_of, first_value};
 ghost use Rattle.command_words.specs.Areas.{area_of, areas_of, areas_or, few_areas, fit_together, is_comma, one_area, pool_of};
 
 use crate::options::{BUFFERS, read_size};
+use area_layout::{MAX_AREAS, MAX_BUFFERS, MAX_BYTES};
 use arrayvec::ArrayVec;
 use clap::ArgMatches;
 use std::alloc::{AllocError, Global};
-
-/// The most areas that there may be.
-const MOST_AREAS: usize = 4;
-
-/// The most buffers that all areas may have together.
-const MOST_BUFFERS: u64 = 4096;
-
-/// The most bytes that their buffers may have together: 64 MiB.
-const MOST_BYTES: u64 = 67_108_864;
 
 /// An area, written as its number of buffers, a colon and their size.
 fn read_area(text: &str) -> Option<(u32, u32)>
@@ -27,13 +19,13 @@ fn read_area(text: &str) -> Option<(u32, u32)>
     Some((BUFFERS.read(Some(buffers))?, read_size(Some(size))?))
 }
 
-/// The areas between commas; `None` where there are more than there may be.
-pub(crate) fn few_areas(text: &str) -> Option<ArrayVec<(u32, u32), MOST_AREAS>>
+/// The areas between commas; `None` where a part is no area, or where there are more than there may be.
+pub(crate) fn few_areas(text: &str) -> Option<ArrayVec<(u32, u32), MAX_AREAS>>
     ensures { option_map (λ areas. areas.items) result ≡ few_areas (slice_split is_comma text.now) }
 {
     let mut areas = ArrayVec::new();
     let mut rest = text;
-    for _ in 0..MOST_AREAS {
+    for _ in 0..MAX_AREAS {
         let Some((part, more)) = rest.split_once(',') else {
             areas.push(read_area(rest)?);
             return Some(areas);
@@ -52,7 +44,7 @@ pub(crate) fn fit_together(areas: &[(u32, u32)]) -> bool
     for &(buffers, size) in areas {
         number += u64::from(buffers);
         bytes += u64::from(buffers) * u64::from(size);
-        if number > MOST_BUFFERS || bytes > MOST_BYTES {
+        if number > u64::from(MAX_BUFFERS) || bytes > MAX_BYTES {
             return false;
         }
     }
@@ -81,7 +73,7 @@ fn one_area(
     let (Some(buffers), Some(bytes)) = (BUFFERS.read(number), read_size(size)) else {
         return Ok(None);
     };
-    if u64::from(buffers) * u64::from(bytes) > MOST_BYTES {
+    if u64::from(buffers) * u64::from(bytes) > MAX_BYTES {
         return Ok(None);
     }
     let mut areas = Vec::new(alloc);

@@ -4,12 +4,14 @@
 
 mod areas;
 mod assign;
+mod laws;
 mod making;
 mod numbers;
 mod options;
 mod reading;
 mod wrong;
 
+pub use laws::{areas_are_read, one_area_is_read, pools_make_layouts};
 pub use making::Make;
 pub use options::Options;
 pub use reading::{Command, Replay, read_words};

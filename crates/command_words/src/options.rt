@@ -7,6 +7,7 @@ ghost use Rattle.command_words.specs.Options.{are_turns, behaviour_of, is_turn, 
 
 use crate::areas::few_areas;
 use crate::numbers;
+use area_layout::{MAX_BUFFERS, MAX_SIZE, MIN_SIZE};
 use clap::ArgMatches;
 use zr_kinds::Behaviour;
 
@@ -37,13 +38,13 @@ pub(crate) struct Number {
 pub(crate) const BUFFERS: Number = Number {
     default: 64,
     least: 1,
-    most: 4096,
+    most: MAX_BUFFERS,
 };
 
 const SIZE: Number = Number {
     default: 4096,
-    least: 1024,
-    most: 65_536,
+    least: MIN_SIZE,
+    most: MAX_SIZE,
 };
 
 const RING: Number = Number {
