@@ -5,7 +5,8 @@ use Rattle.board_face.specs.declared.views.parts.Setting.{Setting}
 use Rattle.board_face.specs.declared.views.app.LentPiece.{LentPiece}
 use Rattle.board_face.specs.declared.views.app.AppView.{AppView}
 use Rattle.flow_queues.specs.Core.{total, is_odd, LieApart}
-use Rattle.app_worker.specs.State.{odd_loans, lent_len}
+use Rattle.app_worker.specs.State.{odd_loans}
+use Rattle.flow_queues.specs.Totals.{lent_len}
 use Rattle.flow_queues.proofs.Tokens.{total-append, some-bytes}
 
 -- ---- each had a byte

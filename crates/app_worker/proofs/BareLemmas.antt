@@ -18,7 +18,8 @@ use Rattle.app_worker.specs.declared.turn.Turn.TheVariants.{Did, Idle, Finished,
 use Rattle.zr_kinds.specs.declared.fault.Fault.TheVariants as fault
 use Rattle.app_worker.specs.declared.turn.Why.TheVariants.{NoNote, NotQuiet as not_quiet}
 use Rattle.flow_queues.specs.Core.{total}
-use Rattle.app_worker.specs.State.{State, Common, Working, Bare, lent_bytes, app_steps, one_if}
+use Rattle.app_worker.specs.State.{State, Common, Working, Bare, app_steps, one_if}
+use Rattle.flow_queues.specs.Totals.{lent_bytes, lent_len, loan_entries}
 use Rattle.flow_queues.specs.Core.{held_len}
 use Rattle.app_worker.specs.Stages.{Leaves, ScrubsOnce}
 use Rattle.board_face.specs.Looks.{AppLooksStay}
@@ -28,7 +29,7 @@ use Rattle.flow_queues.proofs.Looks.{looks-more}
 use Rattle.app_worker.proofs.Moving.{same-leaked, reaps-same, rose-before, rose-after}
 use Rattle.app_worker.proofs.Seeing.{goes-none, goes-saw, common-saw}
 use Rattle.app_worker.proofs.Noting.{TookView, common-noted, steps-noted, moves-noted, ends-kept, shelves-kept, fronts-kept}
-use Rattle.app_worker.proofs.TurnLemmas.{stands-bare, as-before, idle-for, bare-over, bare-flushes, after-busy, after-none}
+use Rattle.app_worker.proofs.TurnLemmas.{stands-bare, as-before, idle-for, bare-over, bare-flushes, bare-stops, bare-polls, after-busy, after-none}
 use Rattle.app_worker.proofs.Through.{goes-then}
 use Rattle.app_worker.proofs.Written.{front-same}
 use Rattle.app_worker.proofs.Closing.{IsOut, bare-saw, turns-finished, scrubbed_state, scrubbed_view, bare-scrubbed, common-scrubbed, goes-scrubbed}
@@ -57,6 +58,7 @@ module _ (st : State) (old : AppView) (bare : Bare st old) (is_bare : st.bare �
           whole = λ going. absurd (over going);
           appended = λ going. absurd (over going);
           within_lent = omega (arith, bare.within_lent, ap lent_bytes took.view);
+          whole_given = omega (arith, bare.whole_given, ap (λ (v : AppView). total lent_len (take (loan_entries v) v.returned)) took.view);
           known = λ going. absurd (over going);
         })
         (common-noted st old new t took st.notes st.active st.index st.flows refl
@@ -71,6 +73,8 @@ module _ (st : State) (old : AppView) (bare : Bare st old) (is_bare : st.bare �
     idle = λ why e. absurd (cc);
     left_over = λ live. absurd (bare-live live);
     flushes = λ live. absurd (bare-live live);
+    stops = λ live. absurd (bare-live live);
+    polls = λ live. absurd (bare-live live);
     here = λ _. ap (λ (v : AppView). v.left) took.view;
     polled = λ live. absurd (bare-live live);
     cause = λ other is. absurd (other is);
@@ -116,15 +120,17 @@ module _ (st : State) (old : AppView) (bare : Bare st old) (is_bare : st.bare �
       turns-noted new (record { note = note; bytes = take note.total linear }) kept f more
       (record { view = rw took.event refl }) (helds ∙ bare.helds)
 
-  pub bare-empty : (new : AppView) (kept : ℕ → Option (List ℕ)) (f : ℕ) → AppOnlySaw no_note old new
+  pub bare-empty : (new : AppView) (kept : ℕ → Option (List ℕ)) (f : ℕ) → st.ended ≡ false → AppOnlySaw no_note old new
       → Turns st st old new kept kept f f (Idle NoNote)
-  bare-empty new kept f saw = record {
+  bare-empty new kept f more saw = record {
     stands = rw saw.event (stands-bare st _ (bare-saw st old no_note bare) (common-saw st old no_note common) reaped is_bare);
     goes = rw saw.event (goes-saw st old no_note kept);
     answer = (as-before st old new no_note saw, saw.rose);
-    idle = idle-for NoNote (λ w. (kept ≡ kept) × Because w st old) (refl, λ live. absurd (bare-live live));
+    idle = idle-for NoNote (λ w. (kept ≡ kept) × Because w st old) (refl, (more, λ live. absurd (bare-live live)));
     left_over = λ live. absurd (bare-live live);
     flushes = λ live. absurd (bare-live live);
+    stops = λ live. absurd (bare-live live);
+    polls = λ live. absurd (bare-live live);
     few = inl (ap (λ (v : AppView). v.taken) saw.event);
     here = λ _. ap (λ (v : AppView). v.left) saw.event;
     polled = λ live. absurd (bare-live live);
@@ -168,6 +174,8 @@ module _ (st : State) (old : AppView) (bare : Bare st old) (is_bare : st.bare �
     idle = idle-for not_quiet (λ w. (kept ≡ kept) × Because w st old) (refl, (is_bare, ended));
     left_over = λ live. absurd (bare-live live);
     flushes = λ live. absurd (bare-live live);
+    stops = λ live. absurd (bare-live live);
+    polls = λ live. absurd (bare-live live);
     few = inl (ap (λ (v : AppView). v.taken) saw.event);
     here = λ _. ap (λ (v : AppView). v.left) saw.event;
     polled = λ live. absurd (bare-live live);
@@ -204,6 +212,7 @@ module _ (st : State) (old : AppView) (bare : Bare st old) (is_bare : st.bare �
         whole = λ going. (refl, (bare.whole going).1);
         appended = bare.appended;
         within_lent = bare.within_lent;
+        whole_given = bare.whole_given;
         known = bare.known;
       };
       is_bare = is_bare;
@@ -304,6 +313,8 @@ module _ (a c : State) (u w : AppView) (kept : ℕ → Option (List ℕ)) (f : �
     idle = turns.idle;
     left_over = bare-over c u _ bare-then;
     flushes = bare-flushes a c u _ bare-then;
+    stops = bare-stops c u _ bare-then;
+    polls = bare-polls a c u _ bare-then;
     here = turns.here;
     polled = λ live. not-live live;
     cause = turns.cause;
@@ -345,6 +356,8 @@ module _ (a c : State) (u w : AppView) (kept : ℕ → Option (List ℕ)) (f : �
         idle = λ why e. absurd (after-busy turn why e);
         left_over = bare-over (scrubbed_state c) u _ bare-then;
         flushes = bare-flushes a (scrubbed_state c) u _ bare-then;
+        stops = bare-stops (scrubbed_state c) u _ bare-then;
+        polls = bare-polls a (scrubbed_state c) u _ bare-then;
         here = λ other. turns.here (λ e. other (ap (turn_after true) e));
         polled = λ live. not-live live;
         cause = turns.cause;

@@ -20,7 +20,8 @@ use Rattle.zr_kinds.specs.declared.ring.Completion.{Completion}
 use Rattle.app_worker.specs.declared.turn.Turn.TheVariants.{Did, Finished}
 use Rattle.flow_queues.specs.Core.{total, Each, own_notes, received_notes, placed_of, marks_of_waiting, lent_piece, over_read, read_out, FlowStands}
 use Rattle.app_worker.specs.Entries.{lies_in}
-use Rattle.app_worker.specs.State.{State, Working, Common, Bare, lent_len, returned_aside, loan_entries, app_steps, one_if}
+use Rattle.app_worker.specs.State.{State, Working, Common, Bare, returned_aside, app_steps, one_if}
+use Rattle.flow_queues.specs.Totals.{lent_len, loan_entries}
 use Rattle.flow_queues.specs.Flows.{IsAtRest}
 use Rattle.app_worker.specs.Moves.{Goes}
 use Rattle.flow_queues.specs.Flows.{FlowFacts, facts_of}
@@ -38,7 +39,7 @@ use Rattle.app_worker.proofs.Seeing.{common-saw, goes-saw}
 use Rattle.app_worker.proofs.Measure.{one-most}
 use Rattle.flow_queues.proofs.Tokens.{total-append}
 use Rattle.app_worker.proofs.Through.{goes-then}
-use Rattle.app_worker.proofs.TurnLemmas.{stands-bare, no-poll, no-rest, bare-over, bare-flushes}
+use Rattle.app_worker.proofs.TurnLemmas.{stands-bare, no-poll, no-rest, bare-over, bare-flushes, bare-stops, bare-polls}
 
 -- all of the flow was appended
 abbrev pub IsWhole : List TakenNote → FlowQueue → Type 0
@@ -160,6 +161,7 @@ closed-bare b c v w works ended few reaped due common gone =
         total-facts (λ x. x.bytes) b.flows c.flows gone.facts,
       );
       within_lent = gone.within_lent;
+      whole_given = gone.whole_given;
       known = λ going n nothing. ap (own_notes n) gone.taken
           ∙ works.stands.known n (sym (total-facts (λ x. if x.number == n then 1 else 0) b.flows c.flows gone.facts) ∙ nothing);
     }
@@ -182,6 +184,7 @@ bare-saw st v look bare = record {
   whole = bare.whole;
   appended = bare.appended;
   within_lent = bare.within_lent;
+  whole_given = bare.whole_given;
   known = bare.known;
 }
 
@@ -210,6 +213,7 @@ bare-scrubbed st v quiet left bare = record {
   whole = bare.whole;
   appended = bare.appended;
   within_lent = bare.within_lent;
+  whole_given = bare.whole_given;
   known = bare.known;
 }
 
@@ -289,6 +293,8 @@ turns-finished a c u w x k m f f2 done out leaves =
       idle = λ why e. absurd (cc);
       left_over = bare-over (scrubbed_state c) u _ out.is_bare;
       flushes = bare-flushes a (scrubbed_state c) u _ out.is_bare;
+      stops = bare-stops (scrubbed_state c) u _ out.is_bare;
+      polls = bare-polls a (scrubbed_state c) u _ out.is_bare;
       here = λ other. absurd (other refl);
       polled = no-poll a (scrubbed_state c) u (scrubbed_view w quiet true) out.taken;
       cause = λ other is. absurd (other (sym out.same ∙ is));
@@ -314,6 +320,8 @@ turns-not-quiet a c u w x k m f f2 done out steps leaves =
       idle = λ why e. absurd (cc);
       left_over = bare-over c u _ out.is_bare;
       flushes = bare-flushes a c u _ out.is_bare;
+      stops = bare-stops c u _ out.is_bare;
+      polls = bare-polls a c u _ out.is_bare;
       here = λ _. out.left;
       polled = no-poll a c u (app_saw w NotQuiet) out.taken;
       cause = λ other is. absurd (other (sym out.same ∙ is));

@@ -7,7 +7,8 @@ use Rattle.board_face.specs.declared.views.app.Origin.TheVariants.{Note as of_no
 use Rattle.board_face.specs.declared.views.app.LentPiece.{LentPiece}
 use Rattle.board_face.specs.declared.views.app.AppView.{AppView}
 use Rattle.flow_queues.specs.Core.{total, is_copy, one_copy}
-use Rattle.app_worker.specs.State.{State, Working, Bare, AppStands, lent_bytes, lent_len}
+use Rattle.app_worker.specs.State.{State, Working, Bare, AppStands}
+use Rattle.flow_queues.specs.Totals.{lent_bytes, lent_len}
 use Rattle.flow_queues.proofs.Copying.{unsplit-is}
 use Rattle.app_worker.proofs.StreamLemmas.{by-mode}
 use Rattle.app_worker.proofs.Accounts.{few-loans}

@@ -15,18 +15,18 @@ use Rattle.flow_queues.specs.declared.queues.FlowQueue.{FlowQueue}
 use Rattle.flow_queues.specs.Core.{total, many, Each, over_due, over_read, read_out, short_bytes, lent_piece, own_notes, BeginAt, received_notes}
 use Rattle.flow_queues.specs.Core.{AreReadAt, most_at_once, is_copy, IsIn}
 use Rattle.flow_queues.proofs.Indexing.{by-place}
-use Rattle.app_worker.specs.State.{State, Common, FlowEnds, capped, taken_len, due_one, app_steps, one_if, read_of}
+use Rattle.app_worker.specs.State.{State, Common, due_one, app_steps, one_if, read_of}
+use Rattle.flow_queues.specs.Shelves.{FlowEnds, kept_loans, IsShelved, AreShelved, AreOfOneLoan, ReadsFront, IsFrontShelved, AreFronts}
+use Rattle.flow_queues.specs.Totals.{capped, taken_len, lent_len, loan_entries}
 use Rattle.flow_queues.specs.Flows.{IsIndex, place_in}
 use Rattle.flow_queues.specs.Core.{held_len, unsplit_len}
-use Rattle.app_worker.specs.State.{lent_len, loan_entries}
-use Rattle.app_worker.specs.Shelves.{kept_loans, IsShelved, AreShelved, AreOfOneLoan, ReadsFront, IsFrontShelved, AreFronts}
 use Rattle.std.proofs.Math.Nat.{mul-le-mul_left}
 use Rattle.std.proofs.Common.{◌*◌, ◌-◌}
 use Rattle.board_face.specs.declared.views.app.WrittenEntry.{WrittenEntry}
 use Rattle.app_worker.proofs.Moving.{strays-same, names-same}
 use Rattle.app_worker.proofs.Accounts.{sound-gone}
 use Rattle.app_worker.proofs.Origins.{origins-more, gone-origins}
-use Rattle.app_worker.proofs.Written.{gives-gone, gives-same, gives-count, blocks-moved}
+use Rattle.app_worker.proofs.Written.{gives-gone, gives-same, gives-count, front-gone, blocks-moved}
 use Rattle.zr_kinds.specs.declared.place.Place.{Place}
 use Rattle.std.proofs.Math.Seq.{drop-append_seam, drop-length}
 use Rattle.app_worker.specs.Moves.{over_leaked}
@@ -307,6 +307,12 @@ gone-all was now old v1 v2 v3 new reaped not_yet pushed torn common first second
       distinct = λ n. omega (arith, total-facts (λ x. if x.number == n then 1 else 0) was.flows now facts, torn.distinct n);
       index = index-facts was.index was.flows now facts torn.index;
       within_lent = omega (arith, back lent_len, ap (total lent_len) no_loan, total-facts (λ x. x.bytes) was.flows now facts, torn.within_lent);
+      whole_given = omega (
+        arith,
+        ap (total lent_len) (front-gone old new more written setting behind torn.given),
+        total-facts (λ x. x.bytes) was.flows now facts,
+        torn.whole_given,
+      );
       common = record {
         app = ap (λ (v : AppView). v.app) view ∙ common.app;
         ended = ended ∙ common.ended;

@@ -9,7 +9,7 @@ use Rattle.zr_kinds.specs.CopyingReceiver.{values_from}
 use Rattle.board_face.specs.declared.views.app.Reading.{Reading}
 use Rattle.board_face.specs.declared.views.app.TakenNote.{TakenNote}
 use Rattle.flow_queues.specs.Marks.{Mark}
-use Rattle.app_worker.specs.Shelves.{IsShelved, AreShelved}
+use Rattle.flow_queues.specs.Shelves.{IsShelved, AreShelved, FlowEnds}
 use Rattle.app_worker.specs.Streams.{HasCounted}
 use Rattle.flow_queues.proofs.Placing.{values-length}
 use Rattle.app_worker.proofs.Noting.{gained-nothing}
@@ -19,7 +19,8 @@ use Rattle.board_face.proofs.ListLemmas.{not-eqb}
 use Rattle.board_face.specs.declared.views.app.AppView.{AppView}
 use Rattle.flow_queues.specs.declared.queues.FlowQueue.{FlowQueue}
 use Rattle.flow_queues.specs.Core.{many, Each, AreReadAt, placed_of}
-use Rattle.app_worker.specs.State.{State, AppStands, Bare, Working, FlowEnds, bytes_of}
+use Rattle.app_worker.specs.State.{State, AppStands, Bare, Working}
+use Rattle.flow_queues.specs.Totals.{bytes_of}
 use Rattle.app_worker.specs.Kept.{flow_bytes}
 use Rattle.flow_queues.proofs.Standing.{number-is, number-not}
 use Rattle.app_worker.proofs.StreamLemmas.{by-mode}

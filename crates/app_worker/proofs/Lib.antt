@@ -1,4 +1,3 @@
-pub mod ReadLemmas
 pub mod Standing2
 pub mod Shelved
 pub mod StreamLemmas

@@ -14,7 +14,9 @@ use Rattle.flow_queues.specs.declared.queues.FlowQueue.{FlowQueue}
 use Rattle.flow_queues.specs.Core.{total, Each, LieApart, Stands, FlowStands, many, short_bytes, held_piece}
 use Rattle.flow_queues.specs.Core.{own_notes}
 use Rattle.app_worker.proofs.Moving.{aside-same}
-use Rattle.app_worker.specs.State.{State, read_of, TellsOf, LiesOutside, Working, Common, FlowEnds, lent_bytes, lent_len}
+use Rattle.app_worker.specs.State.{State, read_of, TellsOf, LiesOutside, Working, Common}
+use Rattle.flow_queues.specs.Shelves.{FlowEnds}
+use Rattle.flow_queues.specs.Totals.{lent_bytes, lent_len}
 use Rattle.flow_queues.specs.Flows.{IsAtRest, RestBut, IsIndex}
 use Rattle.flow_queues.specs.Core.{held_len, unsplit_len}
 use Rattle.board_face.specs.declared.views.app.HeldPiece.{HeldPiece}
@@ -57,6 +59,7 @@ torn-of st v works = record {
   lent = works.stands.lent;
   due_lent = works.stands.due_lent;
   within_lent = omega (arith, works.appended, works.stands.tokens.loans lent_len);
+  whole_given = omega (arith, works.appended);
 }
 
 -- ---- a note
@@ -84,6 +87,9 @@ module _ (was : State) (old new : AppView) (t : TakenNote) (works : Working was 
   within-taken : total (λ f. f.bytes) was.flows ≤ lent_bytes new
   within-taken = omega (arith, works.appended, works.stands.tokens.loans lent_len, ap lent_bytes view)
 
+  given-taken : total lent_len new.returned ≤ total (λ f. f.bytes) was.flows
+  given-taken = omega (arith, works.appended, ap (λ (v : AppView). total lent_len v.returned) view)
+
   -- nothing of it is kept
   pub none-taken : ((f : HeldPiece → ℕ) → total f new.helds ≡ total f old.helds) → TookNone was was old new
   none-taken helds = record {
@@ -97,6 +103,7 @@ module _ (was : State) (old new : AppView) (t : TakenNote) (works : Working was 
       lent = lent-taken;
       due_lent = due-taken;
       within_lent = within-taken;
+      whole_given = given-taken;
     };
     common = common-noted was old new t view-in was.notes was.active was.index was.flows refl
         (record { kept = omega (arith, helds held_len); short = omega arith }) common;
@@ -141,6 +148,7 @@ module _ (was : State) (old new : AppView) (t : TakenNote) (works : Working was 
             lent = lent-taken;
             due_lent = due-taken;
             within_lent = omega (arith, bytes-in, within-taken);
+            whole_given = omega (arith, bytes-in, given-taken);
           };
           common = common-noted was old new t view-in was.notes was.active index now bytes-in few-in common;
           moves = moves-noted was old new t view-in was.notes was.active index now (grow-noted was.flows t.note own (λ x. set flows i x) q base put-in);

@@ -22,11 +22,11 @@ use Rattle.flow_queues.specs.Core.{short_bytes, IsIn, lent_piece}
 use Rattle.flow_queues.specs.Core.{read_out}
 use Rattle.zr_kinds.specs.declared.behaviour.Stopped.{Stopped}
 use Rattle.zr_kinds.specs.declared.behaviour.Stopped.TheVariants as stop
-use Rattle.app_worker.specs.State.{State, read_of, TellsOf, LiesOutside, Working, Common, Quits, FlowEnds, capped, taken_len, due_one}
+use Rattle.app_worker.specs.State.{State, read_of, TellsOf, LiesOutside, Working, Common, due_one, loan_len, app_steps, one_if}
+use Rattle.flow_queues.specs.Totals.{Quits, capped, taken_len, lent_len, bytes_if, bytes_of, loan_entries}
+use Rattle.flow_queues.specs.Shelves.{FlowEnds, kept_loans, IsShelved, AreShelved, AreOfOneLoan, ReadsFront, IsFrontShelved, AreFronts}
 use Rattle.flow_queues.specs.Core.{held_len, unsplit_len}
-use Rattle.app_worker.specs.State.{lent_len, loan_len, bytes_if, bytes_of, app_steps, one_if, loan_entries}
 use Rattle.board_face.specs.AppEvents.{reserve_of}
-use Rattle.app_worker.specs.Shelves.{kept_loans, IsShelved, AreShelved, AreOfOneLoan, ReadsFront, IsFrontShelved, AreFronts}
 use Rattle.app_worker.specs.Moves.{Moves, KeptSince, reads_of, reserve_loans}
 use Rattle.app_worker.specs.Flushing.{Flushes, loans_so_far}
 use Rattle.std.proofs.lemmas.Bool.{cases_Bool}
@@ -36,7 +36,7 @@ use Rattle.app_worker.proofs.Standing2.{IsNext, is-next, stands-read, tokens-rea
 use Rattle.app_worker.proofs.Shelved.{shelved-reaped, shelved-other}
 use Rattle.flow_queues.proofs.Tokens.{total-append, in-left}
 use Rattle.flow_queues.proofs.Entering.{marks-length}
-use Rattle.app_worker.proofs.ReadLemmas.{all-grow, read-append, marks-split}
+use Rattle.flow_queues.proofs.ReadLemmas.{all-grow, read-append, marks-split}
 use Rattle.flow_queues.proofs.Placing.{values-split, values-length}
 use Rattle.app_worker.proofs.EachBoth.{each-both}
 use Rattle.app_worker.proofs.Moving.{total-one, no-write, aside-same, leaked-aside, same-leaked, strays-same, entries-same, names-same, most-same}
@@ -430,6 +430,7 @@ module _ (was : State) (i : ℕ) (own : FlowQueue) (p : Completion × Lending) (
         unread = ap length unread ∙ (omega arith);
         flush = flush_on;
         flushed = flush_off;
+        rest = λ at_rest. each-same i was.flows own later within (sym value) refl at_rest;
         due = λ none. absurd (cc);
         same = refl;
         taken = same_taken;
@@ -483,9 +484,9 @@ module _ (was : State) (i : ℕ) (own : FlowQueue) (p : Completion × Lending) (
       }
 
   -- what is left of the flows, of which one had a loan read in part
-  torn-read : (bytes written : ℕ) (stopped : Stopped) → bytes ≤ own.bytes + p.1.loan.len
+  torn-read : (bytes written : ℕ) (stopped : Stopped) → own.bytes ≤ bytes → bytes ≤ own.bytes + p.1.loan.len
       → Torn (record (with_read was i own bytes ps p.1 written flush) { stopped = stopped }) new
-  torn-read bytes written stopped most =
+  torn-read bytes written stopped more most =
       let later : FlowQueue = record own { bytes = bytes } in
       let flows : Each (FlowEnds old.taken) (at.before ++ later ∷ at.after) =
       each-changed (FlowStands old.taken (p ∷ (ps ++ was.posted.entries))) (FlowEnds old.taken) at.before at.after own later
@@ -512,6 +513,7 @@ module _ (was : State) (i : ℕ) (own : FlowQueue) (p : Completion × Lending) (
           ap (total lent_len) same_returned,
           ap (λ (v : AppView). total lent_len v.loans) only.view,
         );
+        whole_given = omega (arith, more, sum-read bytes, works.appended, ap (total lent_len) same_returned);
       }
 
   pub oldest-failed : (bytes written most faults faults_now : ℕ) (kept kept_now : ℕ → Option (List ℕ)) → own.bytes ≤ bytes
@@ -521,7 +523,7 @@ module _ (was : State) (i : ℕ) (own : FlowQueue) (p : Completion × Lending) (
       → ((other : ℕ) → other ≢ own.number → Keeps (kept other) (kept_now other))
       → ReadFailed was (with_read was i own bytes ps p.1 written flush) old new kept kept_now faults faults_now
   oldest-failed bytes written most faults faults_now kept kept_now more part few count quits rose gained others = record {
-    torn = torn-read bytes written was.stopped (omega (arith, part, few));
+    torn = torn-read bytes written was.stopped more (omega (arith, part, few));
     common = common-read bytes written was.stopped more count quits;
     moves = moves-read bytes written more;
     rose = rose;
@@ -542,7 +544,7 @@ module _ (was : State) (i : ℕ) (own : FlowQueue) (p : Completion × Lending) (
       let added : Appended own old.taken new most kept kept_now = appended old.taken p (ps ++ was.posted.entries) own most new kept kept_now number
       (own-stands was.notes at.before at.after own (p ∷ (ps ++ was.posted.entries)) was.leaked.items old stood) part gained others in
       rw is (record {
-        torn = torn-read (own.bytes + most) written stop.Quit (omega (arith, part));
+        torn = torn-read (own.bytes + most) written stop.Quit (omega arith) (omega (arith, part));
         common = common-read (own.bytes + most) written stop.Quit (omega arith) (omega (arith, count)) quits;
         moves = record {
           same = (moves-read (own.bytes + most) written (omega arith)).same;

@@ -4,7 +4,8 @@ use Rattle.std.proofs.Common.{ap, ◌∙◌, arith}
 use Rattle.std.specs.Prelude.{IfSome}
 use Rattle.zr_kinds.specs.declared.behaviour.Stopped.TheVariants as stop
 use Rattle.board_face.specs.declared.views.app.AppView.{AppView}
-use Rattle.app_worker.specs.State.{State, Quits, wanted_of}
+use Rattle.app_worker.specs.State.{State}
+use Rattle.flow_queues.specs.Totals.{Quits, wanted_of}
 use Rattle.app_worker.specs.Whole.{ReadQuit}
 use Rattle.app_worker.specs.Letting.{LetGo}
 use Rattle.app_worker.specs.Stages.{Through, HasQuit}

@@ -15,9 +15,9 @@ use Rattle.flow_queues.specs.declared.queues.FlowQueue.{FlowQueue}
 use Rattle.flow_queues.specs.Marks.{Mark}
 use Rattle.flow_queues.specs.Core.{AreReadAt, OnlyReads, FlowStands, Stands, Each, many, placed_of}
 use Rattle.app_worker.specs.Whole.{Appended}
-use Rattle.app_worker.specs.Shelves.{IsShelved, AreShelved}
+use Rattle.flow_queues.specs.Shelves.{IsShelved, AreShelved}
 use Rattle.flow_queues.proofs.Tokens.{total-append}
-use Rattle.app_worker.proofs.ReadLemmas.{all-grow, read-append}
+use Rattle.flow_queues.proofs.ReadLemmas.{all-grow, read-append}
 use Rattle.flow_queues.proofs.Placing.{values-split}
 use Rattle.flow_queues.proofs.Standing.{is_number, each-right, each-changed, many-same, number-is}
 use Rattle.app_worker.proofs.Standing2.{IsNext, is-next, own-stands}

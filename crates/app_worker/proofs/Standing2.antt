@@ -26,7 +26,7 @@ use Rattle.app_worker.specs.Whole.{Appended}
 use Rattle.app_worker.specs.Steps.{Gave, Given}
 use Rattle.flow_queues.proofs.Tokens.{is_that_loan, that-loan, is-lent-there}
 use Rattle.flow_queues.proofs.Entering.{marks-length}
-use Rattle.app_worker.proofs.ReadLemmas.{marks-split}
+use Rattle.flow_queues.proofs.ReadLemmas.{marks-split}
 use Rattle.flow_queues.proofs.Placing.{values-split, values-length}
 use Rattle.flow_queues.proofs.Standing.{each-map, each-right, parts-alike, is_number, total-changed, many-same, each-changed, stands-saw}
 

@@ -11,10 +11,10 @@ use Rattle.flow_queues.specs.declared.queues.FlowQueue.{FlowQueue}
 use Rattle.flow_queues.specs.Marks.{marks_of}
 use Rattle.flow_queues.specs.Marks.{AreWholeFrames}
 use Rattle.flow_queues.specs.Core.{Each, many, own_notes, placed_of, AreReadAt}
-use Rattle.app_worker.specs.State.{State, Working, Bare, AppStands, FlowEnds, app_steps, furthest}
+use Rattle.app_worker.specs.State.{State, Working, Bare, AppStands, app_steps, furthest}
+use Rattle.flow_queues.specs.Shelves.{FlowEnds, kept_loans, IsShelved, AreShelved, ReadsFront, IsFrontShelved, AreFronts}
 use Rattle.app_worker.proofs.Measure.{working-within, bare-within}
-use Rattle.app_worker.specs.Shelves.{kept_loans, IsShelved, AreShelved, ReadsFront, IsFrontShelved, AreFronts}
-use Rattle.app_worker.specs.Streams.{IsFront, HasFronts, HasAll}
+use Rattle.flow_queues.specs.Streams.{IsFront, HasFronts, HasAll}
 use Rattle.flow_queues.proofs.Fronts.{front-of-flow, all-of-flow, pick, no-marks}
 use Rattle.app_worker.proofs.Noting.{gained-nothing}
 use Rattle.app_worker.proofs.EachBoth.{each-both}

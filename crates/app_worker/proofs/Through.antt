@@ -7,7 +7,10 @@ use Rattle.board_face.specs.declared.views.app.AppLook.TheVariants.{RefillInUse}
 use Rattle.board_face.specs.declared.views.app.AppView.{AppView}
 use Rattle.app_worker.specs.declared.turning.Read.{Read}
 use Rattle.app_worker.specs.declared.turning.Read.TheVariants.{Did, NoneUnread, Quit, Failed}
-use Rattle.app_worker.specs.State.{State, Working, Common, Quits, Bare}
+use Rattle.app_worker.specs.State.{State, Working, Common, Bare}
+use Rattle.flow_queues.specs.Core.{Each}
+use Rattle.flow_queues.specs.Flows.{IsAtRest}
+use Rattle.flow_queues.specs.Totals.{Quits}
 use Rattle.app_worker.specs.Moves.{Moves, Goes}
 use Rattle.app_worker.specs.Whole.{GaveBack, ReadOne, ReadFailed, Reads}
 use Rattle.app_worker.specs.Letting.{LetGo}
@@ -42,6 +45,7 @@ through-none st v kept working common reaped = record {
   goes = goes-none st v kept;
   reaped = reaped;
   ended = refl;
+  rest = λ at. at;
   taken = refl;
   left = refl;
 }
@@ -54,6 +58,7 @@ through-then a b c u v w k l m first second = record {
   goes = goes-then a b c u v w k l m first.goes second.goes;
   reaped = second.reaped;
   ended = second.ended ∙ first.ended;
+  rest = λ at. second.rest (first.rest at);
   taken = second.taken ∙ first.taken;
   left = second.left ∙ first.left;
 }
@@ -76,6 +81,7 @@ through-read was now old new kept kept_now reaped read = record {
   goes = read.goes;
   reaped = ap (λ (s : State). s.posted.entries) read.same ∙ reaped;
   ended = ap (λ (s : State). s.ended) read.same;
+  rest = read.rest;
   taken = read.taken;
   left = read.left;
 }
@@ -89,6 +95,7 @@ through-gave was now old new kept reaped working common goes gave = record {
   goes = goes;
   reaped = ap (λ (s : State). s.posted.entries) gave.same ∙ reaped;
   ended = ap (λ (s : State). s.ended) gave.same;
+  rest = λ at. subst (Each IsAtRest) (sym (ap (λ (s : State). s.flows) gave.same)) at;
   taken = gave.taken;
   left = gave.left;
 }
@@ -110,6 +117,7 @@ bare-of-gone was st old v other gone = record {
   whole = λ none. absurd (other none);
   appended = λ none. absurd (other none);
   within_lent = gone.within_lent;
+  whole_given = gone.whole_given;
   known = λ none. absurd (other none);
 }
 
@@ -136,6 +144,7 @@ bare-stopped st v cause other was old gone = record {
   whole = λ none. absurd (other none);
   appended = λ none. absurd (other none);
   within_lent = gone.within_lent;
+  whole_given = gone.whole_given;
   known = λ none. absurd (other none);
 }
 
@@ -237,6 +246,7 @@ through-in-use was now old new kept reaped working common goes same saw = record
   goes = goes;
   reaped = ap (λ (s : State). s.posted.entries) same ∙ reaped;
   ended = ap (λ (s : State). s.ended) same;
+  rest = λ at. subst (Each IsAtRest) (sym (ap (λ (s : State). s.flows) same)) at;
   taken = ap (λ (v : AppView). v.taken) saw.event;
   left = ap (λ (v : AppView). v.left) saw.event;
 }

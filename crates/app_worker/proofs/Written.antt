@@ -15,7 +15,7 @@ use Rattle.app_worker.specs.declared.stack.Stray.{Stray}
 use Rattle.app_worker.specs.Entries.{loans_of, lies_in, Gives, WasLive, AreBlocks, none, loan, raw, dropped}
 use Rattle.app_worker.specs.Steps.{raw_copies}
 use Rattle.flow_queues.specs.Core.{total}
-use Rattle.app_worker.specs.State.{loan_entries}
+use Rattle.flow_queues.specs.Totals.{loan_entries}
 use Rattle.flow_queues.proofs.Tokens.{total-append}
 
 -- ---- those of loans
@@ -65,15 +65,18 @@ gives-raw layout ws now n e loans is gives = ap loans_of is ∙ loans-append ws 
 pub gives-count : (v : AppView) (loans : List LentPiece) → Gives v loans → loan_entries v ≡ length loans
 gives-count v loans gives = sym (loans-size v.written) ∙ ap length gives ∙ length-map loans (λ (l : LentPiece). entry_of v.setting.layout l.place)
 
--- the others were abandoned
+-- once the others are abandoned, those of entries are those that it didn't have any more before
+pub front-gone : (old new : AppView) (more : List LentPiece) → new.written ≡ old.written → new.setting ≡ old.setting
+    → new.returned ≡ old.returned ++ more → Gives old old.returned → take (loan_entries new) new.returned ≡ old.returned
+front-gone old new more written setting returned gives =
+    ap (λ n. take n new.returned) (gives-count new old.returned (gives-same old new old.returned written setting gives))
+    ∙ ap (take (length old.returned)) returned ∙ take-append_seam old.returned more
+
 pub gives-gone : (old new : AppView) (more : List LentPiece) → new.written ≡ old.written → new.setting ≡ old.setting
     → new.returned ≡ old.returned ++ more
     → Gives old old.returned → Gives new (take (loan_entries new) new.returned)
-gives-gone old new more written setting returned gives =
-    let same : Gives new old.returned = gives-same old new old.returned written setting gives in
-    let front : take (loan_entries new) new.returned ≡ old.returned = ap (λ n. take n new.returned) (gives-count new old.returned same)
-    ∙ ap (take (length old.returned)) returned ∙ take-append_seam old.returned more in
-    subst (Gives new) (sym front) same
+gives-gone old new more written setting returned gives = subst (Gives new) (sym (front-gone old new more written setting returned gives))
+    (gives-same old new old.returned written setting gives)
 
 pub front-same : (old new : AppView) → new.written ≡ old.written → new.setting ≡ old.setting → new.returned ≡ old.returned
     → Gives old (take (loan_entries old) old.returned) → Gives new (take (loan_entries new) new.returned)

@@ -22,7 +22,7 @@ Gives v loans = loans_of v.written ≡ map (λ l. entry_of v.setting.layout l.pl
 abbrev pub lies_in : ℕ → LentPiece → ℕ
 lies_in buffer l = if l.place.buffer == buffer then 1 else 0
 
--- A loan in the entry's buffer was out when so many had been given back: it still is, or went later.
+-- A loan in the entry's buffer is out still, or went after so many had been given back. It may have been lent later.
 abbrev pub WasLive : AppView → ℕ → Rqe → Type 0
 WasLive v given entry = (buffer : ℕ) × (judged v.setting.layout entry ≡ Some buffer)
     × (0 < total (lies_in buffer) v.loans + total (lies_in buffer) (drop given v.returned))

@@ -6,8 +6,9 @@ use Rattle.board_face.specs.declared.views.app.AppView.{AppView}
 use Rattle.app_worker.specs.Entries.{Gives}
 use Rattle.flow_queues.specs.Core.{total, LieApart, Each, many}
 use Rattle.flow_queues.specs.Flows.{IsIndex}
-use Rattle.app_worker.specs.State.{State, Common, FlowEnds, app_steps, lent_bytes, loan_entries}
-use Rattle.app_worker.specs.Shelves.{AreFronts}
+use Rattle.app_worker.specs.State.{State, Common, app_steps}
+use Rattle.flow_queues.specs.Shelves.{FlowEnds, AreFronts}
+use Rattle.flow_queues.specs.Totals.{lent_bytes, lent_len, loan_entries}
 use Rattle.app_worker.specs.Moves.{Moves}
 use Rattle.app_worker.specs.Whole.{KeepsShelves}
 use Rattle.flow_queues.specs.Flows.{facts_of}
@@ -40,6 +41,7 @@ pub record LetGo (was now : State) (old new : AppView) : Type 0 where
   pub distinct : (number : ℕ) → many number now.flows ≤ 1
   pub index : IsIndex now.index now.flows
   pub within_lent : total (λ f. f.bytes) now.flows ≤ lent_bytes new
+  pub whole_given : total lent_len (take (loan_entries new) new.returned) ≤ total (λ f. f.bytes) now.flows
   pub common : Common now new
   pub moves : Moves was now old new
   pub steps : app_steps was old < app_steps now new

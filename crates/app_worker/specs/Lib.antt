@@ -4,7 +4,6 @@ pub mod Steps
 pub mod Entries
 pub mod State
 pub mod StateOf
-pub mod Shelves
 pub mod Moves
 pub mod Flushing
 pub mod Whole
@@ -12,5 +11,5 @@ pub mod Kept
 pub mod Letting
 pub mod Stages
 pub mod Streams
-pub mod Ends
+pub mod Returned
 pub mod Turns

@@ -9,8 +9,9 @@ use Rattle.board_face.specs.AppEvents.{reserve_of}
 use Rattle.flow_queues.specs.declared.queues.Lending.{Lending}
 use Rattle.flow_queues.specs.Core.{total, Each}
 use Rattle.app_worker.specs.Entries.{lies_in}
-use Rattle.app_worker.specs.State.{State, TellsOf, read_of, loan_entries, bytes_of, due_one, app_steps}
-use Rattle.app_worker.specs.Shelves.{AreShelved, AreFronts}
+use Rattle.app_worker.specs.State.{State, TellsOf, read_of, due_one, app_steps}
+use Rattle.flow_queues.specs.Totals.{loan_entries, bytes_of}
+use Rattle.flow_queues.specs.Shelves.{AreShelved, AreFronts}
 
 -- Until all is given up, what is kept to the end stays.
 abbrev pub KeepsLeaked : State → State → Type 0

@@ -5,7 +5,7 @@ use Rattle.zr_io.specs.Moved.{Rose}
 use Rattle.board_face.specs.AppCalls.{AppOnlySaw}
 use Rattle.board_face.specs.Looks.{AppRose}
 use Rattle.board_face.specs.AppEvents.{reserve_of}
-use Rattle.board_face.specs.declared.views.app.AppLook.TheVariants.{RawOnItsWay, RefillInUse, NotQuiet}
+use Rattle.board_face.specs.declared.views.app.AppLook.TheVariants.{RawOnItsWay, NoSpare, RefillInUse, NotQuiet}
 use Rattle.board_face.specs.declared.views.app.AppView.{AppView}
 use Rattle.app_worker.specs.declared.stack.Delivery.{Delivery}
 use Rattle.app_worker.specs.declared.stack.Delivery.TheVariants.{Did as lent_it}
@@ -30,6 +30,8 @@ pub record Through (was now : State) (old new : AppView) (kept kept_now : ℕ �
   pub goes : Goes was now old new kept kept_now
   pub reaped : now.posted.entries ≡ []
   pub ended : now.ended ≡ was.ended
+  -- where nothing was in order, nothing is in order now
+  pub rest : Each IsAtRest was.flows → Each IsAtRest now.flows
   pub taken : new.taken ≡ old.taken
   pub left : new.left ≡ old.left
 
@@ -102,14 +104,29 @@ pub record LentSome (was now : State) (old new : AppView) (did : Bool) (end_by :
   pub left : new.left ≡ old.left
   pub steps : did ≡ true → app_steps was old < app_steps now new
   pub final : end_by ≢ lent_it
+  pub first : did ≡ true → HasNext was
   pub nothing : did ≡ false → Lends was now old new end_by
+
+-- What keeps back what is still to be done: a refill slot was seen in use, or a raw entry on its way, or no spare was to be had.
+abbrev pub IsKeptBack : AppView → AppView → Type 0
+IsKeptBack old new = AppRose RefillInUse old new ⊎ (AppRose RawOnItsWay old new ⊎ AppRose NoSpare old new)
+
+-- All that was in order is lent, and no more is unread than it keeps; and more may come.
+pub record HasLentAll (st : State) : Type 0 where
+  pub more : st.ended ≡ false
+  pub in_order : Each IsAtRest st.flows
+  pub unread : length st.unread ≤ st.how.hold
+
+-- it leaves nothing undone but what is kept back
+abbrev pub DoesAll : State → AppView → AppView → Type 0
+DoesAll now old new = IsKeptBack old new ⊎ HasLentAll now
 
 -- what delivering did
 abbrev pub LendsAll : State → State → AppView → AppView → (ℕ → Option (List ℕ)) → (ℕ → Option (List ℕ)) → ℕ → ℕ → Lent
     → Type 0
 LendsAll was now old new kept kept_now faults faults_now none_in_order = Untouched was now old new kept kept_now × Each IsAtRest was.flows
 LendsAll was now old new kept kept_now faults faults_now lent_some = Through was now old new kept kept_now × (app_steps was old < app_steps now new)
-    × LeavesInUse now old new
+    × LeavesInUse now old new × HasNext was × DoesAll now old new
 LendsAll was now old new kept kept_now faults faults_now Stuck = (now ≡ was) × (kept_now ≡ kept) × AppOnlySaw RawOnItsWay old new × HasNext was
 LendsAll was now old new kept kept_now faults faults_now lending_quit = HasQuit was now old new kept kept_now
 LendsAll was now old new kept kept_now faults faults_now NoSpareHad = (now ≡ was) × (kept_now ≡ kept) × SawNoSpare old new × HasCopyNext was

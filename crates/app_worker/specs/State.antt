@@ -1,12 +1,12 @@
 -- What an application keeps between its turns, as plain data, and how that stands to what its face has seen.
 use mir.Syntax.{w32}
 use Rattle.std.specs.Int.{cast_signed}
-use Rattle.std.specs.Prelude.{◌≡◌, ◌≢◌, ◌↔◌, ℕ, ◌+◌, ◌-◌, ◌*◌, ◌^◌, ◌<◌, ◌≤◌, ◌==◌, min}
+use Rattle.std.specs.Prelude.{◌≡◌, ◌≢◌, ℕ, ◌+◌, ◌-◌, ◌*◌, ◌<◌, ◌≤◌, ◌==◌, min}
 use Rattle.std.specs.Prelude.{Bool, true, false, if◌then◌else◌}
-use Rattle.std.specs.Prelude.{List, [], ◌++◌, length, take, drop, Option, Some, None, MatchBool, IsSome}
+use Rattle.std.specs.Prelude.{List, [], ◌++◌, length, take, drop, Option, Some, None, MatchBool}
 use Rattle.zr_kinds.specs.declared.behaviour.Behaviour.{Behaviour}
 use Rattle.zr_kinds.specs.declared.behaviour.Stopped.{Stopped}
-use Rattle.zr_kinds.specs.declared.behaviour.Stopped.TheVariants.{No, Quit}
+use Rattle.zr_kinds.specs.declared.behaviour.Stopped.TheVariants.{No}
 use Rattle.zr_kinds.specs.declared.ring.Completion.{Completion}
 use Rattle.zr_kinds.specs.CopyingReceiver.{next_missing}
 use Rattle.area_layout.specs.Layout.{Shape, off_of, judged}
@@ -14,15 +14,16 @@ use Rattle.circular_buffer.specs.Buffer.{Buffer}
 use Rattle.completion_ring.specs.Ring.{Ring}
 use Rattle.board_face.specs.AppEvents.{reserve_of}
 use Rattle.board_face.specs.declared.views.app.LentPiece.{LentPiece}
-use Rattle.board_face.specs.declared.views.app.TakenNote.{TakenNote}
 use Rattle.board_face.specs.declared.views.app.AppView.{AppView}
 use Rattle.flow_queues.specs.declared.queues.Lending.{Lending}
 use Rattle.app_worker.specs.declared.stack.Stray.{Stray}
 use Rattle.flow_queues.specs.declared.queues.FlowQueue.{FlowQueue}
 use Rattle.app_worker.specs.Entries.{Gives, lies_in, WasLive, AreBlocks}
-use Rattle.flow_queues.specs.Core.{total, is_odd, is_copy, IsOfTaken, Each, many, read_out, own_notes, BeginAt, placed_of, short_bytes, Stands}
+use Rattle.flow_queues.specs.Core.{total, is_odd, is_copy, IsOfTaken, Each, many, read_out, own_notes, placed_of, short_bytes, Stands}
 use Rattle.flow_queues.specs.Flows.{IsAtRest, RestBut, IsIndex}
 use Rattle.flow_queues.specs.Core.{unsplit_len, held_len}
+use Rattle.flow_queues.specs.Shelves.{FlowEnds}
+use Rattle.flow_queues.specs.Totals.{Quits, capped, lent_len, lent_bytes, loan_entries, raw_entries, taken_len}
 
 pub record State : Type 0 where
   pub app : ℕ
@@ -74,27 +75,13 @@ read_of st = read_out st.due st.leaked.items
 abbrev pub returned_aside : AppView → ℕ
 returned_aside v = total (λ l. if l.place.buffer == reserve_of v then 0 else 1) v.returned
 
--- how many bytes these have
-abbrev pub lent_len : LentPiece → ℕ
-lent_len l = l.place.len
-
--- how many bytes it was lent
-abbrev pub lent_bytes : AppView → ℕ
-lent_bytes v = total lent_len v.loans + total lent_len v.returned
-
+-- how many bytes it has
 abbrev pub loan_len : Lending → ℕ
 loan_len l = l.loan.len
 
 -- how many of these don't have 1 to 65,515 bytes in one buffer
 abbrev pub odd_loans : Shape → List LentPiece → ℕ
 odd_loans layout loans = total (λ l. is_odd layout l.place) loans
-
--- how many bytes of a flow were appended
-abbrev pub bytes_if : ℕ → FlowQueue → ℕ
-bytes_if number f = if f.number == number then f.bytes else 0
-
-abbrev pub bytes_of : ℕ → List FlowQueue → ℕ
-bytes_of number flows = total (bytes_if number) flows
 
 -- its loan lies in another buffer
 abbrev pub LiesOutside : ℕ → Completion × Lending → Type 0
@@ -122,19 +109,7 @@ pub record Working (st : State) (v : AppView) : Type 0 where
   -- each loan that it doesn't have any more was appended whole, as each that was read, and nothing else was
   pub appended : total lent_len v.returned + total loan_len (read_of st) ≡ total (λ f. f.bytes) st.flows
 
--- the refill entries that were written: raw, and of loans
-abbrev pub raw_entries : AppView → ℕ
-raw_entries v = total (λ w. if w.of_loan then 0 else 1) v.written
-
-abbrev pub loan_entries : AppView → ℕ
-loan_entries v = total (λ w. if w.of_loan then 1 else 0) v.written
-
 -- ---- once it has stopped, or has read all
-
--- what was appended of a flow has its place
-pub record FlowEnds (taken : List TakenNote) (flow : FlowQueue) : Type 0 where
-  pub begun : BeginAt flow.queue.base (own_notes flow.number taken)
-  pub below : (p : ℕ) → p < flow.bytes → IsSome ((placed_of flow taken).at p)
 
 -- it has nothing out
 pub record Bare (st : State) (v : AppView) : Type 0 where
@@ -156,28 +131,12 @@ pub record Bare (st : State) (v : AppView) : Type 0 where
   pub whole : st.stopped ≡ No → (st.ended ≡ true) × Each (λ f. f.bytes ≡ next_missing (placed_of f v.taken)) st.flows
   -- each loan that it had was then appended whole
   pub appended : st.stopped ≡ No → total lent_len v.returned ≡ total (λ f. f.bytes) st.flows
-  -- and never more than was lent
+  -- and never more than was lent, nor less than the loans had that entries gave back
   pub within_lent : total (λ f. f.bytes) st.flows ≤ lent_bytes v
+  pub whole_given : total lent_len (take (loan_entries v) v.returned) ≤ total (λ f. f.bytes) st.flows
   pub known : st.stopped ≡ No → (number : ℕ) → many number st.flows ≡ 0 → own_notes number v.taken ≡ []
 
 -- ---- always
-
--- a count stays at 2^64 - 1
-abbrev pub capped : ℕ → ℕ
-capped n = min n (2 ^ 64 - 1)
-
-abbrev pub taken_len : TakenNote → ℕ
-taken_len t = t.note.place.len
-
--- It quits exactly where it has written so many bytes, and writes no more.
-abbrev pub Quits : Option ℕ → ℕ → Stopped → Type 0
-Quits None written stopped = stopped ≢ Quit
-Quits (Some bytes) written stopped = (written ≤ bytes) × ((stopped ≡ Quit) ↔ (written ≡ bytes))
-
--- how many of the next bytes it is to write
-abbrev pub wanted_of : Option ℕ → ℕ → ℕ → ℕ
-wanted_of None written len = len
-wanted_of (Some bytes) written len = min len (bytes - written)
 
 pub record Common (st : State) (v : AppView) : Type 0 where
   pub app : v.app ≡ st.app

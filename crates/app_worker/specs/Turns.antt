@@ -6,7 +6,7 @@ use Rattle.zr_kinds.specs.declared.behaviour.Stopped.TheVariants as stop
 use Rattle.zr_io.specs.Moved.{Rose}
 use Rattle.board_face.specs.Looks.{AppRose}
 use Rattle.board_face.specs.declared.views.app.AppLook.{AppLook}
-use Rattle.board_face.specs.declared.views.app.AppLook.TheVariants.{NoNote as no_note, RefillInUse, RawOnItsWay, NoSpare, NotQuiet as not_quiet}
+use Rattle.board_face.specs.declared.views.app.AppLook.TheVariants.{NoNote as no_note, CardEnded, RefillInUse, RawOnItsWay, NoSpare, NotQuiet as not_quiet}
 use Rattle.board_face.specs.declared.views.app.TakenNote.{TakenNote}
 use Rattle.board_face.specs.declared.views.app.AppView.{AppView}
 use Rattle.app_worker.specs.declared.turn.Turn.{Turn}
@@ -19,7 +19,7 @@ use Rattle.flow_queues.specs.Flows.{IsAtRest}
 use Rattle.app_worker.specs.Moves.{Moves, Goes}
 use Rattle.app_worker.specs.Flushing.{Flushes}
 use Rattle.app_worker.specs.Whole.{HasNext, HasCopyNext, IsDue}
-use Rattle.app_worker.specs.Stages.{NoneInReserve, LeavesInUse}
+use Rattle.app_worker.specs.Stages.{NoneInReserve, LeavesInUse, DoesAll}
 
 -- ---- a turn that did nothing
 
@@ -60,7 +60,7 @@ pub record IsCaughtUp (st : State) (v : AppView) : Type 0 where
 
 -- There is something to do that this reason keeps back, and nothing else.
 abbrev pub Because : Why → State → AppView → Type 0
-Because NoNote was old = was.bare ≡ false → MayPoll was old
+Because NoNote was old = (was.ended ≡ false) × (was.bare ≡ false → MayPoll was old)
 Because RefillFull was old = IsDue was
 Because Unsettled was old = IsCaughtUp was old × HasNext was
 Because ReserveHeld was old = IsCaughtUp was old × HasCopyNext was
@@ -100,6 +100,10 @@ TakesFew old new = (new.taken ≡ old.taken) ⊎ TakesOne old new
 abbrev pub LooksForOne : State → AppView → AppView → Type 0
 LooksForOne now old new = TakesOne old new ⊎ (AppRose no_note old new ⊎ (now.ended ≡ true))
 
+-- It looked for a note: one was taken, or none had come, or none comes any more. Or a refill slot was seen in use.
+abbrev pub PollsOne : AppView → AppView → Type 0
+PollsOne old new = TakesOne old new ⊎ (AppRose no_note old new ⊎ (AppRose CardEnded old new ⊎ AppRose RefillInUse old new))
+
 -- Its user counts are scrubbed; or a refill slot was seen in use, and at no look was each seen free.
 abbrev pub ScrubsIfQuiet : AppView → AppView → Type 0
 ScrubsIfQuiet old new = old.scrubbed ≡ false → (new.scrubbed ≡ true) ⊎ (AppRose not_quiet old new × (new.quiet ≡ old.quiet))
@@ -128,6 +132,10 @@ pub record Turns (was now : State) (old new : AppView) (kept kept_now : ℕ → 
   pub left_over : now.bare ≡ false → LeavesInUse now old new
   -- a loan in the reserve has all read that was unread
   pub flushes : now.bare ≡ false → Flushes was now old new
+  -- it leaves nothing undone but what is kept back
+  pub stops : now.bare ≡ false → DoesAll now old new
+  -- where nothing is in order as it begins and notes may still come, it looks for one, or saw a refill slot in use
+  pub polls : now.bare ≡ false → was.ended ≡ false → Each IsAtRest was.flows → PollsOne old new
   -- it leaves only where it says so
   pub here : result ≢ Finished → new.left ≡ old.left
   -- a note is taken only where that may be

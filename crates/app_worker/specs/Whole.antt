@@ -26,8 +26,9 @@ use Rattle.app_worker.specs.declared.turning.Taken.TheVariants.{Did as took, NoN
 use Rattle.app_worker.specs.Entries.{Gives as GivesAll}
 use Rattle.flow_queues.specs.Core.{total, HasTokens, Each, many, AreReadAt, placed_of}
 use Rattle.flow_queues.specs.Flows.{IsIndex, IsAtRest}
-use Rattle.app_worker.specs.State.{State, read_of, Working, Common, FlowEnds, app_steps, lent_bytes}
-use Rattle.app_worker.specs.Shelves.{AreShelved, AreFronts}
+use Rattle.app_worker.specs.State.{State, read_of, Working, Common, app_steps}
+use Rattle.flow_queues.specs.Shelves.{FlowEnds, AreShelved, AreFronts}
+use Rattle.flow_queues.specs.Totals.{lent_bytes, lent_len}
 use Rattle.flow_queues.specs.Lent.{IsNext, SawNoSpare}
 use Rattle.app_worker.specs.Moves.{Moves, Goes}
 use Rattle.app_worker.specs.Flushing.{Flushes}
@@ -40,22 +41,23 @@ pub record Appended (flow : FlowQueue) (taken : List TakenNote) (new : AppView) 
 
 -- ---- lending
 
--- The piece that is next in the stream was lent and posted.
-pub record LentOne (was now : State) (old new : AppView) : Type 0 where
-  pub flushes : Flushes was now old new
-  pub steps : app_steps was old < app_steps now new
-  pub posted : length now.posted.entries ≡ length was.posted.entries + 1
-  pub same : now ≡ record was { flows = now.flows; posted = now.posted; loans = now.loans; copied = now.copied; flush = now.flush }
-  pub taken : new.taken ≡ old.taken
-  pub left : new.left ≡ old.left
-
 -- something of the active flow is in order
 pub record HasNext (st : State) : Type 0 where
   pub flow : FlowQueue
   pub active : slice_get st.flows st.active ≡ Some flow
   pub next : flow.queue.popped ≢ next_of flow.queue
 
--- and it is to be copied
+-- The piece that is next in the stream was lent and posted.
+pub record LentOne (was now : State) (old new : AppView) : Type 0 where
+  pub flushes : Flushes was now old new
+  pub next : HasNext was
+  pub steps : app_steps was old < app_steps now new
+  pub posted : length now.posted.entries ≡ length was.posted.entries + 1
+  pub same : now ≡ record was { flows = now.flows; posted = now.posted; loans = now.loans; copied = now.copied; flush = now.flush }
+  pub taken : new.taken ≡ old.taken
+  pub left : new.left ≡ old.left
+
+-- it is in order, and is to be copied
 pub record HasCopyNext (st : State) : Type 0 where
   pub flow : FlowQueue
   pub active : slice_get st.flows st.active ≡ Some flow
@@ -121,6 +123,7 @@ pub record ReadOne (was now : State) (old new : AppView) (kept kept_now : ℕ �
   -- once nothing is unread, all was read that was to be
   pub flush : now.flush ≡ true → (was.flush ≡ true) × (now.unread ≢ [])
   pub flushed : now.flush ≡ false → (was.flush ≡ false) ⊎ (now.unread ≡ [])
+  pub rest : Each IsAtRest was.flows → Each IsAtRest now.flows
   pub taken : new.taken ≡ old.taken
   pub left : new.left ≡ old.left
 
@@ -134,6 +137,8 @@ pub record Torn (st : State) (v : AppView) : Type 0 where
   pub lent : Each (λ p. p.1.note < length v.taken) (st.unread ++ st.posted.entries)
   pub due_lent : Each (λ l. l.note < length v.taken) (read_of st)
   pub within_lent : total (λ f. f.bytes) st.flows ≤ lent_bytes v
+  -- each loan that it doesn't have any more was appended
+  pub whole_given : total lent_len v.returned ≤ total (λ f. f.bytes) st.flows
 
 -- The oldest loan was appended up to the byte at which the application quits, and is due.
 pub record ReadQuit (was now : State) (old new : AppView) (kept kept_now : ℕ → Option (List ℕ)) : Type 0 where

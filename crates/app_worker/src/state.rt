@@ -9,9 +9,11 @@ ghost use Rattle.app_worker.specs.declared.turn.Turn.TheVariants.{Idle, Failed, 
 ghost use Rattle.zr_kinds.specs.declared.fault.Fault.TheVariants.{Write};
 ghost use Rattle.zr_kinds.specs.declared.behaviour.Stopped.TheVariants.{No};
 ghost use Rattle.flow_queues.specs.Marks.{AreWholeFrames};
-ghost use Rattle.app_worker.specs.Shelves.{AreShelved, AreFronts};
-ghost use Rattle.app_worker.specs.Streams.{HasFronts, HasAll, HasCounted};
-ghost use Rattle.app_worker.specs.State.{AppStands, app_steps, furthest, bytes_of, lent_bytes};
+ghost use Rattle.flow_queues.specs.Shelves.{AreShelved, AreFronts};
+ghost use Rattle.flow_queues.specs.Streams.{HasFronts, HasAll};
+ghost use Rattle.app_worker.specs.Streams.{HasCounted};
+ghost use Rattle.app_worker.specs.State.{AppStands, app_steps, furthest};
+ghost use Rattle.flow_queues.specs.Totals.{bytes_of, lent_bytes};
 ghost use Rattle.app_worker.specs.Kept.{new_state, IsFresh, flow_bytes};
 ghost use Rattle.app_worker.specs.Moves.{reads_of, reserve_loans};
 ghost use Rattle.app_worker.specs.Turns.{ScrubsIfQuiet, Turns, look_of};

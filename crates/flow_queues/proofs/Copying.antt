@@ -12,7 +12,7 @@ use Rattle.zr_kinds.specs.declared.place.Place.{Place}
 use Rattle.zr_kinds.specs.declared.place.Note.{Note}
 use Rattle.area_layout.specs.Layout.{pool_buffers}
 use Rattle.tcp_reorder.specs.declared.places.Span.{Span}
-use Rattle.tcp_reorder.specs.Queue.{Kept, Queue, front_of, AreApart as ApartFrom}
+use Rattle.tcp_reorder.specs.Queue.{Kept, Queue, front_of, AreApart as ApartFrom, next_of}
 use Rattle.tcp_reorder.specs.Gaps.{LosesFirst, kept_at}
 use Rattle.tcp_reorder.specs.Values.{AreSized}
 use Rattle.tcp_reorder.proofs.Sound.{front_of-in_order}
@@ -245,7 +245,7 @@ own-lies v b len own reserve sound few = record {
 }
 
 module _ (v w : AppView) (was : FlowQueue) (q : Queue Waiting) (span : Span) (begins : span.position ≡ was.queue.popped)
-    (settled : v.settled ≡ true) (lie : LieApart v) (place : Place) where
+    (next : was.queue.popped ≢ next_of was.queue) (settled : v.settled ≡ true) (lie : LieApart v) (place : Place) where
   pub copy-lent : (s : Short) (b : ℕ) (owns : v.owns ≡ []) → LosesFirst was.queue q (Copied s) span → IsShort v.taken s
       → HasNoneIn v b → LiesIn v.setting.layout (begin_place b (length s.bytes.items)) → 0 < length s.bytes.items
       → w ≡ copy_lent v b s.bytes.items owns → place ≡ begin_place b (length s.bytes.items)
@@ -256,6 +256,7 @@ module _ (v w : AppView) (was : FlowQueue) (q : Queue Waiting) (span : Span) (be
       span = span;
       loses = loses;
       begins = begins;
+      next = next;
       flow = refl;
       marks = refl;
       len = omega arith;
@@ -289,6 +290,7 @@ module _ (v w : AppView) (was : FlowQueue) (q : Queue Waiting) (span : Span) (be
           span = span;
           loses = loses;
           begins = begins;
+          next = next;
           flow = refl;
           marks = refl;
           len = omega arith;
@@ -311,6 +313,7 @@ from-rest v w was now l step = record {
   span = step.span;
   loses = step.loses;
   begins = step.begins;
+  next = step.next;
   flow = step.flow;
   marks = step.marks;
   len = step.len;

@@ -20,3 +20,4 @@ pub mod InParts
 pub mod Bridge
 pub mod WholeFrames
 pub mod Fronts
+pub mod ReadLemmas

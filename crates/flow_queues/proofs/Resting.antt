@@ -1,5 +1,5 @@
 -- Flows of which no piece is in order.
-use Rattle.std.proofs.Common.{◌≡◌, ℕ, zero, suc, ◌<◌, ◌≤◌, subst, List, [], ◌∷◌, ◌++◌, length, set, get_or, arith}
+use Rattle.std.proofs.Common.{◌≡◌, ℕ, zero, suc, ◌<◌, ◌≤◌, subst, List, [], ◌∷◌, ◌++◌, length, set, get_or, slice_get, Some, arith}
 use Rattle.flow_queues.specs.declared.queues.FlowQueue.{FlowQueue}
 use Rattle.flow_queues.specs.Core.{Each}
 use Rattle.flow_queues.specs.Flows.{IsAtRest, RestBut}
@@ -28,6 +28,12 @@ pub rest-none : (i : ℕ) (fs : List FlowQueue) → length fs ≤ i → RestBut 
 rest-none i [] past rest = tt
 rest-none zero (f ∷ fs) past rest = absurd (omega arith)
 rest-none (suc i) (f ∷ fs) past rest = (rest.0, rest-none i fs (omega arith) rest.1)
+
+-- the flow at a place is
+pub rest-at : (i : ℕ) (fs : List FlowQueue) (f : FlowQueue) → Each IsAtRest fs → slice_get fs i ≡ Some f → IsAtRest f
+rest-at i [] f all is = absurd (cc)
+rest-at zero (g ∷ fs) f all is = (let same : g ≡ f = cc in subst IsAtRest same all.0)
+rest-at (suc i) (g ∷ fs) f all is = rest-at i fs f all.1 is
 
 -- a flow was put behind the others
 pub rest-push : (fs : List FlowQueue) (x : FlowQueue) → Each IsAtRest fs → RestBut (length fs) (fs ++ x ∷ [])

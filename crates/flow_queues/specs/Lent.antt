@@ -47,6 +47,7 @@ pub record LentNext (old new : AppView) (was now : FlowQueue) (lending : Lending
   pub span : Span
   pub loses : LosesFirst was.queue now.queue piece span
   pub begins : span.position ≡ was.queue.popped
+  pub next : was.queue.popped ≢ next_of was.queue
   pub flow : now ≡ record was { queue = now.queue }
   -- the loan is of the piece's bytes
   pub marks : marks_of_loan lending ≡ marks_of_waiting piece

@@ -4,3 +4,7 @@ pub mod Pieces
 pub mod Flows
 pub mod Lent
 pub mod Taking
+pub mod Totals
+pub mod Shelves
+pub mod Streams
+pub mod Ends

@@ -9,7 +9,7 @@ use Rattle.board_face.specs.declared.views.app.AppView.{AppView}
 use Rattle.flow_queues.specs.declared.queues.Lending.{Lending}
 use Rattle.flow_queues.specs.Core.{IsIn, LieApart, lent_piece}
 use Rattle.flow_queues.proofs.Tokens.{in-contains}
-use Rattle.app_worker.proofs.ReadLemmas.{IsReadTo, still-apart, still-out, only-then, only-read, one-more, some-more}
+use Rattle.flow_queues.proofs.ReadLemmas.{IsReadTo, still-apart, still-out, only-then, only-read, one-more, some-more}
 use Rattle.app_worker.proofs.reading.read_loan.Goals as goal
 
 pub read-requires-clause-out : goal.read-requires-clause-out

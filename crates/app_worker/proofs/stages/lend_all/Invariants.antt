@@ -2,6 +2,7 @@
 use Rattle.std.specs.Prelude.{◌≡◌, ◌-◌, ◌<◌, ◌≤◌, true, false, None, length}
 use Rattle.app_worker.specs.State.{app_steps, furthest}
 use Rattle.app_worker.specs.StateOf.{state_of}
+use Rattle.app_worker.specs.Whole.{HasNext}
 use Rattle.app_worker.specs.Stages.{Through, Untouched}
 use Rattle.app_worker.proofs.stages.lend_all.Given as goal
 
@@ -17,6 +18,7 @@ invariant-loop-end g l =
     × (length l.st.unread.items ≤ l.st.how.hold)
     × (l.st.stray.left ≡ 0)
     × (l.st.flush ≡ false)
+    × (l.did ≡ true → HasNext (state_of l.fn.st))
 
 abbrev pub decreases-loop-end : goal.decreases-loop-end
 decreases-loop-end g l = furthest l.st.how.stray (g.F.AppFace.seen l.face) - app_steps (state_of l.st) (g.F.AppFace.seen l.face)

@@ -9,7 +9,8 @@ use Rattle.flow_queues.specs.declared.queues.Lending.{Lending}
 use Rattle.flow_queues.specs.declared.queues.FlowQueue.{FlowQueue}
 use Rattle.flow_queues.specs.Core.{Stands, IsReadOf}
 use Rattle.zr_kinds.specs.declared.behaviour.Stopped.TheVariants as stop
-use Rattle.app_worker.specs.State.{State, read_of, Quits, wanted_of}
+use Rattle.app_worker.specs.State.{State, read_of}
+use Rattle.flow_queues.specs.Totals.{Quits, wanted_of}
 use Rattle.app_worker.specs.StateOf.{state_of}
 use Rattle.app_worker.proofs.Standing2.{oldest-out}
 use Rattle.flow_queues.proofs.Indexing.{found-at}

@@ -6,7 +6,7 @@ use Rattle.app_worker.specs.State.{State}
 use Rattle.app_worker.specs.StateOf.{state_of}
 use Rattle.app_worker.specs.Turns.{Turns}
 use Rattle.app_worker.proofs.TurnLemmas.{turns-did, turns-saw, turns-no-spare, turns-first}
-use Rattle.app_worker.proofs.LentAll.{caught-up, leaves-none}
+use Rattle.app_worker.proofs.LentAll.{caught-up, leaves-none, no-next}
 use Rattle.app_worker.proofs.working.go_on.Goals as goal
 
 pub returns-in-Did-clause-turns : goal.returns-in-Did-clause-turns
@@ -17,7 +17,8 @@ returns-in-Did-clause-turns g c =
     let v : AppView = g.F.AppFace.seen c.lend_all.new.face in
     let lends = c.in-Did.ensures.lends in
     turns-did a b u v (g.T.Shelf.kept c.args.shelf.now) (g.T.Shelf.kept c.lend_all.new.shelf) (g.T.Shelf.faults c.args.shelf.now)
-    (g.T.Shelf.faults c.lend_all.new.shelf) c.requires.working.live lends.0 lends.1 lends.2
+    (g.T.Shelf.faults c.lend_all.new.shelf) c.requires.working.live lends.0 lends.1 lends.2 lends.4
+    (λ _ rest. absurd (no-next a rest lends.3))
 
 pub returns-in-Stuck-clause-turns : goal.returns-in-Stuck-clause-turns
 returns-in-Stuck-clause-turns g c =

@@ -48,7 +48,7 @@ returns-in-Failed-clause-turns g c =
     let m : ℕ → Option (List ℕ) = g.T.Shelf.kept c.lend_all.new.shelf in
     let f2 : ℕ = g.T.Shelf.faults c.lend_all.new.shelf in
     let took : TookOne a b u v = c.in-Did.ensures.takes in
-    took-failed a b u v k m f f2 c.requires.working may c.requires.flush took e w c.in-Failed.ensures.lends
+    took-failed a b u v k m f f2 c.requires.working may c.requires.flush c.requires.more took e w c.in-Failed.ensures.lends
 
 pub returns-in_default : goal.returns-in_default
 returns-in_default g c =
@@ -73,7 +73,7 @@ returns-in_default g c =
     let took : TookOne a b u v = c.in-Did.ensures.takes in
     let reaped : b.posted.entries ≡ [] = ap (λ (s : State). s.posted.entries) took.same ∙ c.requires.reaped in
     record {
-      turns = took-did a b u v k m f f2 c.requires.working may c.requires.flush took e w c.lend_all.result c.in_default.not-Failed reaped
+      turns = took-did a b u v k m f f2 c.requires.working may c.requires.flush c.requires.more took e w c.lend_all.result c.in_default.not-Failed reaped
           c.lend_all.ensures.lends;
       told = λ why is. absurd (cc);
       later = c.lend_all.ensures.later;
@@ -141,5 +141,5 @@ returns-in-NoNote-clause-turns g c =
     } in
     let takes = c.in-NoNote.ensures.takes in
     subst (λ (s : State). Turns a s u v k k f f (Idle NoNote)) (sym takes.0)
-    (turns-saw a u v k f f NoNote takes.1 c.requires.working c.requires.common c.requires.reaped (λ _. may)
+    (turns-saw a u v k f f NoNote takes.1 c.requires.working c.requires.common c.requires.reaped (c.requires.more, λ _. may)
     (leaves-none a u v c.requires.due c.requires.pushed c.requires.flush))

@@ -14,5 +14,5 @@ returns-in-Linear-clause-passes g c = λ st kept faults bare is_bare common reap
 
 pub returns-in-Empty-clause-passes : goal.returns-in-Empty-clause-passes
 returns-in-Empty-clause-passes g c = λ st kept faults bare is_bare common reaped more.
-    bare-empty st (g.F.AppFace.seen c.args.face.now) bare is_bare common reaped (g.F.AppFace.seen c.poll.new.self) kept faults
+    bare-empty st (g.F.AppFace.seen c.args.face.now) bare is_bare common reaped (g.F.AppFace.seen c.poll.new.self) kept faults more
     c.in-Empty.ensures.view

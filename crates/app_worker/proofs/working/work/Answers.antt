@@ -1,4 +1,4 @@
-use Rattle.std.proofs.Common.{rules, ◌≡◌, ℕ, true, List, Option, sym, ap, ◌∙◌, subst}
+use Rattle.std.proofs.Common.{rules, inl, inr, ◌≡◌, ℕ, true, List, Option, sym, ap, ◌∙◌, subst}
 use Rattle.board_face.specs.declared.views.app.AppView.{AppView}
 use Rattle.app_worker.specs.State.{State}
 use Rattle.app_worker.specs.StateOf.{state_of}
@@ -49,7 +49,7 @@ returns-in-InUse-clause-turns g c =
     let v : AppView = g.F.AppFace.seen c.drain.new.face in
     let reads = c.in-InUse.ensures.reads in
     turns-did a b u v (g.T.Shelf.kept c.args.shelf.now) (g.T.Shelf.kept c.drain.new.shelf) (g.T.Shelf.faults c.args.shelf.now)
-    (g.T.Shelf.faults c.drain.new.shelf) c.requires.working.live reads.0 reads.1 (λ _. reads.3)
+    (g.T.Shelf.faults c.drain.new.shelf) c.requires.working.live reads.0 reads.1 (λ _. reads.3) (inl (inl reads.3)) (λ _ _. inr (inr (inr reads.3)))
 
 pub returns-in-Did-clause-still : goal.returns-in-Did-clause-still
 returns-in-Did-clause-still g c other =

@@ -48,5 +48,5 @@ returns-clause-lent g c =
     ∙ ap (λ (x : List ℕ). begin_place b (length x)) (bytes-are v b bs c.requires.owns) in
     let reserve : reserve_of v < buffers_of v.setting.layout = search rules in
     let lies : LiesIn v.setting.layout (begin_place b (length bs)) = own-lies v b (length bs) got.buffer reserve c.size-size.ensures.sound of.few in
-    copy-lent v w c.args.own.now c.pop_front.new.self c.in-Some-pop_front.field-0-1 (search rules) c.requires.settled c.requires.apart
+    copy-lent v w c.args.own.now c.pop_front.new.self c.in-Some-pop_front.field-0-1 (search rules) c.requires.next.some c.requires.settled c.requires.apart
     c.lend_own-loan.result s b c.requires.owns loses of got.apart lies some e3 place

@@ -1,7 +1,7 @@
 -- What an application leaves, as plain data: how that stands to what its face has seen, and to what its shelf had and has. Nothing here
 -- looks at what it kept, so it is the same for each kind of application.
 use Rattle.std.specs.Prelude.{◌≡◌, ◌≢◌, ℕ, ◌+◌, ◌*◌, ◌<◌, ◌≤◌, ◌==◌, true, if◌then◌else◌}
-use Rattle.std.specs.Prelude.{List, [], ◌∷◌, length, map, take, drop, Option}
+use Rattle.std.specs.Prelude.{List, [], ◌∷◌, length, take, drop, Option}
 use Rattle.zr_kinds.specs.declared.behaviour.Behaviour.{Behaviour}
 use Rattle.zr_kinds.specs.declared.behaviour.Stopped.{Stopped}
 use Rattle.zr_kinds.specs.declared.behaviour.Stopped.TheVariants as stop
@@ -10,9 +10,9 @@ use Rattle.board_face.specs.declared.views.app.AppView.{AppView}
 use Rattle.flow_queues.specs.declared.queues.FlowQueue.{FlowQueue}
 use Rattle.flow_queues.specs.Marks.{AreWholeFrames, marks_of}
 use Rattle.flow_queues.specs.Core.{total, Each, own_notes, most_at_once}
-use Rattle.app_worker.specs.Shelves.{AreOfOneLoan}
-use Rattle.app_worker.specs.State.{State, Quits, capped, lent_len, loan_entries, raw_entries, taken_len}
-use Rattle.app_worker.specs.Streams.{HasAll, HasFronts}
+use Rattle.flow_queues.specs.Shelves.{AreOfOneLoan}
+use Rattle.flow_queues.specs.Totals.{Quits, capped, lent_len, loan_entries, raw_entries, taken_len}
+use Rattle.flow_queues.specs.Streams.{HasAll, HasFronts}
 
 pub record AppEnd : Type 0 where
   pub written : ℕ
@@ -83,17 +83,6 @@ pub record HasLeft (how : Behaviour) (first kept : ℕ → Option (List ℕ)) (l
   pub strays : raw_entries v ≤ how.stray * loan_entries v
   pub entries : loan_entries v ≤ length v.returned
 
--- ---- one that takes turns
-
+-- of a queue: its number, and how many of its bytes are done with
 abbrev pub flow_end_of : FlowQueue → ℕ × ℕ
 flow_end_of f = (f.number, f.bytes)
-
--- what an application's state says once it has left
-abbrev pub end_of : State → AppEnd
-end_of st = record {
-  written = st.written;
-  loans = st.loans;
-  copied = st.copied;
-  stopped = st.stopped;
-  flows = map flow_end_of st.flows;
-}

@@ -10,8 +10,8 @@ use Rattle.board_face.specs.declared.views.app.AppView.{AppView}
 use Rattle.flow_queues.specs.declared.queues.FlowQueue.{FlowQueue}
 use Rattle.flow_queues.specs.declared.queues.Lending.{Lending}
 use Rattle.flow_queues.specs.Marks.{Mark, marks_from}
-use Rattle.flow_queues.specs.Core.{Each, many, IsIn, lent_piece, AreReadAt, placed_of, most_at_once}
-use Rattle.app_worker.specs.State.{loan_entries}
+use Rattle.flow_queues.specs.Core.{Each, many, IsIn, lent_piece, own_notes, BeginAt, AreReadAt, placed_of, most_at_once}
+use Rattle.flow_queues.specs.Totals.{loan_entries}
 
 -- since `first`, a flow's shelf gained the bytes at its first marks, as many as are counted
 pub record IsShelved (first kept : ℕ → Option (List ℕ)) (taken : List TakenNote) (reads : List Reading) (flow : FlowQueue) : Type 0 where
@@ -54,3 +54,8 @@ pub record AreFronts (first kept : ℕ → Option (List ℕ)) (own : List FlowQu
 pub record AreShelved (first kept : ℕ → Option (List ℕ)) (own : List FlowQueue) (v : AppView) : Type 0 where
   pub flows : Each (IsShelved first kept v.taken v.reads) own
   pub others : (number : ℕ) → many number own ≡ 0 → Keeps (first number) (kept number)
+
+-- what was appended of a flow has its place
+pub record FlowEnds (taken : List TakenNote) (flow : FlowQueue) : Type 0 where
+  pub begun : BeginAt flow.queue.base (own_notes flow.number taken)
+  pub below : (p : ℕ) → p < flow.bytes → IsSome ((placed_of flow taken).at p)
