@@ -20,7 +20,7 @@ use Rattle.board_face.specs.Relay.{as_taken, IsAsSent}
 use Rattle.board_face.specs.declared.views.app.AppView.{AppView}
 use Rattle.app_worker.specs.Marks.{base_of, marks_of}
 use Rattle.page_pool.specs.Frames.{Offered, ShowFrames}
-use Rattle.app_worker.specs.Streams.{IsFront}
+use Rattle.flow_queues.specs.Streams.{IsFront}
 use Rattle.card_feed.specs.Offered.{close_of, offered_one, offered_after, has_payload, without}
 use Rattle.card_feed.proofs.NotesShown.{AreOf, IsShownBy, is_shown, passed, of_flow-mine, flow_notes, HaveBytes, Ascend}
 use Rattle.card_feed.proofs.MarksStreamed.{received_offered, front_streamed}

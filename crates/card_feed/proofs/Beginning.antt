@@ -1,5 +1,5 @@
 -- A new feed has read nothing, and nothing was offered of it.
-use Rattle.std.proofs.Common.{ℕ, List, [], Option, refl, arith}
+use Rattle.std.proofs.Common.{ℕ, List, [], Option, inl, refl, arith}
 use Rattle.std.proofs.lemmas.List.Elements.{All-nil}
 use Rattle.std.specs.Prelude.{AllPairs, ◌<◌}
 use Rattle.frames_read.proofs.Framing.{steered-nothing}
@@ -25,6 +25,7 @@ feeds_stand left faults source ports split v none none_dealt none_used =
         };
         counted = rw (nothing, none_dealt) (record { searches = omega arith; empty = refl; strays = refl });
         needed = rw (nothing, none, none_used) (record { spent = omega arith; lacked = All-nil _ });
+        found = rw none (record { found = inl refl; used = tt });
       };
       comes = (refl, refl);
     }

@@ -7,6 +7,7 @@ pub mod Lines
 pub mod OffersRise
 pub mod Settling
 pub mod Counting
+pub mod Finding
 pub mod Needing
 pub mod Turning
 pub mod NotesShown

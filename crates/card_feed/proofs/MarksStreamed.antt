@@ -16,7 +16,7 @@ use Rattle.board_face.specs.declared.views.app.Reading.{Reading}
 use Rattle.board_face.specs.declared.views.app.AppView.{AppView}
 use Rattle.app_worker.specs.Marks.{Mark, Frame, received_frame, received_frames, base_of, marks_of}
 use Rattle.app_worker.specs.Core.{IsReadAt, IsIn, IsByteAt, AreReadAt}
-use Rattle.app_worker.specs.Streams.{IsFront}
+use Rattle.flow_queues.specs.Streams.{IsFront}
 use Rattle.page_pool.specs.Frames.{Offered, ShowFrames}
 use Rattle.zr_kinds.proofs.LeastMissing.{IsBounded-nothing}
 use Rattle.zr_kinds.proofs.Mapped.{MapsPlaced, received-map, front_of-map}

@@ -33,10 +33,10 @@ module _ {S : Type 0} (Wants : List (List ℕ) → List ℕ → Type 0) (left : 
           (
             records ++ record { frame = frame; original = found.original } ∷ [],
             sym (frames-append records (record { frame = frame; original = found.original } ∷ [])),
-            goes_on read later.going (left now) (faults now) frame found.original gives.1 still goes,
+            goes_on read later.going (left now) (faults now) frame found.original gives.1 gives.2 still goes,
           ),
         );
-        ends = λ fault ends. ends-frame Wants read later.going (left now) (faults now) frame found.original gives.1 still fault ends;
+        ends = λ fault ends. ends-frame Wants read later.going (left now) (faults now) frame found.original gives.1 gives.2 still fault ends;
         on = refl;
       }
 
@@ -45,7 +45,7 @@ module _ {S : Type 0} (Wants : List (List ℕ) → List ℕ → Type 0) (left : 
       → HasReadCause {T = Option Record} (faults old) (faults now) (Err fault)
       → (fault ≡ Memory → Took (left old) (left now) (WantsMemory capture.going))
       → HasEnded Wants (left first) (left now) (faults first) (faults now) ports (frames_of records) (Some fault)
-  next-ends later fault frame gives cause wants = ends-by Wants read (left now) (faults now) fault gives.0 gives.1 gives.2 wants
+  next-ends later fault frame gives cause wants = ends-by Wants read (left now) (faults now) fault gives.0 gives.1 gives.2 gives.3 wants
       (λ by. cause.read (ap Err by)) (λ other. cause.still (λ failed. other (cc)))
 
   pub next-all : (later : Reading) (result : Result (Option Record) Fault) (frame : List ℕ)

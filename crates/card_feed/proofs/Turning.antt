@@ -29,12 +29,13 @@ use Rattle.card_feed.specs.Feed.{FeedState, FeedKnows, FeedStands, WantsRecord}
 use Rattle.card_feed.specs.Turns.{ReadsOne, OnlyReads, MayArrive, Receives, Settles, Plays, drains, offers, finishes, rests, KeepsUp, IsAwaiting}
 use Rattle.card_feed.specs.Turns.{FeedSteps, FeedTurns, HasLooked}
 use Rattle.card_feed.specs.Parts.{feed_of}
-use Rattle.card_feed.specs.Counts.{AreCounted}
+use Rattle.card_feed.specs.Counts.{AreCounted, AreFound, found_in}
 use Rattle.card_feed.specs.Need.{AreNeeded}
 use Rattle.card_feed.proofs.OffersRise.{RiseFrom, offers-rise, offers-more}
 use Rattle.card_feed.proofs.Needing.{AreUnused, unused-trans, sends-unused, drains-unused, closes-unused, needed-read, needed-accepted}
 use Rattle.card_feed.proofs.Needing.{needed-refused, needed-same, keeps-setting}
 use Rattle.card_feed.proofs.Settling.{hand-last, next-last, settled-read, settled-accepted, settled-refused}
+use Rattle.card_feed.proofs.Finding.{found-same, found-closed, found-accepted, found-refused}
 use Rattle.card_feed.proofs.Counting.{AreInType, counted-read, counted-same, counted-drained, counted-looked, counted-accepted, counted-refused, closes-dealt}
 
 known_is : (k : KnownFlows) (known_ports : List ℕ) (flows : List Flow) → k.ports ≡ known_ports → k.flows ≡ flows
@@ -47,6 +48,10 @@ drained-notes : (pool now : PoolState) (old new : NicView) (count : ℕ) → Dra
     → now ≡ record pool { stats = now.stats }
     → all_notes now new ≡ all_notes pool old
 drained-notes pool now old new count done now_is = rw (done.deals.view, now_is) refl
+
+drained-found : (pool now : PoolState) (old new : NicView) (count : ℕ) → DrainsRings pool.stats now.stats old new count
+    → found_in now.stats ≡ found_in pool.stats
+drained-found pool now old new count done = ap found_in done.strays.others
 
 closed-notes : (pool : PoolState) (old new : NicView) → Closes pool.current old new → all_notes (record pool { current = None }) new ≡ all_notes pool old
 closed-notes pool old new closes = by_current pool.current closes
@@ -65,8 +70,9 @@ module _ (ports : List ℕ) (split : ℕ) where
       → AreSettled split (offers_of (steered_in ports frames)) now.refused now.at_hand (all_notes now.pool new)
       → AreCounted split (offers_of (steered_in ports frames)) now.refused now.at_hand new.dealt now.pool.stats
       → AreNeeded new.setting.layout split (offers_of (steered_in ports frames)) now.refused now.at_hand (all_notes now.pool new) new.used
+      → AreFound (all_notes now.pool new) now.pool
       → FeedKnows ports split frames now new
-  settles-feed frames was now old new stands same_ports same_tally same_flows same_split settled counted needed = record {
+  settles-feed frames was now old new stands same_ports same_tally same_flows same_split settled counted needed found = record {
     ports_are = same_ports ∙ stands.ports_are;
     split_is = same_split ∙ stands.split_is;
     tally_is = same_tally ∙ stands.tally_is;
@@ -74,21 +80,23 @@ module _ (ports : List ℕ) (split : ℕ) where
     settled = settled;
     counted = counted;
     needed = needed;
+    found = found;
   }
 
   same-settled : (frames : List (List ℕ)) (was now : FeedState) (old new : NicView)
       → FeedKnows ports split frames was old
       → now ≡ record was { pool = now.pool } → now.pool.split ≡ was.pool.split → all_notes now.pool new ≡ all_notes was.pool old
-      → AreUnused old new
+      → now.pool.current ≡ was.pool.current → found_in now.pool.stats ≡ found_in was.pool.stats → AreUnused old new
       → AreCounted split (offers_of (steered_in ports frames)) was.refused was.at_hand new.dealt now.pool.stats
       → FeedKnows ports split frames now new
-  same-settled frames was now old new stands same split_same notes unused counted =
+  same-settled frames was now old new stands same split_same notes current_same found_same unused counted =
       settles-feed frames was now old new stands (ap (λ (f : FeedState). f.ports) same)
       (ap (λ (f : FeedState). f.tally) same) (ap (λ (f : FeedState). f.flows) same) split_same
       (rw (ap (λ (f : FeedState). f.refused) same, ap (λ (f : FeedState). f.at_hand) same, notes) stands.settled)
       (rw (ap (λ (f : FeedState). f.refused) same, ap (λ (f : FeedState). f.at_hand) same) counted)
       (rw (ap (λ (f : FeedState). f.refused) same, ap (λ (f : FeedState). f.at_hand) same)
       (needed-same split (offers_of (steered_in ports frames)) was.refused was.at_hand was.pool now.pool old new notes unused stands.needed))
+      (found-same was.pool now.pool old new current_same found_same notes stands.found)
 
   -- notes were sent, and the rings drained
   drained-counted : (frames : List (List ℕ)) (was now : FeedState) (pool : PoolState) (old mid new : NicView) (count : ℕ)
@@ -116,6 +124,7 @@ module _ (ports : List ℕ) (split : ℕ) where
       (rw (ap (λ (f : FeedState). f.refused) same, ap (λ (f : FeedState). f.at_hand) same, keeps-setting was.pool now.pool old new o Accepted accepts)
       (needed-accepted old.setting.layout split (offers_of (steered_in ports frames)) was.refused was.pool now.pool old new o stands.split_is refl
       (rw here at stands.needed) accepts))
+      (found-accepted was.pool now.pool old new o stands.found accepts)
   settled-by frames was now old new o (NoRoom cached need) fits here (refuses, same) stands =
       let settled : AreSettled split (offers_of (steered_in ports frames)) was.refused (Some (offered o)) (all_notes was.pool old) =
       rw here at stands.settled in
@@ -135,12 +144,15 @@ module _ (ports : List ℕ) (split : ℕ) where
       )
       (needed-refused old.setting.layout split (offers_of (steered_in ports frames)) was.refused was.pool now.pool old new o stands.split_is refl
       (rw here at stands.needed) cached need settled.settled settled.awaits last.0 last.1 refuses))
+      (found-refused was.pool now.pool old new o cached need stands.found refuses)
   settled-by frames was now old new o Busy fits here (pool, mid, count, puts_off, drained, same) stands =
       let pool_is : now.pool ≡ record pool { stats = now.pool.stats } = ap (λ (f : FeedState). f.pool) same in
       same-settled frames was now old new stands
       (same ∙ sym (ap (λ p. record was { pool = p }) pool_is))
       (ap (λ (p : PoolState). p.split) pool_is ∙ ap (λ (p : PoolState). p.split) puts_off.sends.pool)
       (drained-notes pool now.pool mid new count drained pool_is ∙ puts_off.sends.notes)
+      (ap (λ (p : PoolState). p.current) pool_is ∙ ap (λ (p : PoolState). p.current) puts_off.sends.pool)
+      (drained-found pool now.pool mid new count drained ∙ ap (λ (p : PoolState). found_in p.stats) puts_off.sends.pool)
       (unused-trans old mid new (sends-unused was.pool pool old mid puts_off.sends) (drains-unused pool now.pool mid new count drained))
       (drained-counted frames was now pool old mid new count fits puts_off.sends drained stands.counted)
 
@@ -150,6 +162,7 @@ module _ (ports : List ℕ) (split : ℕ) where
       let pool_is : now.pool ≡ record was.pool { stats = now.pool.stats } = ap (λ (f : FeedState). f.pool) same in
       same-settled frames was now old new stands (same ∙ sym (ap (λ p. record was { pool = p }) pool_is))
       (ap (λ (p : PoolState). p.split) pool_is) (drained-notes was.pool now.pool old new count drained pool_is)
+      (ap (λ (p : PoolState). p.current) pool_is) (drained-found was.pool now.pool old new count drained)
       (drains-unused was.pool now.pool old new count drained)
       (counted-drained split (offers_of (steered_in ports frames)) was.refused was.at_hand was.pool.stats now.pool.stats old new count fits drained
       stands.counted)
@@ -169,11 +182,15 @@ module _ (ports : List ℕ) (split : ℕ) where
       (rw (ap (λ (f : FeedState). f.refused) same, ap (λ (f : FeedState). f.at_hand) same)
       (needed-same split (offers_of (steered_in ports frames)) was.refused was.at_hand was.pool now.pool old new notes
       (unused-trans old mid new (sends-unused was.pool pool old mid sends) (closes-unused pool.current mid new closes)) stands.needed))
+      (found-closed was.pool now.pool old new (ap (λ (p : PoolState). p.current) pool_is)
+      (ap (λ (p : PoolState). found_in p.stats) pool_is ∙ ap (λ (p : PoolState). found_in p.stats) sends.pool) notes stands.found)
   played frames was now old new fits (finishes on none over (pool, mid, sends, inr (waits, (count, drained, same)))) stands =
       let pool_is : now.pool ≡ record pool { stats = now.pool.stats } = ap (λ (f : FeedState). f.pool) same in
       same-settled frames was now old new stands (same ∙ sym (ap (λ p. record was { pool = p }) pool_is))
       (ap (λ (p : PoolState). p.split) pool_is ∙ ap (λ (p : PoolState). p.split) sends.pool)
       (drained-notes pool now.pool mid new count drained pool_is ∙ sends.notes)
+      (ap (λ (p : PoolState). p.current) pool_is ∙ ap (λ (p : PoolState). p.current) sends.pool)
+      (drained-found pool now.pool mid new count drained ∙ ap (λ (p : PoolState). found_in p.stats) sends.pool)
       (unused-trans old mid new (sends-unused was.pool pool old mid sends) (drains-unused pool now.pool mid new count drained))
       (drained-counted frames was now pool old mid new count fits sends drained stands.counted)
   played frames was now old new fits (rests on none goes same still) stands = rw (same, still) stands
@@ -187,6 +204,8 @@ module _ (ports : List ℕ) (split : ℕ) where
       (same ∙ sym (ap (λ p. record was { pool = p }) pool_is))
       (ap (λ (p : PoolState). p.split) pool_is ∙ ap (λ (p : PoolState). p.split) sends.pool)
       (drained-notes pool now.pool mid new count drained pool_is ∙ sends.notes)
+      (ap (λ (p : PoolState). p.current) pool_is ∙ ap (λ (p : PoolState). p.current) sends.pool)
+      (drained-found pool now.pool mid new count drained ∙ ap (λ (p : PoolState). found_in p.stats) sends.pool)
       (unused-trans old mid new (sends-unused was.pool pool old mid sends) (drains-unused pool now.pool mid new count drained))
       (drained-counted frames was now pool old mid new count fits sends drained stands.counted)
 
@@ -196,6 +215,7 @@ module _ (ports : List ℕ) (split : ℕ) where
       → FeedKnows ports split frames was old → FeedKnows ports split frames now new
   prepared frames need was now old new fits looks same stands =
       same-settled frames was now old new stands same (ap (λ (p : PoolState). p.split) looks.pool) (rw (looks.searches.view, looks.pool) refl)
+      (ap (λ (p : PoolState). p.current) looks.pool) (ap (λ (p : PoolState). found_in p.stats) looks.pool)
       (record { used = ap (λ (v : NicView). v.used) looks.searches.view; setting = ap (λ (v : NicView). v.setting) looks.searches.view })
       (counted-looked split (offers_of (steered_in ports frames)) was.refused was.at_hand need was.pool now.pool old new fits looks stands.counted)
 
@@ -249,6 +269,7 @@ module _ (ports : List ℕ) (split : ℕ) (frames : List (List ℕ)) (was : Inta
         settled = rw (refused, hand) (rw none at knows.settled);
         counted = rw (refused, hand) (rw none at knows.counted);
         needed = rw (refused, hand) (rw none at knows.needed);
+        found = knows.found;
       }
 
   one-more : (now : Intake) (frame : List ℕ) → was.hand ≡ None → now.refused.items ≡ was.refused.items → now.table.ports ≡ was.table.ports
@@ -271,6 +292,7 @@ module _ (ports : List ℕ) (split : ℕ) (frames : List (List ℕ)) (was : Inta
         (subst (RiseFrom 1) (offers-more ports frames frame) (offers-rise ports (frames ++ frame ∷ []))))
         (rw none at knows.settled))
         (rw none at knows.needed));
+    found = knows.found;
   }
 
   pub received : (now : Intake) (came : Arrived) → pool.split ≡ was.split → now.refused.items ≡ was.refused.items → now.table.ports ≡ was.table.ports

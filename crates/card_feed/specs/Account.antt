@@ -4,6 +4,7 @@ use Rattle.std.specs.Prelude.{◌≡◌, ℕ, ◌==◌, true, List, ◌++◌, le
 use Rattle.std.specs.Prelude.{◌≢◌, ◌<◌, ◌≤◌, option_and_then}
 use Rattle.std.specs.List.{slice_get}
 use Rattle.std.specs.Io.KnownBytes.{Keeps}
+use Rattle.zr_kinds.specs.declared.behaviour.Behaviour.{Behaviour}
 use Rattle.zr_kinds.specs.declared.behaviour.Stopped.{Stopped}
 use Rattle.zr_kinds.specs.declared.behaviour.Stopped.TheVariants as stop
 use Rattle.zr_kinds.specs.declared.outcome.AppLine.{AppLine}
@@ -21,8 +22,9 @@ use Rattle.page_pool.specs.Frames.{Offered, ShowFrames}
 use Rattle.page_pool.specs.Dealing.{strays_in}
 use Rattle.app_worker.specs.Core.{total}
 use Rattle.app_worker.specs.Marks.{marks_of}
-use Rattle.app_worker.specs.State.{lent_len}
-use Rattle.app_worker.specs.Streams.{IsFront}
+use Rattle.flow_queues.specs.Totals.{lent_len}
+use Rattle.flow_queues.specs.Streams.{IsFront}
+use Rattle.app_worker.specs.Returned.{HasReturned}
 use Rattle.card_feed.specs.Offered.{offers_of, without}
 pub use Rattle.card_feed.specs.Counts.{capped}
 use Rattle.card_feed.specs.Feed.{FeedState, FeedStands, IsReady}
@@ -46,8 +48,10 @@ pub record IsFlowRead (app : AppSide) (stopped : Stopped) (number : ℕ) (bytes 
 
 -- One application: the notes that were sent to it show its frames and are those that it took; and its line says how many
 -- loans it gave back or abandoned and how many spares it was given, and that it wrote all that these loans had where it wasn't
--- stopped, and no more where it was.
-pub record AppAccounts (split : ℕ) (steered : List Steered) (left_out : List ℕ) (nic : NicSide) (a : ℕ) (app : AppSide) (line : AppLine) : Type 0 where
+-- stopped, and no more where it was. Where it wasn't, it kept back as many loans as it was to, or all outside its reserve where
+-- these are fewer; and so many strays followed each entry of a loan, but for those that may be left out (`HasReturned`).
+pub record AppAccounts (how : Behaviour) (split : ℕ) (steered : List Steered) (left_out : List ℕ) (nic : NicSide) (a : ℕ) (app : AppSide)
+    (line : AppLine) : Type 0 where
   pub has_left : app.view.left ≡ true
   pub notes : ShowFrames split (offered_to a left_out steered) (sent_to a nic)
   pub taken : app.view.taken ≡ map as_taken (sent_to a nic)
@@ -55,6 +59,7 @@ pub record AppAccounts (split : ℕ) (steered : List Steered) (left_out : List �
   pub copied : line.copied ≡ capped app.view.spares
   pub all_lent : line.stopped ≡ stop.No → line.written ≡ capped (total lent_len app.view.returned)
   pub within_lent : line.written ≤ total lent_len app.view.returned
+  pub returned : HasReturned how line.stopped line.written app.view
   pub no_stray : HasNoLoanStray nic app
 
 -- A board on which the card has ended and all have left accounts for a run: it was opened by the plan, each application
@@ -68,7 +73,7 @@ pub record AccountsFor {T : Type 0} (kept : T → ℕ → Option (List ℕ)) (sh
   pub one_setting : HaveOneSetting nic apps
   pub many_lines : length lines ≡ length apps
   pub app : (a : ℕ) (app : AppSide) (line : AppLine) → IsApp apps a app → slice_get lines a ≡ Some line
-      → AppAccounts plan.split (steered_in plan.ports.items frames) left_out nic a app line
+      → AppAccounts plan.how plan.split (steered_in plan.ports.items frames) left_out nic a app line
   pub flow : (number : ℕ) (flow : Flow) (app : AppSide) (line : AppLine) → slice_get (flows_of (steered_in plan.ports.items frames)) number ≡ Some flow
       → IsApp apps flow.app app → slice_get lines flow.app ≡ Some line
       → Gained (kept_in kept shelves flow.app number) (kept_in kept shelves_now flow.app number) (IsFlowRead app line.stopped number)

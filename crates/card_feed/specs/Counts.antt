@@ -1,9 +1,12 @@
 -- What the pool's counts say of the frames that were offered and of the entries that were dealt with.
-use Rattle.std.specs.Prelude.{◌≡◌, ℕ, ◌+◌, ◌-◌, ◌^◌, ◌≤◌, nat_lt, min, Bool, List, length, count_by, Option, option_to_list}
+use Rattle.std.specs.Prelude.{◌≡◌, ℕ, ◌+◌, ◌-◌, ◌^◌, ◌<◌, ◌≤◌, ◌⊎◌, ◌==◌, ◌&&◌, nat_lt, min, Bool, List, length, count_by}
+use Rattle.std.specs.Prelude.{Option, option_to_list, IfSome}
 use Rattle.zr_kinds.specs.declared.outcome.PoolStats.{PoolStats}
 use Rattle.board_face.specs.declared.views.nic.Dealt.{Dealt}
+use Rattle.board_face.specs.declared.views.nic.SentNote.{SentNote}
 use Rattle.page_pool.specs.Dealing.{strays_in}
 use Rattle.page_pool.specs.Frames.{Offered}
+use Rattle.page_pool.specs.Pool.{PoolState}
 
 -- a count that stays at the end of its type
 abbrev pub capped : ℕ → ℕ
@@ -27,3 +30,18 @@ pub record AreCounted (split : ℕ) (offers : List Offered) (refused : List ℕ)
   pub searches : searches_in stats + long_in split (option_to_list hand) ≤ long_in split offers
   pub empty : stats.empty ≡ capped (length refused)
   pub strays : stats.strays ≡ capped (strays_in dealt)
+
+-- ---- searches that found enough
+
+abbrev pub found_in : PoolStats → ℕ
+found_in stats = stats.fast + stats.refill + stats.slow
+
+-- the note tells of a frame's first bytes, and these lie at the begin of a buffer: the frame was placed in fresh ones
+abbrev pub begins_fresh : SentNote → Bool
+begins_fresh s = s.note.split && (s.note.at == 0) && (s.note.place.offset == 0)
+
+-- One search found enough for each frame that was placed in fresh buffers, and none for another, up to where a count stays at
+-- the end of its type. Some bytes of the current buffer are used, so what is placed there doesn't lie at its begin.
+pub record AreFound (notes : List SentNote) (pool : PoolState) : Type 0 where
+  pub found : (found_in pool.stats ≡ count_by begins_fresh notes) ⊎ (2 ^ 64 - 1 ≤ found_in pool.stats)
+  pub used : IfSome pool.current (λ own. 0 < own.start)

@@ -13,7 +13,7 @@ use Rattle.card_feed.specs.declared.intake.Stage.{Stage}
 use Rattle.card_feed.specs.declared.intake.Stage.TheVariants as stage
 use Rattle.card_feed.specs.Coming.{ComesTo, is_over}
 use Rattle.card_feed.specs.Offered.{offers_of, AreSettled, WantsRoom}
-use Rattle.card_feed.specs.Counts.{AreCounted}
+use Rattle.card_feed.specs.Counts.{AreCounted, AreFound}
 use Rattle.card_feed.specs.Need.{AreNeeded}
 
 pub record FeedState : Type 0 where
@@ -79,6 +79,7 @@ pub record FeedKnows (ports : List ℕ) (split : ℕ) (frames : List (List ℕ))
   pub settled : AreSettled split (offers_of (steered_in ports frames)) feed.refused feed.at_hand (all_notes feed.pool v)
   pub counted : AreCounted split (offers_of (steered_in ports frames)) feed.refused feed.at_hand v.dealt feed.pool.stats
   pub needed : AreNeeded v.setting.layout split (offers_of (steered_in ports frames)) feed.refused feed.at_hand (all_notes feed.pool v) v.used
+  pub found : AreFound (all_notes feed.pool v) feed.pool
 
 -- And they were read since the source was as at first.
 pub record FeedStands {S : Type 0} (left : S → Option (List ℕ)) (faults : S → ℕ) (first now : S) (ports : List ℕ) (split : ℕ)

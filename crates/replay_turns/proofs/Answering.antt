@@ -96,7 +96,7 @@ may-poll st v u same may = record {
 }
 
 pub because-stays : (why : Why) (st : State) (v u : AppView) → app_gist u ≡ app_gist v → Because why st v → Because why st u
-because-stays NoNote st v u same because = λ live. may-poll st v u same (because live)
+because-stays NoNote st v u same because = (because.0, λ live. may-poll st v u same (because.1 live))
 because-stays RefillFull st v u same because = because
 because-stays Unsettled st v u same because = (caught-up st v u same because.0, because.1)
 because-stays ReserveHeld st v u same because = (caught-up st v u same because.0, because.1)

@@ -16,7 +16,8 @@ use Rattle.board_face.proofs.Tallies.{tally, length-tally}
 use Rattle.plain_board.specs.Board.{Board, side_of}
 use Rattle.plain_board.specs.Sound.{taken_of, notes_of, refills_of}
 use Rattle.app_worker.specs.Core.{total}
-use Rattle.app_worker.specs.State.{State, AppStands, Bare, Working, app_steps, furthest, raw_entries, loan_entries, taken_len}
+use Rattle.app_worker.specs.State.{State, AppStands, Bare, Working, app_steps, furthest}
+use Rattle.flow_queues.specs.Totals.{raw_entries, loan_entries, taken_len}
 use Rattle.app_worker.proofs.Measure.{working-within, bare-within, one-most}
 use Rattle.flow_queues.proofs.Tokens.{total-append}
 use Rattle.replay_turns.specs.Running.{Fits}

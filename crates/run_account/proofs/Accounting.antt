@@ -19,7 +19,8 @@ use Rattle.board_face.specs.declared.views.app.AppSide.{AppSide}
 use Rattle.board_face.proofs.SideLemmas.{IsApp-at}
 use Rattle.page_pool.specs.Frames.{ShowFrames}
 use Rattle.app_worker.specs.Marks.{AreWholeFrames, marks_of}
-use Rattle.app_worker.specs.Ends.{AppEnd, HasLeft}
+use Rattle.flow_queues.specs.Ends.{AppEnd, HasLeft}
+use Rattle.app_worker.specs.Returned.{HasReturned}
 use Rattle.card_feed.specs.Account.{offered_to, kept_in, AppAccounts, AccountsFor, IsFlowRead}
 use Rattle.card_feed.specs.Feed.{FeedState}
 use Rattle.card_feed.specs.Sent.{IsOfOwnFlow}
@@ -104,12 +105,12 @@ module _ {S T : Type 0} (left : S → Option (List ℕ)) (faults : S → ℕ) (k
       }
 
   app-accounts : (a : ℕ) (app : AppSide) (line : AppLine) → IsApp apps a app → slice_get (lines_of plan.ports.items ends) a ≡ Some line
-      → AppAccounts plan.split (steered_in plan.ports.items runs.frames) feed.refused nic a app line
+      → AppAccounts plan.how plan.split (steered_in plan.ports.items runs.frames) feed.refused nic a app line
   app-accounts a app line here at =
       let known = line-known a line at in
       let went = left-at a app known.end here known.end_at in
       let has = told a app here in
-      subst (λ (l : AppLine). AppAccounts plan.split (steered_in plan.ports.items runs.frames) feed.refused nic a app l) (sym known.is)
+      subst (λ (l : AppLine). AppAccounts plan.how plan.split (steered_in plan.ports.items runs.frames) feed.refused nic a app l) (sym known.is)
       (record {
         has_left = went.left;
         notes = has.notes;
@@ -118,6 +119,8 @@ module _ {S T : Type 0} (left : S → Option (List ℕ)) (faults : S → ℕ) (k
         copied = went.copied;
         all_lent = went.all_lent;
         within_lent = went.within_lent;
+        returned = subst (λ (side : AppSide). HasReturned plan.how known.end.stopped known.end.written side.view) (side-at apps a app here)
+            (runs.returned a known.end known.end_at);
         no_stray = has.no_stray;
       })
 

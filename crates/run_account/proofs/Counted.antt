@@ -16,10 +16,9 @@ use Rattle.board_face.specs.declared.views.app.AppView.{AppView}
 use Rattle.flow_queues.specs.declared.queues.FlowQueue.{FlowQueue}
 use Rattle.app_worker.specs.Marks.{Mark}
 use Rattle.app_worker.specs.Core.{Each, many, AreReadAt, placed_of}
-use Rattle.app_worker.specs.Ends.{IsCounted}
+use Rattle.flow_queues.specs.Ends.{IsCounted}
 use Rattle.app_worker.specs.Kept.{flow_bytes}
-use Rattle.app_worker.specs.State.{FlowEnds}
-use Rattle.app_worker.specs.Shelves.{kept_loans, IsShelved, AreShelved, ReadsFront, IsFrontShelved, AreFronts}
+use Rattle.flow_queues.specs.Shelves.{FlowEnds, kept_loans, IsShelved, AreShelved, ReadsFront, IsFrontShelved, AreFronts}
 
 pub is-no : (s : Stopped) → (s ≡ stop.No) ⊎ (s ≢ stop.No)
 is-no stop.No = inl refl

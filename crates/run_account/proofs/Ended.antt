@@ -1,8 +1,8 @@
 -- What is told of a run that is over is how it went.
-use Rattle.std.proofs.Common.{◌≡◌, ◌≢◌, ℕ, zero, suc, ◌+◌, ◌*◌, ◌-◌, ◌<◌, ◌≤◌, List, [], ◌∷◌, length, drop}
+use Rattle.std.proofs.Common.{◌≡◌, ◌≢◌, ℕ, zero, suc, ◌+◌, ◌*◌, ◌-◌, ◌^◌, ◌<◌, ◌≤◌, List, [], ◌∷◌, length, drop, append-nil}
 use Rattle.std.proofs.Common.{true, Option, Some, None}
 use Rattle.std.proofs.Common.{refl, sym, ap, subst, ◌∙◌, arith, ⊎_elim}
-use Rattle.std.specs.Prelude.{option_map, option_and_then}
+use Rattle.std.specs.Prelude.{option_map, option_and_then, count_by}
 use Rattle.std.specs.List.{slice_get}
 use Rattle.std.specs.Io.KnownBytes.{Keeps}
 use Rattle.std.proofs.KnownBytes.{Keeps-refl}
@@ -22,7 +22,8 @@ use Rattle.board_face.specs.Ended.{HaveEnded}
 use Rattle.board_face.specs.Sides.{IsApp, side_in}
 use Rattle.board_face.specs.declared.views.nic.NicSide.{NicSide}
 use Rattle.board_face.specs.declared.views.app.AppSide.{AppSide}
-use Rattle.app_worker.specs.Ends.{AppEnd, IsCounted, IsTorn, bytes_in}
+use Rattle.page_pool.specs.Pool.{all_notes}
+use Rattle.flow_queues.specs.Ends.{AppEnd, IsCounted, IsTorn, bytes_in}
 use Rattle.card_feed.specs.Account.{AccountsFor, IsStreamedTo, kept_in}
 use Rattle.card_feed.specs.Coming.{ComesTo, is_over}
 use Rattle.card_feed.specs.Feed.{FeedState, end_of}
@@ -33,7 +34,7 @@ use Rattle.card_feed.specs.declared.intake.Stage.TheVariants as stage
 use Rattle.card_feed.specs.declared.plan.Plan.{Plan}
 use Rattle.card_feed.proofs.Bridge.{give_streams}
 use Rattle.run_account.specs.Laws.{RunsAreTold, RunsEndWell}
-use Rattle.card_feed.specs.Counts.{AreCounted, is_long, long_in, searches_in}
+use Rattle.card_feed.specs.Counts.{AreCounted, begins_fresh, found_in, is_long, long_in, searches_in}
 use Rattle.card_feed.specs.Need.{AreNeeded, RefusesByNeed}
 use Rattle.card_feed.proofs.Needing.{refuses-by-need}
 use Rattle.run_account.specs.Ran.{There, IsLineOf, IsStreamed, HasFailed, IsAppLine, all_loans, line_of, lines_of, AreCounts, Ran, Told, told_of}
@@ -138,19 +139,34 @@ module _ {S T : Type 0} (left : S → Option (List ℕ)) (faults : S → ℕ) (k
       let most = strays-within left faults kept losses source source_now shelves shelves_now plan nic apps feed ends ended runs in
       subst (λ lines. told_is.pool.strays ≤ plan.how.stray * all_loans lines) (sym tells.apps_are) (omega (arith, counted.strays, most))
 
-  -- the searches that found too few are too few themselves for their count to stop
-  found-none : told_is.pool.empty ≡ length told_is.refused
-  found-none =
+  -- there are too few searches for a count to stop
+  searches-few : searches_in told_is.pool ≤ 16777216
+  searches-few =
       let few : long_in plan.split (offers_of (steered_in plan.ports.items runs.frames)) ≤ length (offers_of (steered_in plan.ports.items runs.frames)) =
       count_by-le-length (is_long plan.split) (offers_of (steered_in plan.ports.items runs.frames)) in
       omega (
         arith,
-        counted.empty,
         searched,
         few,
         offers-few plan.ports.items runs.frames,
         frames-read left faults source source_now plan.ports.items plan.split runs.frames feed nic.view runs.stands runs.records,
       )
+
+  -- as many found too few as frames were refused
+  found-none : told_is.pool.empty ≡ length told_is.refused
+  found-none = omega (arith, counted.empty, searches-few)
+
+  -- and as many found enough as frames begin in a fresh buffer
+  found-fresh : found_in told_is.pool ≡ count_by begins_fresh nic.view.sent
+  found-fresh =
+      let none = runs.ready.fits.sent runs.closed in
+      let notes : all_notes feed.pool nic.view ≡ nic.view.sent = rw (none.short, none.pieces) (append-nil nic.view.sent) in
+      let few : found_in told_is.pool < 2 ^ 64 - 1 = omega (arith, searches-few) in
+      ⊎_elim
+      (λ (same : found_in feed.pool.stats ≡ count_by begins_fresh (all_notes feed.pool nic.view)).
+      ap found_in tells.pool ∙ same ∙ ap (count_by begins_fresh) notes)
+      (λ (full : 2 ^ 64 - 1 ≤ found_in feed.pool.stats). absurd (omega (arith, few, full, ap found_in tells.pool)))
+      runs.stands.knows.found.found
 
   one-stream : (number port : ℕ) (flow : Flow) (end : AppEnd) → slice_get (flows_of (steered_in plan.ports.items runs.frames)) number ≡ Some flow
       → slice_get plan.ports.items flow.app ≡ Some port → slice_get ends flow.app ≡ Some end → flow.app < length plan.ports.items
@@ -248,6 +264,7 @@ module _ {S T : Type 0} (left : S → Option (List ℕ)) (faults : S → ℕ) (k
     refused = refused-are;
     need = by-need;
     searches = searched;
+    found = found-fresh;
     empty = found-none;
     strays = strays-few;
     flow = streams;

@@ -6,7 +6,7 @@ use Rattle.std.specs.List.{slice_get, sum_by}
 use Rattle.std.proofs.lemmas.Bool.{eq-eqb, ne_eqb, cases_eq}
 use Rattle.std.proofs.lemmas.List.Sums.{sum_by-cons}
 use Rattle.app_worker.specs.Core.{total, Each}
-use Rattle.app_worker.specs.Ends.{bytes_in, times}
+use Rattle.flow_queues.specs.Ends.{bytes_in, times}
 
 -- ---- sums over so many numbers from one on
 

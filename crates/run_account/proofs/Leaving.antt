@@ -14,9 +14,14 @@ use Rattle.board_face.specs.declared.views.app.AppView.{AppView}
 use Rattle.board_face.specs.declared.views.app.TakenNote.{TakenNote}
 use Rattle.flow_queues.specs.declared.queues.FlowQueue.{FlowQueue}
 use Rattle.app_worker.specs.Core.{total, Each, many, own_notes, BeginAt}
-use Rattle.app_worker.specs.Ends.{AppEnd, HasLeft, IsCounted, IsTorn, bytes_in, end_of, flow_end_of, times}
+use Rattle.flow_queues.specs.Ends.{AppEnd, HasLeft, IsCounted, IsTorn, bytes_in, flow_end_of, times}
+use Rattle.app_worker.specs.StateOf.{end_of}
 use Rattle.app_worker.specs.Kept.{flow_bytes}
-use Rattle.app_worker.specs.State.{Bare, Common, FlowEnds, Quits, Working, capped, lent_len, loan_entries, raw_entries}
+use Rattle.app_worker.specs.State.{Bare, Common, Working}
+use Rattle.flow_queues.specs.Shelves.{FlowEnds}
+use Rattle.flow_queues.specs.Totals.{Quits, capped, lent_len, loan_entries, raw_entries}
+use Rattle.app_worker.specs.Entries.{AreBlocks, WasLive}
+use Rattle.app_worker.specs.Returned.{HasReturned}
 use Rattle.card_feed.specs.declared.plan.Plan.{Plan}
 use Rattle.run_account.specs.Running.{AreOver, HasRun, RolesFit, Running, WorkerFits, WorkerRuns, ends_of}
 use Rattle.run_account.specs.declared.run.Run.{Run}
@@ -96,6 +101,15 @@ module _ (first kept : ℕ → Option (List ℕ)) (losses losses_now : ℕ) (how
         entries = common.entries;
       }
 
+  pub has-returned : HasReturned how w.state.stopped w.state.written v
+  has-returned = subst (λ (b : Behaviour). HasReturned b w.state.stopped w.state.written v) runs.how_is (record {
+    given = bare.given;
+    whole = omega (arith, common.written, bare.whole_given);
+    kept_back = λ no. record { many = (bare.abandoned no).0; aside = (bare.abandoned no).1 };
+    last = w.state.stray.entry;
+    follow = subst (AreBlocks w.state.how.stray (WasLive v) v.written w.state.stray.entry) bare.none_left common.blocks;
+  })
+
 -- ---- all of them
 
 pub end-at : (workers : List Worker) (a : ℕ) (w : Worker) → slice_get workers a ≡ Some w → slice_get (ends_of workers) a ≡ Some (end_of w.state)
@@ -124,6 +138,10 @@ has-run left faults kept losses source source_now shelves shelves_now plan nic a
       (sym (slice_get-map (λ (u : Worker). end_of u.state) run.workers.items a) ∙ at) in
       subst (HasLeft plan.how _ _ _ _ (side_in apps a).view) is
       (has-left _ _ _ _ plan.how (side_in apps a).view w (fits.worker a w w_at) (runs.worker a w w_at) (worker-left nic apps run fits over a w w_at));
+  returned = λ a end at.
+      let (w, w_at, is) = worker-of (slice_get run.workers.items a) end (sym (slice_get-map (λ (u : Worker). end_of u.state) run.workers.items a) ∙ at) in
+      subst (λ (e : AppEnd). HasReturned plan.how e.stopped e.written (side_in apps a).view) is
+      (has-returned _ _ _ _ plan.how (side_in apps a).view w (fits.worker a w w_at) (runs.worker a w w_at) (worker-left nic apps run fits over a w w_at));
   many_shelves = runs.many_shelves;
   beyond = runs.beyond;
   records = runs.records;

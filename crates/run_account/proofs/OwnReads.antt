@@ -11,8 +11,8 @@ use Rattle.board_face.specs.declared.views.app.TakenNote.{TakenNote}
 use Rattle.board_face.specs.declared.views.app.AppSide.{AppSide}
 use Rattle.app_worker.specs.Marks.{AreWholeFrames, Mark, marks_of}
 use Rattle.app_worker.specs.Core.{AreReadAt}
-use Rattle.app_worker.specs.Ends.{AppEnd, HasLeft}
-use Rattle.app_worker.specs.Streams.{IsFront}
+use Rattle.flow_queues.specs.Ends.{AppEnd, HasLeft}
+use Rattle.flow_queues.specs.Streams.{IsFront}
 use Rattle.card_feed.specs.Account.{IsFlowRead}
 use Rattle.run_account.proofs.Counted.{is-no, read-length}
 

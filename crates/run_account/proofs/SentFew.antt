@@ -14,7 +14,7 @@ use Rattle.board_face.specs.declared.views.nic.NicView.{NicView}
 use Rattle.board_face.specs.declared.views.nic.SentNote.{SentNote}
 use Rattle.page_pool.specs.Frames.{Offered}
 use Rattle.app_worker.specs.Core.{total}
-use Rattle.app_worker.specs.State.{taken_len}
+use Rattle.flow_queues.specs.Totals.{taken_len}
 use Rattle.card_feed.specs.Feed.{FeedState, FeedStands}
 use Rattle.card_feed.specs.Offered.{AreSettled, Awaits, has_payload, offered_after, offers_of, without}
 use Rattle.run_account.proofs.NoteSums.{note_len, AreFew, frames-few}

@@ -24,8 +24,8 @@ use Rattle.board_face.specs.declared.views.app.AppSide.{AppSide}
 use Rattle.board_face.proofs.Tallies.{weight, weight-le, tally}
 use Rattle.page_pool.specs.Dealing.{is_stray, strays_in}
 use Rattle.app_worker.specs.Core.{total}
-use Rattle.app_worker.specs.Ends.{AppEnd}
-use Rattle.app_worker.specs.State.{raw_entries, loan_entries, taken_len}
+use Rattle.flow_queues.specs.Ends.{AppEnd}
+use Rattle.flow_queues.specs.Totals.{raw_entries, loan_entries, taken_len}
 use Rattle.card_feed.specs.Feed.{FeedState}
 use Rattle.card_feed.specs.declared.plan.Plan.{Plan}
 use Rattle.run_account.specs.Ran.{all_loans, lines_of}

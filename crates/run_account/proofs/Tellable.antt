@@ -3,7 +3,7 @@ use Rattle.std.proofs.Common.{◌≡◌, ℕ, zero, suc, ◌+◌, List, [], ◌�
 use Rattle.std.specs.List.{slice_get}
 use Rattle.flow_table.specs.Flows.{Flow}
 use Rattle.zr_kinds.specs.declared.outcome.FlowLine.{FlowLine}
-use Rattle.app_worker.specs.Ends.{AppEnd, bytes_in}
+use Rattle.flow_queues.specs.Ends.{AppEnd, bytes_in}
 use Rattle.card_feed.specs.Feed.{FeedState, end_of}
 use Rattle.card_feed.specs.Outcomes.{AreLinesOf, HavePorts, line_of as flow_line_of}
 use Rattle.run_account.specs.Ran.{lines_of, AreCounts, Told}

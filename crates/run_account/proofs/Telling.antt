@@ -6,7 +6,8 @@ use Rattle.std.specs.List.{slice_get}
 use Rattle.std.proofs.lemmas.Bool.{cases_lt}
 use Rattle.std.proofs.lemmas.Option.{slice_get_within}
 use Rattle.flow_table.specs.Flows.{Flow}
-use Rattle.app_worker.specs.Ends.{AppEnd, bytes_in, end_of}
+use Rattle.flow_queues.specs.Ends.{AppEnd, bytes_in}
+use Rattle.app_worker.specs.StateOf.{end_of}
 use Rattle.app_worker.specs.Kept.{flow_bytes}
 use Rattle.run_account.specs.Ran.{line_of, lines_of, AreCounts}
 use Rattle.run_account.specs.Running.{ends_of}

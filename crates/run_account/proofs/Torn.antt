@@ -13,11 +13,11 @@ use Rattle.board_face.specs.declared.views.app.AppView.{AppView}
 use Rattle.flow_queues.specs.declared.queues.FlowQueue.{FlowQueue}
 use Rattle.app_worker.specs.Marks.{Mark, AreWholeFrames, numbered, placed_marks, marks_of}
 use Rattle.app_worker.specs.Core.{Each, many, own_notes, BeginAt, placed_of}
-use Rattle.app_worker.specs.Ends.{IsTorn}
+use Rattle.flow_queues.specs.Ends.{IsTorn}
 use Rattle.app_worker.specs.Kept.{flow_bytes}
-use Rattle.app_worker.specs.Shelves.{kept_loans, IsShelved, AreOfOneLoan, ReadsFront, IsFrontShelved, AreFronts}
-use Rattle.app_worker.specs.State.{FlowEnds, loan_entries}
-use Rattle.app_worker.specs.Streams.{IsFront, HasFronts}
+use Rattle.flow_queues.specs.Shelves.{kept_loans, IsShelved, AreOfOneLoan, ReadsFront, IsFrontShelved, AreFronts, FlowEnds}
+use Rattle.flow_queues.specs.Totals.{loan_entries}
+use Rattle.flow_queues.specs.Streams.{IsFront, HasFronts}
 use Rattle.flow_queues.proofs.InParts.{AreSame}
 use Rattle.flow_queues.proofs.WholeFrames.{StandWhole, whole-own, placed-same}
 use Rattle.run_account.proofs.Counted.{IsThere, find, both, gained-both, read-length, shelved-long}

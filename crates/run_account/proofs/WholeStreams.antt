@@ -7,7 +7,7 @@ use Rattle.zr_kinds.specs.declared.outcome.AppLine.{AppLine}
 use Rattle.zr_io.proofs.Moved.{Gained-weaker}
 use Rattle.board_face.specs.declared.views.nic.NicSide.{NicSide}
 use Rattle.board_face.specs.declared.views.app.AppSide.{AppSide}
-use Rattle.app_worker.specs.State.{Quits}
+use Rattle.flow_queues.specs.Totals.{Quits}
 use Rattle.card_feed.specs.Account.{kept_in}
 use Rattle.card_feed.specs.declared.plan.Plan.{Plan}
 use Rattle.run_account.specs.Ran.{HaveWholeStreams, Ran, Told}

@@ -8,9 +8,9 @@ use Rattle.zr_kinds.specs.declared.fault.Fault.TheVariants as fault
 use Rattle.zr_io.specs.Moved.{Rose}
 use Rattle.board_face.specs.declared.views.app.AppView.{AppView}
 use Rattle.app_worker.specs.Marks.{AreWholeFrames}
-use Rattle.app_worker.specs.Shelves.{AreShelved, AreFronts}
+use Rattle.flow_queues.specs.Shelves.{AreShelved, AreFronts}
 use Rattle.app_worker.specs.State.{State}
-use Rattle.app_worker.specs.Streams.{HasFronts, HasAll}
+use Rattle.flow_queues.specs.Streams.{HasFronts, HasAll}
 use Rattle.app_worker.specs.Turns.{Answers, Turns}
 use Rattle.app_worker.specs.declared.turn.Turn.{Turn}
 use Rattle.app_worker.specs.declared.turn.Turn.TheVariants.{Failed, Finished}

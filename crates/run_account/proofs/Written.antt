@@ -16,8 +16,8 @@ use Rattle.board_face.specs.declared.views.nic.SentNote.{SentNote}
 use Rattle.board_face.specs.declared.views.app.TakenNote.{TakenNote}
 use Rattle.app_worker.specs.Marks.{numbered, of_flow}
 use Rattle.app_worker.specs.Core.{total, Each, own_notes}
-use Rattle.app_worker.specs.Ends.{AppEnd, bytes_in, times}
-use Rattle.app_worker.specs.State.{capped}
+use Rattle.flow_queues.specs.Ends.{AppEnd, bytes_in, times}
+use Rattle.flow_queues.specs.Totals.{capped}
 use Rattle.card_feed.specs.Outcomes.{AreLinesOf, line_of as flow_line_of}
 use Rattle.card_feed.specs.Sent.{IsOfOwnFlow}
 use Rattle.run_account.specs.Ran.{AreCounts, written_to}

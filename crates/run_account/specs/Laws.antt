@@ -3,7 +3,7 @@ use Rattle.std.specs.Prelude.{◌≡◌, ℕ, List, Option}
 use Rattle.board_face.specs.Ended.{HaveEnded}
 use Rattle.board_face.specs.declared.views.nic.NicSide.{NicSide}
 use Rattle.board_face.specs.declared.views.app.AppSide.{AppSide}
-use Rattle.app_worker.specs.Ends.{AppEnd}
+use Rattle.flow_queues.specs.Ends.{AppEnd}
 use Rattle.card_feed.specs.Feed.{FeedState, end_of}
 use Rattle.card_feed.specs.declared.outcome.Outcome.{Outcome}
 use Rattle.card_feed.specs.declared.plan.Plan.{Plan}

@@ -1,7 +1,7 @@
 -- What a run leaves: the streams on their shelves, what its outcome says, and roles that account for it. It is over the sides of the
 -- roles alone, so it is the same for every board.
 use Rattle.std.specs.Prelude.{◌≡◌, ◌≢◌, ℕ, ◌-◌, ◌*◌, ◌^◌, ◌≤◌, ◌==◌, min, ◌⊎◌}
-use Rattle.std.specs.Prelude.{if◌then◌else◌, List, [], ◌∷◌, ◌++◌, length, drop, sum_by}
+use Rattle.std.specs.Prelude.{if◌then◌else◌, List, [], ◌∷◌, ◌++◌, length, drop, sum_by, count_by}
 use Rattle.std.specs.Prelude.{Option, Some, None, option_map}
 use Rattle.std.specs.List.{slice_get}
 use Rattle.std.specs.Option.{is_some}
@@ -26,10 +26,10 @@ use Rattle.board_face.specs.Sides.{side_in}
 use Rattle.board_face.specs.declared.views.nic.NicSide.{NicSide}
 use Rattle.board_face.specs.declared.views.app.AppSide.{AppSide}
 use Rattle.board_face.specs.declared.views.app.AppView.{AppView}
-use Rattle.app_worker.specs.Ends.{AppEnd, IsTorn, bytes_in}
-use Rattle.app_worker.specs.State.{Quits}
+use Rattle.flow_queues.specs.Ends.{AppEnd, IsTorn, bytes_in}
+use Rattle.flow_queues.specs.Totals.{Quits}
 use Rattle.card_feed.specs.Account.{AccountsFor, kept_in}
-use Rattle.card_feed.specs.Counts.{long_in, searches_in}
+use Rattle.card_feed.specs.Counts.{begins_fresh, found_in, long_in, searches_in}
 use Rattle.card_feed.specs.Feed.{FeedState}
 use Rattle.card_feed.specs.Need.{RefusesByNeed}
 use Rattle.card_feed.specs.Offered.{AreRefused, WantsRoom, offers_of}
@@ -154,9 +154,10 @@ pub record Ran {S T : Type 0} (left : S → Option (List ℕ)) (faults : S → �
   pub refused : AreRefused plan.split (offers_of (steered_in plan.ports.items before)) told.refused
   -- each only where its need, with that of the frames before it that weren't, is above the number of buffers
   pub need : RefusesByNeed plan (offers_of (steered_in plan.ports.items before)) told.refused
-  -- the searches for fresh buffers: no more than frames of which more than `split` bytes count, and as many found too few as frames
-  -- were refused
+  -- the searches for fresh buffers: no more than frames of which more than `split` bytes count; as many found enough as frames whose
+  -- first bytes were put at the begin of a buffer, as the notes sent show; and as many found too few as frames were refused
   pub searches : searches_in told.pool ≤ long_in plan.split (offers_of (steered_in plan.ports.items before))
+  pub found : found_in told.pool ≡ count_by begins_fresh nic.view.sent
   pub empty : told.pool.empty ≡ length told.refused
   -- no more strays than may follow the loans
   pub strays : told.pool.strays ≤ plan.how.stray * all_loans told.apps

@@ -10,12 +10,14 @@ use Rattle.board_face.specs.Sides.{side_in}
 use Rattle.board_face.specs.declared.views.nic.NicSide.{NicSide}
 use Rattle.board_face.specs.declared.views.app.AppSide.{AppSide}
 use Rattle.board_face.specs.declared.views.app.AppView.{AppView}
-use Rattle.app_worker.specs.Ends.{AppEnd, HasLeft, end_of}
+use Rattle.flow_queues.specs.Ends.{AppEnd, HasLeft}
+use Rattle.app_worker.specs.StateOf.{end_of}
 use Rattle.app_worker.specs.Kept.{new_state, IsFresh}
 use Rattle.app_worker.specs.Marks.{AreWholeFrames}
-use Rattle.app_worker.specs.Shelves.{AreShelved, AreFronts}
+use Rattle.flow_queues.specs.Shelves.{AreShelved, AreFronts}
+use Rattle.app_worker.specs.Returned.{HasReturned}
 use Rattle.app_worker.specs.State.{AppStands}
-use Rattle.app_worker.specs.Streams.{HasFronts, HasAll}
+use Rattle.flow_queues.specs.Streams.{HasFronts, HasAll}
 use Rattle.card_feed.specs.Account.{kept_in}
 use Rattle.card_feed.specs.Feed.{FeedState, IsReady, FeedStands}
 use Rattle.card_feed.specs.Plan.{IsPlan, layout_of}
@@ -114,6 +116,7 @@ pub record HasRun {S T : Type 0} (left : S → Option (List ℕ)) (faults : S �
   pub app : (a : ℕ) (end : AppEnd) → slice_get ends a ≡ Some end
       → HasLeft plan.how (kept_in kept shelves a) (kept_in kept shelves_now a) (losses_in losses shelves a) (losses_in losses shelves_now a)
       (side_in apps a).view end
+  pub returned : (a : ℕ) (end : AppEnd) → slice_get ends a ≡ Some end → HasReturned plan.how end.stopped end.written (side_in apps a).view
   pub many_shelves : length shelves_now ≡ length shelves
   pub beyond : drop (length plan.ports.items) shelves_now ≡ drop (length plan.ports.items) shelves
   pub records : feed.tally.records ≤ 16777216

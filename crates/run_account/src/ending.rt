@@ -1,7 +1,7 @@
 //! What is told of a run that is over.
 
 ghost use Rattle.std.specs.Prelude.{◌≡◌, ◌≤◌, length, IfOk};
-ghost use Rattle.app_worker.specs.Ends.{end_of};
+ghost use Rattle.app_worker.specs.StateOf.{end_of};
 ghost use Rattle.run_account.specs.Running.{AreOver, ends_of};
 ghost use Rattle.run_account.specs.Ran.{line_of, lines_of, AreCounts, TellsOf};
 

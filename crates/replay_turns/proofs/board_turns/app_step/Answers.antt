@@ -1,7 +1,7 @@
 use Rattle.std.proofs.Common.{rules}
 use Rattle.app_worker.specs.Marks.{AreWholeFrames}
-use Rattle.app_worker.specs.Shelves.{AreShelved, AreFronts}
-use Rattle.app_worker.specs.Streams.{HasFronts, HasAll}
+use Rattle.flow_queues.specs.Shelves.{AreShelved, AreFronts}
+use Rattle.flow_queues.specs.Streams.{HasFronts, HasAll}
 use Rattle.replay_turns.proofs.Standing.{others_stand, view_stands}
 use Rattle.replay_turns.proofs.board_turns.app_step.Goals as goal
 

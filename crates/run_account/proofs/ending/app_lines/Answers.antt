@@ -1,7 +1,7 @@
 -- One line more.
 use Rattle.std.proofs.Common.{length, get_or, ap, sym, ◌∙◌, ◌∷◌, [], ◌++◌, refl, arith, take}
 use Rattle.std.proofs.lemmas.Option.{slice_get-get_or, slice_get_read}
-use Rattle.app_worker.specs.Ends.{end_of}
+use Rattle.app_worker.specs.StateOf.{end_of}
 use Rattle.run_account.specs.Ran.{lines_of}
 use Rattle.run_account.specs.Running.{ends_of}
 use Rattle.run_account.proofs.Leaving.{end-at}

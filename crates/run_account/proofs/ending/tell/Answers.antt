@@ -1,7 +1,7 @@
 -- There is a line for each port.
 use Rattle.std.proofs.Common.{length, ap, ◌∙◌, arith}
 use Rattle.std.proofs.lemmas.List.{length-map}
-use Rattle.app_worker.specs.Ends.{end_of}
+use Rattle.app_worker.specs.StateOf.{end_of}
 use Rattle.run_account.specs.Running.{ends_of}
 use Rattle.run_account.specs.declared.run.Worker.{Worker}
 use Rattle.run_account.proofs.AppLines.{many-lines}
