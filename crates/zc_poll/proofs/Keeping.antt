@@ -16,7 +16,9 @@ use Rattle.flow_queues.specs.Marks.{marks_from}
 use Rattle.flow_queues.proofs.Reading.{read-there}
 use Rattle.flow_queues.proofs.Tokens.{total-append, in-total, is_that_loan, that-loan, is-lent-there, is-given, Gave}
 use Rattle.flow_queues.proofs.Standing.{each-left, each-right, each-join}
-use Rattle.zc_poll.specs.Standing.{Desk, IsFound, Common, Going, IsWhole, StreamStands, taken_len}
+use Rattle.flow_queues.specs.Totals.{taken_len}
+use Rattle.flow_queues.specs.Shelves.{FlowEnds}
+use Rattle.zc_poll.specs.Standing.{Desk, Common, Going, IsWhole, StreamStands}
 use Rattle.zc_poll.proofs.Views.{total-one}
 
 -- these are the loans that are out
@@ -43,7 +45,7 @@ module _ (st : Desk) (old new : AppView) (view : new ≡ without_step old new) (
     app = ap (λ (v : AppView). v.app) view ∙ common.app;
     ended = ap (λ (v : AppView). v.ended) view ∙ common.ended;
     apart = apart;
-    found = subst (λ ts. Each (IsFound ts) st.flows) taken-kept common.found;
+    found = subst (λ ts. Each (FlowEnds ts) st.flows) taken-kept common.found;
     distinct = common.distinct;
     few = omega (arith, common.few, counts, ap (total taken_len) taken-kept);
   }

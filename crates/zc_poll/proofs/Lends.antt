@@ -34,7 +34,8 @@ use Rattle.flow_queues.proofs.Fronts.{front-of-flow}
 use Rattle.zc_poll.specs.declared.step.Lent.{Lent}
 use Rattle.zc_poll.specs.declared.step.Step.TheVariants.{Item, Waiting as waiting}
 use Rattle.zc_poll.specs.declared.step.Waits.TheVariants.{ReserveHeld}
-use Rattle.zc_poll.specs.Standing.{Desk, Common, Going, StreamStands, NoneInOrder, taken_len}
+use Rattle.flow_queues.specs.Totals.{taken_len}
+use Rattle.zc_poll.specs.Standing.{Desk, Common, Going, StreamStands, NoneInOrder}
 use Rattle.zc_poll.specs.Items.{Given, HasGiven, marks_given, IsAt}
 use Rattle.zc_poll.specs.Steps.{Stepped, counted_on}
 use Rattle.zc_poll.proofs.Marking.{IsGivenOf, given-push}

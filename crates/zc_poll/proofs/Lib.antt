@@ -7,3 +7,14 @@ pub mod Passing
 pub mod Lends
 pub mod Whole
 pub mod Untouched
+pub mod Counts
+pub mod PouredOn
+pub mod Appending
+pub mod ItemPoured
+pub mod Appended
+pub mod LoanGone
+pub mod Pours
+pub mod PourTurns
+pub mod PourEnds
+pub mod PourNew
+pub mod Shown

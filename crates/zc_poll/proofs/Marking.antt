@@ -15,21 +15,21 @@ use Rattle.flow_queues.proofs.Standing.{each-map}
 use Rattle.flow_queues.proofs.Releasing.{each-facts, total-facts}
 use Rattle.flow_queues.proofs.Fronts.{is-some, placed-here, placed-other}
 use Rattle.flow_queues.proofs.Choosing.{Chosen, each-noted, many-noted}
-use Rattle.zc_poll.specs.Standing.{IsFound}
+use Rattle.flow_queues.specs.Shelves.{FlowEnds}
 use Rattle.zc_poll.specs.Items.{Given, HasGiven, marks_given}
 
 -- ---- one flow, and one note more
 
 pub the_found : (taken : List TakenNote) (f : FlowQueue) → BeginAt f.queue.base (own_notes f.number taken)
-    → ((p : ℕ) → p < f.bytes → IsSome ((placed_of f taken).at p)) → IsFound taken f
+    → ((p : ℕ) → p < f.bytes → IsSome ((placed_of f taken).at p)) → FlowEnds taken f
 the_found taken f begun below = record { begun = begun; below = below }
 
 -- these items are of the first marks of the flow
 abbrev pub IsGivenOf : List Given → List TakenNote → FlowQueue → Type 0
 IsGivenOf items taken f = marks_given f.number items ≡ values_from (placed_of f taken).at f.bytes 0
 
-module _ (taken : List TakenNote) (t : TakenNote) (f : FlowQueue) (q : Queue Waiting) (base : q.base ≡ f.queue.base) (found : IsFound taken f) where
-  pub found-note : IsFound (taken ++ t ∷ []) (record f { queue = q })
+module _ (taken : List TakenNote) (t : TakenNote) (f : FlowQueue) (q : Queue Waiting) (base : q.base ≡ f.queue.base) (found : FlowEnds taken f) where
+  pub found-note : FlowEnds (taken ++ t ∷ []) (record f { queue = q })
   found-note = ⊎_elim
       (λ (is : t.note.flow ≡ f.number). the_found (taken ++ t ∷ []) (record f { queue = q })
       (subst (λ b. BeginAt b (own_notes f.number (taken ++ t ∷ []))) (sym base)
@@ -52,7 +52,7 @@ module _ (taken : List TakenNote) (t : TakenNote) (f : FlowQueue) (q : Queue Wai
       (cases_eq t.note.flow f.number))
 
 found-begun : (taken : List TakenNote) (t : TakenNote) (q : Queue Waiting) → own_notes t.note.flow taken ≡ [] → q.base ≡ t.note.base
-    → IsFound (taken ++ t ∷ []) (record (fresh_flow t.note) { queue = q })
+    → FlowEnds (taken ++ t ∷ []) (record (fresh_flow t.note) { queue = q })
 found-begun taken t q no_notes base =
     let n : Numbered = next_note taken t in
     let e : own_notes t.note.flow (taken ++ t ∷ []) ≡ n ∷ [] = own-notes-here t.note.flow taken t refl ∙ ap (λ ns. ns ++ n ∷ []) no_notes in
@@ -61,15 +61,15 @@ found-begun taken t q no_notes base =
 -- ---- all flows, and one note more
 
 -- of what goes past the queues
-pub found-past : (flows : List FlowQueue) (taken : List TakenNote) (t : TakenNote) → Each (IsFound taken) flows
-    → Each (IsFound (taken ++ t ∷ [])) flows
-found-past flows taken t found = each-map (IsFound taken) (IsFound (taken ++ t ∷ [])) flows (λ f _ is. found-note taken t f f.queue refl is) found
+pub found-past : (flows : List FlowQueue) (taken : List TakenNote) (t : TakenNote) → Each (FlowEnds taken) flows
+    → Each (FlowEnds (taken ++ t ∷ [])) flows
+found-past flows taken t found = each-map (FlowEnds taken) (FlowEnds (taken ++ t ∷ [])) flows (λ f _ is. found-note taken t f f.queue refl is) found
 
-pub items-past : (flows : List FlowQueue) (taken : List TakenNote) (t : TakenNote) → Each (IsFound taken) flows → (items : List Given)
+pub items-past : (flows : List FlowQueue) (taken : List TakenNote) (t : TakenNote) → Each (FlowEnds taken) flows → (items : List Given)
     → HasGiven items flows taken → HasGiven items flows (taken ++ t ∷ [])
 items-past flows taken t found items given = record { flows = each flows found given.flows; others = given.others }
   where
-    each : (fs : List FlowQueue) → Each (IsFound taken) fs → Each (IsGivenOf items taken) fs → Each (IsGivenOf items (taken ++ t ∷ [])) fs
+    each : (fs : List FlowQueue) → Each (FlowEnds taken) fs → Each (IsGivenOf items taken) fs → Each (IsGivenOf items (taken ++ t ∷ [])) fs
     each [] found given = tt
     each (f ∷ fs) found given = (given-note taken t f f.queue refl found.0 items given.0, each fs found.1 given.1)
 
@@ -79,17 +79,17 @@ each-two P Q (x ∷ xs) first second = ((first.0, second.0), each-two P Q xs fir
 
 -- of what entered a queue
 module _ (was : List FlowQueue) (taken : List TakenNote) (t : TakenNote) (own : FlowQueue) (put : FlowQueue → List FlowQueue) (q : Queue Waiting)
-    (base : q.base ≡ own.queue.base) (chosen : Chosen was t.note own put) (found : Each (IsFound taken) was)
+    (base : q.base ≡ own.queue.base) (chosen : Chosen was t.note own put) (found : Each (FlowEnds taken) was)
     (known : many t.note.flow was ≡ 0 → own_notes t.note.flow taken ≡ []) where
-  pub found-noted : Each (IsFound (taken ++ t ∷ [])) (put (record own { queue = q }))
-  found-noted = each-noted was t.note own put q base (IsFound taken) (IsFound (taken ++ t ∷ [])) chosen found
+  pub found-noted : Each (FlowEnds (taken ++ t ∷ [])) (put (record own { queue = q }))
+  found-noted = each-noted was t.note own put q base (FlowEnds taken) (FlowEnds (taken ++ t ∷ [])) chosen found
       (λ f r same is. found-note taken t f r same is)
       (λ none r same. found-begun taken t r (known none) same)
 
   pub items-noted : (items : List Given) → HasGiven items was taken → HasGiven items (put (record own { queue = q })) (taken ++ t ∷ [])
   items-noted items given = record {
-    flows = each-noted was t.note own put q base (λ f. IsFound taken f × IsGivenOf items taken f) (IsGivenOf items (taken ++ t ∷ [])) chosen
-        (each-two (IsFound taken) (IsGivenOf items taken) was found given.flows)
+    flows = each-noted was t.note own put q base (λ f. FlowEnds taken f × IsGivenOf items taken f) (IsGivenOf items (taken ++ t ∷ [])) chosen
+        (each-two (FlowEnds taken) (IsGivenOf items taken) was found given.flows)
         (λ f r same both. given-note taken t f r same both.0 items both.1)
         (λ none r same. given.others t.note.flow none);
     others = λ n none. given.others n (omega (arith, (many-noted was t.note own put q base chosen n).0, none));
@@ -97,7 +97,7 @@ module _ (was : List FlowQueue) (taken : List TakenNote) (t : TakenNote) (own : 
 
 -- ---- pieces were given up
 
-found-facts : (taken : List TakenNote) (f g : FlowQueue) → facts_of g ≡ facts_of f → IsFound taken f → IsFound taken g
+found-facts : (taken : List TakenNote) (f g : FlowQueue) → facts_of g ≡ facts_of f → FlowEnds taken f → FlowEnds taken g
 found-facts taken f g same found =
     let P : FlowFacts → Type 0 = λ x. BeginAt x.base (own_notes x.number taken)
     × ((p : ℕ) → p < x.bytes → IsSome ((received_notes x.base nothing_placed (own_notes x.number taken)).at p)) in
@@ -115,8 +115,8 @@ module _ (was now : List FlowQueue) (taken : List TakenNote) (facts : map facts_
   pub many-released : (n : ℕ) → many n now ≡ many n was
   many-released n = total-facts (λ x. if x.number == n then 1 else 0) was now facts
 
-  pub found-released : Each (IsFound taken) was → Each (IsFound taken) now
-  found-released found = each-facts (IsFound taken) (IsFound taken) (found-facts taken) was now facts found
+  pub found-released : Each (FlowEnds taken) was → Each (FlowEnds taken) now
+  found-released found = each-facts (FlowEnds taken) (FlowEnds taken) (found-facts taken) was now facts found
 
   pub items-released : (items : List Given) → HasGiven items was taken → HasGiven items now taken
   items-released items given = record {

@@ -20,15 +20,17 @@ use Rattle.flow_queues.proofs.Took.{Took, is-took, taken_note, set-last}
 use Rattle.flow_queues.proofs.Indexing.{index-set}
 use Rattle.flow_queues.proofs.Resting.{rest-all, rest-set, rest-push}
 use Rattle.flow_queues.proofs.Choosing.{Chosen, is-chosen, total-noted, many-noted}
-use Rattle.zc_poll.specs.Standing.{Desk, IsFound, Common, Going, StreamStands, NoneInOrder, taken_len}
+use Rattle.flow_queues.specs.Totals.{taken_len}
+use Rattle.flow_queues.specs.Shelves.{FlowEnds}
+use Rattle.zc_poll.specs.Standing.{Desk, Common, Going, StreamStands, NoneInOrder}
 use Rattle.zc_poll.specs.Items.{Given, HasGiven}
 use Rattle.zc_poll.specs.Steps.{Unlent, Passed, Wants}
 use Rattle.zc_poll.proofs.Marking.{found-past, items-past, found-noted, items-noted, the_found}
 use Rattle.zc_poll.proofs.Views.{only-noted}
 
 -- what a flow gave is found where it stands
-pub found-of : (taken : List TakenNote) (flows : List FlowQueue) → Each (FlowStands taken []) flows → Each (IsFound taken) flows
-found-of taken flows stand = each-map (FlowStands taken []) (IsFound taken) flows
+pub found-of : (taken : List TakenNote) (flows : List FlowQueue) → Each (FlowStands taken []) flows → Each (FlowEnds taken) flows
+found-of taken flows stand = each-map (FlowStands taken []) (FlowEnds taken) flows
     (λ f _ stands. the_found taken f stands.begun (λ p below. stands.holds.popped p (omega (arith, below, stands.counted)))) stand
 
 module _ (was : Desk) (old new : AppView) (t : TakenNote) (stands : StreamStands was old) (more : was.ended ≡ false)
@@ -50,7 +52,7 @@ module _ (was : Desk) (old new : AppView) (t : TakenNote) (stands : StreamStands
     items = λ gs given. subst (HasGiven gs now.flows) (sym taken-is) (items gs given);
   }
 
-  common-by : (now : Desk) → now.app ≡ was.app → now.ended ≡ false → Each (IsFound (old.taken ++ t ∷ [])) now.flows
+  common-by : (now : Desk) → now.app ≡ was.app → now.ended ≡ false → Each (FlowEnds (old.taken ++ t ∷ [])) now.flows
       → ((number : ℕ) → many number now.flows ≤ 1) → Common now new
   common-by now app ended found distinct =
       let common : Common was old = stands.common in
@@ -62,7 +64,7 @@ module _ (was : Desk) (old new : AppView) (t : TakenNote) (stands : StreamStands
         app = ap (λ (v : AppView). v.app) view ∙ common.app ∙ sym app;
         ended = ap (λ (v : AppView). v.ended) view ∙ common.ended ∙ more ∙ sym ended;
         apart = lie;
-        found = subst (λ ts. Each (IsFound ts) now.flows) (sym taken-is) found;
+        found = subst (λ ts. Each (FlowEnds ts) now.flows) (sym taken-is) found;
         distinct = distinct;
         few = omega (
           arith,
@@ -114,8 +116,8 @@ module _ (was : Desk) (old new : AppView) (t : TakenNote) (stands : StreamStands
     put-in : Chosen was.flows t.note change.own (λ x. set change.flows i x)
     put-in = is-chosen was.flows change.flows t.note i change.own change.chosen change.within change.there
 
-    found-in : Each (IsFound (old.taken ++ t ∷ [])) flows
-    found-in = subst (Each (IsFound (old.taken ++ t ∷ []))) (sym change.is)
+    found-in : Each (FlowEnds (old.taken ++ t ∷ [])) flows
+    found-in = subst (Each (FlowEnds (old.taken ++ t ∷ []))) (sym change.is)
         (found-noted was.flows old.taken t change.own (λ x. set change.flows i x) change.queue change.base put-in stands.common.found
         (going-on.stands.known t.note.flow))
 

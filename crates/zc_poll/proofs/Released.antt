@@ -1,5 +1,5 @@
 -- All pieces were given up.
-use Rattle.std.proofs.Common.{◌≡◌, ℕ, true, false, List, [], ◌∷◌, ◌-◌, map, length, refl, sym, ap, subst, ◌∙◌, arith, ⊎_elim}
+use Rattle.std.proofs.Common.{◌≡◌, ℕ, true, false, List, [], ◌∷◌, ◌-◌, map, length, refl, sym, ap, subst, ◌∙◌, arith}
 use Rattle.zr_kinds.specs.CopyingReceiver.{next_missing, nothing_placed}
 use Rattle.board_face.specs.declared.views.app.TakenNote.{TakenNote}
 use Rattle.board_face.specs.declared.views.app.AppView.{AppView}
@@ -9,7 +9,9 @@ use Rattle.flow_queues.specs.Flows.{FlowFacts, facts_of, IsAtRest}
 use Rattle.flow_queues.proofs.Releasing.{each-facts}
 use Rattle.flow_queues.proofs.Placing.{values-length}
 use Rattle.tcp_reorder.proofs.Holding.{next_missing-held}
-use Rattle.zc_poll.specs.Standing.{Desk, IsFound, Common, Going, IsWhole, StreamStands, CanStop, MayRelease, IsStopped, NoneInOrder, taken_len}
+use Rattle.flow_queues.specs.Totals.{taken_len}
+use Rattle.flow_queues.specs.Shelves.{FlowEnds}
+use Rattle.zc_poll.specs.Standing.{Desk, Common, Going, IsWhole, StreamStands, CanStop, MayRelease, IsStopped, NoneInOrder}
 use Rattle.zc_poll.specs.Items.{HasGiven}
 use Rattle.zc_poll.specs.Steps.{Unlent, Stepped, Wants}
 use Rattle.board_face.specs.AppCalls.{ToldEnd}
@@ -31,15 +33,6 @@ may-end was now old mid stands same told = subst (λ (d : Desk). MayRelease d mi
   released = stands.released;
 }))
 
-pub may-want : (was now : Desk) (old new : AppView) → Wants was now old new → MayRelease now new
-may-want was now old new wants = record { going = λ _ _. wants.can; released = ⊎_elim (λ (is : now.stopped ≡ true). absurd (cc)) (λ (is : now.ended ≡ true). absurd (cc)) }
-  where
-    on : now.stopped ≡ false
-    on = wants.going.1
-
-    more : now.ended ≡ false
-    more = wants.more
-
 module _ (was now : Desk) (old new : AppView) (app : now.app ≡ was.app) (ended : new.ended ≡ now.ended)
     (view : new ≡ record old { helds = []; ended = new.ended; looks = new.looks }) (facts : map facts_of now.flows ≡ map facts_of was.flows) where
   taken-same : old.taken ≡ new.taken
@@ -57,7 +50,7 @@ module _ (was now : Desk) (old new : AppView) (app : now.app ≡ was.app) (ended
       once = λ b x. omega (arith, common.apart.once b x);
       some = omega (arith, common.apart.some);
     });
-    found = subst (λ ts. Each (IsFound ts) now.flows) taken-same (found-released was.flows now.flows old.taken facts common.found);
+    found = subst (λ ts. Each (FlowEnds ts) now.flows) taken-same (found-released was.flows now.flows old.taken facts common.found);
     distinct = λ n. omega (arith, many-released was.flows now.flows old.taken facts n, common.distinct n);
     few = omega (
       arith,

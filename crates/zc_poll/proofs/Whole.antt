@@ -7,26 +7,27 @@ use Rattle.flow_queues.specs.Marks.{Mark, AreWholeFrames, marks_of}
 use Rattle.flow_queues.specs.Core.{Each, placed_of}
 use Rattle.zr_kinds.specs.CopyingReceiver.{next_missing}
 use Rattle.flow_queues.proofs.Fronts.{front-of-flow, all-of-flow, pick, no-marks}
-use Rattle.zc_poll.specs.Standing.{Desk, IsFound, IsWhole}
+use Rattle.flow_queues.specs.Shelves.{FlowEnds}
+use Rattle.zc_poll.specs.Standing.{Desk, IsWhole}
 use Rattle.zc_poll.specs.Items.{Given, HasGiven, marks_given}
 use Rattle.zc_poll.proofs.Marking.{IsGivenOf, each-two}
 
-pub items-front : (flows : List FlowQueue) (taken : List TakenNote) (items : List Given) → Each (IsFound taken) flows → HasGiven items flows taken
+pub items-front : (flows : List FlowQueue) (taken : List TakenNote) (items : List Given) → Each (FlowEnds taken) flows → HasGiven items flows taken
     → AreWholeFrames taken → (flow : ℕ) → (rest : List Mark) × (marks_of flow taken ≡ marks_given flow items ++ rest)
 items-front flows taken items found given whole flow =
-    pick flow flows (λ f. IsFound taken f × IsGivenOf items taken f) ((rest : List Mark) × (marks_of flow taken ≡ marks_given flow items ++ rest))
-    (each-two (IsFound taken) (IsGivenOf items taken) flows found given.flows)
+    pick flow flows (λ f. FlowEnds taken f × IsGivenOf items taken f) ((rest : List Mark) × (marks_of flow taken ≡ marks_given flow items ++ rest))
+    (each-two (FlowEnds taken) (IsGivenOf items taken) flows found given.flows)
     (λ none. (marks_of flow taken, ap (λ ms. ms ++ marks_of flow taken) (sym (given.others flow none))))
     (λ f is both.
     let (rest, parts) = front-of-flow f taken f.bytes both.0.begun both.0.below whole in
     subst (λ n. (rest : List Mark) × (marks_of n taken ≡ marks_given n items ++ rest)) is (rest, parts ∙ ap (λ ms. ms ++ rest) (sym both.1)))
 
-pub items-whole : (st : Desk) (v : AppView) (items : List Given) → Each (IsFound v.taken) st.flows → IsWhole st v → HasGiven items st.flows v.taken
+pub items-whole : (st : Desk) (v : AppView) (items : List Given) → Each (FlowEnds v.taken) st.flows → IsWhole st v → HasGiven items st.flows v.taken
     → AreWholeFrames v.taken → (flow : ℕ) → marks_of flow v.taken ≡ marks_given flow items
 items-whole st v items found all given whole flow =
-    pick flow st.flows (λ f. (IsFound v.taken f × IsGivenOf items v.taken f) × (f.bytes ≡ next_missing (placed_of f v.taken)))
+    pick flow st.flows (λ f. (FlowEnds v.taken f × IsGivenOf items v.taken f) × (f.bytes ≡ next_missing (placed_of f v.taken)))
     (marks_of flow v.taken ≡ marks_given flow items)
-    (each-two (λ f. IsFound v.taken f × IsGivenOf items v.taken f) (λ f. f.bytes ≡ next_missing (placed_of f v.taken)) st.flows
-    (each-two (IsFound v.taken) (IsGivenOf items v.taken) st.flows found given.flows) all.flows)
+    (each-two (λ f. FlowEnds v.taken f × IsGivenOf items v.taken f) (λ f. f.bytes ≡ next_missing (placed_of f v.taken)) st.flows
+    (each-two (FlowEnds v.taken) (IsGivenOf items v.taken) st.flows found given.flows) all.flows)
     (λ none. no-marks flow v.taken (all.known flow none) ∙ sym (given.others flow none))
     (λ f is both. subst (λ n. marks_of n v.taken ≡ marks_given n items) is (all-of-flow f v.taken both.0.0.begun both.1 whole ∙ sym both.0.1))

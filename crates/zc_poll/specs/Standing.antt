@@ -1,13 +1,14 @@
 -- What a stream keeps beside its face, as plain data, and how that stands to what the face has seen.
-use Rattle.std.specs.Prelude.{◌≡◌, ℕ, ◌+◌, ◌<◌, ◌≤◌, ◌⊎◌, Bool, true, false, List, [], length, map, IsSome}
+use Rattle.std.specs.Prelude.{◌≡◌, ℕ, ◌+◌, ◌≤◌, ◌⊎◌, Bool, true, false, List, [], length, map}
 use Rattle.zr_kinds.specs.CopyingReceiver.{next_missing}
 use Rattle.board_face.specs.declared.views.app.HeldPiece.{HeldPiece}
-use Rattle.board_face.specs.declared.views.app.TakenNote.{TakenNote}
 use Rattle.board_face.specs.declared.views.app.AppView.{AppView}
 use Rattle.flow_queues.specs.declared.queues.FlowQueue.{FlowQueue}
 use Rattle.flow_queues.specs.declared.queues.Lending.{Lending}
-use Rattle.flow_queues.specs.Core.{total, Each, many, LieApart, own_notes, BeginAt, placed_of, over_kept, held_len, short_bytes, unsplit_len, Stands}
+use Rattle.flow_queues.specs.Core.{total, Each, many, LieApart, own_notes, placed_of, over_kept, held_len, short_bytes, unsplit_len, Stands}
 use Rattle.flow_queues.specs.Flows.{IsAtRest, RestBut, IsIndex, facts_of}
+use Rattle.flow_queues.specs.Shelves.{FlowEnds}
+use Rattle.flow_queues.specs.Totals.{taken_len}
 
 pub record Desk : Type 0 where
   pub app : ℕ
@@ -22,15 +23,6 @@ pub record Desk : Type 0 where
   pub stopped : Bool
   -- it was told that no note comes any more
   pub ended : Bool
-
--- how many bytes the note's piece has
-abbrev pub taken_len : TakenNote → ℕ
-taken_len t = t.note.place.len
-
--- what was given of a flow has its place
-pub record IsFound (taken : List TakenNote) (flow : FlowQueue) : Type 0 where
-  pub begun : BeginAt flow.queue.base (own_notes flow.number taken)
-  pub below : (p : ℕ) → p < flow.bytes → IsSome ((placed_of flow taken).at p)
 
 -- notes enter the queues, and pieces are lent
 pub record Going (st : Desk) (v : AppView) : Type 0 where
@@ -60,7 +52,7 @@ pub record Common (st : Desk) (v : AppView) : Type 0 where
   pub app : v.app ≡ st.app
   pub ended : v.ended ≡ st.ended
   pub apart : LieApart v
-  pub found : Each (IsFound v.taken) st.flows
+  pub found : Each (FlowEnds v.taken) st.flows
   pub distinct : (number : ℕ) → many number st.flows ≤ 1
   -- there were never more loans than bytes were taken
   pub few : length v.loans + length v.returned ≤ total taken_len v.taken

@@ -1,14 +1,19 @@
 //! An application's loans as a stream that is polled: each item is a loan with where its bytes stand in the stream of its flow.
-//! The stream owns its face, takes notes while nothing is in order, and holds no loan back.
+//! The stream owns its face, takes notes while nothing is in order, and holds no loan back. `ToShelf` pours it into a shelf, turn by
+//! turn or as a future.
 #![tactic(auto)]
 
+mod counting;
 mod laws;
 mod lending;
+mod pouring;
 mod queues;
 mod step;
 mod stream;
 mod taking;
+mod to_shelf;
 
 pub use laws::items_law;
 pub use step::{Lent, Step, Waits};
 pub use stream::LoanStream;
+pub use to_shelf::{Poured, Ran, ToShelf};

@@ -1,4 +1,4 @@
-ghost use Rattle.std.specs.Prelude.{◌≡◌, ◌+◌, ◌<◌, ◌≤◌, [], ℕ, List, length, Ok, Err, Some, None, true, false, IfErr, MatchResult, OnSome};
+ghost use Rattle.std.specs.Prelude.{◌≡◌, ◌+◌, ◌<◌, ◌≤◌, [], ℕ, List, length, Ok, Err, Some, None, true, false, IfErr, MatchBool, MatchResult, OnSome};
 ghost use Rattle.futures.specs.Poll.{IfReady, OnPending};
 ghost use Rattle.futures.specs.Task.{Covers, Keeps};
 ghost use Rattle.futures.specs.declared.task.Poll.TheVariants.{Ready};
@@ -172,14 +172,55 @@ impl<F: AppFace> LoanStream<F> {
             (F.seen self.face) (F.seen back.face)) }
         ensures beside { MatchResult result (λ face. F.beside face ≡ F.beside self.face) (λ back. F.beside back.face ≡ F.beside self.face) }
     {
-        let LoanStream { face, queues } = self;
-        let mut face = face;
-        if !face.quiet() {
-            return Err(LoanStream { face, queues });
+        let mut stream = self;
+        if !stream.leave() {
+            return Err(stream);
         }
-        face.scrub();
-        face.leave();
-        Ok(face)
+        Ok(stream.into_face())
+    }
+
+    /// As `close`, and the face stays here. `false` says that a refill slot was seen in use.
+    pub(crate) fn leave(&mut self) -> bool
+        requires stands { StreamStands self.old.desk (F.seen self.old.face) }
+        requires ended { self.old.desk.ended ≡ true }
+        requires none { (F.seen self.old.face).loans ≡ [] }
+        ensures desk { self.new.desk ≡ self.old.desk }
+        ensures left { MatchBool result
+            (F.seen self.new.face ≡ has_left (F.seen self.old.face))
+            (StreamStands self.new.desk (F.seen self.new.face) × AppOnlySaw NotQuiet (F.seen self.old.face) (F.seen self.new.face)) }
+        ensures some { result ≡ false → HasWritten (F.seen self.old.face) }
+        ensures told { result ≡ false → AppTold (λ look. F.tells look (app_gist (F.seen self.old.face)) (F.beside self.old.face))
+            (F.seen self.old.face) (F.seen self.new.face) }
+        ensures beside { F.beside self.new.face ≡ F.beside self.old.face }
+    {
+        if !self.face.quiet() {
+            return false;
+        }
+        self.face.scrub();
+        self.face.leave();
+        true
+    }
+
+    /// Whether no note comes any more, and all was given.
+    pub(crate) fn has_ended(&self) -> bool
+        ensures { result ≡ self.now.desk.ended }
+    {
+        self.queues.ended
+    }
+
+    /// What the queues are made of.
+    pub(crate) fn alloc(&self) -> Global {
+        self.queues.alloc
+    }
+}
+
+impl<F> LoanStream<F> {
+    /// The face.
+    pub(crate) fn into_face(self) -> F
+        ensures { result ≡ self.face }
+    {
+        let LoanStream { face, queues: _ } = self;
+        face
     }
 }
 

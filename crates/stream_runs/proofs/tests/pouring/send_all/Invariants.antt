@@ -1,0 +1,6 @@
+-- The hand is that of the card's seat.
+use Rattle.worker_runs.specs.Card.{IsCard}
+use Rattle.stream_runs.proofs.tests.pouring.send_all.Given as goal
+
+abbrev pub invariant-loop-one : goal.invariant-loop-one
+invariant-loop-one g l = IsCard l.nic.side.view l.card

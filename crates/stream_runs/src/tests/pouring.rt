@@ -1,0 +1,130 @@
+//! What is poured into a shelf, over the board on words by one thread.
+ghost use Rattle.std.specs.Prelude.{◌≡◌, ◌≤◌};
+ghost use Rattle.worker_runs.specs.Card.{IsCard};
+
+use super::{Sent, note, piece, short};
+use area_layout::Layout;
+use futures::executor::block_on;
+use std::alloc::Global;
+use std::process::Abort;
+use std::test::*;
+use word_board::{NicSeat, WordBoard};
+use worker_runs::{Card, CardCall, Told, card_call};
+use zc_poll::{LoanStream, Poured, Ran, ToShelf};
+use zr_io::MemShelf;
+use zr_kinds::Stopped;
+
+/// The card sends all of these.
+fn send_all(rt: &impl Abort, nic: &mut NicSeat<'_>, card: &mut Card, sent: &[Sent])
+    requires { IsCard nic.old.side.view card.old }
+    ensures { IsCard nic.new.side.view card.new }
+{
+    card_call(nic, card, CardCall::Sweep);
+    let told = card_call(nic, card, CardCall::Take);
+    assert_eq!(rt; told, Told::Done);
+    let mut frame = 0u32;
+    for one in sent {
+        frame = frame.wrapping_add(1);
+        let note = note(frame, one.flow, one.seq, one.bytes, one.split);
+        let call = if one.split {
+            CardCall::Send(note, one.bytes)
+        } else {
+            CardCall::SendLinear(note, one.bytes)
+        };
+        let told = card_call(nic, card, call);
+        assert_eq!(rt; told, Told::Done, "{frame}");
+    }
+}
+
+/// What was sent is poured into a shelf. Where nothing is to be done, the card deals with an entry, and ends.
+fn pours(
+    rt: &impl Abort,
+    alloc: Global,
+    sent: &[Sent],
+    shelf: MemShelf,
+) -> Result<(Poured, MemShelf), Fail> {
+    let layout = Layout::new(4, 1, 4096).ok_or("no layout")?;
+    let (board, mut desk) = WordBoard::open(alloc, layout, 1, 16)?;
+    let mut nic = board.nic(&mut desk).ok_or("no seat of the card")?;
+    let seat = board.app(&mut desk, 0).ok_or("no seat of the application")?;
+    let mut card = Card::new();
+    send_all(rt, &mut nic, &mut card, sent);
+    let mut work = ToShelf::new(LoanStream::new(alloc, seat, 0), shelf);
+    for _turn in 0..64u32 {
+        match work.turn() {
+            Ran::Did => {}
+            Ran::Idle => {
+                card_call(&mut nic, &mut card, CardCall::Entry);
+                card_call(&mut nic, &mut card, CardCall::End);
+            }
+            Ran::Ended(poured) => {
+                let (_seat, shelf) = work.parts();
+                return Ok((poured, shelf));
+            }
+        }
+    }
+    Err(Fail::from("it came to no end"))
+}
+
+#[test]
+fn a_stream_is_poured_into_a_shelf(rt: HostRuntime) -> Result<(), Fail> {
+    let sent = [
+        piece(3, 1002, b"cd"),
+        short(3, 1000, b"ab"),
+        piece(0, 1000, b"hello"),
+        piece(0, 1003, b"XX, world"),
+        piece(0, 1020, b"behind a gap"),
+    ];
+    let shelf = MemShelf::new(rt.alloc(), 4, 64, Vec::new(rt.alloc()))?;
+    let (poured, shelf) = pours(&rt, rt.alloc(), &sent, shelf)?;
+    assert_eq!(&rt; shelf.flow(0), b"hello, world".as_slice());
+    assert_eq!(&rt; shelf.flow(3), b"abcd".as_slice());
+    assert_eq!(&rt; poured.written, 16);
+    assert_eq!(&rt; poured.loans, 4);
+    assert_eq!(&rt; poured.copied, 1);
+    assert_eq!(&rt; poured.stopped, Stopped::No);
+    assert_eq!(&rt; poured.flows.as_slice(), [(0, 12), (3, 4)].as_slice());
+    Ok(())
+}
+
+#[test]
+fn a_fault_of_the_shelf_stops_it(rt: HostRuntime) -> Result<(), Fail> {
+    let sent = [
+        piece(2, 1000, b"ab"),
+        piece(1, 1000, b"hello"),
+        piece(0, 1000, b"never written"),
+    ];
+    let mut fails = Vec::new(rt.alloc());
+    fails.push((2, 3))?;
+    let shelf = MemShelf::new(rt.alloc(), 4, 64, fails)?;
+    let (poured, shelf) = pours(&rt, rt.alloc(), &sent, shelf)?;
+    assert_eq!(&rt; shelf.flow(0), b"".as_slice());
+    assert_eq!(&rt; shelf.flow(1), b"hel".as_slice());
+    assert_eq!(&rt; shelf.flow(2), b"ab".as_slice());
+    assert_eq!(&rt; poured.written, 2);
+    assert_eq!(&rt; poured.loans, 2);
+    assert_eq!(&rt; poured.stopped, Stopped::Write);
+    assert_eq!(&rt; poured.flows.as_slice(), [(2, 2)].as_slice());
+    Ok(())
+}
+
+#[test]
+fn pouring_is_a_future(rt: HostRuntime) -> Result<(), Fail> {
+    let sent = [piece(0, 1000, b"hello"), piece(0, 1005, b"world")];
+    let mut fails = Vec::new(rt.alloc());
+    fails.push((1, 2))?;
+    let shelf = MemShelf::new(rt.alloc(), 1, 64, fails)?;
+    let layout = Layout::new(4, 1, 4096).ok_or("no layout")?;
+    let (board, mut desk) = WordBoard::open(rt.alloc(), layout, 1, 16)?;
+    let mut nic = board.nic(&mut desk).ok_or("no seat of the card")?;
+    let seat = board.app(&mut desk, 0).ok_or("no seat of the application")?;
+    let mut card = Card::new();
+    send_all(&rt, &mut nic, &mut card, &sent);
+    card_call(&mut nic, &mut card, CardCall::End);
+    let work = ToShelf::new(LoanStream::new(rt.alloc(), seat, 0), shelf);
+    // No loan is given back by an entry, so it needs no card.
+    let poured = block_on(&rt, work)?;
+    assert_eq!(&rt; poured.loans, 1);
+    assert_eq!(&rt; poured.stopped, Stopped::Write);
+    Ok(())
+}

@@ -1,0 +1,67 @@
+-- Nothing was poured yet.
+use Rattle.std.proofs.Common.{◌≡◌, ℕ, if◌then◌else◌, List, [], length, Option, None, refl, sym, ap, arith}
+use Rattle.std.proofs.KnownBytes.{Keeps-refl}
+use Rattle.zr_kinds.specs.declared.behaviour.Stopped.TheVariants as stop
+use Rattle.zr_io.proofs.Moved.{Gained-nothing}
+use Rattle.board_face.specs.declared.views.app.WrittenEntry.{WrittenEntry}
+use Rattle.board_face.specs.declared.views.app.AppView.{AppView}
+use Rattle.flow_queues.specs.Core.{total}
+use Rattle.flow_queues.specs.Totals.{capped, lent_len, loan_entries}
+use Rattle.zc_poll.specs.Counting.{Tally}
+use Rattle.zc_poll.specs.Fresh.{IsUntouched, new_desk}
+use Rattle.zc_poll.specs.Standing.{StreamStands}
+use Rattle.zc_poll.specs.Pouring.{IsPoured, HasPoured, PourStands}
+use Rattle.zc_poll.proofs.ItemPoured.{none-at}
+
+-- nothing is kept
+abbrev pub new_tally : ℕ → Tally
+new_tally room = record { due = None; written = 0; loans = 0; copied = 0; stopped = stop.No; counts = []; flows = []; room = room }
+
+module _ (kept : ℕ → Option (List ℕ)) (losses room app : ℕ) (v : AppView) (fresh : IsUntouched app v) (stands : StreamStands (new_desk app) v) where
+  no-entry : loan_entries v ≡ 0
+  no-entry = ap (total (λ (e : WrittenEntry). if e.of_loan then 1 else 0)) fresh.written
+
+  new-poured : (P : Type 0) → HasPoured P kept (new_tally room) (new_desk app) kept v [] 0 0
+  new-poured P = record {
+    given = record { flows = tt; others = λ n none. refl };
+    many = omega (arith, ap length fresh.loans, ap length fresh.returned);
+    lent = omega (arith, ap (total lent_len) fresh.loans, ap (total lent_len) fresh.returned);
+    some = omega arith;
+    copies = omega (arith, fresh.spares);
+    raw = ap (total (λ (e : WrittenEntry). if e.of_loan then 0 else 1)) fresh.written;
+    entries = omega (arith, no-entry);
+    sum = refl;
+    counts = λ n. omega (arith, none-at n 0 0 refl);
+    once = λ n. omega arith;
+    known = λ n some. absurd (omega (arith, some));
+    written = refl;
+    loans = refl;
+    copied = ap capped (sym fresh.spares);
+    room = omega arith;
+    empty = refl;
+    shelved = λ n. Gained-nothing (kept n) (kept n) (IsPoured (P × (n ≡ 0)) v [] 0) (Keeps-refl (kept n)) (record {
+      are = tt;
+      at_least = omega arith;
+      at_once = omega arith;
+      exact = λ _. refl;
+      beyond = λ less. absurd (omega (arith, less));
+    });
+  }
+
+  pub new-pours : PourStands kept losses (new_tally room) (new_desk app) kept losses v
+  new-pours = record {
+    items = [];
+    torn = 0;
+    missing = 0;
+    stands = stands;
+    poured = new-poured ((new_tally room).stopped ≡ stop.Write);
+    due = fresh.loans;
+    whole = λ _. refl;
+    given_back = λ _. omega (arith, no-entry, ap length fresh.returned);
+    going = λ _. refl;
+    over = λ not. absurd (not refl);
+    no_quit = λ e. absurd (cc);
+    later = omega arith;
+    cause = λ e. absurd (cc);
+    still = λ _. refl;
+  }

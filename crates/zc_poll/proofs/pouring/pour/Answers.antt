@@ -1,0 +1,88 @@
+use Rattle.std.specs.Prelude.{None, Option}
+use Rattle.zr_kinds.specs.declared.place.Place.{Place}
+use Rattle.std.proofs.Common.{rules, ◌≡◌, ◌<◌, ◌≤◌, Bool, [], length, vec_capacity, Some, refl, sym, ap, subst, ◌∙◌}
+use Rattle.zc_poll.specs.Standing.{Desk, StreamStands}
+use Rattle.zc_poll.specs.Items.{HasGiven}
+use Rattle.zc_poll.specs.Pouring.{PourStands}
+use Rattle.zc_poll.specs.Counting.{Tally, AddsTo, item_counted}
+use Rattle.zc_poll.specs.TallyOf.{tally_of}
+use Rattle.zc_poll.specs.declared.counting.Tally.{Tally as Kept}
+use Rattle.zc_poll.proofs.ItemPoured.{Roomy}
+use Rattle.zc_poll.proofs.Pours.{wants, fails, wrote}
+use Rattle.zc_poll.proofs.PourTurns.{only-reads-none}
+use Rattle.zc_poll.proofs.pouring.pour.Goals as goal
+
+is-roomy : (u v w : Kept) (copied : Bool) → tally_of v ≡ item_counted (tally_of u) copied → w ≡ record v { counts = w.counts; flows = w.flows }
+    → length w.counts.entries ≤ vec_capacity w.flows → w.flows.items ≡ [] → Roomy (item_counted (tally_of u) copied) (tally_of w)
+is-roomy u v w copied counted same room empty = record {
+  same = ap tally_of same ∙ ap (λ (t : Tally). record t { counts = w.counts.entries; flows = w.flows.items; room = vec_capacity w.flows }) counted;
+  room = room;
+  empty = empty;
+}
+
+pub returns-then-is_err-clause-pours : goal.returns-then-is_err-clause-pours
+returns-then-is_err-clause-pours g c =
+    let roomy : Roomy (item_counted (tally_of c.args.work.now) c.args.lent.copied) (tally_of c.make_room.new.work) =
+    is-roomy c.args.work.now c.count_item.new.work c.make_room.new.work c.args.lent.copied c.count_item.ensures.tally c.make_room.ensures.same
+    c.make_room.ensures.room c.make_room.ensures.empty in
+    let adds : AddsTo c.args.lent.flow 0 c.args.work.now.counts.entries c.make_room.new.work.counts.entries =
+    subst (λ es. AddsTo c.args.lent.flow 0 es c.make_room.new.work.counts.entries) (ap (λ (t : Tally). t.counts) c.count_item.ensures.tally)
+    c.make_room.ensures.none in
+    let none : c.give_up.new.work.due ≡ None = search rules in
+    λ first losses st v before item only.
+    subst (λ (d : Option Place). PourStands first losses (record (tally_of c.give_up.new.work) { due = d }) c.give_up.new.stream.desk
+    (g.T.Shelf.kept c.args.shelf.now) (g.T.Shelf.faults c.args.shelf.now) (g.F.AppFace.seen c.give_up.new.stream.face)) none
+    (wants first (g.T.Shelf.kept c.args.shelf.now) losses (g.T.Shelf.faults c.args.shelf.now) (tally_of c.args.work.now) st c.args.stream.now.desk v
+    (g.F.AppFace.seen c.args.stream.now.face) before c.requires.none c.args.lent item only c.requires.stands (tally_of c.make_room.new.work) roomy adds
+    (g.F.AppFace.seen c.give_up.new.stream.face) c.give_up.new.stream.desk (tally_of c.give_up.new.work) c.give_up.ensures.view c.give_up.ensures.items
+    c.give_up.ensures.stands c.give_up.ensures.stopped (ap tally_of c.give_up.ensures.work))
+
+pub returns-then-done-place-clause-pours : goal.returns-then-done-place-clause-pours
+returns-then-done-place-clause-pours g c =
+    let roomy : Roomy (item_counted (tally_of c.args.work.now) c.args.lent.copied) (tally_of c.make_room.new.work) =
+    is-roomy c.args.work.now c.count_item.new.work c.make_room.new.work c.args.lent.copied c.count_item.ensures.tally c.make_room.ensures.same
+    c.make_room.ensures.room c.make_room.ensures.empty in
+    let adds : AddsTo c.args.lent.flow 0 c.args.work.now.counts.entries c.make_room.new.work.counts.entries =
+    subst (λ es. AddsTo c.args.lent.flow 0 es c.make_room.new.work.counts.entries) (ap (λ (t : Tally). t.counts) c.count_item.ensures.tally)
+    c.make_room.ensures.none in
+    let read = c.append_loan-done.ensures in
+    let gone = c.give_up-then-done-place.ensures in
+    let part : c.append_loan-done.result < c.args.lent.loan.len = search rules in
+    let none : c.give_up-then-done-place.new.work.due ≡ None = search rules in
+    λ first losses st v before item only.
+    subst (λ (d : Option Place). PourStands first losses (record (tally_of c.give_up-then-done-place.new.work) { due = d })
+    c.give_up-then-done-place.new.stream.desk (g.T.Shelf.kept c.append_loan-done.new.shelf) (g.T.Shelf.faults c.append_loan-done.new.shelf)
+    (g.F.AppFace.seen c.give_up-then-done-place.new.stream.face)) none
+    (fails first (g.T.Shelf.kept c.args.shelf.now) losses (g.T.Shelf.faults c.args.shelf.now) (tally_of c.args.work.now) st c.args.stream.now.desk v
+    (g.F.AppFace.seen c.args.stream.now.face) before c.requires.none c.args.lent item only c.requires.stands (tally_of c.make_room.new.work) roomy adds
+    (g.T.Shelf.kept c.append_loan-done.new.shelf) (g.T.Shelf.faults c.append_loan-done.new.shelf) (g.F.AppFace.seen c.append_loan-done.new.stream.face)
+    (tally_of c.count.new.work) c.append_loan-done.result read.only read.counted read.gained read.others (ap tally_of c.count.ensures.same)
+    c.count.ensures.adds c.count.ensures.many read.stands.common.apart (g.F.AppFace.seen c.give_up-then-done-place.new.stream.face)
+    c.give_up-then-done-place.new.stream.desk (tally_of c.give_up-then-done-place.new.work) gone.view
+    (λ items given. gone.items items
+    (subst (λ (d : Desk). HasGiven items d.flows (g.F.AppFace.seen c.append_loan-done.new.stream.face).taken) (sym read.desk) given))
+    gone.stands gone.stopped (ap tally_of gone.work) read.later (read.cause part))
+
+pub returns-then-is_err-clause-read : goal.returns-then-is_err-clause-read
+returns-then-is_err-clause-read g c = (c.give_up.ensures.stopped, g.F.AppFace.seen c.args.stream.now.face, only-reads-none (g.F.AppFace.seen c.args.stream.now.face), c.give_up.ensures.view)
+
+pub returns-clause-pours : goal.returns-clause-pours
+returns-clause-pours g c =
+    let roomy : Roomy (item_counted (tally_of c.args.work.now) c.args.lent.copied) (tally_of c.make_room.new.work) =
+    is-roomy c.args.work.now c.count_item.new.work c.make_room.new.work c.args.lent.copied c.count_item.ensures.tally c.make_room.ensures.same
+    c.make_room.ensures.room c.make_room.ensures.empty in
+    let adds : AddsTo c.args.lent.flow 0 c.args.work.now.counts.entries c.make_room.new.work.counts.entries =
+    subst (λ es. AddsTo c.args.lent.flow 0 es c.make_room.new.work.counts.entries) (ap (λ (t : Tally). t.counts) c.count_item.ensures.tally)
+    c.make_room.ensures.none in
+    let read = c.append_loan-done.ensures in
+    let full : c.append_loan-done.result ≡ c.args.lent.loan.len = search rules in
+    let due : Tally = record (tally_of c.count.new.work) { due = Some c.args.lent.loan } in
+    λ first losses st v before item only.
+    subst (λ (d : Desk). PourStands first losses due d (g.T.Shelf.kept c.append_loan-done.new.shelf)
+    (g.T.Shelf.faults c.append_loan-done.new.shelf) (g.F.AppFace.seen c.append_loan-done.new.stream.face)) (sym read.desk)
+    (wrote first (g.T.Shelf.kept c.args.shelf.now) losses (g.T.Shelf.faults c.args.shelf.now) (tally_of c.args.work.now) st c.args.stream.now.desk v
+    (g.F.AppFace.seen c.args.stream.now.face) before c.requires.none c.args.lent item only c.requires.stands (tally_of c.make_room.new.work) roomy adds
+    (g.T.Shelf.kept c.append_loan-done.new.shelf) (g.T.Shelf.faults c.append_loan-done.new.shelf) (g.F.AppFace.seen c.append_loan-done.new.stream.face)
+    (tally_of c.count.new.work) c.append_loan-done.result read.only read.counted read.gained read.others (ap tally_of c.count.ensures.same)
+    c.count.ensures.adds c.count.ensures.many read.stands.common.apart due refl full
+    (subst (λ (d : Desk). StreamStands d (g.F.AppFace.seen c.append_loan-done.new.stream.face)) read.desk read.stands) (read.still full))

@@ -1,0 +1,25 @@
+use Rattle.std.proofs.Common.{rules, ◌≡◌, sym, subst}
+use Rattle.board_face.specs.declared.views.app.AppLook.TheVariants.{NotQuiet}
+use Rattle.board_face.specs.declared.views.app.AppView.{AppView}
+use Rattle.flow_queues.specs.Ends.{AppEnd, HasLeft}
+use Rattle.zc_poll.specs.PourTurns.{pour_end}
+use Rattle.zc_poll.specs.TallyOf.{tally_of}
+use Rattle.zc_poll.proofs.PourEnds.{left-pours, work_end}
+use Rattle.zc_poll.proofs.PourTurns.{saw-pours}
+use Rattle.zc_poll.proofs.to_shelf.close.Goals as goal
+
+pub returns-then-not-leave-clause-gives : goal.returns-then-not-leave-clause-gives
+returns-then-not-leave-clause-gives g c =
+    let saw = c.if-not-leave.ensures.left in
+    λ first kept losses now before.
+    saw-pours first kept losses now (tally_of c.args.work.now) c.args.stream.now.desk c.leave.new.self.desk (g.F.AppFace.seen c.args.stream.now.face)
+    (g.F.AppFace.seen c.leave.new.self.face) NotQuiet before saw.1.event saw.0 c.leave.ensures.desk
+
+pub returns-clause-gives : goal.returns-clause-gives
+returns-clause-gives g c = λ first kept losses now before how quit.
+    let left : AppEnd = pour_end c.told-poured.result in
+    let same : work_end (tally_of c.args.work.now) ≡ left = search rules in
+    subst (HasLeft how first kept losses now (g.F.AppFace.seen c.leave.new.self.face)) same
+    (subst (λ (v : AppView). HasLeft how first kept losses now v (work_end (tally_of c.args.work.now))) (sym c.if-not-leave.ensures.left)
+    (left-pours first kept losses now (tally_of c.args.work.now) c.args.stream.now.desk (g.F.AppFace.seen c.args.stream.now.face) before c.requires.due
+    c.requires.ended how quit))

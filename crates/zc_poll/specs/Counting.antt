@@ -1,0 +1,37 @@
+-- Loans are counted, and bytes by flow.
+use Rattle.std.specs.Prelude.{◌≡◌, ◌≢◌, ℕ, ◌+◌, ◌≤◌, ◌==◌, Bool, if◌then◌else◌, List, filter, nat_lt, Option}
+use Rattle.zr_kinds.specs.declared.place.Place.{Place}
+use Rattle.zr_kinds.specs.declared.behaviour.Stopped.{Stopped}
+use Rattle.flow_queues.specs.Core.{total}
+use Rattle.flow_queues.specs.Totals.{capped}
+use Rattle.flow_queues.specs.Ends.{bytes_in, times}
+
+-- what pouring keeps beside its stream and its shelf
+pub record Tally : Type 0 where
+  -- the loan that was written and is to be given back
+  pub due : Option Place
+  pub written : ℕ
+  pub loans : ℕ
+  pub copied : ℕ
+  pub stopped : Stopped
+  -- how many bytes of each flow were written
+  pub counts : List (ℕ × ℕ)
+  -- empty, with room for so many
+  pub flows : List (ℕ × ℕ)
+  pub room : ℕ
+
+-- once an item was counted among the loans
+abbrev pub item_counted : Tally → Bool → Tally
+item_counted w copied = record w { loans = capped (w.loans + 1); copied = if copied then capped (w.copied + 1) else w.copied }
+
+-- the flows of which bytes were written
+abbrev pub with_bytes : List (ℕ × ℕ) → List (ℕ × ℕ)
+with_bytes counts = filter (λ f. nat_lt 0 f.1) counts
+
+-- so many bytes of a flow are counted more, and of no other flow
+pub record AddsTo (flow bytes : ℕ) (was now : List (ℕ × ℕ)) : Type 0 where
+  pub sum : total (λ f. f.1) now ≡ total (λ f. f.1) was + bytes
+  pub counts : (n : ℕ) → bytes_in n now ≡ bytes_in n was + (if n == flow then bytes else 0)
+  -- each flow stands there once at most, and no other comes or goes
+  pub others : (n : ℕ) → n ≢ flow → times n now ≡ times n was
+  pub once : times flow was ≤ 1 → times flow now ≤ 1

@@ -1,0 +1,118 @@
+//! An item's loan is read and appended to a flow of a shelf, and counted.
+ghost use Rattle.std.specs.Prelude.{◌≡◌, ◌≢◌, ℕ, ◌+◌, ◌<◌, ◌≤◌, List, [], length, Option, None, vec_capacity, true};
+ghost use Rattle.std.specs.Io.KnownBytes.{Keeps};
+ghost use Rattle.zr_io.specs.Moved.{Gained, Rose};
+ghost use Rattle.board_face.specs.AppCalls.{HasLoan};
+ghost use Rattle.board_face.specs.AppEvents.{abandoned};
+ghost use Rattle.board_face.specs.declared.views.app.AppView.{AppView};
+ghost use Rattle.flow_queues.specs.declared.queues.Lending.{Lending};
+ghost use Rattle.flow_queues.specs.Core.{IsIn, lent_piece, OnlyReads, IsReadOf};
+ghost use Rattle.zc_poll.specs.Standing.{Desk, StreamStands};
+ghost use Rattle.zc_poll.specs.Items.{Given, HasGiven};
+ghost use Rattle.zc_poll.specs.Steps.{IsItem, OnlySteps};
+ghost use Rattle.zc_poll.specs.Pouring.{PourStands};
+ghost use Rattle.zc_poll.specs.PourTurns.{IsRead};
+ghost use Rattle.zc_poll.specs.TallyOf.{tally_of};
+
+use crate::counting::{Tally, count, count_item, make_room};
+use crate::step::Lent;
+use crate::stream::LoanStream;
+use board_face::{AppFace, Loan};
+use zr_io::Shelf;
+use zr_kinds::Stopped;
+
+/// How many bytes are read and appended at once.
+const CHUNK: usize = 4096;
+
+/// Appends the bytes of a loan to a flow of the shelf, and tells how many of them the appends that went well have. Fewer than all
+/// say that the shelf failed.
+pub fn append_loan<F: AppFace, T: Shelf>(
+    stream: &mut LoanStream<F>,
+    loan: &Loan,
+    flow: u32,
+    shelf: &mut T,
+) -> u32
+    requires stands { StreamStands stream.old.desk (F.seen stream.old.face) }
+    requires out { HasLoan (F.seen stream.old.face) loan.now }
+    ensures stands { StreamStands stream.new.desk (F.seen stream.new.face) }
+    ensures desk { stream.new.desk ≡ stream.old.desk }
+    ensures only { OnlyReads (F.seen stream.old.face) (F.seen stream.new.face) }
+    ensures counted { result ≤ loan.now.len }
+    ensures gained { (lending : Lending) → lending.loan ≡ loan.now → lending.note < length (F.seen stream.old.face).taken
+        → IsIn (lent_piece (F.seen stream.old.face).taken lending) (F.seen stream.old.face).loans
+        → Gained (T.kept shelf.old flow) (T.kept shelf.new flow)
+        (λ (read : List ℕ). IsReadOf (F.seen stream.old.face).taken (F.seen stream.new.face).reads lending result loan.now.len read) }
+    ensures others { (other : ℕ) → other ≢ flow → Keeps (T.kept shelf.old other) (T.kept shelf.new other) }
+    ensures later { T.faults shelf.old ≤ T.faults shelf.new }
+    ensures still { result ≡ loan.now.len → T.faults shelf.new ≡ T.faults shelf.old }
+    ensures cause { result < loan.now.len → Rose (T.faults shelf.old) (T.faults shelf.new) }
+    ensures beside { F.beside stream.new.face ≡ F.beside stream.old.face }
+{
+    let mut chunk = [0; CHUNK];
+    let len = loan.place().len;
+    let mut done = 0;
+    while done < len {
+        let n = (len - done).min(CHUNK as u32);
+        let part = &mut chunk[..n as usize];
+        stream.read(loan, done, part);
+        if shelf.append(flow, part).is_err() {
+            return done;
+        }
+        done += n;
+    }
+    done
+}
+
+/// Gives a loan up, and stops the stream for this.
+fn give_up<F: AppFace>(stream: &mut LoanStream<F>, work: &mut Tally, loan: Loan, why: Stopped)
+    requires stands { StreamStands stream.old.desk (F.seen stream.old.face) }
+    requires out { HasLoan (F.seen stream.old.face) loan }
+    ensures stands { StreamStands stream.new.desk (F.seen stream.new.face) }
+    ensures stopped { stream.new.desk.stopped ≡ true }
+    ensures view { F.seen stream.new.face ≡ record (abandoned (F.seen stream.old.face) loan) { helds = [] } }
+    ensures items { (items : List Given) → HasGiven items stream.old.desk.flows (F.seen stream.old.face).taken
+        → HasGiven items stream.new.desk.flows (F.seen stream.new.face).taken }
+    ensures work { work.new ≡ record work.old { stopped = why } }
+    ensures beside { F.beside stream.new.face ≡ F.beside stream.old.face }
+{
+    stream.abandon(loan);
+    stream.stop();
+    work.stopped = why;
+}
+
+/// Writes an item to the shelf. Its loan comes back, which is to be given back then. Where the shelf failed, or there was no memory
+/// to count, it is given up, and the stream is stopped.
+pub fn pour<F: AppFace, T: Shelf>(
+    stream: &mut LoanStream<F>,
+    shelf: &mut T,
+    work: &mut Tally,
+    lent: Lent,
+) -> Option<Loan>
+    requires stands { StreamStands stream.old.desk (F.seen stream.old.face) }
+    requires out { HasLoan (F.seen stream.old.face) lent.loan }
+    requires none { work.old.due ≡ None }
+    requires room { length work.old.counts.entries ≤ vec_capacity work.old.flows }
+    requires empty { work.old.flows.items ≡ [] }
+    ensures pours { (first : ℕ → Option (List ℕ)) (losses : ℕ) (st : Desk) (v : AppView)
+        → PourStands first losses (tally_of work.old) st (T.kept shelf.old) (T.faults shelf.old) v
+        → IsItem st stream.old.desk v (F.seen stream.old.face) lent → OnlySteps v (F.seen stream.old.face)
+        → PourStands first losses (record (tally_of work.new) { due = result }) stream.new.desk (T.kept shelf.new) (T.faults shelf.new)
+        (F.seen stream.new.face) }
+    ensures read { IsRead lent.loan stream.old.desk stream.new.desk (F.seen stream.old.face) (F.seen stream.new.face) result }
+    ensures stands { StreamStands stream.new.desk (F.seen stream.new.face) }
+    ensures none { work.new.due ≡ None }
+    ensures beside { F.beside stream.new.face ≡ F.beside stream.old.face }
+{
+    count_item(work, lent.copied);
+    if make_room(work, lent.flow).is_err() {
+        give_up(stream, work, lent.loan, Stopped::Memory);
+        return None;
+    }
+    let done = append_loan(stream, &lent.loan, lent.flow, shelf);
+    count(work, lent.flow, done);
+    if done < lent.loan.place().len {
+        give_up(stream, work, lent.loan, Stopped::Write);
+        return None;
+    }
+    Some(lent.loan)
+}

@@ -1,0 +1,304 @@
+//! The items of a stream are written to a shelf, one turn after another.
+ghost use Rattle.std.specs.Prelude.{◌≡◌, ◌<◌, ◌≤◌, ℕ, List, [], length, Option, Some, None, true, false, vec_capacity, MatchBool, ◌↔◌};
+ghost use Rattle.board_face.specs.AppCalls.{HasLoan};
+ghost use Rattle.board_face.specs.declared.views.app.AppView.{AppView};
+ghost use Rattle.std.specs.Ordering.{nat_cmp};
+ghost use Rattle.std.specs.Map.{keys_of};
+ghost use Rattle.std.specs.List.Sorted.{IsStrictlySortedBy};
+ghost use Rattle.flow_queues.specs.Core.{Each};
+ghost use Rattle.zc_poll.specs.Counting.{with_bytes};
+ghost use Rattle.zc_poll.specs.Standing.{Desk, StreamStands};
+ghost use Rattle.zc_poll.specs.Fresh.{IsUntouched, new_desk};
+ghost use Rattle.zc_poll.specs.Pouring.{PourStands};
+ghost use Rattle.zc_poll.specs.PourTurns.{HadItem, PourGives, TurnDoes, PollPours, PollDoes};
+ghost use Rattle.zc_poll.specs.Steps.{IsItem, OnlySteps};
+ghost use Rattle.futures.specs.Poll.{OnPending};
+ghost use Rattle.futures.specs.Task.{Covers, Keeps};
+ghost use Rattle.zc_poll.specs.TallyOf.{tally_of};
+
+use crate::counting::Tally;
+use crate::pouring::pour;
+use crate::step::{Lent, Step};
+use crate::stream::LoanStream;
+use board_face::{AppFace, Loan};
+use futures::Future;
+use futures::task::{Context, Poll};
+use std::alloc::Global;
+use std::collections::BTreeMap;
+use std::marker::Model;
+use std::mem;
+use zr_io::Shelf;
+use zr_kinds::Stopped;
+
+/// What was written.
+#[derive(Debug, Drop)]
+pub struct Poured {
+    /// The sum over `flows`.
+    pub written: u64,
+    /// How many items there were, and how many of them were copied.
+    pub loans: u64,
+    pub copied: u64,
+    pub stopped: Stopped,
+    /// How many bytes of each flow that was written, by ascending flow.
+    pub flows: Vec<(u32, u64)>,
+}
+
+/// What a turn did.
+#[derive(Debug, Drop)]
+pub enum Ran {
+    Did,
+    Idle,
+    Ended(Poured),
+}
+
+/// What was written, once nothing comes any more.
+fn told(work: &mut Tally, alloc: Global) -> Poured
+    requires room { length work.old.counts.entries ≤ vec_capacity work.old.flows }
+    requires empty { work.old.flows.items ≡ [] }
+    ensures written { result.written ≡ work.old.written }
+    ensures loans { result.loans ≡ work.old.loans }
+    ensures copied { result.copied ≡ work.old.copied }
+    ensures stopped { result.stopped ≡ work.old.stopped }
+    ensures flows { result.flows.items ≡ with_bytes work.old.counts.entries }
+    ensures some { Each (λ f. 0 < f.1) result.flows.items }
+    ensures ascending { IsStrictlySortedBy nat_cmp (keys_of result.flows.items) }
+{
+    let mut flows = mem::replace(&mut work.flows, Vec::new(alloc));
+    for (flow, bytes) in &work.counts {
+        if *bytes > 0 {
+            flows.push_reserved((*flow, *bytes));
+        }
+    }
+    Poured {
+        written: work.written,
+        loans: work.loans,
+        copied: work.copied,
+        stopped: work.stopped,
+        flows,
+    }
+}
+
+/// Gives the loan back that is due.
+fn give_back<F: AppFace>(stream: &mut LoanStream<F>, work: &mut Tally, loan: Loan) -> Ran
+    requires stands { StreamStands stream.old.desk (F.seen stream.old.face) }
+    requires out { HasLoan (F.seen stream.old.face) loan }
+    requires due { work.old.due ≡ None }
+    ensures gives { (first kept : ℕ → Option (List ℕ)) (losses now : ℕ)
+        → PourStands first losses (record (tally_of work.old) { due = Some loan }) stream.old.desk kept now (F.seen stream.old.face)
+        → PourStands first losses (tally_of work.new) stream.new.desk kept now (F.seen stream.new.face) }
+    ensures desk { stream.new.desk ≡ stream.old.desk }
+    ensures does { TurnDoes (Some loan) stream.old.desk stream.new.desk (F.seen stream.old.face) (F.seen stream.new.face) result }
+    ensures beside { F.beside stream.new.face ≡ F.beside stream.old.face }
+{
+    match stream.give(loan) {
+        Ok(()) => Ran::Did,
+        Err(loan) => {
+            work.due = Some(loan);
+            Ran::Idle
+        }
+    }
+}
+
+/// Lets the face leave, once all is given back.
+fn close<F: AppFace>(stream: &mut LoanStream<F>, work: &mut Tally) -> Ran
+    requires stands { StreamStands stream.old.desk (F.seen stream.old.face) }
+    requires ended { stream.old.desk.ended ≡ true }
+    requires none { (F.seen stream.old.face).loans ≡ [] }
+    requires due { work.old.due ≡ None }
+    requires room { length work.old.counts.entries ≤ vec_capacity work.old.flows }
+    requires empty { work.old.flows.items ≡ [] }
+    ensures gives { (first kept : ℕ → Option (List ℕ)) (losses now : ℕ)
+        → PourStands first losses (tally_of work.old) stream.old.desk kept now (F.seen stream.old.face)
+        → PourGives first losses (tally_of work.new) stream.new.desk kept now (F.seen stream.new.face) result }
+    ensures does { (first kept : ℕ → Option (List ℕ)) (losses now : ℕ)
+        → PourStands first losses (tally_of work.old) stream.old.desk kept now (F.seen stream.old.face)
+        → TurnDoes None stream.old.desk stream.new.desk (F.seen stream.old.face) (F.seen stream.new.face) result }
+    ensures beside { F.beside stream.new.face ≡ F.beside stream.old.face }
+{
+    if !stream.leave() {
+        return Ran::Idle;
+    }
+    let poured = told(work, stream.alloc());
+    Ran::Ended(poured)
+}
+
+/// Writes an item to the shelf, and gives its loan back. Where the refill slot is in use the loan stays due.
+fn pour_item<F: AppFace, T: Shelf>(
+    stream: &mut LoanStream<F>,
+    shelf: &mut T,
+    work: &mut Tally,
+    lent: Lent,
+)
+    requires stands { StreamStands stream.old.desk (F.seen stream.old.face) }
+    requires out { HasLoan (F.seen stream.old.face) lent.loan }
+    requires none { work.old.due ≡ None }
+    requires room { length work.old.counts.entries ≤ vec_capacity work.old.flows }
+    requires empty { work.old.flows.items ≡ [] }
+    ensures pours { (first : ℕ → Option (List ℕ)) (losses : ℕ) (st : Desk) (v : AppView)
+        → PourStands first losses (tally_of work.old) st (T.kept shelf.old) (T.faults shelf.old) v
+        → IsItem st stream.old.desk v (F.seen stream.old.face) lent → OnlySteps v (F.seen stream.old.face)
+        → PourStands first losses (tally_of work.new) stream.new.desk (T.kept shelf.new) (T.faults shelf.new) (F.seen stream.new.face) }
+    ensures had { (st : Desk) (v : AppView) → IsItem st stream.old.desk v (F.seen stream.old.face) lent
+        → HadItem st stream.new.desk v (F.seen stream.new.face) }
+    ensures beside { F.beside stream.new.face ≡ F.beside stream.old.face }
+{
+    if let Some(loan) = pour(stream, shelf, work, lent) {
+        give_back(stream, work, loan);
+    }
+}
+
+/// Takes one step, and writes the item that it gave and gives it back.
+fn go_on<F: AppFace, T: Shelf>(stream: &mut LoanStream<F>, shelf: &mut T, work: &mut Tally) -> Ran
+    requires stands { StreamStands stream.old.desk (F.seen stream.old.face) }
+    requires more { stream.old.desk.ended ≡ false }
+    requires none { work.old.due ≡ None }
+    requires room { length work.old.counts.entries ≤ vec_capacity work.old.flows }
+    requires empty { work.old.flows.items ≡ [] }
+    ensures gives { (first : ℕ → Option (List ℕ)) (losses : ℕ)
+        → PourStands first losses (tally_of work.old) stream.old.desk (T.kept shelf.old) (T.faults shelf.old) (F.seen stream.old.face)
+        → PourGives first losses (tally_of work.new) stream.new.desk (T.kept shelf.new) (T.faults shelf.new)
+        (F.seen stream.new.face) result }
+    ensures does { TurnDoes None stream.old.desk stream.new.desk (F.seen stream.old.face) (F.seen stream.new.face) result }
+    ensures beside { F.beside stream.new.face ≡ F.beside stream.old.face }
+{
+    match stream.step() {
+        Step::Item(lent) => {
+            pour_item(stream, shelf, work, lent);
+            Ran::Did
+        }
+        Step::Waiting(_) => Ran::Idle,
+        Step::Memory => {
+            work.stopped = Stopped::Memory;
+            Ran::Did
+        }
+        Step::Ended => Ran::Did,
+    }
+}
+
+/// Gives back what is due, or takes a step and gives back its item, or lets the face leave.
+fn take_turn<F: AppFace, T: Shelf>(
+    stream: &mut LoanStream<F>,
+    shelf: &mut T,
+    work: &mut Tally,
+) -> Ran
+    requires stands { (first : ℕ → Option (List ℕ)) × (losses : ℕ)
+        × PourStands first losses (tally_of work.old) stream.old.desk (T.kept shelf.old) (T.faults shelf.old) (F.seen stream.old.face) }
+    ensures gives { (first : ℕ → Option (List ℕ)) (losses : ℕ)
+        → PourStands first losses (tally_of work.old) stream.old.desk (T.kept shelf.old) (T.faults shelf.old) (F.seen stream.old.face)
+        → PourGives first losses (tally_of work.new) stream.new.desk (T.kept shelf.new) (T.faults shelf.new)
+        (F.seen stream.new.face) result }
+    ensures does { TurnDoes work.old.due stream.old.desk stream.new.desk (F.seen stream.old.face) (F.seen stream.new.face) result }
+    ensures beside { F.beside stream.new.face ≡ F.beside stream.old.face }
+{
+    if let Some(loan) = work.due.take() {
+        return give_back(stream, work, loan);
+    }
+    if stream.has_ended() {
+        return close(stream, work);
+    }
+    go_on(stream, shelf, work)
+}
+
+/// Writes the items of a stream to a shelf.
+#[derive(Drop)]
+pub struct ToShelf<F, T> {
+    stream: LoanStream<F>,
+    shelf: T,
+    work: Tally,
+}
+
+impl<F, T> Model for ToShelf<F, T> {
+    ghost use Rattle.zc_poll.specs.PourTurns.{PourView};
+    ghost use Rattle.zc_poll.specs.TallyOf.{tally_of};
+
+    ghost Value = { PourView F T };
+
+    ghost view = { λ s. record { face = s.stream.face; desk = s.stream.desk; shelf = s.shelf; tally = tally_of s.work } };
+}
+
+impl<F: AppFace, T: Shelf> ToShelf<F, T> {
+    /// Nothing is written yet. Takes no memory.
+    pub fn new(stream: LoanStream<F>, shelf: T) -> ToShelf<F, T>
+        requires fresh { (app : ℕ) × (stream.desk ≡ new_desk app) × IsUntouched app (F.seen stream.face) }
+        requires stands { StreamStands stream.desk (F.seen stream.face) }
+        ensures parts { (result.face ≡ stream.face) × (result.shelf ≡ shelf) × (result.desk ≡ stream.desk) }
+        ensures stands { PourStands (T.kept shelf) (T.faults shelf) result.tally result.desk (T.kept result.shelf) (T.faults result.shelf)
+            (F.seen result.face) }
+    {
+        let alloc = stream.alloc();
+        ToShelf {
+            stream,
+            shelf,
+            work: Tally {
+                due: None,
+                written: 0,
+                loans: 0,
+                copied: 0,
+                stopped: Stopped::No,
+                counts: BTreeMap::new(alloc),
+                flows: Vec::new(alloc),
+            },
+        }
+    }
+
+    /// One turn: it gives back what is due, or takes one step, writes its item and gives it back, or lets the face leave. A loan
+    /// stays due where the refill slot was seen in use.
+    pub fn turn(&mut self) -> Ran
+        requires stands { (first : ℕ → Option (List ℕ)) × (losses : ℕ)
+            × PourStands first losses self.old.tally self.old.desk (T.kept self.old.shelf) (T.faults self.old.shelf)
+            (F.seen self.old.face) }
+        ensures gives { (first : ℕ → Option (List ℕ)) (losses : ℕ)
+            → PourStands first losses self.old.tally self.old.desk (T.kept self.old.shelf) (T.faults self.old.shelf) (F.seen self.old.face)
+            → PourGives first losses self.new.tally self.new.desk (T.kept self.new.shelf) (T.faults self.new.shelf)
+            (F.seen self.new.face) result }
+        // Why it did something, waited, or ended.
+        ensures does { TurnDoes self.old.tally.due self.old.desk self.new.desk (F.seen self.old.face) (F.seen self.new.face) result }
+        ensures beside { F.beside self.new.face ≡ F.beside self.old.face }
+    {
+        take_turn(&mut self.stream, &mut self.shelf, &mut self.work)
+    }
+
+    /// The face, which has left, and the shelf.
+    pub fn parts(self) -> (F, T)
+        requires left { (F.seen self.face).left ≡ true }
+        ensures { (result.0 ≡ self.face) × (result.1 ≡ self.shelf) }
+    {
+        let ToShelf {
+            stream,
+            shelf,
+            work: _,
+        } = self;
+        (stream.into_face(), shelf)
+    }
+}
+
+impl<F: AppFace + Drop, T: Shelf + Drop> Future for ToShelf<F, T> {
+    type Output = Poured;
+
+    ghost can_poll = { λ s. (first : ℕ → Option (List ℕ)) × (losses : ℕ)
+        × PourStands first losses s.tally s.desk (T.kept s.shelf) (T.faults s.shelf) (F.seen s.face) };
+
+    fn poll(&mut self, cx: &mut Context<'_>) -> Poll<Poured>
+        requires { (first : ℕ → Option (List ℕ)) × (losses : ℕ)
+            × PourStands first losses self.old.tally self.old.desk (T.kept self.old.shelf) (T.faults self.old.shelf)
+            (F.seen self.old.face) }
+        ensures again { OnPending result ((first : ℕ → Option (List ℕ)) × (losses : ℕ)
+            × PourStands first losses self.new.tally self.new.desk (T.kept self.new.shelf) (T.faults self.new.shelf)
+            (F.seen self.new.face)) }
+        ensures registered { OnPending result (Covers cx.new (λ source. ⊥)) }
+        ensures kept { Keeps cx.old cx.new }
+        // It gives what one turn gives.
+        ensures gives { (first : ℕ → Option (List ℕ)) (losses : ℕ)
+            → PourStands first losses self.old.tally self.old.desk (T.kept self.old.shelf) (T.faults self.old.shelf) (F.seen self.old.face)
+            → PollPours first losses self.new.tally self.new.desk (T.kept self.new.shelf) (T.faults self.new.shelf)
+            (F.seen self.new.face) result }
+        ensures does { PollDoes self.old.tally.due self.old.desk self.new.desk (F.seen self.old.face) (F.seen self.new.face) result }
+        ensures beside { F.beside self.new.face ≡ F.beside self.old.face }
+    {
+        match self.turn() {
+            Ran::Did => cx.yield_now(),
+            Ran::Idle => cx.yield_now(),
+            Ran::Ended(poured) => Poll::Ready(poured),
+        }
+    }
+}
