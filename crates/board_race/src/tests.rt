@@ -72,12 +72,19 @@ fn one_call(
     }
 }
 
-/// Runs a table on a board that was just opened, for one application, and answers the buffers that are free at its end.
-fn free_after(rt: &impl Abort, alloc: Global, table: &[Row], places: u32) -> Result<Vec<u32>, Fail>
+/// Runs a table on a board of this layout that was just opened, for one application, and answers the buffers that are free at its
+/// end.
+fn free_over(
+    rt: &impl Abort,
+    alloc: Global,
+    layout: Layout,
+    table: &[Row],
+    places: u32,
+) -> Result<Vec<u32>, Fail>
+    requires one { layout.reserves ≡ 1 }
     requires some { 1 ≤ places }
     requires few { places ≤ 256 }
 {
-    let layout = Layout::new(2, 1, 1024).ok_or("no layout")?;
     let (board, mut desk) = WordBoard::open(alloc, layout, 1, places)?;
     let mut nic = board.nic(&mut desk).ok_or("no seat of the card")?;
     let mut seat = board.app(&mut desk, 0).ok_or("no seat of the application")?;
@@ -93,6 +100,15 @@ fn free_after(rt: &impl Abort, alloc: Global, table: &[Row], places: u32) -> Res
     nic.back(&mut desk);
     seat.back(&mut desk);
     Ok(board.finish(desk).free)
+}
+
+/// The same over two buffers of 1,024 bytes.
+fn free_after(rt: &impl Abort, alloc: Global, table: &[Row], places: u32) -> Result<Vec<u32>, Fail>
+    requires some { 1 ≤ places }
+    requires few { places ≤ 256 }
+{
+    let layout = Layout::new(2, 1, 1024).ok_or("no layout")?;
+    free_over(rt, alloc, layout, table, places)
 }
 
 /// The faces' table.

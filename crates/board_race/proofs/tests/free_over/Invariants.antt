@@ -2,7 +2,7 @@
 use Rattle.std.specs.Prelude.{◌≡◌}
 use Rattle.face_table.specs.CardHand.{IsCardHand}
 use Rattle.face_table.specs.AppHand.{IsAppHand}
-use Rattle.board_race.proofs.tests.free_after.Given as goal
+use Rattle.board_race.proofs.tests.free_over.Given as goal
 
 abbrev pub invariant-loop-row : goal.invariant-loop-row
 invariant-loop-row g l = record {

@@ -9,7 +9,7 @@ use Rattle.board_face.specs.declared.views.nic.NicSide.{NicSide}
 use Rattle.board_face.specs.declared.views.app.AppSide.{AppSide}
 use Rattle.word_board.specs.Board.{gave_role}
 use Rattle.word_board.specs.Desk.{AllAreBack}
-use Rattle.board_race.proofs.tests.free_after.Goals as goal
+use Rattle.board_race.proofs.tests.free_over.Goals as goal
 
 -- the card and the only application are back
 all-back : (setting : Setting) (nic : NicSide) (app : AppSide) (due dealt : List ℕ) → apps_of setting ≡ 1 → app.view.app ≡ 0
@@ -39,8 +39,7 @@ loop-row-init g c =
 
 pub finish-requires-clause-back : goal.finish-requires-clause-back
 finish-requires-clause-back g c =
-    let one : c.in_ok-layout.layout.reserves ≡ 1 = search rules in
-    let many : apps_of c.in_ok-board.board.setting ≡ 1 = rw c.in_ok-board.ensures.setting one in
+    let many : apps_of c.in_ok-board.board.setting ≡ 1 = rw c.in_ok-board.ensures.setting c.requires.one in
     let nic : c.nic.result ≡ Some c.in_ok-nic.nic = search rules in
     let app : c.app.result ≡ Some c.in_ok-seat.seat = search rules in
     let card-given : c.nic.new.desk ≡ gave_role c.in_ok-board.desk 0 = (rw nic at c.nic.ensures.given).1 in
