@@ -6,8 +6,8 @@ usage: tools/check_documents.py
 It prints a line for each thing that is wrong, and the status is 1 then, else 0. It looks at README.md, docs/ and
 bench/RESULTS.md:
 
-- the options of `replay`, with their ranges and defaults: docs/USE.md, docs/zcrx.1, and options.rt of command_words; their names and
-  the commands in completions/ too, and the usage in wrong.rt;
+- the options of `replay`, with their ranges and defaults: docs/USE.md, docs/zcrx.1, and options.rt of command_words, with the
+  bounds of layout.rt of area_layout; their names and the commands in completions/ too, and the usage in wrong.rt;
 - the statuses: docs/USE.md, docs/zcrx.1, fault.rt of zr_kinds, and the list of them in the top call's theorem;
 - the lines of the report: docs/USE.md, docs/zcrx.1, and run_report; each report that is shown has them, and README's is the
   demo capture's;
@@ -95,21 +95,24 @@ def options_of_code():
     code = read("crates/command_words/src/options.rt")
     names = re.search(r"NAMES: \[&str; \d+\] = \[(.*?)\]", code, re.S).group(1)
     names = re.findall(r'"(\w+)"', names)
+    bounds = dict(re.findall(r"pub const (\w+): \w+ = ([\d_]+);", read("crates/area_layout/src/layout.rt")))
+
+    def bound(word):
+        return number(bounds.get(word, word))
+
     numbers = {
-        const: (number(least), number(most), number(default))
+        const: (bound(least), bound(most), number(default))
         for const, default, least, most in re.findall(
-            r"const (\w+): Number = Number \{\s*default: ([\d_]+),\s*least: ([\d_]+),\s*most: ([\d_]+),", code
+            r"const (\w+): Number = Number \{\s*default: ([\d_]+),\s*least: (\w+),\s*most: (\w+),", code
         )
     }
     options = {name: numbers[const] for const, name in re.findall(r'(\w+)\.read\(said\.get_str\("(\w+)"\)\)', code)}
-    pool = read("crates/command_words/src/areas.rt")
-    options["areas"] = (1, number(re.search(r"MOST_AREAS: usize = ([\d_]+)", pool).group(1)), None)
+    options["areas"] = (1, bound("MAX_AREAS"), None)
     options["buffers"] = numbers["BUFFERS"]
     options["size"] = numbers["SIZE"]
     options["quit"] = "any number"
     options["turns"] = (1, number(re.search(r"MOST_TURNS: usize = ([\d_]+)", code).group(1)), None)
-    most_bytes = number(re.search(r"MOST_BYTES: u64 = ([\d_]+)", pool).group(1))
-    return {name: options.get(name) for name in names}, most_bytes
+    return {name: options.get(name) for name in names}, bound("MAX_BYTES")
 
 
 def range_of(text, default):

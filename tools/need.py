@@ -4,8 +4,7 @@
 usage: tools/need.py CAPTURE PORT.. [--split S] [--size Z]
 
 CAPTURE is a file, and ports, S and Z are those of `zcrx replay`, of several areas Z is the least size; S is 0 and Z 4096 where they
-are left out. On standard output
-stands the number for `--buffers`, and nothing else:
+are left out. On standard output stands the number for `--buffers`, and nothing else:
 
     zcrx replay --buffers $(tools/need.py FILE 9000) 9000 < FILE
 

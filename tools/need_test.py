@@ -7,9 +7,9 @@ CAPTURES is 300 if left out, and SEED 0: capture K is drawn by SEED + K. Four th
 
 - the class of each frame, and the status of the reading, with the report's, over frames of both kinds of IP with tags, extension
   headers, cut ends and changed bytes, in all four forms of a capture, some of which break off;
-- the need with a count over the drawn payloads, and with runs with exactly so many buffers: by turns in which the card runs ahead,
-  by drawn turns and with threads, applications that keep, leak, stray and quit. No frame may be refused, and each stream has to be
-  right;
+- the need with a count over the drawn payloads, and with runs with exactly so many buffers, of one size or in up to four areas: by
+  turns in which the card runs ahead, by drawn turns and with threads, applications that keep, leak, stray and quit. No frame may be
+  refused, and each stream has to be right;
 - the same with one buffer fewer: each frame that is refused has to have a need, with the frames before it that weren't, above the
   number of buffers, and so with a drawn number of buffers;
 - captures each of whose payloads takes buffers of its own: with the need nothing is refused, and with one buffer fewer some text of
@@ -163,18 +163,41 @@ def needs_of(segments, split, size, refused):
             so_far += own
 
 
+def areas_of(options):
+    """The areas of a pool, as pairs of a number of buffers and their size."""
+    if "--areas" in options:
+        return [tuple(map(int, part.split(":"))) for part in options["--areas"].split(",")]
+    return [(options["--buffers"], options["--size"])]
+
+
+def sizes_of(options):
+    return [size for _, size in areas_of(options)]
+
+
+def set_buffers(draw, options, buffers):
+    """Gives the pool so many buffers, in as many of its areas as there are buffers for, one of the least size among them."""
+    if "--areas" not in options:
+        options["--buffers"] = buffers
+        return
+    sizes = sorted(sizes_of(options))[:buffers]
+    ends = [0, *sorted(draw.sample(range(1, buffers), len(sizes) - 1)), buffers]
+    draw.shuffle(sizes)
+    options["--areas"] = ",".join(f"{end - begin}:{size}" for begin, end, size in zip(ends, ends[1:], sizes))
+
+
 def check_run(segments, options, ports, text, seed, tallies):
     """Runs once: what is refused, where nothing else is wrong. Each refusal has to lack buffers."""
     words = words_of(options, ports, text)
+    buffers = sum(count for count, _ in areas_of(options))
     seen = set()
 
     def check(status, report, folder):
         refused = thread_runs.read_report(report)[2]
         seen.update(refused)
         yield from thread_runs.faults_of(segments, options, ports, report, folder)
-        for number, least in needs_of(segments, options["--split"], options["--size"], refused):
-            if least <= options["--buffers"]:
-                yield f"frame {number} is refused, whose need is {least} of {options['--buffers']}"
+        for number, least in needs_of(segments, options["--split"], min(sizes_of(options)), refused):
+            if least <= buffers:
+                yield f"frame {number} is refused, whose need is {least} of {buffers}"
 
     tallies.report(replay(bytes_of(segments), words, lambda *ended: list(check(*ended))), seed, words)
     return seen
@@ -187,26 +210,27 @@ def draw_text(draw, ports):
 
 def need_by_reading(segments, options, ports):
     said = need.Need(range(FIRST_PORT, FIRST_PORT + ports), options["--split"]).read(io.BytesIO(bytes_of(segments)))
-    return said.of_size(options["--size"])
+    return said.of_size(min(sizes_of(options)))
 
 
 def check_needs(draw, seed, tallies):
     ports = draw.randint(1, 8)
     segments, options = thread_runs.draw_segments(draw, ports), thread_runs.draw_options(draw)
     buffers = need_by_reading(segments, options, ports)
-    if buffers != counted(segments, options["--split"], options["--size"]):
+    if buffers != counted(segments, options["--split"], min(sizes_of(options))):
         tallies.report([f"need {buffers}, counted otherwise"], seed, [])
-    if buffers > need.may_have(options["--size"]):
+    if buffers > need.may_have(max(sizes_of(options))):
         return
     tallies.count("captures at their need")
-    options["--buffers"] = max(buffers, 1)
+    tallies.count("of several areas", len(sizes_of(options)) > 1)
+    set_buffers(draw, options, max(buffers, 1))
     for text in [AHEAD, draw_text(draw, ports), None]:
         tallies.count("runs at the need")
         tallies.count("refused at the need", len(check_run(segments, options, ports, text, seed, tallies)))
     if buffers < 2:
         return
     for below in {buffers - 1, draw.randint(1, buffers - 1)}:
-        options["--buffers"] = below
+        set_buffers(draw, options, below)
         for text in [AHEAD, draw_text(draw, ports), None]:
             tallies.count("runs below the need")
             tallies.count("refused below the need", len(check_run(segments, options, ports, text, seed, tallies)))

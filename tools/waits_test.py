@@ -4,7 +4,8 @@
 usage: tools/waits_test.py [RUNS]
 
 Each row runs RUNS times, 50 if left out. In each a frame's payload fits in half of the buffers, or in the only one, beside what the
-applications keep. Every stream has to be whole. The status is 0 where all are.
+applications keep; of areas with buffers of different sizes, in half of them if all had the least. Every stream has to be whole. The
+status is 0 where all are.
 
 ZCRX=FILE names another program than crates/zcrx_cli/out/zcrx_cli, which `make build` leaves there.
 """
@@ -66,6 +67,12 @@ def rows():
     yield "one keeps", "--size 1024 --buffers 12 --hold 4", each(4, (9001, 1000)) + each(400, (9000, 1000))
     yield "one quits", "--size 1024 --buffers 8 --quit 5000", each(100, (9000, 1000), (9001, 1000))
     yield "they leak", "--size 1024 --buffers 8 --leak 2", each(200, (9000, 1000), (9001, 1000))
+    for ring in (1, 64):
+        yield "two areas", f"--areas 8:1024,8:4096 --ring {ring}", each(100, (9000, 8192), (9001, 8192))
+        yield "four areas", f"--areas 16:1024,16:2048,16:4096,16:65536 --ring {ring}", each(40, (9000, 32768))
+    yield "a buffer each of two areas", "--areas 1:1024,1:65536", each(200, (9000, 1000), (9001, 1000))
+    yield "copies in two areas", "--areas 8:1024,8:2048 --split 256", each(40, (9000, 250), (9001, 250)) + each(20, (9000, 8000))
+    yield "one keeps of two areas", "--areas 4:2048,8:1024 --hold 4", each(4, (9001, 1000)) + each(400, (9000, 1000))
     yield "defaults", "", each(500, (9000, 1000), (9001, 1000), (9002, 1000), (9003, 1000))
 
 
