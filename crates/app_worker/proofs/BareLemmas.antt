@@ -31,7 +31,7 @@ use Rattle.app_worker.proofs.Seeing.{goes-none, goes-saw, common-saw}
 use Rattle.app_worker.proofs.Noting.{TookView, common-noted, steps-noted, moves-noted, ends-kept, shelves-kept, fronts-kept}
 use Rattle.app_worker.proofs.TurnLemmas.{stands-bare, as-before, idle-for, bare-over, bare-flushes, bare-stops, bare-polls, after-busy, after-none}
 use Rattle.app_worker.proofs.Through.{goes-then}
-use Rattle.app_worker.proofs.Written.{front-same}
+use Rattle.flow_queues.proofs.GivenBack.{front-same}
 use Rattle.app_worker.proofs.Closing.{IsOut, bare-saw, turns-finished, scrubbed_state, scrubbed_view, bare-scrubbed, common-scrubbed, goes-scrubbed}
 
 module _ (st : State) (old : AppView) (bare : Bare st old) (is_bare : st.bare ≡ true) (common : Common st old) (reaped : st.posted.entries ≡ []) where

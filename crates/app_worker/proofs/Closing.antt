@@ -19,8 +19,8 @@ use Rattle.flow_queues.specs.declared.queues.Lending.{Lending}
 use Rattle.zr_kinds.specs.declared.ring.Completion.{Completion}
 use Rattle.app_worker.specs.declared.turn.Turn.TheVariants.{Did, Finished}
 use Rattle.flow_queues.specs.Core.{total, Each, own_notes, received_notes, placed_of, marks_of_waiting, lent_piece, over_read, read_out, FlowStands}
-use Rattle.app_worker.specs.Entries.{lies_in}
-use Rattle.app_worker.specs.State.{State, Working, Common, Bare, returned_aside, app_steps, one_if}
+use Rattle.flow_queues.specs.Entries.{lies_in, returned_aside}
+use Rattle.app_worker.specs.State.{State, Working, Common, Bare, app_steps, one_if}
 use Rattle.flow_queues.specs.Totals.{lent_len, loan_entries}
 use Rattle.flow_queues.specs.Flows.{IsAtRest}
 use Rattle.app_worker.specs.Moves.{Goes}

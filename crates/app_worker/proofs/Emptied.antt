@@ -26,7 +26,8 @@ use Rattle.board_face.specs.declared.views.app.WrittenEntry.{WrittenEntry}
 use Rattle.app_worker.proofs.Moving.{strays-same, names-same}
 use Rattle.app_worker.proofs.Accounts.{sound-gone}
 use Rattle.app_worker.proofs.Origins.{origins-more, gone-origins}
-use Rattle.app_worker.proofs.Written.{gives-gone, gives-same, gives-count, front-gone, blocks-moved}
+use Rattle.flow_queues.proofs.GivenBack.{gives-gone, gives-same, gives-count, front-gone}
+use Rattle.app_worker.proofs.Written.{blocks-moved}
 use Rattle.zr_kinds.specs.declared.place.Place.{Place}
 use Rattle.std.proofs.Math.Seq.{drop-append_seam, drop-length}
 use Rattle.app_worker.specs.Moves.{over_leaked}

@@ -8,7 +8,7 @@ use Rattle.board_face.specs.declared.views.app.LentPiece.{LentPiece}
 use Rattle.board_face.specs.declared.views.app.AppLook.{AppLook}
 use Rattle.board_face.specs.declared.views.app.AppView.{AppView}
 use Rattle.app_worker.specs.State.{State}
-use Rattle.app_worker.specs.Entries.{lies_in}
+use Rattle.flow_queues.specs.Entries.{lies_in}
 use Rattle.app_worker.specs.Moves.{reads_of, reserve_loans}
 use Rattle.app_worker.specs.Flushing.{Flushes, loans_so_far}
 

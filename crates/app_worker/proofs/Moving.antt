@@ -19,9 +19,9 @@ use Rattle.board_face.specs.declared.views.app.TakenNote.{TakenNote}
 use Rattle.flow_queues.specs.Core.{total, Each, over_due, read_out}
 use Rattle.zr_kinds.specs.declared.place.Place.{Place}
 use Rattle.zr_kinds.specs.declared.ring.Completion.{Completion}
-use Rattle.app_worker.specs.State.{State, TellsOf, due_one, returned_aside}
+use Rattle.app_worker.specs.State.{State, TellsOf, due_one}
 use Rattle.flow_queues.specs.Totals.{raw_entries, loan_entries}
-use Rattle.app_worker.specs.Entries.{lies_in}
+use Rattle.flow_queues.specs.Entries.{lies_in, returned_aside}
 use Rattle.app_worker.specs.Moves.{Moves, Reaps, KeepsLeaked, KeptSince, reads_of, reserve_loans, over_lent, over_gone, over_leaked}
 use Rattle.std.proofs.lemmas.Bool.{cases_Bool}
 use Rattle.flow_queues.proofs.Tokens.{total-append}

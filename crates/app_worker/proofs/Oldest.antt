@@ -45,8 +45,9 @@ use Rattle.app_worker.proofs.Moving.{abandons-same, lent-same}
 use Rattle.flow_queues.proofs.Indexing.{index-set}
 use Rattle.app_worker.proofs.Accounts.{sound-same}
 use Rattle.app_worker.proofs.Origins.{origins-same}
-use Rattle.app_worker.specs.Entries.{Gives}
-use Rattle.app_worker.proofs.Written.{gives-same, blocks-same}
+use Rattle.flow_queues.specs.Entries.{Gives}
+use Rattle.flow_queues.proofs.GivenBack.{gives-same}
+use Rattle.app_worker.proofs.Written.{blocks-same}
 use Rattle.flow_queues.proofs.Resting.{rest-same, each-same}
 
 pub front-of : {A : Type 0} (xs : List A) (x : A) → slice_get xs 0 ≡ Some x → xs ≡ x ∷ drop 1 xs

@@ -3,7 +3,7 @@ use Rattle.std.specs.Prelude.{◌≡◌, ℕ, ◌+◌, ◌<◌, ◌≤◌, true,
 use Rattle.circular_buffer.specs.Buffer.{buffer}
 use Rattle.board_face.specs.declared.views.app.LentPiece.{LentPiece}
 use Rattle.board_face.specs.declared.views.app.AppView.{AppView}
-use Rattle.app_worker.specs.Entries.{Gives}
+use Rattle.flow_queues.specs.Entries.{Gives}
 use Rattle.flow_queues.specs.Core.{total, LieApart, Each, many}
 use Rattle.flow_queues.specs.Flows.{IsIndex}
 use Rattle.app_worker.specs.State.{State, Common, app_steps}

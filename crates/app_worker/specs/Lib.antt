@@ -1,7 +1,6 @@
 pub use Rattle.flow_queues.specs.Marks
 pub use Rattle.flow_queues.specs.Core
 pub mod Steps
-pub mod Entries
 pub mod State
 pub mod StateOf
 pub mod Moves
@@ -11,5 +10,4 @@ pub mod Kept
 pub mod Letting
 pub mod Stages
 pub mod Streams
-pub mod Returned
 pub mod Turns

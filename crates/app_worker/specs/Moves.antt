@@ -8,7 +8,7 @@ use Rattle.board_face.specs.declared.views.app.AppView.{AppView}
 use Rattle.board_face.specs.AppEvents.{reserve_of}
 use Rattle.flow_queues.specs.declared.queues.Lending.{Lending}
 use Rattle.flow_queues.specs.Core.{total, Each}
-use Rattle.app_worker.specs.Entries.{lies_in}
+use Rattle.flow_queues.specs.Entries.{lies_in}
 use Rattle.app_worker.specs.State.{State, TellsOf, read_of, due_one, app_steps}
 use Rattle.flow_queues.specs.Totals.{loan_entries, bytes_of}
 use Rattle.flow_queues.specs.Shelves.{AreShelved, AreFronts}

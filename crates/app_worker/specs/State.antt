@@ -1,7 +1,7 @@
 -- What an application keeps between its turns, as plain data, and how that stands to what its face has seen.
 use mir.Syntax.{w32}
 use Rattle.std.specs.Int.{cast_signed}
-use Rattle.std.specs.Prelude.{◌≡◌, ◌≢◌, ℕ, ◌+◌, ◌-◌, ◌*◌, ◌<◌, ◌≤◌, ◌==◌, min}
+use Rattle.std.specs.Prelude.{◌≡◌, ◌≢◌, ℕ, ◌+◌, ◌-◌, ◌*◌, ◌<◌, ◌≤◌, min}
 use Rattle.std.specs.Prelude.{Bool, true, false, if◌then◌else◌}
 use Rattle.std.specs.Prelude.{List, [], ◌++◌, length, take, drop, Option, Some, None, MatchBool}
 use Rattle.zr_kinds.specs.declared.behaviour.Behaviour.{Behaviour}
@@ -18,7 +18,7 @@ use Rattle.board_face.specs.declared.views.app.AppView.{AppView}
 use Rattle.flow_queues.specs.declared.queues.Lending.{Lending}
 use Rattle.app_worker.specs.declared.stack.Stray.{Stray}
 use Rattle.flow_queues.specs.declared.queues.FlowQueue.{FlowQueue}
-use Rattle.app_worker.specs.Entries.{Gives, lies_in, WasLive, AreBlocks}
+use Rattle.flow_queues.specs.Entries.{Gives, lies_in, returned_aside, WasLive, AreBlocks}
 use Rattle.flow_queues.specs.Core.{total, is_odd, is_copy, IsOfTaken, Each, many, read_out, own_notes, placed_of, short_bytes, Stands}
 use Rattle.flow_queues.specs.Flows.{IsAtRest, RestBut, IsIndex}
 use Rattle.flow_queues.specs.Core.{unsplit_len, held_len}
@@ -70,10 +70,6 @@ pub record TellsOf (layout : Shape) (p : Completion × Lending) : Type 0 where
 -- the loans that were read and are still out
 abbrev pub read_of : State → List Lending
 read_of st = read_out st.due st.leaked.items
-
--- how many loans were given back or abandoned, those in the reserve aside
-abbrev pub returned_aside : AppView → ℕ
-returned_aside v = total (λ l. if l.place.buffer == reserve_of v then 0 else 1) v.returned
 
 -- how many bytes it has
 abbrev pub loan_len : Lending → ℕ

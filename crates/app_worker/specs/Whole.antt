@@ -23,7 +23,7 @@ use Rattle.app_worker.specs.declared.straying.Gave.{Gave}
 use Rattle.app_worker.specs.declared.straying.Gave.TheVariants.{Nothing as nothing_given, Did as given, Part as given_in_part, InUse as given_none}
 use Rattle.app_worker.specs.declared.turning.Taken.{Taken}
 use Rattle.app_worker.specs.declared.turning.Taken.TheVariants.{Did as took, NoNote, Ended, Memory}
-use Rattle.app_worker.specs.Entries.{Gives as GivesAll}
+use Rattle.flow_queues.specs.Entries.{Gives as GivesAll}
 use Rattle.flow_queues.specs.Core.{total, HasTokens, Each, many, AreReadAt, placed_of}
 use Rattle.flow_queues.specs.Flows.{IsIndex, IsAtRest}
 use Rattle.app_worker.specs.State.{State, read_of, Working, Common, app_steps}

@@ -24,12 +24,12 @@ use Rattle.app_worker.specs.Core.{total}
 use Rattle.app_worker.specs.Marks.{marks_of}
 use Rattle.flow_queues.specs.Totals.{lent_len}
 use Rattle.flow_queues.specs.Streams.{IsFront}
-use Rattle.app_worker.specs.Returned.{HasReturned}
+use Rattle.flow_queues.specs.Returned.{HasReturned}
 use Rattle.card_feed.specs.Offered.{offers_of, without}
 pub use Rattle.card_feed.specs.Counts.{capped}
 use Rattle.card_feed.specs.Feed.{FeedState, FeedStands, IsReady}
 use Rattle.card_feed.specs.declared.plan.Plan.{Plan}
-use Rattle.card_feed.specs.Plan.{layout_of}
+use Rattle.card_feed.specs.Plan.{layout_of, how_of}
 
 -- ---- the account
 
@@ -73,7 +73,7 @@ pub record AccountsFor {T : Type 0} (kept : T → ℕ → Option (List ℕ)) (sh
   pub one_setting : HaveOneSetting nic apps
   pub many_lines : length lines ≡ length apps
   pub app : (a : ℕ) (app : AppSide) (line : AppLine) → IsApp apps a app → slice_get lines a ≡ Some line
-      → AppAccounts plan.how plan.split (steered_in plan.ports.items frames) left_out nic a app line
+      → AppAccounts (how_of plan) plan.split (steered_in plan.ports.items frames) left_out nic a app line
   pub flow : (number : ℕ) (flow : Flow) (app : AppSide) (line : AppLine) → slice_get (flows_of (steered_in plan.ports.items frames)) number ≡ Some flow
       → IsApp apps flow.app app → slice_get lines flow.app ≡ Some line
       → Gained (kept_in kept shelves flow.app number) (kept_in kept shelves_now flow.app number) (IsFlowRead app line.stopped number)

@@ -1,5 +1,6 @@
 pub mod Looks
 pub mod Tokens
+pub mod GivenBack
 pub mod Pieces
 pub mod Filling
 pub mod Entering

@@ -8,3 +8,5 @@ pub mod Totals
 pub mod Shelves
 pub mod Streams
 pub mod Ends
+pub mod Entries
+pub mod Returned

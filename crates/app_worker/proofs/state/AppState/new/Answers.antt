@@ -1,5 +1,6 @@
 use Rattle.std.proofs.Common.{rules}
-use Rattle.app_worker.proofs.Written.{fresh_blocks, fresh_given, fresh_front}
+use Rattle.flow_queues.proofs.GivenBack.{fresh_given, fresh_front}
+use Rattle.app_worker.proofs.Written.{fresh_blocks}
 use Rattle.app_worker.proofs.Origins.{fresh_origins}
 use Rattle.app_worker.proofs.state.AppState.new.Goals as goal
 

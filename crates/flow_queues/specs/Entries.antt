@@ -3,7 +3,7 @@ use Rattle.std.specs.Prelude.{◌≡◌, ℕ, suc, ◌+◌, ◌<◌, ◌==◌, t
 use Rattle.std.specs.Prelude.{length, drop, Some}
 use Rattle.zr_kinds.specs.declared.ring.Rqe.{Rqe}
 use Rattle.area_layout.specs.Layout.{judged}
-use Rattle.board_face.specs.AppEvents.{entry_of}
+use Rattle.board_face.specs.AppEvents.{entry_of, reserve_of}
 use Rattle.board_face.specs.declared.views.app.LentPiece.{LentPiece}
 use Rattle.board_face.specs.declared.views.app.WrittenEntry.{WrittenEntry}
 use Rattle.board_face.specs.declared.views.app.AppView.{AppView}
@@ -21,6 +21,10 @@ Gives v loans = loans_of v.written ≡ map (λ l. entry_of v.setting.layout l.pl
 -- 1 where the loan lies in this buffer
 abbrev pub lies_in : ℕ → LentPiece → ℕ
 lies_in buffer l = if l.place.buffer == buffer then 1 else 0
+
+-- how many loans were given back or abandoned, those in the reserve aside
+abbrev pub returned_aside : AppView → ℕ
+returned_aside v = total (λ l. if l.place.buffer == reserve_of v then 0 else 1) v.returned
 
 -- A loan in the entry's buffer is out still, or went after so many had been given back. It may have been lent later.
 abbrev pub WasLive : AppView → ℕ → Rqe → Type 0

@@ -8,9 +8,8 @@ use Rattle.zr_kinds.specs.declared.ring.Rqe.{Rqe}
 use Rattle.board_face.specs.AppEvents.{reserve_of}
 use Rattle.board_face.specs.declared.views.app.AppView.{AppView}
 use Rattle.flow_queues.specs.Core.{total}
-use Rattle.app_worker.specs.Entries.{AreBlocks, Gives, WasLive, lies_in}
+use Rattle.flow_queues.specs.Entries.{AreBlocks, Gives, WasLive, lies_in, returned_aside}
 use Rattle.flow_queues.specs.Totals.{capped, lent_len, loan_entries}
-use Rattle.app_worker.specs.State.{returned_aside}
 
 -- the loans that no entry gave back: as many as are to be kept to the end, or all outside the reserve where these are fewer, and
 -- none in the reserve
