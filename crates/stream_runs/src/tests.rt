@@ -3,6 +3,8 @@ ghost use Rattle.plain_board.specs.Board.{side_of};
 ghost use Rattle.stream_runs.specs.Waiting.{IsWaiting};
 ghost use Rattle.zc_poll.specs.Standing.{StreamStands};
 
+mod beside;
+mod example;
 mod pouring;
 
 use crate::{begin, gather, send};

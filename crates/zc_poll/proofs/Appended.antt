@@ -9,7 +9,7 @@ use Rattle.board_face.specs.declared.views.app.AppView.{AppView}
 use Rattle.flow_queues.specs.declared.queues.Lending.{Lending}
 use Rattle.flow_queues.specs.Marks.{Mark, marks_from}
 use Rattle.flow_queues.specs.Core.{IsIn, lent_piece, marks_of_loan, AreReadAt, IsReadOf, total}
-use Rattle.flow_queues.specs.Totals.{capped, lent_len, loan_entries, raw_entries}
+use Rattle.flow_queues.specs.Totals.{capped, lent_len}
 use Rattle.flow_queues.specs.Shelves.{AreOfOneLoan, kept_loans}
 use Rattle.flow_queues.specs.Ends.{bytes_in, times}
 use Rattle.flow_queues.proofs.Entering.{marks-length, marks-take, marks-drop}
@@ -21,6 +21,7 @@ use Rattle.zc_poll.specs.Items.{Given, HasGiven, marks_given}
 use Rattle.zc_poll.specs.Pouring.{IsPoured, HasPoured, given_len}
 use Rattle.zc_poll.proofs.Marking.{given-push}
 use Rattle.zc_poll.proofs.PouredOn.{SeesOn, read-on, poured-exact}
+use Rattle.zc_poll.proofs.EntriesFirst.{first-more, first-same}
 use Rattle.zc_poll.proofs.ItemPoured.{push-length, same-kept}
 
 -- the marks of a flow up to so many of the item behind them
@@ -136,9 +137,9 @@ module _ (P : Type 0) (first kept later : ℕ → Option (List ℕ)) (u w : Tall
     lent = ap (λ (x : AppView). total lent_len x.loans + total lent_len x.returned) view ∙ poured.lent;
     some = poured.some;
     copies = (let e : y.spares ≡ v.spares = ap (λ (x : AppView). x.spares) view in omega (arith, e, poured.copies));
-    raw = ap raw_entries view ∙ poured.raw;
-    entries = (let e : loan_entries y ≡ loan_entries v = ap loan_entries view in
-        let r : length y.returned ≡ length v.returned = ap (λ (x : AppView). length x.returned) view in omega (arith, e, r, poured.entries));
+    back = first-more y (total (λ f. f.1) u.counts) (total (λ f. f.1) w.counts) (omega (arith, adds.sum))
+        (first-same v y (total (λ f. f.1) u.counts) (ap (λ (x : AppView). x.written) view) (ap (λ (x : AppView). x.setting) view)
+        (ap (λ (x : AppView). x.returned) view) poured.back);
     sum = omega (arith, adds.sum, poured.sum, counted);
     counts = λ n. ⊎_elim
         (λ (is : n ≡ g.flow). omega (

@@ -8,7 +8,7 @@ use Rattle.board_face.specs.declared.views.app.WrittenEntry.{WrittenEntry}
 use Rattle.board_face.specs.declared.views.app.AppView.{AppView}
 use Rattle.flow_queues.specs.Marks.{Mark}
 use Rattle.flow_queues.specs.Core.{total, lent_piece, marks_of_loan, AreReadAt}
-use Rattle.flow_queues.specs.Totals.{capped, lent_len, loan_entries, raw_entries}
+use Rattle.flow_queues.specs.Totals.{capped, lent_len, loan_entries}
 use Rattle.flow_queues.specs.Shelves.{kept_loans}
 use Rattle.flow_queues.specs.Ends.{bytes_in, times}
 use Rattle.flow_queues.proofs.Entering.{marks-length}
@@ -18,16 +18,11 @@ use Rattle.zc_poll.specs.declared.step.Lent.{Lent}
 use Rattle.zc_poll.specs.Standing.{Desk, StreamStands}
 use Rattle.zc_poll.specs.Items.{Given, HasGiven, marks_given}
 use Rattle.zc_poll.specs.Steps.{OnlySteps, IsItem, given_as}
-use Rattle.zc_poll.specs.Pouring.{IsPoured, HasPoured, given_len}
+use Rattle.zc_poll.specs.Pouring.{GaveFirst, IsPoured, HasPoured, given_len}
 use Rattle.zc_poll.proofs.Marking.{given-push}
 use Rattle.zc_poll.proofs.PouredOn.{SeesOn, read-on, poured-within, poured-on, poured-exact}
+use Rattle.zc_poll.proofs.EntriesFirst.{first-more, first-same}
 use Rattle.zc_poll.proofs.Views.{total-one}
-
-abbrev raw_one : WrittenEntry → ℕ
-raw_one e = if e.of_loan then 0 else 1
-
-abbrev loan_one : WrittenEntry → ℕ
-loan_one e = if e.of_loan then 1 else 0
 
 -- what it keeps is the same but for what is due and what stopped it
 pub record SameCounts (u w : Tally) : Type 0 where
@@ -50,8 +45,8 @@ module _ (P Q : Type 0) (first kept : ℕ → Option (List ℕ)) (u w : Tally) (
     (poured : HasPoured P first u st kept v items torn missing) (work : SameCounts u w) (given : HasGiven items now.flows x.taken) (on : SeesOn v x)
     (many : length x.loans + length x.returned ≡ length v.loans + length v.returned)
     (lent : total lent_len x.loans + total lent_len x.returned ≡ total lent_len v.loans + total lent_len v.returned)
-    (spares : x.spares ≡ v.spares) (raw : raw_entries x ≡ raw_entries v) (entries : loan_entries x ≤ length x.returned) where
-  moved-by : ((n : ℕ) → (bytes : List ℕ) → IsPoured (P × (n ≡ torn)) v (marks_given n items) (bytes_in n u.counts) bytes
+    (spares : x.spares ≡ v.spares) (back : GaveFirst x (total (λ f. f.1) u.counts)) where
+  pub moved-by : ((n : ℕ) → (bytes : List ℕ) → IsPoured (P × (n ≡ torn)) v (marks_given n items) (bytes_in n u.counts) bytes
       → IsPoured (Q × (n ≡ torn)) x (marks_given n items) (bytes_in n u.counts) bytes)
       → HasPoured Q first w now kept x items torn missing
   moved-by each = record {
@@ -60,8 +55,7 @@ module _ (P Q : Type 0) (first kept : ℕ → Option (List ℕ)) (u w : Tally) (
     lent = lent ∙ poured.lent;
     some = poured.some;
     copies = omega (arith, spares, poured.copies);
-    raw = raw ∙ poured.raw;
-    entries = entries;
+    back = subst (λ c. GaveFirst x (total (λ f. f.1) c)) (sym work.counts) back;
     sum = ap (λ c. total (λ f. f.1) c + missing) work.counts ∙ poured.sum;
     counts = λ n. ap (λ c. bytes_in n c + (if n == torn then missing else 0)) work.counts ∙ poured.counts n;
     once = λ n. subst (λ c. times n c ≤ 1) (sym work.counts) (poured.once n);
@@ -164,8 +158,7 @@ module _ (P Q : Type 0) (first kept : ℕ → Option (List ℕ)) (w : Tally) (st
         lent = omega (arith, len, ap (total lent_len) returned-same, poured.lent, lens);
         some = omega (arith, poured.some, has-bytes, size, lens);
         copies = omega (arith, item.spares, one-at-most lent.copied, poured.copies, size);
-        raw = ap (total raw_one) written-same ∙ poured.raw;
-        entries = omega (arith, ap (total loan_one) written-same, ap length returned-same, poured.entries);
+        back = first-same v x (total (λ f. f.1) w.counts) written-same (ap (λ (y : AppView). y.setting) only.view) returned-same poured.back;
         sum = omega (arith, poured.sum, none, lens);
         counts = λ n. omega (arith, poured.counts n, none-at n torn missing none, push-length n items the_item);
         once = poured.once;
@@ -199,8 +192,7 @@ poured-roomy P first kept u w st v items torn missing poured roomy flow adds the
       lent = poured.lent;
       some = poured.some;
       copies = poured.copies;
-      raw = poured.raw;
-      entries = poured.entries;
+      back = first-more v (total (λ f. f.1) u.counts) (total (λ f. f.1) w.counts) (omega (arith, adds.sum)) poured.back;
       sum = omega (arith, poured.sum, adds.sum);
       counts = λ n. omega (arith, bytes n, poured.counts n);
       once = λ n. ⊎_elim

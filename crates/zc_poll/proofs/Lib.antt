@@ -9,6 +9,7 @@ pub mod Whole
 pub mod Untouched
 pub mod Counts
 pub mod PouredOn
+pub mod EntriesFirst
 pub mod Appending
 pub mod ItemPoured
 pub mod Appended

@@ -1,5 +1,5 @@
 -- The one loan that is out goes: by an entry, or it is given up.
-use Rattle.std.proofs.Common.{◌≡◌, ℕ, ◌+◌, ◌≤◌, true, if◌then◌else◌, List, [], ◌∷◌, ◌++◌, length, drop, refl, sym, ap, subst, ◌∙◌, arith, inl, inr, length-append}
+use Rattle.std.proofs.Common.{◌≡◌, ℕ, ◌+◌, true, if◌then◌else◌, List, [], ◌∷◌, ◌++◌, length, drop, refl, sym, ap, subst, ◌∙◌, arith, inl, inr, length-append}
 use Rattle.std.proofs.Math.Seq.{drop-append_seam}
 use Rattle.zr_kinds.specs.declared.place.Place.{Place}
 use Rattle.board_face.specs.AppEvents.{abandoned, gave, entry_of}
@@ -7,7 +7,7 @@ use Rattle.board_face.specs.declared.views.app.LentPiece.{LentPiece}
 use Rattle.board_face.specs.declared.views.app.WrittenEntry.{WrittenEntry}
 use Rattle.board_face.specs.declared.views.app.AppView.{AppView}
 use Rattle.flow_queues.specs.Core.{total, IsIn, LieApart}
-use Rattle.flow_queues.specs.Totals.{lent_len, loan_entries, raw_entries}
+use Rattle.flow_queues.specs.Totals.{lent_len, loan_entries}
 use Rattle.flow_queues.specs.Shelves.{kept_loans}
 use Rattle.flow_queues.proofs.Tokens.{total-append, is-given}
 use Rattle.zc_poll.proofs.Views.{total-one}
@@ -23,7 +23,7 @@ none-left : (xs : List LentPiece) → length xs ≡ 0 → xs ≡ []
 none-left [] none = refl
 none-left (x ∷ xs) none = absurd (omega (arith, none))
 
-drop-all : (rs : List LentPiece) (n : ℕ) → n ≡ length rs → drop n rs ≡ []
+pub drop-all : (rs : List LentPiece) (n : ℕ) → n ≡ length rs → drop n rs ≡ []
 drop-all [] n is = rw is refl
 drop-all (r ∷ rs) n is = rw is (drop-all rs (length rs) refl)
 
@@ -44,9 +44,6 @@ module _ (v : AppView) (apart : LieApart v) (p : LentPiece) (one : v.loans ≡ p
   pub gone-lent : total lent_len (abandoned v loan).loans + total lent_len (abandoned v loan).returned ≡ total lent_len v.loans + total lent_len v.returned
   gone-lent = omega (arith, ap (total lent_len) gone-loans, ap (total lent_len) gone-returned, total-append lent_len v.returned (p ∷ []), ap (total lent_len) one)
 
-  pub gone-entries : loan_entries v ≤ length v.returned → loan_entries (abandoned v loan) ≤ length (abandoned v loan).returned
-  gone-entries before = omega (arith, before, ap length gone-returned, length-append v.returned (p ∷ []))
-
   -- all before it went by entries
   pub gone-kept : loan_entries v ≡ length v.returned → kept_loans (abandoned v loan) ≡ kept_loans v
   gone-kept all =
@@ -62,10 +59,4 @@ module _ (v : AppView) (apart : LieApart v) (p : LentPiece) (one : v.loans ≡ p
     all,
     ap length gone-returned,
     length-append v.returned (p ∷ []),
-  )
-
-  pub gave-raw : raw_entries (gave v loan) ≡ raw_entries v
-  gave-raw = omega (
-    arith,
-    total-append (λ (e : WrittenEntry). if e.of_loan then 0 else 1) v.written (record { entry = entry_of v.setting.layout loan; of_loan = true } ∷ []),
   )

@@ -6,6 +6,7 @@ use Rattle.zr_kinds.specs.declared.behaviour.Behaviour.{Behaviour}
 use Rattle.zr_kinds.specs.declared.behaviour.Stopped.TheVariants as stop
 use Rattle.zr_io.specs.Moved.{Gained}
 use Rattle.zr_io.proofs.Moved.{Gained-weaker}
+use Rattle.board_face.specs.AppEvents.{reserve_of}
 use Rattle.board_face.specs.declared.views.app.AppView.{AppView}
 use Rattle.flow_queues.specs.Marks.{Mark, AreWholeFrames, marks_of}
 use Rattle.flow_queues.specs.Core.{total, Each, IsIn, own_notes, BeginAt, AreReadAt}
@@ -13,6 +14,8 @@ use Rattle.flow_queues.specs.Totals.{Quits, capped, lent_len, loan_entries}
 use Rattle.flow_queues.specs.Shelves.{FlowEnds, AreOfOneLoan}
 use Rattle.flow_queues.specs.Streams.{IsFront}
 use Rattle.flow_queues.specs.Ends.{AppEnd, HasLeft, IsCounted, IsTorn, bytes_in, times}
+use Rattle.flow_queues.specs.Entries.{AreBlocks, WasLive, lies_in}
+use Rattle.flow_queues.specs.Returned.{AreKeptBack, HasReturned}
 use Rattle.flow_queues.proofs.Fronts.{pick}
 use Rattle.flow_queues.proofs.Tokens.{in-total}
 use Rattle.zc_poll.specs.Counting.{Tally, with_bytes}
@@ -21,6 +24,8 @@ use Rattle.zc_poll.specs.Standing.{Desk}
 use Rattle.zc_poll.specs.Items.{marks_given}
 use Rattle.zc_poll.specs.Pouring.{IsPoured, OnlyDue, PourStands, given_len}
 use Rattle.zc_poll.proofs.PouredOn.{poured-within}
+use Rattle.zc_poll.proofs.EntriesFirst.{loans-alone}
+use Rattle.zc_poll.proofs.LoanGone.{drop-all}
 use Rattle.zc_poll.proofs.Pours.{no-write}
 use Rattle.zc_poll.proofs.Shown.{shown-total, shown-times, shown-bytes, shown-each}
 use Rattle.zc_poll.proofs.ItemPoured.{none-at}
@@ -135,6 +140,21 @@ module _ (first kept : ℕ → Option (List ℕ)) (losses losses_now : ℕ) (w :
     later = before.later;
     cause = before.cause;
     still = before.still;
-    strays = subst (λ n. n ≤ how.stray * loan_entries v) (sym before.poured.raw) (omega arith);
-    entries = before.poured.entries;
+    strays = subst (λ n. n ≤ how.stray * loan_entries v) (sym before.poured.back.raw) (omega arith);
+    entries = before.poured.back.entries;
+  }
+
+  none-kept : w.stopped ≡ stop.No → drop (loan_entries v) v.returned ≡ []
+  none-kept going = drop-all v.returned (loan_entries v) (before.given_back going)
+
+  pub returned-pours : (how : Behaviour) → how.leak ≡ 0 → how.stray ≡ 0 → HasReturned how w.stopped w.written (has_left v)
+  returned-pours how leak stray = let (last, blocks) = loans-alone (WasLive (has_left v)) v before.poured.back.raw in record {
+    given = before.poured.back.given;
+    whole = omega (arith, before.poured.written, before.poured.back.bytes);
+    kept_back = λ going. subst (λ n. AreKeptBack n (has_left v)) (sym leak) (record {
+      many = omega (arith, before.given_back going);
+      aside = ap (total (lies_in (reserve_of v))) (none-kept going);
+    });
+    last = last;
+    follow = subst (λ n. AreBlocks n (WasLive (has_left v)) v.written last 0) (sym stray) blocks;
   }

@@ -11,6 +11,7 @@ use Rattle.zc_poll.specs.Counting.{Tally}
 use Rattle.zc_poll.specs.Fresh.{IsUntouched, new_desk}
 use Rattle.zc_poll.specs.Standing.{StreamStands}
 use Rattle.zc_poll.specs.Pouring.{IsPoured, HasPoured, PourStands}
+use Rattle.zc_poll.proofs.EntriesFirst.{first-none}
 use Rattle.zc_poll.proofs.ItemPoured.{none-at}
 
 -- nothing is kept
@@ -28,8 +29,7 @@ module _ (kept : ℕ → Option (List ℕ)) (losses room app : ℕ) (v : AppView
     lent = omega (arith, ap (total lent_len) fresh.loans, ap (total lent_len) fresh.returned);
     some = omega arith;
     copies = omega (arith, fresh.spares);
-    raw = ap (total (λ (e : WrittenEntry). if e.of_loan then 0 else 1)) fresh.written;
-    entries = omega (arith, no-entry);
+    back = first-none v fresh.written fresh.returned;
     sum = refl;
     counts = λ n. omega (arith, none-at n 0 0 refl);
     once = λ n. omega arith;

@@ -1,27 +1,29 @@
 -- What was poured stays so over a turn that writes nothing.
 use Rattle.std.specs.Prelude.{map, Contains}
-use Rattle.std.proofs.Common.{◌≡◌, ◌≢◌, ℕ, ◌+◌, true, false, List, [], ◌∷◌, length, Option, Some, None, refl, sym, ap, subst, ◌∙◌, arith, ⊎_elim, ◌⊎◌, inl, inr, append-nil}
+use Rattle.std.proofs.Common.{◌≡◌, ◌≢◌, ℕ, ◌+◌, true, false, List, [], ◌∷◌, ◌++◌, length, Option, Some, None, refl, sym, ap, subst, ◌∙◌, arith, ⊎_elim, ◌⊎◌, inl, inr, append-nil}
 use Rattle.zr_kinds.specs.declared.place.Place.{Place}
 use Rattle.zr_kinds.specs.declared.behaviour.Stopped.TheVariants as stop
 use Rattle.board_face.specs.AppCalls.{AppOnlySaw, HasLoan}
-use Rattle.board_face.specs.AppEvents.{app_saw, gave}
+use Rattle.board_face.specs.AppEvents.{app_saw, entry_of, gave}
 use Rattle.board_face.specs.declared.views.app.AppLook.{AppLook}
 use Rattle.board_face.specs.declared.views.app.AppLook.TheVariants.{RefillInUse}
 use Rattle.board_face.specs.declared.views.app.LentPiece.{LentPiece}
 use Rattle.board_face.specs.declared.views.app.AppView.{AppView}
 use Rattle.flow_queues.specs.Core.{OnlyReads, total}
-use Rattle.flow_queues.specs.Totals.{lent_len, loan_entries, raw_entries}
+use Rattle.flow_queues.specs.Totals.{lent_len, loan_entries}
 use Rattle.zc_poll.specs.Counting.{Tally}
 use Rattle.zc_poll.specs.Standing.{Desk, StreamStands}
 use Rattle.zc_poll.specs.Items.{HasGiven}
 use Rattle.zc_poll.specs.declared.step.Lent.{Lent}
 use Rattle.zc_poll.specs.declared.to_shelf.Ran.{Ran}
 use Rattle.zc_poll.specs.declared.to_shelf.Ran.TheVariants.{Did, Idle, Ended}
+use Rattle.zc_poll.specs.declared.to_shelf.Rests.TheVariants.{Stream, RefillFull, NotQuiet, NoNotice}
 use Rattle.zc_poll.specs.Steps.{OnlySteps, Unlent, IsItem}
 use Rattle.zc_poll.specs.Pouring.{HasPoured, OnlyDue, PourStands}
 use Rattle.zc_poll.specs.PourTurns.{HadItem, IsRead, TurnDoes}
 use Rattle.zc_poll.proofs.ItemPoured.{SameCounts, poured-moved, poured-all, same-kept}
-use Rattle.zc_poll.proofs.LoanGone.{gone-loans, gone-many, gone-lent, gave-entries, gave-raw}
+use Rattle.zc_poll.proofs.EntriesFirst.{first-gave, first-same}
+use Rattle.zc_poll.proofs.LoanGone.{gone-loans, gone-returned, gone-many, gone-lent, gave-entries}
 use Rattle.zc_poll.proofs.Pours.{is-no, no-write}
 
 pub same-counts : (u : Tally) → SameCounts u u
@@ -41,7 +43,8 @@ saw-pours first kept losses losses_now u st now v z look before view stands desk
       poured = subst (λ (k : AppView). HasPoured (u.stopped ≡ stop.Write) first u st kept k before.items before.torn before.missing) (sym view)
           (poured-moved (u.stopped ≡ stop.Write) (u.stopped ≡ stop.Write) first kept u u st st v (app_saw v look) before.items before.torn before.missing
           before.poured (same-counts u) before.poured.given
-          (record { notes = []; taken = sym (append-nil v.taken); more = []; reads = sym (append-nil v.reads) }) refl refl refl refl before.poured.entries refl
+          (record { notes = []; taken = sym (append-nil v.taken); more = []; reads = sym (append-nil v.reads) }) refl refl refl
+          (first-same v (app_saw v look) (total (λ f. f.1) u.counts) refl refl refl before.poured.back) refl
           (λ is. is));
       due = subst (λ (k : AppView). OnlyDue u.due k.loans) (sym view) before.due;
       whole = before.whole;
@@ -91,8 +94,10 @@ module _ (first kept : ℕ → Option (List ℕ)) (losses losses_now : ℕ) (u w
             (ap (λ (k : AppView). length k.loans + length k.returned) view ∙ gone-many v apart out.0 out.1 loan out.2)
             (ap (λ (k : AppView). total lent_len k.loans + total lent_len k.returned) view ∙ gone-lent v apart out.0 out.1 loan out.2)
             (ap (λ (k : AppView). k.spares) view)
-            (ap raw_entries view ∙ gave-raw v apart out.0 out.1 loan out.2)
-            (omega (arith, entries))
+            (first-gave v z out.0 (total (λ f. f.1) u.counts)
+            (ap (λ (k : AppView). k.written) view ∙ ap (λ (q : Place). v.written ++ record { entry = entry_of v.setting.layout q; of_loan = true } ∷ []) (sym out.2))
+            (ap (λ (k : AppView). k.setting) view) (ap (λ (k : AppView). k.returned) view ∙ gone-returned v apart out.0 out.1 loan out.2) (before.given_back going)
+            (omega (arith, before.poured.lent, before.poured.sum, before.whole going, ap (total lent_len) out.1)) before.poured.back)
             (no-write u.stopped going);
         due = subst (λ d. OnlyDue d z.loans) (sym done) gone;
         whole = λ _. before.whole going;
@@ -123,8 +128,7 @@ module _ (first kept : ℕ → Option (List ℕ)) (losses losses_now : ℕ) (u w
       (omega (arith, ap length unlent.loans, ap length returned))
       (omega (arith, ap (total lent_len) unlent.loans, ap (total lent_len) returned))
       unlent.spares
-      (ap raw_entries only.view)
-      (let e : loan_entries z ≡ loan_entries v = ap loan_entries only.view in omega (arith, e, ap length returned, before.poured.entries))
+      (first-same v z (total (λ f. f.1) u.counts) entered (ap (λ (k : AppView). k.setting) only.view) returned before.poured.back)
       (same-kept v z unlent.loans returned entered) implies
 
   all-entries : loan_entries v ≡ length v.returned → loan_entries z ≡ length z.returned
@@ -186,7 +190,10 @@ read-out v z loan only there = subst (λ (ls : List LentPiece). Contains (map (�
 
 by-turn : (st now : Desk) (y z : AppView) (loan : Place) (ran : Ran) → TurnDoes (Some loan) st now y z ran → (z ≡ gave y loan) ⊎ AppOnlySaw RefillInUse y z
 by-turn st now y z loan Did does = inl does
-by-turn st now y z loan Idle does = inr does
+by-turn st now y z loan (Idle RefillFull) does = inr does.1
+by-turn st now y z loan (Idle (Stream why)) does = (let none : Some loan ≡ None = does.0 in absurd (cc))
+by-turn st now y z loan (Idle NotQuiet) does = (let none : Some loan ≡ None = does.0 in absurd (cc))
+by-turn st now y z loan (Idle NoNotice) does = absurd does
 by-turn st now y z loan (Ended poured) does = (let none : Some loan ≡ None = does.0 in absurd (cc))
 
 -- the loan that was written was given back, or a refill slot was seen in use

@@ -13,7 +13,7 @@ use Rattle.board_face.specs.declared.views.app.TakenNote.{TakenNote}
 use Rattle.board_face.specs.declared.views.app.AppView.{AppView}
 use Rattle.flow_queues.specs.declared.queues.Lending.{Lending}
 use Rattle.flow_queues.specs.Core.{total, IsIn, LieApart, lent_piece, OnlyReads, IsReadOf}
-use Rattle.flow_queues.specs.Totals.{lent_len, loan_entries, raw_entries}
+use Rattle.flow_queues.specs.Totals.{lent_len, loan_entries}
 use Rattle.flow_queues.specs.Shelves.{kept_loans}
 use Rattle.flow_queues.specs.Ends.{bytes_in}
 use Rattle.flow_queues.proofs.Tokens.{loan-some}
@@ -25,9 +25,10 @@ use Rattle.zc_poll.specs.Steps.{OnlySteps, IsItem, given_as}
 use Rattle.zc_poll.specs.Pouring.{HasPoured, OnlyDue, PourStands}
 use Rattle.zc_poll.proofs.Views.{total-one}
 use Rattle.zc_poll.proofs.PouredOn.{sees-still}
+use Rattle.zc_poll.proofs.EntriesFirst.{first-gone}
 use Rattle.zc_poll.proofs.ItemPoured.{Roomy, poured-moved, poured-roomy, item-poured, push-length}
 use Rattle.zc_poll.proofs.Appended.{appended, at-flow}
-use Rattle.zc_poll.proofs.LoanGone.{one-loan, gone-loans, gone-many, gone-lent, gone-entries, gone-kept}
+use Rattle.zc_poll.proofs.LoanGone.{one-loan, gone-loans, gone-returned, gone-many, gone-lent, gone-kept}
 
 pub is-no : (s : Stopped) → (s ≡ stop.No) ⊎ (s ≢ stop.No)
 is-no stop.No = inl refl
@@ -39,7 +40,7 @@ pub no-write : (s : Stopped) → s ≡ stop.No → s ≡ stop.Write → ⊥
 no-write s going write = (let e : stop.No ≡ stop.Write = sym going ∙ write in absurd (cc))
 
 -- a note that is there is one of these
-known-at : (taken : List TakenNote) (k : ℕ) (t : TakenNote) → slice_get taken k ≡ Some t → k < length taken
+pub known-at : (taken : List TakenNote) (k : ℕ) (t : TakenNote) → slice_get taken k ≡ Some t → k < length taken
 known-at [] k t is = absurd (cc)
 known-at (x ∷ taken) zero t is = omega arith
 known-at (x ∷ taken) (suc k) t is = omega (arith, known-at taken k t is)
@@ -83,8 +84,8 @@ module _ (P : Type 0) (first kept : ℕ → Option (List ℕ)) (losses losses_no
         (ap (λ (k : AppView). length k.loans + length k.returned) view ∙ gone-many y apart p one loan place)
         (ap (λ (k : AppView). total lent_len k.loans + total lent_len k.returned) view ∙ gone-lent y apart p one loan place)
         (ap (λ (k : AppView). k.spares) view)
-        (ap raw_entries view)
-        (subst (λ (k : AppView). loan_entries k ≤ length k.returned) (sym view) (gone-entries y apart p one loan place (omega (arith, all))))
+        (first-gone y z (p ∷ []) (total (λ f. f.1) u.counts) (ap (λ (k : AppView). k.written) view) (ap (λ (k : AppView). k.setting) view)
+        (ap (λ (k : AppView). k.returned) view ∙ gone-returned y apart p one loan place) poured.back)
         (ap kept_loans view ∙ gone-kept y apart p one loan place all)
         (λ is. why_is ∙ implies is);
     due = subst (λ d. OnlyDue d z.loans) (sym (ap (λ (k : Tally). k.due) work ∙ due)) loans-gone;
@@ -222,7 +223,7 @@ module _ (first kept : ℕ → Option (List ℕ)) (losses losses_now : ℕ) (u :
                   flows = ap (λ (q : Tally). q.flows) work;
                   room = ap (λ (q : Tally). q.room) work;
                 })
-                written.given (sees-still y) refl refl refl refl written.entries refl (λ less. absurd (omega (arith, less, full, len_is)));
+                written.given (sees-still y) refl refl refl written.back refl (λ less. absurd (omega (arith, less, full, len_is)));
             due = subst (λ d. OnlyDue d y.loans) (sym (ap (λ (q : Tally). q.due) work)) (piece, still-one, item.loan);
             whole = λ _. none;
             given_back = λ _. still-all;

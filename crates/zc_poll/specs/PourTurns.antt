@@ -1,5 +1,5 @@
 -- What a turn of pouring does, and what it ends with.
-use Rattle.std.specs.Prelude.{◌≡◌, ◌<◌, ◌⊎◌, ◌↔◌, ℕ, true, false, List, [], Option, Some, None}
+use Rattle.std.specs.Prelude.{◌≡◌, ◌≢◌, ◌<◌, ◌⊎◌, ◌↔◌, ℕ, true, false, List, [], Option, Some, None}
 use Rattle.std.specs.Ordering.{nat_cmp}
 use Rattle.std.specs.Map.{keys_of}
 use Rattle.std.specs.List.Sorted.{IsStrictlySortedBy}
@@ -10,17 +10,22 @@ use Rattle.futures.specs.declared.task.Poll.{Poll}
 use Rattle.futures.specs.declared.task.Poll.TheVariants.{Ready, Pending}
 use Rattle.board_face.specs.AppCalls.{AppOnlySaw}
 use Rattle.board_face.specs.AppEvents.{abandoned, gave}
-use Rattle.board_face.specs.declared.views.app.AppLook.TheVariants.{RefillInUse, NotQuiet}
+use Rattle.board_face.specs.NotNow.{HasWritten, HasWrittenRingful}
+use Rattle.board_face.specs.declared.views.app.AppLook.{AppLook}
+use Rattle.board_face.specs.declared.views.app.AppLook.TheVariants.{NoNote as no_note, NoSpare as no_spare, RefillInUse, NotQuiet as not_quiet}
 use Rattle.board_face.specs.declared.views.app.AppView.{AppView}
 use Rattle.flow_queues.specs.Core.{Each, OnlyReads}
 use Rattle.flow_queues.specs.Ends.{AppEnd, HasLeft}
+use Rattle.flow_queues.specs.Returned.{HasReturned}
 use Rattle.zc_poll.specs.Counting.{Tally}
 use Rattle.zc_poll.specs.declared.step.Lent.{Lent}
-use Rattle.zc_poll.specs.declared.step.Waits.{Waits}
+use Rattle.zc_poll.specs.declared.step.Waits.TheVariants.{NoNote, ReserveHeld, Enough}
 use Rattle.zc_poll.specs.declared.step.Step.TheVariants.{Waiting, Memory, Ended as stream_ended}
 use Rattle.zc_poll.specs.declared.to_shelf.Poured.{Poured}
 use Rattle.zc_poll.specs.declared.to_shelf.Ran.{Ran}
 use Rattle.zc_poll.specs.declared.to_shelf.Ran.TheVariants.{Did, Idle, Ended}
+use Rattle.zc_poll.specs.declared.to_shelf.Rests.{Rests}
+use Rattle.zc_poll.specs.declared.to_shelf.Rests.TheVariants.{Stream, RefillFull, NotQuiet, NoNotice}
 use Rattle.zc_poll.specs.Fresh.{has_left}
 use Rattle.zc_poll.specs.Standing.{Desk}
 use Rattle.zc_poll.specs.Steps.{Steps, IsItem}
@@ -51,15 +56,32 @@ Does (Some loan) was now old new = new ≡ gave old loan
 Does None was now old new = (was.ended ≡ false)
     × (HadItem was now old new ⊎ (Steps was now old new Memory ⊎ Steps was now old new stream_ended))
 
--- the stream waits, or a refill slot was seen in use
-abbrev pub Idles : Option Place → Desk → Desk → AppView → AppView → Type 0
-Idles (Some loan) was now old new = AppOnlySaw RefillInUse old new
-Idles None was now old new = ((why : Waits) × Steps was now old new (Waiting why)) ⊎ ((was.ended ≡ true) × AppOnlySaw NotQuiet old new)
+-- The stream waits, or a refill slot was seen in use: that of the loan that is due, for which a ringful of entries was written, or
+-- any one as it was to leave, for which one was written.
+abbrev pub Idles : Rests → Option Place → Desk → Desk → AppView → AppView → Type 0
+Idles (Stream why) due was now old new = (due ≡ None) × Steps was now old new (Waiting why)
+Idles RefillFull due was now old new = (due ≢ None) × AppOnlySaw RefillInUse old new × HasWrittenRingful old
+Idles NotQuiet due was now old new = (due ≡ None) × (was.ended ≡ true) × AppOnlySaw not_quiet old new × HasWritten old
+Idles NoNotice due was now old new = ⊥
+
+-- so it is of the look on which it rests
+abbrev pub IsSoOf : (AppLook → Type 0) → Rests → Type 0
+IsSoOf is_so (Stream NoNote) = is_so no_note
+IsSoOf is_so (Stream ReserveHeld) = is_so no_spare
+IsSoOf is_so (Stream Enough) = Unit {0}
+IsSoOf is_so RefillFull = is_so RefillInUse
+IsSoOf is_so NotQuiet = is_so not_quiet
+IsSoOf is_so NoNotice = Unit {0}
+
+abbrev pub IsTold : (AppLook → Type 0) → Ran → Type 0
+IsTold is_so (Idle why) = IsSoOf is_so why
+IsTold is_so Did = Unit {0}
+IsTold is_so (Ended poured) = Unit {0}
 
 -- by what was due, and what the stream keeps
 abbrev pub TurnDoes : Option Place → Desk → Desk → AppView → AppView → Ran → Type 0
 TurnDoes due was now old new Did = Does due was now old new
-TurnDoes due was now old new Idle = Idles due was now old new
+TurnDoes due was now old new (Idle why) = Idles why due was now old new
 TurnDoes due was now old new (Ended poured) = (due ≡ None) × (was.ended ≡ true) × (new ≡ has_left old)
     × ((poured.stopped ≡ stop.No) ↔ (was.stopped ≡ false)) × IsStrictlySortedBy nat_cmp (keys_of poured.flows.items)
     × Each (λ f. 0 < f.1) poured.flows.items
@@ -68,12 +90,13 @@ TurnDoes due was now old new (Ended poured) = (due ≡ None) × (was.ended ≡ t
 abbrev pub pour_end : Poured → AppEnd
 pour_end p = record { written = p.written; loans = p.loans; copied = p.copied; stopped = p.stopped; flows = p.flows.items }
 
--- It goes on, or has left with what any application owes that isn't to quit.
+-- It goes on, or has left with what any application owes that isn't to quit, and keeps no loan and writes no raw entry.
 abbrev pub PourGives : (ℕ → Option (List ℕ)) → ℕ → Tally → Desk → (ℕ → Option (List ℕ)) → ℕ → AppView → Ran → Type 0
 PourGives first losses w st kept losses_now v (Ended poured) =
-    (how : Behaviour) → how.quit ≡ None → HasLeft how first kept losses losses_now v (pour_end poured)
+    (how : Behaviour) → (how.quit ≡ None → HasLeft how first kept losses losses_now v (pour_end poured))
+    × (how.leak ≡ 0 → how.stray ≡ 0 → HasReturned how poured.stopped poured.written v)
 PourGives first losses w st kept losses_now v Did = PourStands first losses w st kept losses_now v
-PourGives first losses w st kept losses_now v Idle = PourStands first losses w st kept losses_now v
+PourGives first losses w st kept losses_now v (Idle why) = PourStands first losses w st kept losses_now v
 
 -- what a contract sees of it
 pub record PourView (F T : Type 0) : Type 0 where
@@ -87,6 +110,7 @@ abbrev pub PollPours : (ℕ → Option (List ℕ)) → ℕ → Tally → Desk �
 PollPours first losses w st kept losses_now v (Ready poured) = PourGives first losses w st kept losses_now v (Ended poured)
 PollPours first losses w st kept losses_now v Pending = PourStands first losses w st kept losses_now v
 
-abbrev pub PollDoes : Option Place → Desk → Desk → AppView → AppView → Poll Poured → Type 0
-PollDoes due was now old new (Ready poured) = TurnDoes due was now old new (Ended poured)
-PollDoes due was now old new Pending = TurnDoes due was now old new Did ⊎ TurnDoes due was now old new Idle
+abbrev pub PollDoes : (AppLook → Type 0) → Option Place → Desk → Desk → AppView → AppView → Poll Poured → Type 0
+PollDoes is_so due was now old new (Ready poured) = TurnDoes due was now old new (Ended poured)
+PollDoes is_so due was now old new Pending =
+    TurnDoes due was now old new Did ⊎ ((why : Rests) × TurnDoes due was now old new (Idle why) × IsTold is_so (Idle why))

@@ -9,6 +9,7 @@ use Rattle.flow_queues.specs.Marks.{Mark}
 use Rattle.flow_queues.specs.Core.{total, AreReadAt, most_at_once}
 use Rattle.flow_queues.specs.Totals.{capped, lent_len, loan_entries, raw_entries}
 use Rattle.flow_queues.specs.Shelves.{AreOfOneLoan, kept_loans}
+use Rattle.flow_queues.specs.Entries.{Gives}
 use Rattle.flow_queues.specs.Ends.{bytes_in, times}
 use Rattle.zc_poll.specs.Counting.{Tally}
 use Rattle.zc_poll.specs.Standing.{Desk, StreamStands}
@@ -28,6 +29,13 @@ pub record IsPoured (FailedHere : Type 0) (v : AppView) (marks : List Mark) (cou
   pub exact : (FailedHere → ⊥) → count ≡ length bytes
   pub beyond : count < length bytes → AreOfOneLoan v.taken (kept_loans v) (drop count (take (length bytes) marks))
 
+-- Entries were written of loans alone: of the first that went, one of each and in order. These had so many bytes at most.
+pub record GaveFirst (v : AppView) (most : ℕ) : Type 0 where
+  pub raw : raw_entries v ≡ 0
+  pub entries : loan_entries v ≤ length v.returned
+  pub given : Gives v (take (loan_entries v) v.returned)
+  pub bytes : total lent_len (take (loan_entries v) v.returned) ≤ most
+
 -- These items were given, one loan each, and all of their bytes are counted but for so many of one flow. The shelf had `first`
 -- before and has `kept` now; it gained more than is counted only where it failed.
 pub record HasPoured (Failed : Type 0) (first : ℕ → Option (List ℕ)) (w : Tally) (st : Desk) (kept : ℕ → Option (List ℕ)) (v : AppView)
@@ -37,8 +45,8 @@ pub record HasPoured (Failed : Type 0) (first : ℕ → Option (List ℕ)) (w : 
   pub lent : total lent_len v.loans + total lent_len v.returned ≡ total given_len items
   pub some : length items ≤ total given_len items
   pub copies : v.spares ≤ length items
-  pub raw : raw_entries v ≡ 0
-  pub entries : loan_entries v ≤ length v.returned
+  -- those that entries gave back are counted whole
+  pub back : GaveFirst v (total (λ f. f.1) w.counts)
   pub sum : total (λ f. f.1) w.counts + missing ≡ total given_len items
   pub counts : (n : ℕ) → bytes_in n w.counts + (if n == torn then missing else 0) ≡ length (marks_given n items)
   pub once : (n : ℕ) → times n w.counts ≤ 1

@@ -180,7 +180,7 @@ impl<F: AppFace> LoanStream<F> {
     }
 
     /// As `close`, and the face stays here. `false` says that a refill slot was seen in use.
-    pub(crate) fn leave(&mut self) -> bool
+    pub fn leave(&mut self) -> bool
         requires stands { StreamStands self.old.desk (F.seen self.old.face) }
         requires ended { self.old.desk.ended ≡ true }
         requires none { (F.seen self.old.face).loans ≡ [] }
@@ -202,21 +202,21 @@ impl<F: AppFace> LoanStream<F> {
     }
 
     /// Whether no note comes any more, and all was given.
-    pub(crate) fn has_ended(&self) -> bool
+    pub fn has_ended(&self) -> bool
         ensures { result ≡ self.now.desk.ended }
     {
         self.queues.ended
     }
 
     /// What the queues are made of.
-    pub(crate) fn alloc(&self) -> Global {
+    pub fn alloc(&self) -> Global {
         self.queues.alloc
     }
 }
 
 impl<F> LoanStream<F> {
     /// The face.
-    pub(crate) fn into_face(self) -> F
+    pub fn into_face(self) -> F
         ensures { result ≡ self.face }
     {
         let LoanStream { face, queues: _ } = self;

@@ -1,6 +1,7 @@
 //! The items of a stream are written to a shelf, one turn after another.
 ghost use Rattle.std.specs.Prelude.{◌≡◌, ◌<◌, ◌≤◌, ℕ, List, [], length, Option, Some, None, true, false, vec_capacity, MatchBool, ◌↔◌};
 ghost use Rattle.board_face.specs.AppCalls.{HasLoan};
+ghost use Rattle.board_face.specs.AppEvents.{app_gist};
 ghost use Rattle.board_face.specs.declared.views.app.AppView.{AppView};
 ghost use Rattle.std.specs.Ordering.{nat_cmp};
 ghost use Rattle.std.specs.Map.{keys_of};
@@ -10,7 +11,7 @@ ghost use Rattle.zc_poll.specs.Counting.{with_bytes};
 ghost use Rattle.zc_poll.specs.Standing.{Desk, StreamStands};
 ghost use Rattle.zc_poll.specs.Fresh.{IsUntouched, new_desk};
 ghost use Rattle.zc_poll.specs.Pouring.{PourStands};
-ghost use Rattle.zc_poll.specs.PourTurns.{HadItem, PourGives, TurnDoes, PollPours, PollDoes};
+ghost use Rattle.zc_poll.specs.PourTurns.{HadItem, IsTold, PourGives, TurnDoes, PollPours, PollDoes};
 ghost use Rattle.zc_poll.specs.Steps.{IsItem, OnlySteps};
 ghost use Rattle.futures.specs.Poll.{OnPending};
 ghost use Rattle.futures.specs.Task.{Covers, Keeps};
@@ -18,7 +19,7 @@ ghost use Rattle.zc_poll.specs.TallyOf.{tally_of};
 
 use crate::counting::Tally;
 use crate::pouring::pour;
-use crate::step::{Lent, Step};
+use crate::step::{Lent, Step, Waits};
 use crate::stream::LoanStream;
 use board_face::{AppFace, Loan};
 use futures::Future;
@@ -43,16 +44,29 @@ pub struct Poured {
     pub flows: Vec<(u32, u64)>,
 }
 
+/// What a turn that did nothing rests on.
+#[derive(Clone, Copy, Debug, PartialEq, Eq)]
+pub enum Rests {
+    /// The stream waits.
+    Stream(Waits),
+    /// A loan is due, and the next refill slot is in use.
+    RefillFull,
+    /// Nothing is left but to leave, and a refill slot is in use.
+    NotQuiet,
+    /// No more can be done before a notice comes, and none was there. Pouring never rests on this.
+    NoNotice,
+}
+
 /// What a turn did.
 #[derive(Debug, Drop)]
 pub enum Ran {
     Did,
-    Idle,
+    Idle(Rests),
     Ended(Poured),
 }
 
 /// What was written, once nothing comes any more.
-fn told(work: &mut Tally, alloc: Global) -> Poured
+pub fn told(work: &mut Tally, alloc: Global) -> Poured
     requires room { length work.old.counts.entries ≤ vec_capacity work.old.flows }
     requires empty { work.old.flows.items ≡ [] }
     ensures written { result.written ≡ work.old.written }
@@ -88,19 +102,21 @@ fn give_back<F: AppFace>(stream: &mut LoanStream<F>, work: &mut Tally, loan: Loa
         → PourStands first losses (tally_of work.new) stream.new.desk kept now (F.seen stream.new.face) }
     ensures desk { stream.new.desk ≡ stream.old.desk }
     ensures does { TurnDoes (Some loan) stream.old.desk stream.new.desk (F.seen stream.old.face) (F.seen stream.new.face) result }
+    ensures told { IsTold (λ look. F.tells look (app_gist (F.seen stream.new.face)) (F.beside stream.new.face)) result }
+    ensures same { (F.seen stream.new.face).app ≡ (F.seen stream.old.face).app }
     ensures beside { F.beside stream.new.face ≡ F.beside stream.old.face }
 {
     match stream.give(loan) {
         Ok(()) => Ran::Did,
         Err(loan) => {
             work.due = Some(loan);
-            Ran::Idle
+            Ran::Idle(Rests::RefillFull)
         }
     }
 }
 
 /// Lets the face leave, once all is given back.
-fn close<F: AppFace>(stream: &mut LoanStream<F>, work: &mut Tally) -> Ran
+pub fn close<F: AppFace>(stream: &mut LoanStream<F>, work: &mut Tally) -> Ran
     requires stands { StreamStands stream.old.desk (F.seen stream.old.face) }
     requires ended { stream.old.desk.ended ≡ true }
     requires none { (F.seen stream.old.face).loans ≡ [] }
@@ -113,10 +129,12 @@ fn close<F: AppFace>(stream: &mut LoanStream<F>, work: &mut Tally) -> Ran
     ensures does { (first kept : ℕ → Option (List ℕ)) (losses now : ℕ)
         → PourStands first losses (tally_of work.old) stream.old.desk kept now (F.seen stream.old.face)
         → TurnDoes None stream.old.desk stream.new.desk (F.seen stream.old.face) (F.seen stream.new.face) result }
+    ensures told { IsTold (λ look. F.tells look (app_gist (F.seen stream.new.face)) (F.beside stream.new.face)) result }
+    ensures same { (F.seen stream.new.face).app ≡ (F.seen stream.old.face).app }
     ensures beside { F.beside stream.new.face ≡ F.beside stream.old.face }
 {
     if !stream.leave() {
-        return Ran::Idle;
+        return Ran::Idle(Rests::NotQuiet);
     }
     let poured = told(work, stream.alloc());
     Ran::Ended(poured)
@@ -140,6 +158,7 @@ fn pour_item<F: AppFace, T: Shelf>(
         → PourStands first losses (tally_of work.new) stream.new.desk (T.kept shelf.new) (T.faults shelf.new) (F.seen stream.new.face) }
     ensures had { (st : Desk) (v : AppView) → IsItem st stream.old.desk v (F.seen stream.old.face) lent
         → HadItem st stream.new.desk v (F.seen stream.new.face) }
+    ensures same { (F.seen stream.new.face).app ≡ (F.seen stream.old.face).app }
     ensures beside { F.beside stream.new.face ≡ F.beside stream.old.face }
 {
     if let Some(loan) = pour(stream, shelf, work, lent) {
@@ -159,6 +178,8 @@ fn go_on<F: AppFace, T: Shelf>(stream: &mut LoanStream<F>, shelf: &mut T, work: 
         → PourGives first losses (tally_of work.new) stream.new.desk (T.kept shelf.new) (T.faults shelf.new)
         (F.seen stream.new.face) result }
     ensures does { TurnDoes None stream.old.desk stream.new.desk (F.seen stream.old.face) (F.seen stream.new.face) result }
+    ensures told { IsTold (λ look. F.tells look (app_gist (F.seen stream.new.face)) (F.beside stream.new.face)) result }
+    ensures same { (F.seen stream.new.face).app ≡ (F.seen stream.old.face).app }
     ensures beside { F.beside stream.new.face ≡ F.beside stream.old.face }
 {
     match stream.step() {
@@ -166,7 +187,7 @@ fn go_on<F: AppFace, T: Shelf>(stream: &mut LoanStream<F>, shelf: &mut T, work: 
             pour_item(stream, shelf, work, lent);
             Ran::Did
         }
-        Step::Waiting(_) => Ran::Idle,
+        Step::Waiting(why) => Ran::Idle(Rests::Stream(why)),
         Step::Memory => {
             work.stopped = Stopped::Memory;
             Ran::Did
@@ -188,6 +209,8 @@ fn take_turn<F: AppFace, T: Shelf>(
         → PourGives first losses (tally_of work.new) stream.new.desk (T.kept shelf.new) (T.faults shelf.new)
         (F.seen stream.new.face) result }
     ensures does { TurnDoes work.old.due stream.old.desk stream.new.desk (F.seen stream.old.face) (F.seen stream.new.face) result }
+    ensures told { IsTold (λ look. F.tells look (app_gist (F.seen stream.new.face)) (F.beside stream.new.face)) result }
+    ensures same { (F.seen stream.new.face).app ≡ (F.seen stream.old.face).app }
     ensures beside { F.beside stream.new.face ≡ F.beside stream.old.face }
 {
     if let Some(loan) = work.due.take() {
@@ -253,6 +276,10 @@ impl<F: AppFace, T: Shelf> ToShelf<F, T> {
             (F.seen self.new.face) result }
         // Why it did something, waited, or ended.
         ensures does { TurnDoes self.old.tally.due self.old.desk self.new.desk (F.seen self.old.face) (F.seen self.new.face) result }
+        // The board says of the look on which it rests that it is so.
+        ensures told { IsTold (λ look. F.tells look (app_gist (F.seen self.new.face)) (F.beside self.new.face)) result }
+        // The same application at the same board.
+        ensures same { (F.seen self.new.face).app ≡ (F.seen self.old.face).app }
         ensures beside { F.beside self.new.face ≡ F.beside self.old.face }
     {
         take_turn(&mut self.stream, &mut self.shelf, &mut self.work)
@@ -292,12 +319,13 @@ impl<F: AppFace + Drop, T: Shelf + Drop> Future for ToShelf<F, T> {
             → PourStands first losses self.old.tally self.old.desk (T.kept self.old.shelf) (T.faults self.old.shelf) (F.seen self.old.face)
             → PollPours first losses self.new.tally self.new.desk (T.kept self.new.shelf) (T.faults self.new.shelf)
             (F.seen self.new.face) result }
-        ensures does { PollDoes self.old.tally.due self.old.desk self.new.desk (F.seen self.old.face) (F.seen self.new.face) result }
+        ensures does { PollDoes (λ look. F.tells look (app_gist (F.seen self.new.face)) (F.beside self.new.face)) self.old.tally.due
+            self.old.desk self.new.desk (F.seen self.old.face) (F.seen self.new.face) result }
         ensures beside { F.beside self.new.face ≡ F.beside self.old.face }
     {
         match self.turn() {
             Ran::Did => cx.yield_now(),
-            Ran::Idle => cx.yield_now(),
+            Ran::Idle(_) => cx.yield_now(),
             Ran::Ended(poured) => Poll::Ready(poured),
         }
     }

@@ -2,7 +2,7 @@
 ghost use Rattle.std.specs.Prelude.{◌≡◌, ◌≤◌};
 ghost use Rattle.worker_runs.specs.Card.{IsCard};
 
-use super::{Sent, note, piece, short};
+use super::{Sent, gather, note, piece, short};
 use area_layout::Layout;
 use futures::executor::block_on;
 use std::alloc::Global;
@@ -10,12 +10,12 @@ use std::process::Abort;
 use std::test::*;
 use word_board::{NicSeat, WordBoard};
 use worker_runs::{Card, CardCall, Told, card_call};
-use zc_poll::{LoanStream, Poured, Ran, ToShelf};
+use zc_poll::{LoanStream, Poured, Ran, Step, ToShelf, Waits};
 use zr_io::MemShelf;
 use zr_kinds::Stopped;
 
 /// The card sends all of these.
-fn send_all(rt: &impl Abort, nic: &mut NicSeat<'_>, card: &mut Card, sent: &[Sent])
+pub(super) fn send_all(rt: &impl Abort, nic: &mut NicSeat<'_>, card: &mut Card, sent: &[Sent])
     requires { IsCard nic.old.side.view card.old }
     ensures { IsCard nic.new.side.view card.new }
 {
@@ -53,7 +53,7 @@ fn pours(
     for _turn in 0..64u32 {
         match work.turn() {
             Ran::Did => {}
-            Ran::Idle => {
+            Ran::Idle(_) => {
                 card_call(&mut nic, &mut card, CardCall::Entry);
                 card_call(&mut nic, &mut card, CardCall::End);
             }
@@ -126,5 +126,33 @@ fn pouring_is_a_future(rt: HostRuntime) -> Result<(), Fail> {
     let poured = block_on(&rt, work)?;
     assert_eq!(&rt; poured.loans, 1);
     assert_eq!(&rt; poured.stopped, Stopped::Write);
+    Ok(())
+}
+
+/// A stream that is stopped in the middle: its loan can be read still, and what comes later brings no item.
+#[test]
+fn a_stopped_stream_takes_what_comes(rt: HostRuntime) -> Result<(), Fail> {
+    let layout = Layout::new(4, 1, 4096).ok_or("no layout")?;
+    let (board, mut desk) = WordBoard::open(rt.alloc(), layout, 1, 16)?;
+    let mut nic = board.nic(&mut desk).ok_or("no seat of the card")?;
+    let seat = board.app(&mut desk, 0).ok_or("no seat of the application")?;
+    let mut card = Card::new();
+    let sent = [piece(0, 1000, b"ab"), piece(0, 1004, b"behind a gap")];
+    send_all(&rt, &mut nic, &mut card, &sent);
+    let mut stream = LoanStream::new(rt.alloc(), seat, 0);
+    let Step::Item(lent) = stream.step() else {
+        return Err(Fail::from("an item was wanted"));
+    };
+    stream.stop();
+    let got = gather(rt.alloc(), &mut stream, lent)?;
+    assert_eq!(&rt; &got.bytes[..], b"ab".as_slice());
+    let filling = note(3, 0, 1002, b"cd", true);
+    let told = card_call(&mut nic, &mut card, CardCall::Send(filling, b"cd"));
+    assert_eq!(&rt; told, Told::Done);
+    let waits = matches!(&stream.step(), Step::Waiting(Waits::NoNote));
+    assert!(&rt; waits);
+    card_call(&mut nic, &mut card, CardCall::End);
+    let ended = matches!(&stream.step(), Step::Ended);
+    assert!(&rt; ended);
     Ok(())
 }

@@ -2,9 +2,10 @@ use Rattle.std.proofs.Common.{rules, ◌≡◌, sym, subst}
 use Rattle.board_face.specs.declared.views.app.AppLook.TheVariants.{NotQuiet}
 use Rattle.board_face.specs.declared.views.app.AppView.{AppView}
 use Rattle.flow_queues.specs.Ends.{AppEnd, HasLeft}
+use Rattle.flow_queues.specs.Returned.{HasReturned}
 use Rattle.zc_poll.specs.PourTurns.{pour_end}
 use Rattle.zc_poll.specs.TallyOf.{tally_of}
-use Rattle.zc_poll.proofs.PourEnds.{left-pours, work_end}
+use Rattle.zc_poll.proofs.PourEnds.{left-pours, returned-pours, work_end}
 use Rattle.zc_poll.proofs.PourTurns.{saw-pours}
 use Rattle.zc_poll.proofs.to_shelf.close.Goals as goal
 
@@ -16,10 +17,15 @@ returns-then-not-leave-clause-gives g c =
     (g.F.AppFace.seen c.leave.new.self.face) NotQuiet before saw.1.event saw.0 c.leave.ensures.desk
 
 pub returns-clause-gives : goal.returns-clause-gives
-returns-clause-gives g c = λ first kept losses now before how quit.
+returns-clause-gives g c = λ first kept losses now before how.
     let left : AppEnd = pour_end c.told-poured.result in
-    let same : work_end (tally_of c.args.work.now) ≡ left = search rules in
-    subst (HasLeft how first kept losses now (g.F.AppFace.seen c.leave.new.self.face)) same
-    (subst (λ (v : AppView). HasLeft how first kept losses now v (work_end (tally_of c.args.work.now))) (sym c.if-not-leave.ensures.left)
-    (left-pours first kept losses now (tally_of c.args.work.now) c.args.stream.now.desk (g.F.AppFace.seen c.args.stream.now.face) before c.requires.due
-    c.requires.ended how quit))
+    let same : work_end (tally_of c.args.work.now) ≡ left = search rules in (
+      λ quit. subst (HasLeft how first kept losses now (g.F.AppFace.seen c.leave.new.self.face)) same
+          (subst (λ (v : AppView). HasLeft how first kept losses now v (work_end (tally_of c.args.work.now))) (sym c.if-not-leave.ensures.left)
+          (left-pours first kept losses now (tally_of c.args.work.now) c.args.stream.now.desk (g.F.AppFace.seen c.args.stream.now.face) before c.requires.due
+          c.requires.ended how quit)),
+      λ leak stray. subst (λ (e : AppEnd). HasReturned how e.stopped e.written (g.F.AppFace.seen c.leave.new.self.face)) same
+          (subst (λ (v : AppView). HasReturned how c.args.work.now.stopped c.args.work.now.written v) (sym c.if-not-leave.ensures.left)
+          (returned-pours first kept losses now (tally_of c.args.work.now) c.args.stream.now.desk (g.F.AppFace.seen c.args.stream.now.face) before c.requires.due
+          c.requires.ended how leak stray)),
+    )
