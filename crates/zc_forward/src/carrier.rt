@@ -48,7 +48,7 @@ pub trait Carrier {
         ensures told { TakesTag (tags self.old) (tags self.new) result }
         ensures looked { IfNone result (Rose (looks self.old) (looks self.new)) }
         ensures got { FlowsKeep (got self.old) (got self.new) }
-        ensures faults { faults self.old ≤ faults self.new }
+        ensures faults { faults self.new ≡ faults self.old }
         ensures looks { looks self.old ≤ looks self.new };
 
     /// As `notice`, for a task: a poll that is pending has registered for another.
@@ -59,13 +59,13 @@ pub trait Carrier {
         ensures registered { OnPending result (Covers cx.new (λ source. ⊥)) }
         ensures kept { Keeps cx.old cx.new }
         ensures got { FlowsKeep (got self.old) (got self.new) }
-        ensures faults { faults self.old ≤ faults self.new }
+        ensures faults { faults self.new ≡ faults self.old }
         ensures looks { looks self.old ≤ looks self.new };
 
     /// All tags are out no longer, without a notice.
     fn cancel(&mut self)
         ensures tags { tags self.new ≡ [] }
         ensures got { FlowsKeep (got self.old) (got self.new) }
-        ensures faults { faults self.old ≤ faults self.new }
+        ensures faults { faults self.new ≡ faults self.old }
         ensures looks { looks self.old ≤ looks self.new };
 }

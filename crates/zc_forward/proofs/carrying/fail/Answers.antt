@@ -1,0 +1,12 @@
+use Rattle.std.proofs.Common.{List, sym, ap, subst}
+use Rattle.board_face.specs.declared.views.app.TakenNote.{TakenNote}
+use Rattle.board_face.specs.declared.views.app.AppView.{AppView}
+use Rattle.zc_poll.specs.Standing.{Desk}
+use Rattle.zc_poll.specs.Items.{HasGiven}
+use Rattle.zc_forward.proofs.carrying.fail.Goals as goal
+
+pub returns-clause-items : goal.returns-clause-items
+returns-clause-items g c = λ items given.
+    c.stop.ensures.items items
+    (subst (λ (d : Desk). HasGiven items d.flows (g.F.AppFace.seen c.give_up.new.stream.face).taken) (sym c.give_up.ensures.desk)
+    (subst (λ (ts : List TakenNote). HasGiven items c.args.stream.now.desk.flows ts) (sym (ap (λ (v : AppView). v.taken) c.give_up.ensures.gave_up.view)) given))

@@ -1,0 +1,39 @@
+use Rattle.std.proofs.Common.{rules, ◌≡◌, ℕ, true, false, [], sym, subst, refl, vec_capacity}
+use Rattle.std.specs.Prelude.{None}
+use Rattle.zr_kinds.specs.declared.behaviour.Stopped.TheVariants as stop
+use Rattle.zc_poll.specs.Standing.{Desk, StreamStands}
+use Rattle.zc_poll.proofs.PourNew.{new-pours, new_tally}
+use Rattle.zc_forward.specs.Sending.{Outbox}
+use Rattle.zc_forward.specs.Forwarding.{ForwardStands}
+use Rattle.zc_forward.specs.OutboxOf.{outbox_of}
+use Rattle.zc_forward.proofs.Ends.{waits-forwards}
+use Rattle.zc_forward.proofs.forward.Forward.new.Goals as goal
+
+pub returns-clause-stands : goal.returns-clause-stands
+returns-clause-stands g c =
+    let (app, desk, fresh) = c.requires.fresh in
+    let got = g.C.Carrier.got c.args.carrier in
+    let losses = g.C.Carrier.faults c.args.carrier in
+    let tags = g.C.Carrier.tags c.args.carrier in
+    let room : ℕ = vec_capacity c.new-2.result in
+    let v = g.F.AppFace.seen c.args.stream.face in
+    let empty : Outbox = record { tally = new_tally room; out = []; uncarried = None; pressed = false } in
+    let same : empty ≡ outbox_of (record {
+      tally = record {
+        due = None;
+        written = 0;
+        loans = 0;
+        copied = 0;
+        stopped = stop.No;
+        counts = c.new.result;
+        flows = c.new-2.result;
+      };
+      out = c.new-3.result;
+      uncarried = None;
+      pressed = false;
+    }) = search rules in
+    subst (λ (o : Outbox). ForwardStands got losses o c.args.stream.desk tags got losses v) same
+    (subst (λ (d : Desk). ForwardStands got losses empty d tags got losses v) (sym desk)
+    (waits-forwards got got losses losses empty _ tags v
+    (new-pours got losses room app v fresh (subst (λ (d : Desk). StreamStands d v) desk c.requires.stands)) refl c.requires.none refl refl
+    (λ ended. (let e : false ≡ true = ended in absurd (cc)))))

@@ -1,0 +1,130 @@
+use Rattle.std.proofs.Common.{rules, inl, inr, false, ◌≡◌, ◌<◌, ◌∙◌, ◌++◌, ◌∷◌, [], ℕ, true, None, Some, nat_eq, refl, sym, ap, subst}
+use Rattle.std.specs.Map.{lookup}
+use Rattle.zr_kinds.specs.declared.behaviour.Stopped.TheVariants as stop
+use Rattle.board_face.specs.declared.views.app.LentPiece.{LentPiece}
+use Rattle.board_face.specs.declared.views.app.AppView.{AppView}
+use Rattle.flow_queues.specs.Core.{total}
+use Rattle.zc_poll.specs.Standing.{Desk, StreamStands}
+use Rattle.zc_poll.specs.Items.{HasGiven}
+use Rattle.zc_poll.specs.Counting.{Tally, AddsTo, item_counted}
+use Rattle.zc_poll.specs.TallyOf.{tally_of}
+use Rattle.zc_poll.proofs.ItemPoured.{Roomy}
+use Rattle.zc_poll.proofs.PourTurns.{only-reads-none}
+use Rattle.zc_forward.specs.declared.outbox.Outbox.{Outbox as Kept}
+use Rattle.zc_forward.specs.declared.sent.Sent.{Sent}
+use Rattle.zc_forward.specs.OutboxOf.{outbox_of}
+use Rattle.zc_forward.specs.Sending.{of_sent}
+use Rattle.zc_forward.specs.Tags.{Tags}
+use Rattle.zc_forward.specs.Forwarding.{ForwardStands}
+use Rattle.zc_forward.proofs.Items.{carries, fails, is-roomy, wants}
+use Rattle.zc_forward.proofs.Live.{pushed-sum}
+use Rattle.zc_forward.proofs.forwarding.forward_item.Goals as goal
+
+pub returns-then-is_err-clause-gives : goal.returns-then-is_err-clause-gives
+returns-then-is_err-clause-gives g c =
+    let roomy : Roomy (item_counted (tally_of c.args.work.now.tally) c.args.lent.copied) (tally_of c.room_for.new.work.tally) =
+    is-roomy c.args.work.now.tally c.count_item.new.work c.room_for.new.work.tally c.args.lent.copied c.count_item.ensures.tally c.room_for.ensures.same
+    c.room_for.ensures.room c.room_for.ensures.empty in
+    let adds : AddsTo c.args.lent.flow 0 c.args.work.now.tally.counts.entries c.room_for.new.work.tally.counts.entries =
+    subst (λ es. AddsTo c.args.lent.flow 0 es c.room_for.new.work.tally.counts.entries) (ap (λ (t : Tally). t.counts) c.count_item.ensures.tally)
+    c.room_for.ensures.none in
+    let k : Kept = record {
+      tally = record c.room_for.new.work.tally { stopped = stop.Memory };
+      out = c.room_for.new.work.out;
+      uncarried = Some c.args.lent.loan;
+      pressed = c.room_for.new.work.pressed;
+    } in
+    λ first losses st v before item only.
+    wants first (g.C.Carrier.got c.args.carrier.now) losses (g.C.Carrier.faults c.args.carrier.now) (outbox_of c.args.work.now) st c.args.stream.now.desk
+    (g.C.Carrier.tags c.args.carrier.now) v (g.F.AppFace.seen c.args.stream.now.face) before c.requires.none c.args.lent item only c.requires.stands
+    (tally_of c.room_for.new.work.tally) roomy adds (g.F.AppFace.seen c.stop.new.self.face) c.stop.new.self.desk (outbox_of k) c.stop.ensures.view
+    c.stop.ensures.items c.stop.ensures.stands c.stop.ensures.stopped.0 c.stop.ensures.stopped.1 refl c.room_for.ensures.beside.0 refl
+
+pub returns-then-is_err-clause-had : goal.returns-then-is_err-clause-had
+returns-then-is_err-clause-had g c = λ st v looks later item only.
+    let v1 : AppView = g.F.AppFace.seen c.args.stream.now.face in
+    record {
+      desk = c.args.stream.now.desk;
+      view = v1;
+      lent = c.args.lent;
+      item = item;
+      only = only;
+      read = v1;
+      reads = only-reads-none v1;
+      went = inr (c.stop.ensures.stopped.0, inl (c.stop.ensures.view, refl, refl));
+    }
+
+pub fail-requires-clause-loans : goal.fail-requires-clause-loans
+fail-requires-clause-loans g c = λ f.
+    let sent : Sent = record { tag = c.free_tag.result; flow = c.args.lent.flow; loan = c.args.lent.loan } in
+    let out : c.push_reserved.new.self.items ≡ c.args.work.now.out.items ++ sent ∷ [] =
+    c.push_reserved.ensures.items ∙ ap (λ ss. ss ++ sent ∷ []) c.room_for.ensures.beside.0 in
+    ap (λ (k : AppView). total (λ (l : LentPiece). f l.place) k.loans) c.send-done.ensures.only.view ∙ c.requires.loans.1 f
+    ∙ sym (ap (of_sent f) out ∙ pushed-sum f c.args.work.now.out.items sent)
+
+pub returns-then-done-len-clause-gives : goal.returns-then-done-len-clause-gives
+returns-then-done-len-clause-gives g c =
+    let roomy : Roomy (item_counted (tally_of c.args.work.now.tally) c.args.lent.copied) (tally_of c.room_for.new.work.tally) =
+    is-roomy c.args.work.now.tally c.count_item.new.work c.room_for.new.work.tally c.args.lent.copied c.count_item.ensures.tally c.room_for.ensures.same
+    c.room_for.ensures.room c.room_for.ensures.empty in
+    let adds : AddsTo c.args.lent.flow 0 c.args.work.now.tally.counts.entries c.room_for.new.work.tally.counts.entries =
+    subst (λ es. AddsTo c.args.lent.flow 0 es c.room_for.new.work.tally.counts.entries) (ap (λ (t : Tally). t.counts) c.count_item.ensures.tally)
+    c.room_for.ensures.none in
+    let read = c.send-done.ensures in
+    let gone = c.fail.ensures in
+    let part : c.send-done.result < c.args.lent.loan.len = search rules in
+    let y : AppView = g.F.AppFace.seen c.send-done.new.stream.face in
+    let none : g.C.Carrier.tags c.fail.new.carrier ≡ [] = gone.tags in
+    λ first losses st v before item only.
+    let stands : ForwardStands first losses (outbox_of c.fail.new.work) c.fail.new.stream.desk [] (g.C.Carrier.got c.fail.new.carrier)
+    (g.C.Carrier.faults c.send-done.new.carrier) (g.F.AppFace.seen c.fail.new.stream.face) =
+    fails first (g.C.Carrier.got c.args.carrier.now) losses (g.C.Carrier.faults c.args.carrier.now) (outbox_of c.args.work.now) st c.args.stream.now.desk
+    (g.C.Carrier.tags c.args.carrier.now) v (g.F.AppFace.seen c.args.stream.now.face) before c.requires.none c.args.lent item only c.requires.stands
+    (tally_of c.room_for.new.work.tally) roomy adds (g.C.Carrier.got c.send-done.new.carrier) y (tally_of c.count.new.work) c.send-done.result read.only
+    read.counted read.gained read.others (ap tally_of c.count.ensures.same) c.count.ensures.adds c.count.ensures.many (g.C.Carrier.got c.fail.new.carrier)
+    (g.C.Carrier.faults c.send-done.new.carrier) gone.gave_up.0 (g.F.AppFace.seen c.fail.new.stream.face) c.fail.new.stream.desk (outbox_of c.fail.new.work)
+    gone.got gone.gave_up.1 gone.gave_up.2 gone.none
+    (λ items given. gone.items items (subst (λ (d : Desk). HasGiven items d.flows y.taken) (sym read.desk) given))
+    gone.stands gone.stopped.0 (ap tally_of gone.work.0) gone.work.1 (gone.work.2 ∙ c.room_for.ensures.beside.1)
+    (λ ended. (let e : true ≡ false = sym ended ∙ gone.stopped.1 ∙ ap (λ (d : Desk). d.ended) read.desk ∙ item.more in absurd (cc)))
+    read.later (read.cause part) in
+    subst (λ n. ForwardStands first losses (outbox_of c.fail.new.work) c.fail.new.stream.desk (g.C.Carrier.tags c.fail.new.carrier)
+    (g.C.Carrier.got c.fail.new.carrier) n (g.F.AppFace.seen c.fail.new.stream.face)) (sym gone.faults)
+    (subst (λ (ts : Tags). ForwardStands first losses (outbox_of c.fail.new.work) c.fail.new.stream.desk ts (g.C.Carrier.got c.fail.new.carrier)
+    (g.C.Carrier.faults c.send-done.new.carrier) (g.F.AppFace.seen c.fail.new.stream.face)) (sym none) stands)
+
+pub returns-else-done-len-clause-gives : goal.returns-else-done-len-clause-gives
+returns-else-done-len-clause-gives g c =
+    let roomy : Roomy (item_counted (tally_of c.args.work.now.tally) c.args.lent.copied) (tally_of c.room_for.new.work.tally) =
+    is-roomy c.args.work.now.tally c.count_item.new.work c.room_for.new.work.tally c.args.lent.copied c.count_item.ensures.tally c.room_for.ensures.same
+    c.room_for.ensures.room c.room_for.ensures.empty in
+    let adds : AddsTo c.args.lent.flow 0 c.args.work.now.tally.counts.entries c.room_for.new.work.tally.counts.entries =
+    subst (λ es. AddsTo c.args.lent.flow 0 es c.room_for.new.work.tally.counts.entries) (ap (λ (t : Tally). t.counts) c.count_item.ensures.tally)
+    c.room_for.ensures.none in
+    let read = c.send-done.ensures in
+    let full : c.send-done.result ≡ c.args.lent.loan.len = search rules in
+    let y : AppView = g.F.AppFace.seen c.send-done.new.stream.face in
+    let tag : ℕ = c.free_tag.result in
+    let sent : Sent = record { tag = tag; flow = c.args.lent.flow; loan = c.args.lent.loan } in
+    let out : c.push_reserved.new.self.items ≡ c.args.work.now.out.items ++ sent ∷ [] =
+    c.push_reserved.ensures.items ∙ ap (λ ss. ss ++ sent ∷ []) c.room_for.ensures.beside.0 in
+    let free : lookup (nat_eq tag) (g.C.Carrier.tags c.args.carrier.now) ≡ None = search rules in
+    let k : Kept = record {
+      tally = c.count.new.work;
+      out = c.push_reserved.new.self;
+      uncarried = c.room_for.new.work.uncarried;
+      pressed = c.room_for.new.work.pressed;
+    } in
+    λ first losses st v before item only.
+    let stands : ForwardStands first losses (outbox_of k) c.args.stream.now.desk (g.C.Carrier.tags c.args.carrier.now ++ (tag, c.args.lent.flow) ∷ [])
+    (g.C.Carrier.got c.send-done.new.carrier) (g.C.Carrier.faults c.send-done.new.carrier) y =
+    carries first (g.C.Carrier.got c.args.carrier.now) losses (g.C.Carrier.faults c.args.carrier.now) (outbox_of c.args.work.now) st c.args.stream.now.desk
+    (g.C.Carrier.tags c.args.carrier.now) v (g.F.AppFace.seen c.args.stream.now.face) before c.requires.none c.args.lent item only c.requires.stands
+    (tally_of c.room_for.new.work.tally) roomy adds (g.C.Carrier.got c.send-done.new.carrier) y (tally_of c.count.new.work) c.send-done.result read.only
+    read.counted read.gained read.others (ap tally_of c.count.ensures.same) c.count.ensures.adds c.count.ensures.many
+    (g.C.Carrier.faults c.send-done.new.carrier) tag (outbox_of k) refl out c.room_for.ensures.beside.1 free c.requires.few full
+    (subst (λ (d : Desk). StreamStands d y) read.desk read.stands) (read.still full) in
+    subst (λ (ts : Tags). ForwardStands first losses (outbox_of k) c.send-done.new.stream.desk ts (g.C.Carrier.got c.send-done.new.carrier)
+    (g.C.Carrier.faults c.send-done.new.carrier) y) (sym (read.tags full))
+    (subst (λ (d : Desk). ForwardStands first losses (outbox_of k) d (g.C.Carrier.tags c.args.carrier.now ++ (tag, c.args.lent.flow) ∷ [])
+    (g.C.Carrier.got c.send-done.new.carrier) (g.C.Carrier.faults c.send-done.new.carrier) y) (sym read.desk) stands)

@@ -1,0 +1,47 @@
+use Rattle.std.proofs.Common.{rules, ◌≡◌, Some, sym, subst}
+use Rattle.board_face.specs.declared.views.app.AppView.{AppView}
+use Rattle.zc_forward.specs.OutboxOf.{outbox_of}
+use Rattle.zc_forward.specs.Tags.{Tags, TakesTag}
+use Rattle.zc_forward.specs.Sending.{Outbox}
+use Rattle.zc_forward.specs.Forwarding.{ForwardStands}
+use Rattle.zc_forward.specs.Turns.{Stage, TurnDoes, stage_of, with_due}
+use Rattle.zc_forward.proofs.Live.{has-out}
+use Rattle.zc_forward.proofs.Forwards.{due-out}
+use Rattle.zc_forward.proofs.forwarding.go_on.Goals as goal
+
+pub give_back-requires-clause-out : goal.give_back-requires-clause-out
+give_back-requires-clause-out g c =
+    let v : AppView = g.F.AppFace.seen c.args.stream.now.face in
+    let (first, losses, was, took, before) = c.requires.stands in
+    let due : c.args.work.now.tally.due ≡ Some c.in-Some-take.loan = search rules in
+    has-out v c.in-Some-take.loan (due-out (outbox_of c.args.work.now) v.loans c.in-Some-take.loan before.loans due)
+
+pub returns-then-not-has_ended-clause-does : goal.returns-then-not-has_ended-clause-does
+returns-then-not-has_ended-clause-does g c = λ was looks took asked.
+    let v : AppView = g.F.AppFace.seen c.args.stream.now.face in
+    let none : g.C.Carrier.tags c.args.carrier.now ≡ was = subst (TakesTag was (g.C.Carrier.tags c.args.carrier.now)) c.in_default.is took in
+    let same : with_due (outbox_of c.args.work.now) c.take.new.self ≡ outbox_of c.args.work.now = search rules in
+    let now : Stage = stage_of (outbox_of c.take_step.new.work) c.take_step.new.stream.desk (g.C.Carrier.tags c.take_step.new.carrier)
+    (g.C.Carrier.looks c.take_step.new.carrier) (g.F.AppFace.seen c.take_step.new.stream.face) in
+    subst (λ (o : Outbox). TurnDoes (stage_of o c.args.stream.now.desk was looks v) now c.take_step.result) same
+    (subst (λ (ts : Tags). TurnDoes (stage_of (with_due (outbox_of c.args.work.now) c.take.new.self) c.args.stream.now.desk ts looks v) now c.take_step.result) none
+    (c.take_step.ensures.does looks))
+
+pub returns-clause-does : goal.returns-clause-does
+returns-clause-does g c = λ was looks took asked.
+    let v : AppView = g.F.AppFace.seen c.args.stream.now.face in
+    let tags : Tags = g.C.Carrier.tags c.args.carrier.now in
+    let none : tags ≡ was = subst (TakesTag was tags) c.in_default.is took in
+    let same : with_due (outbox_of c.args.work.now) c.take.new.self ≡ outbox_of c.args.work.now = search rules in
+    let now : Stage = stage_of (outbox_of c.leave.new.work) c.leave.new.stream.desk tags (g.C.Carrier.looks c.args.carrier.now)
+    (g.F.AppFace.seen c.leave.new.stream.face) in
+    let (first, losses, earlier, gone, before) = c.requires.stands in
+    let got = g.C.Carrier.got c.args.carrier.now in
+    let faults = g.C.Carrier.faults c.args.carrier.now in
+    let on : ForwardStands first losses (outbox_of c.args.work.now) c.args.stream.now.desk tags got faults v =
+    subst (λ (ts : Tags). ForwardStands first losses (outbox_of c.args.work.now) c.args.stream.now.desk ts got faults v)
+    (sym (subst (TakesTag earlier tags) c.in_default.is gone)) before in
+    subst (λ (o : Outbox). TurnDoes (stage_of o c.args.stream.now.desk was looks v) now c.leave.result) same
+    (subst (λ (ts : Tags). TurnDoes (stage_of (with_due (outbox_of c.args.work.now) c.take.new.self) c.args.stream.now.desk ts looks v) now c.leave.result) none
+    (c.leave.ensures.does first got losses faults tags looks (g.C.Carrier.looks c.args.carrier.now)
+    (subst (λ (o : Outbox). ForwardStands first losses o c.args.stream.now.desk tags got faults v) (sym same) on)))

@@ -1,0 +1,13 @@
+-- Loans are given up.
+use Rattle.std.specs.Prelude.{◌≡◌, ℕ, ◌+◌, List, ◌++◌}
+use Rattle.board_face.specs.declared.views.app.LentPiece.{LentPiece}
+use Rattle.board_face.specs.declared.views.app.AppView.{AppView}
+use Rattle.flow_queues.specs.Core.{total, IsIn}
+
+-- loans were given up, and nothing else changed
+pub record GaveUp (old new : AppView) : Type 0 where
+  pub view : new ≡ record old { loans = new.loans; returned = new.returned }
+  pub gone : List LentPiece
+  pub returned : new.returned ≡ old.returned ++ gone
+  pub sums : (f : LentPiece → ℕ) → total f new.loans + total f gone ≡ total f old.loans
+  pub each : (l : LentPiece) → IsIn l old.loans → IsIn l (new.loans ++ gone)

@@ -1,0 +1,56 @@
+-- The loans that are out, by their tags, and what forwarding keeps beside its stream and its carrier.
+use Rattle.std.specs.Prelude.{◌≡◌, ℕ, ◌+◌, ◌==◌, ◌||◌, Bool, true, false, List, length, map, Option, Some, None}
+use Rattle.zr_kinds.specs.declared.place.Place.{Place}
+use Rattle.board_face.specs.AppEvents.{abandoned}
+use Rattle.board_face.specs.declared.views.app.LentPiece.{LentPiece}
+use Rattle.board_face.specs.declared.views.app.AppView.{AppView}
+use Rattle.flow_queues.specs.Core.{total}
+use Rattle.zc_poll.specs.Counting.{Tally}
+use Rattle.zc_poll.specs.declared.step.Waits.{Waits}
+use Rattle.zc_poll.specs.declared.step.Waits.TheVariants.{NoNote, ReserveHeld, Enough}
+use Rattle.zc_forward.specs.declared.sent.Sent.{Sent}
+use Rattle.zc_forward.specs.Tags.{Tags}
+
+-- their tags, each with its flow
+abbrev pub tags_of : List Sent → Tags
+tags_of out = map (λ s. (s.tag, s.flow)) out
+
+-- what forwarding keeps beside its stream and its carrier
+pub record Outbox : Type 0 where
+  -- its counts, and the loan whose notice came and that is to be given back
+  pub tally : Tally
+  -- the loans whose tags are out
+  pub out : List Sent
+  -- a loan that wasn't carried for want of memory
+  pub uncarried : Option Place
+  -- the stream waits for a buffer, or has ended
+  pub pressed : Bool
+
+-- how many loans may be out by their tags
+abbrev pub most_out : ℕ
+most_out = 64
+
+-- whether the next notice is wanted soon
+abbrev pub is_urgent : Outbox → Bool
+is_urgent w = w.pressed || (length w.out == most_out)
+
+abbrev pub is_held : Waits → Bool
+is_held NoNote = false
+is_held ReserveHeld = true
+is_held Enough = false
+
+abbrev pub of_one : (Place → ℕ) → Option Place → ℕ
+of_one f None = 0
+of_one f (Some loan) = f loan
+
+abbrev pub of_sent : (Place → ℕ) → List Sent → ℕ
+of_sent f out = total (λ s. f s.loan) out
+
+-- The loans that are out are those that are kept, each once: by their tags, and one that is due, and one that wasn't carried.
+abbrev pub AreLoans : Outbox → List LentPiece → Type 0
+AreLoans w loans = (f : Place → ℕ) → total (λ (l : LentPiece). f l.place) loans ≡ of_one f w.tally.due + of_one f w.uncarried + of_sent f w.out
+
+-- with the loan given up that wasn't carried
+abbrev pub without_uncarried : Option Place → AppView → AppView
+without_uncarried None v = v
+without_uncarried (Some loan) v = abandoned v loan

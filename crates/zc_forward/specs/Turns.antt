@@ -1,0 +1,137 @@
+-- What a turn of forwarding does, and what it ends with.
+use Rattle.std.specs.Prelude.{◌≡◌, ◌≢◌, ◌<◌, ◌⊎◌, ◌↔◌, ℕ, true, false, List, [], ◌∷◌, ◌++◌, length, Option, Some, None, nat_eq}
+use Rattle.std.specs.Ordering.{nat_cmp}
+use Rattle.std.specs.Map.{keys_of, lookup}
+use Rattle.std.specs.List.Sorted.{IsStrictlySortedBy}
+use Rattle.zr_kinds.specs.declared.place.Place.{Place}
+use Rattle.zr_kinds.specs.declared.behaviour.Behaviour.{Behaviour}
+use Rattle.zr_kinds.specs.declared.behaviour.Stopped.TheVariants as stop
+use Rattle.zr_io.specs.Moved.{Rose}
+use Rattle.futures.specs.declared.task.Poll.{Poll}
+use Rattle.futures.specs.declared.task.Poll.TheVariants.{Ready, Pending}
+use Rattle.board_face.specs.AppCalls.{AppOnlySaw}
+use Rattle.board_face.specs.AppEvents.{gave}
+use Rattle.board_face.specs.NotNow.{HasWritten, HasWrittenRingful}
+use Rattle.board_face.specs.declared.views.app.AppLook.{AppLook}
+use Rattle.board_face.specs.declared.views.app.AppLook.TheVariants.{RefillInUse, NotQuiet as not_quiet}
+use Rattle.board_face.specs.declared.views.app.AppView.{AppView}
+use Rattle.flow_queues.specs.Core.{Each, IsIn, OnlyReads}
+use Rattle.flow_queues.specs.Ends.{HasLeft}
+use Rattle.flow_queues.specs.Returned.{HasReturned}
+use Rattle.zc_poll.specs.declared.step.Lent.{Lent}
+use Rattle.zc_poll.specs.declared.to_shelf.Rests.{Rests}
+use Rattle.zc_poll.specs.declared.to_shelf.Rests.TheVariants.{Stream, RefillFull, NotQuiet, NoNotice}
+use Rattle.zc_poll.specs.declared.step.Step.TheVariants.{Waiting, Memory, Ended as stream_ended}
+use Rattle.zc_poll.specs.declared.to_shelf.Poured.{Poured}
+use Rattle.zc_poll.specs.declared.to_shelf.Ran.{Ran}
+use Rattle.zc_poll.specs.declared.to_shelf.Ran.TheVariants.{Did, Idle, Ended}
+use Rattle.zc_poll.specs.Fresh.{has_left}
+use Rattle.zc_poll.specs.Standing.{Desk}
+use Rattle.zc_poll.specs.Steps.{OnlySteps, Steps, IsItem}
+use Rattle.zc_poll.specs.PourTurns.{IsTold, pour_end}
+use Rattle.zc_forward.specs.declared.sent.Sent.{Sent}
+use Rattle.zc_forward.specs.Tags.{Tags, TakesTag}
+use Rattle.zc_forward.specs.Sending.{Outbox, is_held, most_out, without_uncarried}
+use Rattle.zc_forward.specs.Forwarding.{ForwardStands}
+
+-- what a turn looks at: what is kept, the stream's desk, the tags that are out, how often the carrier had no notice, and the view
+pub record Stage : Type 0 where
+  pub work : Outbox
+  pub desk : Desk
+  pub tags : Tags
+  pub looks : ℕ
+  pub view : AppView
+
+abbrev pub stage_of : Outbox → Desk → Tags → ℕ → AppView → Stage
+stage_of work desk tags looks view = record { work = work; desk = desk; tags = tags; looks = looks; view = view }
+
+abbrev pub with_due : Outbox → Option Place → Outbox
+with_due w due = record w { tally = record w.tally { due = due } }
+
+-- `Did`: the loan was given back. `Idle`: a refill slot was seen in use, and it is due.
+abbrev pub GivesBack : Place → Outbox → Outbox → AppView → AppView → Ran → Type 0
+GivesBack loan w z old new Did = (z ≡ w) × (new ≡ gave old loan)
+GivesBack loan w z old new (Idle why) = (why ≡ RefillFull) × (z ≡ with_due w (Some loan)) × AppOnlySaw RefillInUse old new × HasWrittenRingful old
+GivesBack loan w z old new (Ended poured) = ⊥
+
+-- the loan was given back, or a refill slot was seen in use, and it is due
+abbrev pub GoesBack : Place → Outbox → AppView → AppView → Type 0
+GoesBack loan z old new = ((z.tally.due ≡ None) × (new ≡ gave old loan)) ⊎ ((z.tally.due ≡ Some loan) × AppOnlySaw RefillInUse old new)
+
+-- A notice came for the tag of a loan. The tag is out no longer, and the loan goes back.
+pub record Told (was now : Stage) : Type 0 where
+  pub sent : Sent
+  pub out : IsIn sent was.work.out
+  pub took : TakesTag was.tags now.tags (Some sent.tag)
+  pub back : GoesBack sent.loan now.work was.view now.view
+  pub desk : now.desk ≡ was.desk
+
+-- An item's bytes were read. Its tag went out with its loan; or there was no memory to count them, and the stream stopped; or
+-- the carrier failed, and then no tag and no loan is out, none was given back, and the stream stopped.
+pub record HadItem (was now : Stage) : Type 0 where
+  pub desk : Desk
+  pub view : AppView
+  pub lent : Lent
+  pub item : IsItem was.desk desk was.view view lent
+  pub only : OnlySteps was.view view
+  pub read : AppView
+  pub reads : OnlyReads view read
+  pub went : ((now.desk ≡ desk) × (now.view ≡ read) × (tag : ℕ) × (lookup (nat_eq tag) was.tags ≡ None)
+      × (now.tags ≡ was.tags ++ (tag, lent.flow) ∷ [])
+      × (now.work.out ≡ was.work.out ++ record { tag = tag; flow = lent.flow; loan = lent.loan } ∷ []))
+      ⊎ ((now.desk.stopped ≡ true)
+      × (((now.view ≡ record view { helds = [] }) × (now.work.uncarried ≡ Some lent.loan) × (now.tags ≡ was.tags))
+      ⊎ ((now.tags ≡ []) × (now.view ≡ record read { helds = []; loans = []; returned = now.view.returned }))))
+
+-- A notice came, or the loan that was due was given back, or the stream gave an item, had no memory, or was told for the first time
+-- that no note comes any more.
+abbrev pub Does : Stage → Stage → Type 0
+Does was now = Told was now
+    ⊎ (((loan : Place) × (was.work.tally.due ≡ Some loan) × (now.work.tally.due ≡ None) × (now.view ≡ gave was.view loan) × (now.tags ≡ was.tags))
+    ⊎ ((was.desk.ended ≡ false) × (HadItem was now
+    ⊎ ((now.tags ≡ was.tags) × OnlySteps was.view now.view × (Steps was.desk now.desk was.view now.view Memory
+    ⊎ (Steps was.desk now.desk was.view now.view stream_ended × (now.work.pressed ≡ true)))))))
+
+-- The stream waits; or the carrier had no notice while no more loans may go out, or no note comes any more; or a refill slot was seen
+-- in use, that of the loan that is due, or any one as it was to leave.
+abbrev pub Idles : Rests → Stage → Stage → Type 0
+Idles (Stream why) was now = (was.work.tally.due ≡ None) × (now.tags ≡ was.tags) × OnlySteps was.view now.view
+    × Steps was.desk now.desk was.view now.view (Waiting why) × (now.work.pressed ≡ is_held why)
+Idles NoNotice was now = (was.work.tally.due ≡ None) × (now.tags ≡ was.tags) × (now.view ≡ was.view) × Rose was.looks now.looks
+    × ((length was.work.out ≡ most_out) ⊎ (was.desk.ended ≡ true))
+Idles RefillFull was now = (was.work.tally.due ≢ None) × (now.tags ≡ was.tags) × AppOnlySaw RefillInUse was.view now.view × HasWrittenRingful was.view
+Idles NotQuiet was now = (was.work.tally.due ≡ None) × (was.tags ≡ []) × (was.desk.ended ≡ true)
+    × AppOnlySaw not_quiet (without_uncarried was.work.uncarried was.view) now.view
+    × HasWritten (without_uncarried was.work.uncarried was.view)
+
+abbrev pub TurnDoes : Stage → Stage → Ran → Type 0
+TurnDoes was now Did = Does was now
+TurnDoes was now (Idle why) = Idles why was now
+TurnDoes was now (Ended poured) = (was.work.tally.due ≡ None) × (was.tags ≡ []) × (was.desk.ended ≡ true)
+    × (now.view ≡ has_left (without_uncarried was.work.uncarried was.view))
+    × ((poured.stopped ≡ stop.No) ↔ (was.desk.stopped ≡ false)) × IsStrictlySortedBy nat_cmp (keys_of poured.flows.items)
+    × Each (λ f. 0 < f.1) poured.flows.items
+
+-- It goes on, or has left with what any application owes that isn't to quit, and keeps no loan and writes no raw entry.
+abbrev pub ForwardGives : (ℕ → Option (List ℕ)) → ℕ → Outbox → Desk → Tags → (ℕ → Option (List ℕ)) → ℕ → AppView → Ran → Type 0
+ForwardGives first losses w st tags got losses_now v (Ended poured) =
+    (how : Behaviour) → (how.quit ≡ None → HasLeft how first got losses losses_now v (pour_end poured))
+    × (how.leak ≡ 0 → how.stray ≡ 0 → HasReturned how poured.stopped poured.written v)
+ForwardGives first losses w st tags got losses_now v Did = ForwardStands first losses w st tags got losses_now v
+ForwardGives first losses w st tags got losses_now v (Idle why) = ForwardStands first losses w st tags got losses_now v
+
+-- what a contract sees of it
+pub record ForwardView (F C : Type 0) : Type 0 where
+  pub face : F
+  pub desk : Desk
+  pub carrier : C
+  pub work : Outbox
+
+-- what a poll gives and does is what one turn gives and does
+abbrev pub PollForwards : (ℕ → Option (List ℕ)) → ℕ → Outbox → Desk → Tags → (ℕ → Option (List ℕ)) → ℕ → AppView → Poll Poured → Type 0
+PollForwards first losses w st tags got losses_now v (Ready poured) = ForwardGives first losses w st tags got losses_now v (Ended poured)
+PollForwards first losses w st tags got losses_now v Pending = ForwardStands first losses w st tags got losses_now v
+
+abbrev pub PollDoes : (AppLook → Type 0) → Stage → Stage → Poll Poured → Type 0
+PollDoes is_so was now (Ready poured) = TurnDoes was now (Ended poured)
+PollDoes is_so was now Pending = TurnDoes was now Did ⊎ ((why : Rests) × TurnDoes was now (Idle why) × IsTold is_so (Idle why))

@@ -1,0 +1,38 @@
+//! A carrier is asked for a notice. While a loan is due it isn't, so that one at most is due.
+ghost use Rattle.std.specs.Prelude.{◌≡◌, IfNone, None};
+ghost use Rattle.futures.specs.Task.{Keeps};
+ghost use Rattle.zr_io.specs.Moved.{Rose};
+ghost use Rattle.zc_forward.specs.OutboxOf.{outbox_of};
+ghost use Rattle.zc_forward.specs.Asking.{Asked};
+
+use crate::carrier::Carrier;
+use crate::outbox::{Outbox, is_urgent};
+use futures::task::{Context, Poll};
+
+/// Asks for a notice.
+pub fn ask<C: Carrier>(carrier: &mut C, work: &Outbox) -> Option<u32>
+    ensures asked { Asked (outbox_of work.now) (C.got carrier.old) (C.got carrier.new) (C.tags carrier.old) (C.tags carrier.new) result }
+    ensures looked { IfNone result (work.now.tally.due ≡ None → Rose (C.looks carrier.old) (C.looks carrier.new)) }
+    ensures faults { C.faults carrier.new ≡ C.faults carrier.old }
+{
+    if work.tally.due.is_some() {
+        return None;
+    }
+    carrier.notice(is_urgent(work))
+}
+
+/// Asks for a notice by a poll.
+pub fn poll_ask<C: Carrier>(carrier: &mut C, work: &Outbox, cx: &mut Context<'_>) -> Option<u32>
+    ensures asked { Asked (outbox_of work.now) (C.got carrier.old) (C.got carrier.new) (C.tags carrier.old) (C.tags carrier.new) result }
+    ensures looked { IfNone result (work.now.tally.due ≡ None → Rose (C.looks carrier.old) (C.looks carrier.new)) }
+    ensures faults { C.faults carrier.new ≡ C.faults carrier.old }
+    ensures kept { Keeps cx.old cx.new }
+{
+    if work.tally.due.is_some() {
+        return None;
+    }
+    match carrier.poll_notice(cx, is_urgent(work)) {
+        Poll::Ready(tag) => Some(tag),
+        Poll::Pending => None,
+    }
+}

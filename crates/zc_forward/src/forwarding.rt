@@ -1,0 +1,248 @@
+//! The parts of a turn of forwarding.
+ghost use Rattle.std.specs.Prelude.{◌≡◌, ◌≢◌, ◌+◌, ◌<◌, ◌≤◌, ℕ, List, [], length, Option, Some, None, true, false, nat_eq, vec_capacity, IfSome};
+ghost use Rattle.zr_io.specs.Moved.{Rose};
+ghost use Rattle.board_face.specs.AppCalls.{HasLoan};
+ghost use Rattle.board_face.specs.AppEvents.{app_gist};
+ghost use Rattle.zr_kinds.specs.declared.place.Place.{Place};
+ghost use Rattle.board_face.specs.declared.views.app.LentPiece.{LentPiece};
+ghost use Rattle.board_face.specs.declared.views.app.AppView.{AppView};
+ghost use Rattle.flow_queues.specs.Core.{total};
+ghost use Rattle.zc_poll.specs.Standing.{Desk, StreamStands};
+ghost use Rattle.zc_poll.specs.Steps.{IsItem, OnlySteps};
+ghost use Rattle.zc_poll.specs.PourTurns.{IsTold};
+ghost use Rattle.zc_forward.specs.Tags.{Tags, TakesTag};
+ghost use Rattle.zc_forward.specs.OutboxOf.{outbox_of};
+ghost use Rattle.zc_forward.specs.Sending.{most_out, of_sent, tags_of, without_uncarried};
+ghost use Rattle.zc_forward.specs.Forwarding.{ForwardStands};
+ghost use Rattle.zc_forward.specs.Turns.{ForwardGives, GivesBack, HadItem, Told, TurnDoes, stage_of, with_due};
+
+use crate::carrier::Carrier;
+use crate::carrying::{fail, send};
+use crate::outbox::{Outbox, is_full, room_for};
+use crate::sent::{Sent, free_tag, take_sent};
+use board_face::{AppFace, Loan};
+use zc_poll::{Lent, LoanStream, Ran, Rests, Step, Waits, count, count_item, told};
+use zr_kinds::Stopped;
+
+/// Gives a loan back. Where the refill slot is in use it stays due.
+fn give_back<F: AppFace>(stream: &mut LoanStream<F>, work: &mut Outbox, loan: Loan) -> Ran
+    requires stands { StreamStands stream.old.desk (F.seen stream.old.face) }
+    requires out { HasLoan (F.seen stream.old.face) loan }
+    requires due { work.old.tally.due ≡ None }
+    ensures gives { (first got : ℕ → Option (List ℕ)) (losses now : ℕ) (tags : Tags)
+        → ForwardStands first losses (with_due (outbox_of work.old) (Some loan)) stream.old.desk tags got now (F.seen stream.old.face)
+        → ForwardStands first losses (outbox_of work.new) stream.new.desk tags got now (F.seen stream.new.face) }
+    ensures back { GivesBack loan (outbox_of work.old) (outbox_of work.new) (F.seen stream.old.face) (F.seen stream.new.face) result }
+    ensures desk { stream.new.desk ≡ stream.old.desk }
+    ensures told { IsTold (λ look. F.tells look (app_gist (F.seen stream.new.face)) (F.beside stream.new.face)) result }
+    ensures same { (F.seen stream.new.face).app ≡ (F.seen stream.old.face).app }
+    ensures beside { F.beside stream.new.face ≡ F.beside stream.old.face }
+{
+    match stream.give(loan) {
+        Ok(()) => Ran::Did,
+        Err(loan) => {
+            work.tally.due = Some(loan);
+            Ran::Idle(Rests::RefillFull)
+        }
+    }
+}
+
+/// Gives the loan back whose tag the carrier told.
+fn take_notice<F: AppFace>(stream: &mut LoanStream<F>, work: &mut Outbox, tag: u32)
+    requires stands { (first got : ℕ → Option (List ℕ)) × (losses now : ℕ) × (was tags : Tags)
+        × ForwardStands first losses (outbox_of work.old) stream.old.desk was got now (F.seen stream.old.face)
+        × TakesTag was tags (Some tag) }
+    requires due { work.old.tally.due ≡ None }
+    ensures gives { (first got : ℕ → Option (List ℕ)) (losses now : ℕ) (was tags : Tags)
+        → ForwardStands first losses (outbox_of work.old) stream.old.desk was got now (F.seen stream.old.face)
+        → TakesTag was tags (Some tag)
+        → ForwardStands first losses (outbox_of work.new) stream.new.desk tags got now (F.seen stream.new.face) }
+    ensures told { (was tags : Tags) (looks later : ℕ) → TakesTag was tags (Some tag)
+        → Told (stage_of (outbox_of work.old) stream.old.desk was looks (F.seen stream.old.face))
+        (stage_of (outbox_of work.new) stream.new.desk tags later (F.seen stream.new.face)) }
+    ensures same { (F.seen stream.new.face).app ≡ (F.seen stream.old.face).app }
+    ensures beside { F.beside stream.new.face ≡ F.beside stream.old.face }
+{
+    let loan = take_sent(&mut work.out, tag);
+    give_back(stream, work, loan);
+}
+
+/// Gives the loan up that wasn't carried.
+fn give_up_uncarried<F: AppFace>(stream: &mut LoanStream<F>, work: &mut Outbox)
+    requires stands { StreamStands stream.old.desk (F.seen stream.old.face) }
+    requires out { IfSome work.old.uncarried (λ loan. HasLoan (F.seen stream.old.face) loan) }
+    ensures stands { StreamStands stream.new.desk (F.seen stream.new.face) }
+    ensures desk { stream.new.desk ≡ stream.old.desk }
+    ensures view { F.seen stream.new.face ≡ without_uncarried work.old.uncarried (F.seen stream.old.face) }
+    ensures work { work.new ≡ record work.old { uncarried = None } }
+    ensures beside { F.beside stream.new.face ≡ F.beside stream.old.face }
+{
+    if let Some(loan) = work.uncarried.take() {
+        stream.abandon(loan);
+    }
+}
+
+/// Lets the face leave, once all is given back. A loan that wasn't carried is given up before.
+fn leave<F: AppFace>(stream: &mut LoanStream<F>, work: &mut Outbox) -> Ran
+    requires stands { (first got : ℕ → Option (List ℕ)) × (losses now : ℕ) × (tags : Tags)
+        × ForwardStands first losses (outbox_of work.old) stream.old.desk tags got now (F.seen stream.old.face) }
+    requires ended { stream.old.desk.ended ≡ true }
+    requires none { work.old.out.items ≡ [] }
+    requires due { work.old.tally.due ≡ None }
+    ensures gives { (first got : ℕ → Option (List ℕ)) (losses now : ℕ) (tags : Tags)
+        → ForwardStands first losses (outbox_of work.old) stream.old.desk tags got now (F.seen stream.old.face)
+        → ForwardGives first losses (outbox_of work.new) stream.new.desk tags got now (F.seen stream.new.face) result }
+    ensures does { (first got : ℕ → Option (List ℕ)) (losses now : ℕ) (tags : Tags) (looks later : ℕ)
+        → ForwardStands first losses (outbox_of work.old) stream.old.desk tags got now (F.seen stream.old.face)
+        → TurnDoes (stage_of (outbox_of work.old) stream.old.desk tags looks (F.seen stream.old.face))
+        (stage_of (outbox_of work.new) stream.new.desk tags later (F.seen stream.new.face)) result }
+    ensures told { IsTold (λ look. F.tells look (app_gist (F.seen stream.new.face)) (F.beside stream.new.face)) result }
+    ensures same { (F.seen stream.new.face).app ≡ (F.seen stream.old.face).app }
+    ensures beside { F.beside stream.new.face ≡ F.beside stream.old.face }
+{
+    give_up_uncarried(stream, work);
+    if !stream.leave() {
+        return Ran::Idle(Rests::NotQuiet);
+    }
+    let poured = told(&mut work.tally, stream.alloc());
+    Ran::Ended(poured)
+}
+
+/// Hands an item to the carrier. Where there is no memory to count it the stream is stopped, and so it is where the carrier fails.
+fn forward_item<F: AppFace, C: Carrier>(
+    stream: &mut LoanStream<F>,
+    carrier: &mut C,
+    work: &mut Outbox,
+    lent: Lent,
+)
+    requires stands { StreamStands stream.old.desk (F.seen stream.old.face) }
+    requires out { HasLoan (F.seen stream.old.face) lent.loan }
+    requires none { work.old.tally.due ≡ None }
+    requires few { length work.old.out.items < most_out }
+    requires tags { C.tags carrier.old ≡ tags_of work.old.out.items }
+    requires room { length work.old.tally.counts.entries ≤ vec_capacity work.old.tally.flows }
+    requires empty { work.old.tally.flows.items ≡ [] }
+    requires loans { work.old.uncarried ≡ None
+        × ((f : Place → ℕ) → total (λ (l : LentPiece). f l.place) (F.seen stream.old.face).loans ≡ f lent.loan + of_sent f work.old.out.items) }
+    ensures gives { (first : ℕ → Option (List ℕ)) (losses : ℕ) (st : Desk) (v : AppView)
+        → ForwardStands first losses (outbox_of work.old) st (C.tags carrier.old) (C.got carrier.old) (C.faults carrier.old) v
+        → IsItem st stream.old.desk v (F.seen stream.old.face) lent → OnlySteps v (F.seen stream.old.face)
+        → ForwardStands first losses (outbox_of work.new) stream.new.desk (C.tags carrier.new) (C.got carrier.new) (C.faults carrier.new)
+        (F.seen stream.new.face) }
+    ensures had { (st : Desk) (v : AppView) (looks later : ℕ) → IsItem st stream.old.desk v (F.seen stream.old.face) lent
+        → OnlySteps v (F.seen stream.old.face)
+        → HadItem (stage_of (outbox_of work.old) st (C.tags carrier.old) looks v)
+        (stage_of (outbox_of work.new) stream.new.desk (C.tags carrier.new) later (F.seen stream.new.face)) }
+    ensures looks { C.looks carrier.old ≤ C.looks carrier.new }
+    ensures same { (F.seen stream.new.face).app ≡ (F.seen stream.old.face).app }
+    ensures beside { F.beside stream.new.face ≡ F.beside stream.old.face }
+{
+    work.pressed = false;
+    count_item(&mut work.tally, lent.copied);
+    if room_for(work, lent.flow).is_err() {
+        stream.stop();
+        work.tally.stopped = Stopped::Memory;
+        work.uncarried = Some(lent.loan);
+        return;
+    }
+    let sent = Sent {
+        tag: free_tag(&work.out),
+        flow: lent.flow,
+        loan: lent.loan,
+    };
+    let done = send(stream, carrier, &sent);
+    count(&mut work.tally, sent.flow, done);
+    let len = sent.loan.place().len;
+    work.out.push_reserved(sent);
+    if done < len {
+        fail(stream, carrier, work);
+    }
+}
+
+/// Takes one step, and hands the item that it gave to the carrier.
+fn take_step<F: AppFace, C: Carrier>(
+    stream: &mut LoanStream<F>,
+    carrier: &mut C,
+    work: &mut Outbox,
+) -> Ran
+    requires stands { (first : ℕ → Option (List ℕ)) × (losses : ℕ)
+        × ForwardStands first losses (outbox_of work.old) stream.old.desk (C.tags carrier.old) (C.got carrier.old) (C.faults carrier.old)
+        (F.seen stream.old.face) }
+    requires more { stream.old.desk.ended ≡ false }
+    requires none { work.old.tally.due ≡ None }
+    requires few { length work.old.out.items < most_out }
+    ensures gives { (first : ℕ → Option (List ℕ)) (losses : ℕ)
+        → ForwardStands first losses (outbox_of work.old) stream.old.desk (C.tags carrier.old) (C.got carrier.old) (C.faults carrier.old)
+        (F.seen stream.old.face)
+        → ForwardGives first losses (outbox_of work.new) stream.new.desk (C.tags carrier.new) (C.got carrier.new) (C.faults carrier.new)
+        (F.seen stream.new.face) result }
+    ensures does { (looks : ℕ) → TurnDoes (stage_of (outbox_of work.old) stream.old.desk (C.tags carrier.old) looks (F.seen stream.old.face))
+        (stage_of (outbox_of work.new) stream.new.desk (C.tags carrier.new) (C.looks carrier.new) (F.seen stream.new.face)) result }
+    ensures looks { C.looks carrier.old ≤ C.looks carrier.new }
+    ensures told { IsTold (λ look. F.tells look (app_gist (F.seen stream.new.face)) (F.beside stream.new.face)) result }
+    ensures same { (F.seen stream.new.face).app ≡ (F.seen stream.old.face).app }
+    ensures beside { F.beside stream.new.face ≡ F.beside stream.old.face }
+{
+    match stream.step() {
+        Step::Item(lent) => {
+            forward_item(stream, carrier, work, lent);
+            Ran::Did
+        }
+        Step::Waiting(why) => {
+            work.pressed = why == Waits::ReserveHeld;
+            Ran::Idle(Rests::Stream(why))
+        }
+        Step::Memory => {
+            work.pressed = false;
+            work.tally.stopped = Stopped::Memory;
+            Ran::Did
+        }
+        Step::Ended => {
+            work.pressed = true;
+            Ran::Did
+        }
+    }
+}
+
+/// Gives the loan of the notice that came back, or the one that is due; or takes a step, or lets the face leave.
+pub fn go_on<F: AppFace, C: Carrier>(
+    stream: &mut LoanStream<F>,
+    carrier: &mut C,
+    work: &mut Outbox,
+    told: Option<u32>,
+) -> Ran
+    requires stands { (first : ℕ → Option (List ℕ)) × (losses : ℕ) × (was : Tags) × TakesTag was (C.tags carrier.old) told
+        × ForwardStands first losses (outbox_of work.old) stream.old.desk was (C.got carrier.old) (C.faults carrier.old)
+        (F.seen stream.old.face) }
+    requires asked { told ≢ None → work.old.tally.due ≡ None }
+    ensures gives { (first : ℕ → Option (List ℕ)) (losses : ℕ) (was : Tags) → TakesTag was (C.tags carrier.old) told
+        → ForwardStands first losses (outbox_of work.old) stream.old.desk was (C.got carrier.old) (C.faults carrier.old)
+        (F.seen stream.old.face)
+        → ForwardGives first losses (outbox_of work.new) stream.new.desk (C.tags carrier.new) (C.got carrier.new) (C.faults carrier.new)
+        (F.seen stream.new.face) result }
+    ensures does { (was : Tags) (looks : ℕ) → TakesTag was (C.tags carrier.old) told
+        → (told ≡ None → work.old.tally.due ≡ None → Rose looks (C.looks carrier.old))
+        → TurnDoes (stage_of (outbox_of work.old) stream.old.desk was looks (F.seen stream.old.face))
+        (stage_of (outbox_of work.new) stream.new.desk (C.tags carrier.new) (C.looks carrier.new) (F.seen stream.new.face)) result }
+    ensures told { IsTold (λ look. F.tells look (app_gist (F.seen stream.new.face)) (F.beside stream.new.face)) result }
+    ensures same { (F.seen stream.new.face).app ≡ (F.seen stream.old.face).app }
+    ensures beside { F.beside stream.new.face ≡ F.beside stream.old.face }
+{
+    if let Some(tag) = told {
+        take_notice(stream, work, tag);
+        return Ran::Did;
+    }
+    if let Some(loan) = work.tally.due.take() {
+        return give_back(stream, work, loan);
+    }
+    if is_full(work) {
+        return Ran::Idle(Rests::NoNotice);
+    }
+    if !stream.has_ended() {
+        return take_step(stream, carrier, work);
+    }
+    if !work.out.is_empty() {
+        return Ran::Idle(Rests::NoNotice);
+    }
+    leave(stream, work)
+}

@@ -1,0 +1,25 @@
+//! What holds of forwarding between any two of its turns. Nothing runs.
+ghost use Rattle.std.specs.Prelude.{◌≡◌, ℕ, List, Option};
+ghost use Rattle.board_face.specs.AppCalls.{HasLoan};
+ghost use Rattle.flow_queues.specs.Core.{Each};
+ghost use Rattle.flow_queues.specs.Marks.{AreWholeFrames};
+ghost use Rattle.flow_queues.specs.Streams.{HasFronts};
+ghost use Rattle.zc_forward.specs.Sending.{tags_of};
+ghost use Rattle.zc_forward.specs.Forwarding.{ForwardStands};
+
+use crate::carrier::Carrier;
+use crate::forward::Forward;
+use board_face::AppFace;
+
+/// What the carrier got for each flow since the begin is a front of the bytes at the flow's marks. While a tag is out its loan is out
+/// too, so its text stands.
+pub fn forward_law<F: AppFace, C: Carrier>(forward: &Forward<F, C>)
+    ensures fronts { (first : ℕ → Option (List ℕ)) (losses : ℕ)
+        → ForwardStands first losses forward.now.work forward.now.desk (C.tags forward.now.carrier) (C.got forward.now.carrier)
+        (C.faults forward.now.carrier) (F.seen forward.now.face)
+        → AreWholeFrames (F.seen forward.now.face).taken → HasFronts first (C.got forward.now.carrier) (F.seen forward.now.face) }
+    ensures live { (first : ℕ → Option (List ℕ)) (losses : ℕ)
+        → ForwardStands first losses forward.now.work forward.now.desk (C.tags forward.now.carrier) (C.got forward.now.carrier)
+        (C.faults forward.now.carrier) (F.seen forward.now.face)
+        → (C.tags forward.now.carrier ≡ tags_of forward.now.work.out) × Each (λ s. HasLoan (F.seen forward.now.face) s.loan) forward.now.work.out }
+{}

@@ -1,0 +1,55 @@
+//! What forwarding keeps beside its stream and its carrier.
+ghost use Rattle.std.specs.Prelude.{◌≡◌, ◌≤◌, ◌+◌, ◌==◌, List, [], length, vec_capacity, OnOk, OnErr, IsSome};
+ghost use Rattle.std.specs.Ordering.{nat_cmp};
+ghost use Rattle.std.specs.BTreeMap.{get};
+ghost use Rattle.zc_poll.specs.Counting.{AddsTo};
+ghost use Rattle.zc_forward.specs.OutboxOf.{outbox_of};
+ghost use Rattle.zc_forward.specs.Sending.{is_urgent as urgent, most_out};
+
+use crate::sent::{MOST, Sent};
+use board_face::Loan;
+use std::alloc::AllocError;
+use zc_poll::{Tally, make_room};
+
+/// What forwarding keeps beside its stream and its carrier.
+#[derive(Drop)]
+pub struct Outbox {
+    /// The counts, and the loan whose notice came and that is to be given back.
+    pub tally: Tally,
+    /// The loans whose tags are out.
+    pub out: Vec<Sent>,
+    /// A loan that wasn't carried for want of memory. It is given up at the end.
+    pub uncarried: Option<Loan>,
+    /// The stream waits for a buffer, or has ended.
+    pub pressed: bool,
+}
+
+/// Whether no more loans may go out.
+pub fn is_full(work: &Outbox) -> bool
+    ensures { result ≡ (length work.now.out.items == most_out) }
+{
+    work.out.len() == MOST as usize
+}
+
+/// Whether the next notice is wanted soon.
+pub fn is_urgent(work: &Outbox) -> bool
+    ensures { result ≡ urgent (outbox_of work.now) }
+{
+    work.pressed || is_full(work)
+}
+
+/// Asks for what one more loan of a flow takes.
+pub fn room_for(work: &mut Outbox, flow: u32) -> Result<(), AllocError>
+    requires room { length work.old.tally.counts.entries ≤ vec_capacity work.old.tally.flows }
+    requires empty { work.old.tally.flows.items ≡ [] }
+    ensures same { work.new.tally ≡ record work.old.tally { counts = work.new.tally.counts; flows = work.new.tally.flows } }
+    ensures beside { (work.new.out.items ≡ work.old.out.items) × (work.new.uncarried ≡ work.old.uncarried) × (work.new.pressed ≡ work.old.pressed) }
+    ensures none { AddsTo flow 0 work.old.tally.counts.entries work.new.tally.counts.entries }
+    ensures there { OnOk result (IsSome (get nat_cmp work.new.tally.counts flow)) }
+    ensures fits { OnOk result (length work.new.out.items + 1 ≤ vec_capacity work.new.out) }
+    ensures room { length work.new.tally.counts.entries ≤ vec_capacity work.new.tally.flows }
+    ensures empty { work.new.tally.flows.items ≡ [] }
+{
+    work.out.reserve(1)?;
+    make_room(&mut work.tally, flow)
+}
