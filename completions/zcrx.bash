@@ -15,8 +15,9 @@ _zcrx() {
     --ring) COMPREPLY=($(compgen -W "1 64 256" -- "$word")) ;;
     --split) COMPREPLY=($(compgen -W "0 64 128 256" -- "$word")) ;;
     --turns) COMPREPLY=($(compgen -W "n n0" -- "$word")) ;;
+    --forward) COMPREPLY=($(compgen -W "0 8 63" -- "$word")) ;;
     --hold | --leak | --stray | --quit) ;;
-    *) COMPREPLY=($(compgen -W "--buffers --size --areas --ring --split --hold --leak --stray --quit --turns" -- "$word")) ;;
+    *) COMPREPLY=($(compgen -W "--buffers --size --areas --ring --split --hold --leak --stray --quit --turns --polled --forward" -- "$word")) ;;
     esac
 }
 

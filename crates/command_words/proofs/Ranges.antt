@@ -10,8 +10,7 @@ use Rattle.std.proofs.lemmas.Bool.Decides.{nat_tests, Decides-and, Decides-or, D
 use Rattle.zr_kinds.specs.declared.behaviour.Behaviour.{Behaviour}
 use Rattle.command_words.specs.Assigned.{Text}
 use Rattle.command_words.specs.Numbers.{value_of, within}
-use Rattle.command_words.specs.Options.{AreInRange, AreTurns, are_turns, behaviour_of, is_turn, number_or, options_of, quit_of, size_of, sizes, turns_of}
-use Rattle.command_words.specs.declared.options.Options.{Options}
+use Rattle.command_words.specs.Options.{AreTurns, are_turns, behaviour_of, is_turn, number_or, quit_of, size_of, sizes, turns_of}
 
 abbrev Within : ℕ → ℕ → ℕ → Type 0
 Within least most n = (least ≤ n) × (n ≤ most)
@@ -72,12 +71,12 @@ size_of-sized said size is =
     (λ number read chosen. let through = passed (list_any (λ n. n == number) sizes) number size chosen in
     subst IsSize through.1 (size-among number through.0))
 
--- ---- the options together
+-- ---- how an application behaves
 
-AreKept : Behaviour → Type 0
+unfoldable pub AreKept : Behaviour → Type 0
 AreKept how = (how.hold ≤ 4096) × (how.leak ≤ 4096) × (how.stray ≤ 16)
 
-behaviour_of-kept : (value : Text → Option Text) (how : Behaviour) → behaviour_of value ≡ Some how → AreKept how
+pub behaviour_of-kept : (value : Text → Option Text) (how : Behaviour) → behaviour_of value ≡ Some how → AreKept how
 unfolding behaviour_of AreKept
 behaviour_of-kept value how is =
     option_and_then_some _ (number_or 0 0 4096 (value (codes "hold"))) how is (λ hold hold_is with_hold.
@@ -89,21 +88,6 @@ behaviour_of-kept value how is =
       (number_or-within 0 0 4096 (value (codes "leak")) leak (omega arith, omega arith) leak_is).1,
       (number_or-within 0 0 16 (value (codes "stray")) stray (omega arith, omega arith) stray_is).1,
     )))))
-
-pub options_of-in_range : (value : Text → Option Text) (options : Options) → options_of value ≡ Some options → AreInRange options
-unfolding options_of AreKept
-options_of-in_range value options is =
-    option_and_then_some _ (number_or 64 1 256 (value (codes "ring"))) options is (λ ring ring_is with_ring.
-    option_and_then_some _ (number_or 0 0 256 (value (codes "split"))) options with_ring (λ split split_is with_split.
-    option_and_then_some _ (behaviour_of value) options with_split (λ how how_is whole.
-    let kept = behaviour_of-kept value how how_is in
-    subst AreInRange (same_Some _ options whole) (record {
-      ring = number_or-within 64 1 256 (value (codes "ring")) ring (omega arith, omega arith) ring_is;
-      split = (number_or-within 0 0 256 (value (codes "split")) split (omega arith, omega arith) split_is).1;
-      hold = kept.0;
-      leak = kept.1;
-      stray = kept.2;
-    }))))
 
 -- ---- the text of turns
 

@@ -1,32 +1,47 @@
 -- What is read as a replay may be told to one; and its options are those that were said.
-use Rattle.std.proofs.Common.{ℕ, ◌≡◌, ◌∙◌, true, refl, sym, ap, List, length, Option, Some, None, option_map, codes}
-use Rattle.std.specs.Prelude.{IfSome, option_and_then}
+use Rattle.std.proofs.Common.{ℕ, ◌≡◌, ◌∙◌, true, false, refl, sym, ap, List, length, Option, Some, None, option_map, codes}
+use Rattle.std.specs.Prelude.{IfSome, Bool, option_and_then, is_some, if◌then◌else◌}
 use Rattle.std.specs.Borrow.{Bor}
 use Rattle.std.proofs.lemmas.Option.{option_and_then_some, same_Some}
 use Rattle.clap.specs.Matches.{found_of, first_value, matched_of, raw_values}
 use Rattle.clap.specs.declared.parser.matches.ArgMatches.{ArgMatches}
-use Rattle.command_words.specs.Asking.{Answers, port_id}
+use Rattle.command_words.specs.Asking.{Answers, flag_in, port_id}
 use Rattle.command_words.specs.Assigned.{Text, Said, if_any, is_among, value_said}
 use Rattle.command_words.specs.Numbers.{ports_of}
-use Rattle.command_words.specs.Options.{AreTurns, behaviour_of, option_names, options_of, turns_of}
+use Rattle.command_words.specs.Options.{AreTurns, behaviour_of, flag_names, option_names, options_of, stand_together, turns_of}
 use Rattle.command_words.specs.Areas.{pool_of}
 use Rattle.command_words.specs.Words.{IsReplay, ReplayShown, replay_of, replay_shown, told_of, told_with}
 use Rattle.command_words.specs.declared.reading.Replay.{Replay as Told}
 use Rattle.command_words.proofs.Porting.{ports_read}
 use Rattle.command_words.proofs.AreaRanges.{pool-makes}
-use Rattle.command_words.proofs.Ranges.{options_of-in_range, turns_of-turns}
+use Rattle.command_words.proofs.Ranges.{turns_of-turns}
+use Rattle.command_words.proofs.Ways.{options_of-in_range, own-turns}
 
 its_turns : (apps : ℕ) (turns : Option (Bor Text)) → IfSome (option_map (λ text. text.now) turns) (AreTurns apps)
     → IfSome turns (λ text. AreTurns apps text.now)
 its_turns apps None are = tt
 its_turns apps (Some text) are = are
 
-told-replay : (value : Text → Option Text) (words : List Text) (told : Told) → option_and_then (told_of value) (ports_of words) ≡ Some (replay_shown told)
+-- who has turns said a text of them
+its_own : (apps : ℕ) (said : Option Text) (turns : Option (Bor Text)) (P : Type 0) → turns_of apps said ≡ Some (option_map (λ text. text.now) turns)
+    → (is_some said ≡ true → P) → IfSome turns (λ text. P)
+its_own apps said None P is own = tt
+its_own apps None (Some text) P is own = let bad : None ≡ Some text.now = same_Some None (Some text.now) is in cc
+its_own apps (Some word) (Some text) P is own = own refl
+
+-- what a test lets through
+let_through : {A : Type 0} (test : Bool) (o : Option A) (y : A) → (if test then o else None) ≡ Some y → (test ≡ true) × (o ≡ Some y)
+let_through true o y is = (refl, is)
+let_through false o y is = cc
+
+told-replay : (value : Text → Option Text) (flag : Text → Bool) (words : List Text) (told : Told)
+    → option_and_then (told_of value flag) (ports_of words) ≡ Some (replay_shown told)
     → IsReplay told
-told-replay value words told is =
-    option_and_then_some (told_of value) (ports_of words) (replay_shown told) is (λ ports ports_are with_ports.
-    option_and_then_some (told_with value ports) (pool_of value) (replay_shown told) with_ports (λ areas areas_are with_areas.
-    option_and_then_some _ (options_of value) (replay_shown told) with_areas (λ options options_are with_options.
+told-replay value flag words told is =
+    option_and_then_some (told_of value flag) (ports_of words) (replay_shown told) is (λ ports ports_are with_ports.
+    let together = let_through (stand_together value flag) _ (replay_shown told) with_ports in
+    option_and_then_some (told_with value flag ports) (pool_of value) (replay_shown told) together.1 (λ areas areas_are with_areas.
+    option_and_then_some _ (options_of value flag) (replay_shown told) with_areas (λ options options_are with_options.
     option_and_then_some _ (turns_of (length ports) (value (codes "turns"))) (replay_shown told) with_options (λ turns turns_are whole.
     let same : record { ports = ports; areas = areas; options = options; turns = turns } ≡ replay_shown told = same_Some _ (replay_shown told) whole in
     let same_ports : ports ≡ told.ports.items = ap (λ (t : ReplayShown). t.ports) same in
@@ -34,69 +49,88 @@ told-replay value words told is =
     let same_options : options ≡ told.options = ap (λ (t : ReplayShown). t.options) same in
     let same_turns : turns ≡ option_map (λ text. text.now) told.turns = ap (λ (t : ReplayShown). t.turns) same in
     let are_ports = ports_read words told.ports.items (ports_are ∙ ap Some same_ports) in
+    let are_options = options_are ∙ ap Some same_options in
+    let are_turns = ap (λ (p : List ℕ). turns_of (length p) (value (codes "turns"))) (sym same_ports) ∙ turns_are ∙ ap Some same_turns in
     record {
       ports = are_ports;
       areas = pool-makes (length told.ports.items) (are_ports.some, are_ports.most) value told.areas.items (areas_are ∙ ap Some same_areas);
-      options = options_of-in_range value told.options (options_are ∙ ap Some same_options);
+      options = options_of-in_range value flag told.options together.0 are_options;
       turns = its_turns (length told.ports.items) told.turns
-          (turns_of-turns (length told.ports.items) (value (codes "turns")) _
-          (ap (λ (p : List ℕ). turns_of (length p) (value (codes "turns"))) (sym same_ports) ∙ turns_are ∙ ap Some same_turns));
+          (turns_of-turns (length told.ports.items) (value (codes "turns")) _ are_turns);
+      own = its_own (length told.ports.items) (value (codes "turns")) told.turns _ are_turns (own-turns value flag told.options together.0 are_options);
     }))))
 
 -- a replay that is read may be told to one
 pub replay_read : (said : Option Said) (told : Told) → Some (replay_shown told) ≡ replay_of said → IsReplay told
 replay_read None told is = cc
-replay_read (Some said) told is = told-replay (λ name. value_said name said.options) said.words told (sym is)
+replay_read (Some said) told is = told-replay (λ name. value_said name said.options) (λ name. is_among said.flags name) said.words told (sym is)
 
--- what is told by the same values is the same
+-- what is told by the same values and flags is the same
 abbrev AreSame : (Text → Option Text) → (Text → Option Text) → Type 0
 AreSame f g = (name : Text) → is_among option_names name ≡ true → f name ≡ g name
 
-pool-same : (f g : Text → Option Text) → AreSame f g → pool_of f ≡ pool_of g
-unfolding pool_of
-pool-same f g same = rw (same (codes "areas") refl, same (codes "buffers") refl, same (codes "size") refl) refl
+abbrev AreFlagged : (Text → Bool) → (Text → Bool) → Type 0
+AreFlagged a b = (name : Text) → is_among flag_names name ≡ true → a name ≡ b name
 
-with-same : (f g : Text → Option Text) (ports : List ℕ) (areas : List (ℕ × ℕ)) → AreSame f g → told_with f ports areas ≡ told_with g ports areas
-unfolding options_of behaviour_of
-with-same f g ports areas same =
-    rw (
-      same (codes "ring") refl,
-      same (codes "split") refl,
-      same (codes "hold") refl,
-      same (codes "leak") refl,
-      same (codes "stray") refl,
-      same (codes "quit") refl,
-      same (codes "turns") refl,
-    ) refl
+module _ (f g : Text → Option Text) (a b : Text → Bool) (same : AreSame f g) (flagged : AreFlagged a b) where
+  pool-same : pool_of f ≡ pool_of g
+  unfolding pool_of
+  pool-same = rw (same (codes "areas") refl, same (codes "buffers") refl, same (codes "size") refl) refl
 
-behind-same : (o : Option (List (ℕ × ℕ))) (h k : List (ℕ × ℕ) → Option ReplayShown) → ((areas : List (ℕ × ℕ)) → h areas ≡ k areas)
-    → option_and_then h o ≡ option_and_then k o
-behind-same None h k same = refl
-behind-same (Some areas) h k same = same areas
+  together-same : stand_together f a ≡ stand_together g b
+  unfolding stand_together
+  together-same =
+      rw (
+        same (codes "turns") refl,
+        same (codes "hold") refl,
+        same (codes "leak") refl,
+        same (codes "stray") refl,
+        same (codes "quit") refl,
+        same (codes "forward") refl,
+        flagged (codes "polled") refl,
+      ) refl
 
-pub told_of-same : (f g : Text → Option Text) (ports : List ℕ) → ((name : Text) → is_among option_names name ≡ true → f name ≡ g name)
-    → told_of f ports ≡ told_of g ports
-told_of-same f g ports same =
-    ap (option_and_then (told_with f ports)) (pool-same f g same)
-    ∙ behind-same (pool_of g) (told_with f ports) (told_with g ports) (λ areas. with-same f g ports areas same)
+  with-same : (ports : List ℕ) (areas : List (ℕ × ℕ)) → told_with f a ports areas ≡ told_with g b ports areas
+  unfolding options_of behaviour_of
+  with-same ports areas =
+      rw (
+        same (codes "ring") refl,
+        same (codes "split") refl,
+        same (codes "hold") refl,
+        same (codes "leak") refl,
+        same (codes "stray") refl,
+        same (codes "quit") refl,
+        same (codes "forward") refl,
+        same (codes "turns") refl,
+        flagged (codes "polled") refl,
+      ) refl
+
+  behind-same : (ports : List ℕ) (o : Option (List (ℕ × ℕ))) → option_and_then (told_with f a ports) o ≡ option_and_then (told_with g b ports) o
+  behind-same ports None = refl
+  behind-same ports (Some areas) = with-same ports areas
+
+  pub told_of-same : (ports : List ℕ) → told_of f a ports ≡ told_of g b ports
+  told_of-same ports = rw (together-same, pool-same, behind-same ports (pool_of g)) refl
 
 -- what clap answered is what the words say
-pub replay-said : (m : ArgMatches) (said : Option Said) (ports : List ℕ) (told : Option ReplayShown) → Answers option_names (Some m) said
+pub replay-said : (m : ArgMatches) (said : Option Said) (ports : List ℕ) (told : Option ReplayShown) → Answers option_names flag_names (Some m) said
     → ((words : List Text) → option_map raw_values (matched_of (found_of m) port_id) ≡ if_any words → Some ports ≡ ports_of words)
-    → told ≡ told_of (λ name. first_value (found_of m) name) ports → told ≡ replay_of said
+    → told ≡ told_of (λ name. first_value (found_of m) name) (flag_in m) ports → told ≡ replay_of said
 replay-said m None ports told has are is = absurd has
 replay-said m (Some said) ports told has are is =
-    is ∙ told_of-same (λ name. first_value (found_of m) name) (λ name. value_said name said.options) ports has.options
-    ∙ ap (option_and_then (told_of (λ name. value_said name said.options))) (are said.words has.words)
+    is ∙ told_of-same (λ name. first_value (found_of m) name) (λ name. value_said name said.options) (flag_in m) (λ name. is_among said.flags name)
+    has.options has.flagged ports
+    ∙ ap (option_and_then (told_of (λ name. value_said name said.options) (λ name. is_among said.flags name))) (are said.words has.words)
 
 -- clap answered nothing
-pub nothing-said : (said : Option Said) → Answers option_names None said → None ≡ replay_of said
+pub nothing-said : (said : Option Said) → Answers option_names flag_names None said → None ≡ replay_of said
 nothing-said None has = refl
 nothing-said (Some said) has = absurd has
 
 -- the words that stand for themselves are no ports
-pub no-ports-said : (m : ArgMatches) (said : Option Said) → Answers option_names (Some m) said
+pub no-ports-said : (m : ArgMatches) (said : Option Said) → Answers option_names flag_names (Some m) said
     → ((words : List Text) → option_map raw_values (matched_of (found_of m) port_id) ≡ if_any words → None ≡ ports_of words)
     → None ≡ replay_of said
 no-ports-said m None has none = absurd has
-no-ports-said m (Some said) has none = ap (option_and_then (told_of (λ name. value_said name said.options))) (none said.words has.words)
+no-ports-said m (Some said) has none =
+    ap (option_and_then (told_of (λ name. value_said name said.options) (λ name. is_among said.flags name))) (none said.words has.words)

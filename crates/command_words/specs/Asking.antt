@@ -1,29 +1,41 @@
 -- What clap is asked, and what its matches answer.
-use Rattle.std.specs.Prelude.{◌≡◌, ⊤, true, List, [], ◌∷◌, Option, Some, None, option_map, codes}
+use Rattle.std.specs.Prelude.{◌≡◌, ⊤, Bool, true, false, List, [], ◌∷◌, ◌++◌, map, Option, Some, None, option_map, codes}
+use Rattle.std.specs.List.{list_any}
+use Rattle.std.specs.Str.{bytes_eq}
 use Rattle.clap.specs.Matches.{found_of, first_value, matched_of, raw_values}
 use Rattle.clap.specs.Walk.{Rule}
 use Rattle.clap.specs.Simple.{App, new_rule, new_shape}
-use Rattle.clap.specs.declared.builder.action.ArgAction.TheVariants.{Set, Append}
+use Rattle.clap.specs.declared.builder.action.ArgAction.TheVariants.{Set, SetTrue, Append}
 use Rattle.clap.specs.declared.parser.matches.ArgMatches.{ArgMatches}
 use Rattle.command_words.specs.Assigned.{Text, Said, if_any, is_among, value_said}
 
 abbrev pub port_id : Text
 port_id = codes "PORT"
 
--- an option takes one value; the words that stand for themselves go to one positional
+-- no option is called as a flag, and neither as the words that stand for themselves
+pub record AreApart (names flags : List Text) : Type 0 where
+  pub unlike : list_any (is_among names) flags ≡ false
+  pub words : (is_among names port_id ≡ false) × (is_among flags port_id ≡ false)
+
+-- an option takes one value and a flag none; the words that stand for themselves go to one positional
 abbrev pub raw_option : Text → Rule
 raw_option name = record (new_rule name) { long = Some name; action = Some Set }
+
+abbrev pub raw_flag : Text → Rule
+raw_flag name = record (new_rule name) { long = Some name; action = Some SetTrue }
 
 abbrev pub raw_port : Rule
 raw_port = record (new_rule port_id) { action = Some Append }
 
-abbrev pub raw_rules : List Text → List Rule
-raw_rules [] = raw_port ∷ []
-raw_rules (name ∷ names) = raw_option name ∷ raw_rules names
-
 abbrev pub option_rules : List Text → List Rule
-option_rules [] = []
-option_rules (name ∷ names) = raw_option name ∷ option_rules names
+option_rules = map raw_option
+
+abbrev pub flag_rules : List Text → List Rule
+flag_rules = map raw_flag
+
+-- the options, then the flags, and last the words that stand for themselves
+abbrev pub raw_rules : List Text → List Text → List Rule
+raw_rules names flags = option_rules names ++ (flag_rules flags ++ raw_port ∷ [])
 
 -- these arguments and no help; the first word stands where a program's name would
 abbrev pub app_with : List Rule → App
@@ -32,18 +44,27 @@ app_with rules = record {
   subs = [];
 }
 
-abbrev pub app_for : List Text → App
-app_for names = app_with (raw_rules names)
+abbrev pub app_for : List Text → List Text → App
+app_for names flags = app_with (raw_rules names flags)
 
--- the matches have what was said: the value of each option, and the words that stand for themselves
-pub record HasSaid (names : List Text) (matches : ArgMatches) (said : Said) : Type 0 where
+-- a flag has a value in each case: `true` where it was said
+abbrev pub is_true : Option Text → Bool
+is_true None = false
+is_true (Some text) = bytes_eq text (codes "true")
+
+abbrev pub flag_in : ArgMatches → Text → Bool
+flag_in matches name = is_true (first_value (found_of matches) name)
+
+-- the matches have what was said: the value of each option, the flags, and the words that stand for themselves
+pub record HasSaid (names flags : List Text) (matches : ArgMatches) (said : Said) : Type 0 where
   pub options : (name : Text) → is_among names name ≡ true
       → first_value (found_of matches) name ≡ value_said name said.options
+  pub flagged : (name : Text) → is_among flags name ≡ true → flag_in matches name ≡ is_among said.flags name
   pub words : option_map raw_values (matched_of (found_of matches) port_id) ≡ if_any said.words
 
 -- matches come exactly where the words say something
-abbrev pub Answers : List Text → Option ArgMatches → Option Said → Type 0
-Answers names (Some matches) (Some said) = HasSaid names matches said
-Answers names None None = ⊤
-Answers names (Some matches) None = ⊥
-Answers names None (Some said) = ⊥
+abbrev pub Answers : List Text → List Text → Option ArgMatches → Option Said → Type 0
+Answers names flags (Some matches) (Some said) = HasSaid names flags matches said
+Answers names flags None None = ⊤
+Answers names flags (Some matches) None = ⊥
+Answers names flags None (Some said) = ⊥

@@ -1,5 +1,5 @@
--- Which word is an option, which is an option's value, and which stands for itself. A word is the list of its bytes.
-use Rattle.std.specs.Prelude.{ℕ, Bool, List, [], ◌∷◌, map, if◌then◌else◌, ◌==◌, Option, Some, None, option_map, option_and_then}
+-- Which word is an option or a flag, which is an option's value, and which stands for itself. A word is the list of its bytes.
+use Rattle.std.specs.Prelude.{ℕ, Bool, List, [], ◌∷◌, map, if◌then◌else◌, ◌==◌, ◌&&◌, Option, Some, None, option_map, option_and_then}
 use Rattle.std.specs.List.{list_any, before_first, after_first}
 use Rattle.std.specs.Str.{bytes_eq}
 use Rattle.command_words.specs.Numbers.{is_distinct}
@@ -39,16 +39,21 @@ abbrev pub look_of : Text → Look
 look_of [] = plain
 look_of (byte ∷ rest) = if byte == dash then after_dash rest else plain
 
--- what words say: the options that they name, each with its value, and the words that stand for themselves
+-- what words say: the options that they name, each with its value, the flags, which have none, and the words that stand for
+-- themselves
 pub record Said : Type 0 where
   pub options : List (Text × Text)
+  pub flags : List Text
   pub words : List Text
 
 abbrev pub nothing_said : Said
-nothing_said = record { options = []; words = [] }
+nothing_said = record { options = []; flags = []; words = [] }
 
 abbrev pub with_option : Text → Text → Said → Said
 with_option name value said = record said { options = (name, value) ∷ said.options }
+
+abbrev pub with_flag : Text → Said → Said
+with_flag name said = record said { flags = name ∷ said.flags }
 
 abbrev pub with_word : Text → Said → Said
 with_word word said = record said { words = word ∷ said.words }
@@ -57,34 +62,41 @@ abbrev pub is_among : List Text → Text → Bool
 is_among names name = list_any (λ known. bytes_eq known name) names
 
 -- a word and, by `next`, what the words after it say, where an option waits for its value or none does. An option must
--- be one of the names; its value is what stands after `=`, or else the next word, which must be plain. After `--` each
--- word stands for itself.
-abbrev pub said_by : List Text → Option Text → Look → Text → List Text → (Option Text → Option Said) → Option Said
-said_by names None closing word rest next = Some (record { options = []; words = rest })
-said_by names None (named name (Some value)) word rest next =
+-- be one of the names; its value is what stands after `=`, or else the next word, which must be plain. A flag stands
+-- without a value. After `--` each word stands for itself.
+abbrev pub said_by : List Text → List Text → Option Text → Look → Text → List Text → (Option Text → Option Said) → Option Said
+said_by names flags None closing word rest next = Some (record { options = []; flags = []; words = rest })
+said_by names flags None (named name (Some value)) word rest next =
     if is_among names name then option_map (with_option name value) (next None) else None
-said_by names None (named name None) word rest next = if is_among names name then next (Some name) else None
-said_by names None dashed word rest next = None
-said_by names None plain word rest next = option_map (with_word word) (next None)
-said_by names (Some name) closing word rest next = None
-said_by names (Some name) (named other value) word rest next = None
-said_by names (Some name) dashed word rest next = None
-said_by names (Some name) plain word rest next = option_map (with_option name word) (next None)
+said_by names flags None (named name None) word rest next =
+    if is_among names name then next (Some name)
+    else if is_among flags name then option_map (with_flag name) (next None) else None
+said_by names flags None dashed word rest next = None
+said_by names flags None plain word rest next = option_map (with_word word) (next None)
+said_by names flags (Some name) closing word rest next = None
+said_by names flags (Some name) (named other value) word rest next = None
+said_by names flags (Some name) dashed word rest next = None
+said_by names flags (Some name) plain word rest next = option_map (with_option name word) (next None)
 
-unfoldable pub assigned : List Text → Option Text → List Text → Option Said
-assigned names None [] = Some nothing_said
-assigned names (Some name) [] = None
-assigned names waits (word ∷ rest) = said_by names waits (look_of word) word rest (λ w. assigned names w rest)
+unfoldable pub assigned : List Text → List Text → Option Text → List Text → Option Said
+assigned names flags None [] = Some nothing_said
+assigned names flags (Some name) [] = None
+assigned names flags waits (word ∷ rest) =
+    said_by names flags waits (look_of word) word rest (λ w. assigned names flags w rest)
 
 abbrev pub names_said : Said → List Text
 names_said said = map (λ option. option.0) said.options
 
-abbrev pub each_once : Option Said → Option Said
-each_once = option_and_then (λ said. if is_distinct bytes_eq (names_said said) then Some said else None)
+-- no option and no flag stands twice
+abbrev pub is_once : Said → Bool
+is_once said = is_distinct bytes_eq (names_said said) && is_distinct bytes_eq said.flags
 
--- what words say, where these are the names of options and each may stand once at most
-abbrev pub sorted : List Text → List Text → Option Said
-sorted names words = each_once (assigned names None words)
+abbrev pub each_once : Option Said → Option Said
+each_once = option_and_then (λ said. if is_once said then Some said else None)
+
+-- what words say, where these are the names of options and of flags, and each may stand once at most
+abbrev pub sorted : List Text → List Text → List Text → Option Said
+sorted names flags words = each_once (assigned names flags None words)
 
 -- the value that was said of an option
 abbrev pub value_said : Text → List (Text × Text) → Option Text

@@ -1,18 +1,26 @@
--- The options of `replay`: each with its range, and what stands for it where it isn't said.
+-- The options and flags of `replay`: each option with its range, and what stands for it where it isn't said.
 use Rattle.std.specs.Prelude.{ℕ, ◌≤◌, ◌<◌, ◌≡◌, ◌+◌, ◌⊎◌, Bool, List, [], ◌∷◌, length, nat_le, nat_lt, ◌==◌}
-use Rattle.std.specs.Prelude.{◌&&◌, ◌||◌}
+use Rattle.std.specs.Prelude.{◌&&◌, ◌||◌, true, false, not, is_some, IfSome}
 use Rattle.std.specs.Prelude.{if◌then◌else◌, Option, Some, None, option_map, option_and_then, codes, All}
 use Rattle.std.specs.List.{list_all, list_any}
 use Rattle.zr_kinds.specs.declared.behaviour.Behaviour.{Behaviour}
 use Rattle.command_words.specs.Assigned.{Text}
-use Rattle.command_words.specs.Numbers.{in_range, value_of}
+use Rattle.command_words.specs.Numbers.{in_range, up_to, value_of}
 use Rattle.command_words.specs.declared.options.Options.{Options}
 
 -- the options of `replay`, without their dashes
 abbrev pub option_names : List Text
 option_names =
     codes "areas" ∷ codes "buffers" ∷ codes "size" ∷ codes "ring" ∷ codes "split" ∷ codes "hold" ∷ codes "leak" ∷ codes "stray"
-    ∷ codes "quit" ∷ codes "turns" ∷ []
+    ∷ codes "quit" ∷ codes "turns" ∷ codes "forward" ∷ []
+
+-- its flags
+abbrev pub flag_names : List Text
+flag_names = codes "polled" ∷ []
+
+-- of three, one at most
+abbrev pub at_most_one : Bool → Bool → Bool → Bool
+at_most_one a b c = not (a && b) && not (a && c) && not (b && c)
 
 -- what follows of a value that is there
 abbrev pub given : {A B : Type 0} → Option A → (A → Option B) → Option B
@@ -35,6 +43,11 @@ abbrev pub quit_of : Option Text → Option (Option ℕ)
 quit_of None = Some None
 quit_of (Some word) = option_map Some (value_of word)
 
+-- a number of at most 63, if one is said
+abbrev pub delay_of : Option Text → Option (Option ℕ)
+delay_of None = Some None
+delay_of (Some word) = option_map Some (up_to 63 word)
+
 -- how each application behaves, by the value of each option
 unfoldable pub behaviour_of : (Text → Option Text) → Option Behaviour
 behaviour_of value =
@@ -44,13 +57,23 @@ behaviour_of value =
     given (quit_of (value (codes "quit"))) (λ quit.
     Some (record { hold = hold; leak = leak; stray = stray; quit = quit })))))
 
--- the numbers of a replay, but for those of its areas
-unfoldable pub options_of : (Text → Option Text) → Option Options
-options_of value =
+-- the numbers of a replay, but for those of its areas, by the value of each option and whether each flag was said
+unfoldable pub options_of : (Text → Option Text) → (Text → Bool) → Option Options
+options_of value flag =
     given (number_or 64 1 256 (value (codes "ring"))) (λ ring.
     given (number_or 0 0 256 (value (codes "split"))) (λ split.
     given (behaviour_of value) (λ how.
-    Some (record { ring = ring; split = split; how = how }))))
+    given (delay_of (value (codes "forward"))) (λ forward.
+    Some (record { ring = ring; split = split; how = how; polled = flag (codes "polled"); forward = forward })))))
+
+-- the options that say how an application takes turns of its own
+abbrev pub own_names : List Text
+own_names = codes "turns" ∷ codes "hold" ∷ codes "leak" ∷ codes "stray" ∷ codes "quit" ∷ []
+
+-- Applications take turns of their own, or are polled, or forward: it is said of one of these at most, by whichever values.
+unfoldable pub stand_together : (Text → Option Text) → (Text → Bool) → Bool
+stand_together value flag =
+    at_most_one (list_any (λ name. is_some (value name)) own_names) (flag (codes "polled")) (is_some (value (codes "forward")))
 
 -- `n`, or the digit of one of so many applications
 abbrev pub is_turn : ℕ → ℕ → Bool
@@ -66,13 +89,21 @@ turns_of apps (Some text) = if are_turns apps text then Some (Some text) else No
 
 -- ---- what these may be
 
--- the numbers are in their ranges
+-- the numbers are in their ranges; and applications that are polled or forward keep nothing and never quit
 pub record AreInRange (options : Options) : Type 0 where
   pub ring : (1 ≤ options.ring) × (options.ring ≤ 256)
   pub split : options.split ≤ 256
   pub hold : options.how.hold ≤ 4096
   pub leak : options.how.leak ≤ 4096
   pub stray : options.how.stray ≤ 16
+  pub one_way : options.polled ≡ true → options.forward ≡ None
+  pub delay : IfSome options.forward (λ delay. delay ≤ 63)
+  pub plain : (options.polled || is_some options.forward) ≡ true → options.how ≡ record { hold = 0; leak = 0; stray = 0; quit = None }
+
+-- its applications take turns of their own
+pub record GoesByTurns (options : Options) : Type 0 where
+  pub unpolled : options.polled ≡ false
+  pub unforwarded : options.forward ≡ None
 
 -- 1 to 4,096 characters, each `n` or the digit of one of so many applications
 pub record AreTurns (apps : ℕ) (text : Text) : Type 0 where

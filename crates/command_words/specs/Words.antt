@@ -1,6 +1,6 @@
 -- What the command's words mean.
 use Rattle.std.specs.Prelude.{ℕ, ◌≤◌, ⊤, List, [], ◌∷◌, length, nat_eq, if◌then◌else◌, Option, Some, None, option_and_then, option_map}
-use Rattle.std.specs.Prelude.{codes, All, IfSome}
+use Rattle.std.specs.Prelude.{codes, All, IfSome, Bool}
 use Rattle.std.specs.List.{IsDistinct}
 use Rattle.std.specs.Str.{bytes_eq}
 use Rattle.area_layout.specs.Layout.{MakeLayout}
@@ -9,8 +9,8 @@ use Rattle.command_words.specs.declared.reading.Replay.{Replay}
 use Rattle.command_words.specs.declared.making.Make.{Make}
 use Rattle.command_words.specs.declared.options.Options.{Options}
 use Rattle.command_words.specs.Numbers.{ports_of, up_to}
-use Rattle.command_words.specs.Assigned.{Text, Said, sorted, value_said}
-use Rattle.command_words.specs.Options.{AreInRange, AreTurns, given, option_names, options_of, turns_of}
+use Rattle.command_words.specs.Assigned.{Text, Said, is_among, sorted, value_said}
+use Rattle.command_words.specs.Options.{AreInRange, AreTurns, GoesByTurns, flag_names, given, option_names, options_of, stand_together, turns_of}
 use Rattle.command_words.specs.Areas.{pool_of}
 
 -- what `replay` is told: its ports, in the order given, its areas, each by its number of buffers and their size, its other
@@ -40,19 +40,20 @@ command_shown (Command.Replay told) = replay (replay_shown told)
 command_shown (Command.Make told) = make told
 command_shown Command.Check = check
 
--- what a replay to these ports is told by the value of each option, but for those of its areas
-abbrev pub told_with : (Text → Option Text) → List ℕ → List (ℕ × ℕ) → Option ReplayShown
-told_with value ports areas =
-    given (options_of value) (λ options.
+-- what a replay to these ports is told by the value of each option and whether each flag was said, but for those of its areas
+abbrev pub told_with : (Text → Option Text) → (Text → Bool) → List ℕ → List (ℕ × ℕ) → Option ReplayShown
+told_with value flag ports areas =
+    given (options_of value flag) (λ options.
     given (turns_of (length ports) (value (codes "turns"))) (λ turns.
     Some (record { ports = ports; areas = areas; options = options; turns = turns })))
 
--- what it is told by the value of each option
-abbrev pub told_of : (Text → Option Text) → List ℕ → Option ReplayShown
-told_of value ports = given (pool_of value) (told_with value ports)
+-- what it is told by these
+abbrev pub told_of : (Text → Option Text) → (Text → Bool) → List ℕ → Option ReplayShown
+told_of value flag ports = if stand_together value flag then given (pool_of value) (told_with value flag ports) else None
 
 abbrev pub replay_of : Option Said → Option ReplayShown
-replay_of = option_and_then (λ said. given (ports_of said.words) (told_of (λ name. value_said name said.options)))
+replay_of = option_and_then (λ said.
+    given (ports_of said.words) (told_of (λ name. value_said name said.options) (λ name. is_among said.flags name)))
 
 -- a seed and a number of frames, and no other word
 abbrev pub numbers_of : List Text → Option Make
@@ -62,7 +63,7 @@ numbers_of (seed ∷ frames ∷ []) =
     option_and_then (λ s. option_map (λ f. record { seed = s; frames = f }) (up_to 1000000 frames)) (up_to 4294967295 seed)
 numbers_of (seed ∷ frames ∷ more ∷ words) = None
 
--- `make` has no options
+-- `make` has no options and no flags
 abbrev pub make_of : Option Said → Option Make
 make_of = option_and_then (λ said. numbers_of said.words)
 
@@ -75,8 +76,8 @@ check_of (word ∷ words) = None
 abbrev pub reading_of : List Text → Option Shown
 reading_of [] = None
 reading_of (command ∷ words) =
-    if bytes_eq command (codes "replay") then option_map replay (replay_of (sorted option_names words))
-    else if bytes_eq command (codes "make") then option_map make (make_of (sorted [] words))
+    if bytes_eq command (codes "replay") then option_map replay (replay_of (sorted option_names flag_names words))
+    else if bytes_eq command (codes "make") then option_map make (make_of (sorted [] [] words))
     else if bytes_eq command (codes "check") then check_of words
     else None
 
@@ -93,6 +94,7 @@ pub record IsReplay (told : Replay) : Type 0 where
   pub areas : MakeLayout told.areas.items (length told.ports.items)
   pub options : AreInRange told.options
   pub turns : IfSome told.turns (λ text. AreTurns (length told.ports.items) text.now)
+  pub own : IfSome told.turns (λ text. GoesByTurns told.options)
 
 abbrev pub IsCommand : Command → Type 0
 IsCommand (Command.Replay told) = IsReplay told

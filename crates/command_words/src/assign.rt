@@ -1,12 +1,12 @@
 //! Words assigned by `clap`.
 
-ghost use Rattle.std.specs.Prelude.{◌≡◌, IfOk, [], ◌∷◌, false, drop, map, option_map};
+ghost use Rattle.std.specs.Prelude.{◌≡◌, ◌++◌, IfOk, [], ◌∷◌, drop, map, option_map};
 ghost use Rattle.std.specs.Str.{IsUtf8};
 ghost use Rattle.std.specs.List.{All};
 ghost use Rattle.clap.specs.Words.{app_of, found_of, matched_of, raw_values, with_rule};
-ghost use Rattle.command_words.specs.Assigned.{is_among, sorted};
-ghost use Rattle.command_words.specs.Asking.{Answers, app_for, app_with, option_rules, port_id};
-ghost use Rattle.command_words.specs.Asking.{raw_option};
+ghost use Rattle.command_words.specs.Assigned.{sorted};
+ghost use Rattle.command_words.specs.Asking.{Answers, AreApart, app_for, app_with, flag_rules, option_rules, port_id};
+ghost use Rattle.command_words.specs.Asking.{raw_flag, raw_option};
 
 use clap::error::ErrorKind;
 use clap::{Arg, ArgAction, ArgMatches, Command};
@@ -26,6 +26,16 @@ fn with_option<'a>(
     command.arg(Arg::new(alloc, name).long(name).action(ArgAction::Set))
 }
 
+fn with_flag<'a>(
+    alloc: Global,
+    command: Command<'a>,
+    name: &'a str,
+) -> Result<Command<'a>, AllocError>
+    ensures { IfOk result (λ r. app_of r ≡ with_rule (app_of command.entry) (raw_flag name.entry.now)) }
+{
+    command.arg(Arg::new(alloc, name).long(name).action(ArgAction::SetTrue))
+}
+
 fn command_without_options<'a>(alloc: Global) -> Command<'a>
     ensures { app_of result ≡ app_with [] }
 {
@@ -43,11 +53,30 @@ fn command_with_options<'a>(alloc: Global, names: &'a [&'a str]) -> Result<Comma
     Ok(command)
 }
 
-fn command_for<'a>(alloc: Global, names: &'a [&'a str]) -> Result<Command<'a>, AllocError>
-    ensures { IfOk result (λ r. app_of r ≡ app_for (map (λ n. n.now) names.entry.now)) }
+fn command_with_flags<'a>(
+    alloc: Global,
+    names: &'a [&'a str],
+    flags: &'a [&'a str],
+) -> Result<Command<'a>, AllocError>
+    ensures { IfOk result (λ r. app_of r
+        ≡ app_with (option_rules (map (λ n. n.now) names.entry.now) ++ flag_rules (map (λ n. n.now) flags.entry.now))) }
+{
+    let mut command = command_with_options(alloc, names)?;
+    for flag in flags {
+        command = with_flag(alloc, command, *flag)?;
+    }
+    Ok(command)
+}
+
+fn command_for<'a>(
+    alloc: Global,
+    names: &'a [&'a str],
+    flags: &'a [&'a str],
+) -> Result<Command<'a>, AllocError>
+    ensures { IfOk result (λ r. app_of r ≡ app_for (map (λ n. n.now) names.entry.now) (map (λ n. n.now) flags.entry.now)) }
 {
     let ports = Arg::new(alloc, PORT).action(ArgAction::Append);
-    command_with_options(alloc, names)?.arg(ports)
+    command_with_flags(alloc, names, flags)?.arg(ports)
 }
 
 // A `&str` is UTF-8, which the type of a slice doesn't say of its elements.
@@ -63,22 +92,24 @@ fn known_texts(words: &[&str])
     }
 }
 
-/// What the words after the first say, where `names` are the names of options without their dashes; `None` where they
-/// say nothing. An option takes its value behind `=` or from the next word, and may stand once; after `--` each word
-/// stands for itself.
+/// What the words after the first say, where `names` are the names of options and `flags` those of flags, without their
+/// dashes; `None` where they say nothing. An option takes its value behind `=` or from the next word, a flag has none, and
+/// each may stand once; after `--` each word stands for itself.
 ///
-/// The value of an option is `get_str` of the matches, and the words that stand for themselves are `plain_words`.
+/// The value of an option is `get_str` of the matches, that of a flag `true` or `false`, and the words that stand for
+/// themselves are `plain_words`.
 pub fn assign<'a>(
     alloc: Global,
     names: &'a [&'a str],
+    flags: &'a [&'a str],
     words: &'a [&'a str],
 ) -> Result<Option<ArgMatches<'a>>, AllocError>
-    requires { is_among (map (λ n. n.now) names.now) port_id ≡ false }
-    ensures { IfOk result (λ r. Answers (map (λ n. n.now) names.entry.now) r
-        (sorted (map (λ n. n.now) names.entry.now) (drop 1 (map (λ w. w.now) words.entry.now)))) }
+    requires { AreApart (map (λ n. n.now) names.now) (map (λ n. n.now) flags.now) }
+    ensures { IfOk result (λ r. Answers (map (λ n. n.now) names.entry.now) (map (λ n. n.now) flags.entry.now) r
+        (sorted (map (λ n. n.now) names.entry.now) (map (λ n. n.now) flags.entry.now) (drop 1 (map (λ w. w.now) words.entry.now)))) }
 {
     known_texts(words);
-    let command = command_for(alloc, names)?;
+    let command = command_for(alloc, names, flags)?;
     match command.try_get_matches_from(words) {
         Ok(matches) => Ok(Some(matches)),
         Err(error) => match error.kind() {

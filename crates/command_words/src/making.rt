@@ -22,8 +22,8 @@ pub struct Make {
     pub frames: u32,
 }
 
-// `make` has no options.
-static OPTIONS: [&str; 0] = [];
+// `make` has no options and no flags.
+static NAMES: [&str; 0] = [];
 
 fn read_numbers(words: &[&str]) -> Option<Make>
     ensures { result ≡ numbers_of (map (λ w. w.now) words.now) }
@@ -50,9 +50,9 @@ fn numbers_said(said: &ArgMatches) -> Option<Make>
 
 /// What the words after the first tell `make`; `None` where they are no two numbers in range.
 pub fn read_make(alloc: Global, words: &[&str]) -> Result<Option<Make>, AllocError>
-    ensures { IfOk result (λ r. r ≡ make_of (sorted [] (drop 1 (map (λ w. w.now) words.now)))) }
+    ensures { IfOk result (λ r. r ≡ make_of (sorted [] [] (drop 1 (map (λ w. w.now) words.now)))) }
 {
-    match assign::assign(alloc, OPTIONS.as_slice(), words)? {
+    match assign::assign(alloc, NAMES.as_slice(), NAMES.as_slice(), words)? {
         Some(said) => Ok(numbers_said(&said)),
         None => Ok(None),
     }

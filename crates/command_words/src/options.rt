@@ -1,9 +1,11 @@
-//! The options of `replay`.
+//! The options and flags of `replay`.
 
-ghost use Rattle.std.specs.Prelude.{◌≡◌, ◌≤◌, codes, option_map};
-ghost use Rattle.std.specs.List.{list_all};
+ghost use Rattle.std.specs.Prelude.{◌≡◌, ◌≤◌, codes, is_some, map, option_map};
+ghost use Rattle.std.specs.List.{list_all, list_any};
 ghost use Rattle.clap.specs.Words.{found_of, first_value};
-ghost use Rattle.command_words.specs.Options.{are_turns, behaviour_of, is_turn, number_or, options_of, quit_of, size_of, turns_of};
+ghost use Rattle.command_words.specs.Asking.{flag_in};
+ghost use Rattle.command_words.specs.Options.{are_turns, behaviour_of, delay_of, is_turn, number_or, options_of, quit_of};
+ghost use Rattle.command_words.specs.Options.{size_of, stand_together, turns_of};
 
 use crate::areas::few_areas;
 use crate::numbers;
@@ -18,14 +20,25 @@ pub struct Options {
     pub ring: u32,
     /// The greatest payload that travels in its note, in bytes.
     pub split: u32,
-    /// How each application behaves.
+    /// How each application behaves, where it takes turns of its own.
     pub how: Behaviour,
+    /// Whether each application is polled as a stream of loans.
+    pub polled: bool,
+    /// Where each application hands its loans to a carrier, how far the carrier's notices stay behind.
+    pub forward: Option<u32>,
 }
 
 /// The names of the options, without their dashes.
-pub static NAMES: [&str; 10] = [
+pub static NAMES: [&str; 11] = [
     "areas", "buffers", "size", "ring", "split", "hold", "leak", "stray", "quit", "turns",
+    "forward",
 ];
+
+/// The names of the flags, without their dashes.
+pub static FLAGS: [&str; 1] = ["polled"];
+
+/// The options that say how an application takes turns of its own.
+pub(crate) static OWN: [&str; 5] = ["turns", "hold", "leak", "stray", "quit"];
 
 /// The range of an option's number, and the number that stands for it where it isn't said.
 #[derive(Clone, Copy)]
@@ -72,6 +85,9 @@ const STRAY: Number = Number {
     most: 16,
 };
 
+/// The most tags by which a carrier's notices stay behind.
+const MOST_DELAY: u32 = 63;
+
 /// The most characters that a text of turns may have.
 const MOST_TURNS: usize = 4096;
 
@@ -107,6 +123,26 @@ fn read_quit(word: Option<&str>) -> Option<Option<u64>>
     }
 }
 
+// A number that need not be said.
+fn read_delay(word: Option<&str>) -> Option<Option<u32>>
+    ensures { result ≡ delay_of (option_map (λ w. w.now) word.entry) }
+{
+    match word {
+        Some(word) => Some(Some(numbers::read_up_to(MOST_DELAY, word)?)),
+        None => Some(None),
+    }
+}
+
+// A flag's value is `true` where it was said, and else `false`.
+fn is_flagged(said: &ArgMatches, flag: &str) -> bool
+    ensures { result ≡ flag_in said.now flag.now }
+{
+    match said.get_str(flag) {
+        Some(value) => value == "true",
+        None => false,
+    }
+}
+
 #[tactic(auto, unfolding(crate::specs::Options::behaviour_of))]
 fn read_behaviour(said: &ArgMatches) -> Option<Behaviour>
     ensures { result ≡ behaviour_of (λ name. first_value (found_of said.now) name) }
@@ -126,12 +162,45 @@ fn read_behaviour(said: &ArgMatches) -> Option<Behaviour>
 /// The numbers that were said, each in its range; those that weren't are their defaults.
 #[tactic(auto, unfolding(crate::specs::Options::options_of))]
 pub fn read_options(said: &ArgMatches) -> Option<Options>
-    ensures { result ≡ options_of (λ name. first_value (found_of said.now) name) }
+    ensures { result ≡ options_of (λ name. first_value (found_of said.now) name) (flag_in said.now) }
 {
     let ring = RING.read(said.get_str("ring"))?;
     let split = SPLIT.read(said.get_str("split"))?;
     let how = read_behaviour(said)?;
-    Some(Options { ring, split, how })
+    let forward = read_delay(said.get_str("forward"))?;
+    Some(Options {
+        ring,
+        split,
+        how,
+        polled: is_flagged(said, "polled"),
+        forward,
+    })
+}
+
+fn is_said(said: &ArgMatches, name: &str) -> bool
+    ensures { result ≡ is_some (first_value (found_of said.now) name.now) }
+{
+    said.get_str(name).is_some()
+}
+
+fn any_said(said: &ArgMatches, names: &[&str]) -> bool
+    ensures { result ≡ list_any (λ name. is_some (first_value (found_of said.now) name)) (map (λ n. n.now) names.now) }
+{
+    match names {
+        [] => false,
+        [name, rest @ ..] => is_said(said, *name) || any_said(said, rest),
+    }
+}
+
+/// Whether it is said of one way at most that applications go by it: turns of their own, polled, forwarding.
+#[tactic(auto, unfolding(crate::specs::Options::stand_together))]
+pub fn stand_together(said: &ArgMatches) -> bool
+    ensures { result ≡ stand_together (λ name. first_value (found_of said.now) name) (flag_in said.now) }
+{
+    let own = any_said(said, OWN.as_slice());
+    let polled = is_flagged(said, "polled");
+    let forward = is_said(said, "forward");
+    !(own && polled) && !(own && forward) && !(polled && forward)
 }
 
 fn is_turn(letter: u8, apps: usize) -> bool
@@ -179,6 +248,7 @@ pub(crate) fn takes(name: &str, value: &str) -> bool {
         "hold" | "leak" => KEPT.read(Some(value)).is_some(),
         "stray" => STRAY.read(Some(value)).is_some(),
         "quit" => numbers::read_number(value).is_some(),
+        "forward" => numbers::read_up_to(MOST_DELAY, value).is_some(),
         _ => true,
     }
 }
@@ -194,6 +264,7 @@ pub(crate) fn range_of(name: &str) -> &'static str {
         "hold" | "leak" => "a number from 0 to 4096",
         "stray" => "a number from 0 to 16",
         "quit" => "a number of at most 18 digits",
+        "forward" => "a number from 0 to 63",
         _ => "1 to 4096 letters n and digits of the ports, counted from 0",
     }
 }

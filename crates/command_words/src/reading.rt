@@ -5,13 +5,13 @@ ghost use Rattle.std.specs.Str.{bytes_eq};
 ghost use Rattle.clap.specs.Words.{first_value, found_of, matched_of, raw_values};
 ghost use Rattle.command_words.specs.Numbers.{ports_of};
 ghost use Rattle.command_words.specs.Assigned.{if_any, sorted};
-ghost use Rattle.command_words.specs.Asking.{port_id};
-ghost use Rattle.command_words.specs.Options.{option_names};
+ghost use Rattle.command_words.specs.Asking.{flag_in, port_id};
+ghost use Rattle.command_words.specs.Options.{flag_names, option_names};
 ghost use Rattle.command_words.specs.Words.{IsCommand, command_shown, reading_of, replay_of, replay_shown, told_of, told_with};
 
 use crate::areas::read_pool;
 use crate::making::{Make, read_make};
-use crate::options::{NAMES, Options, read_options, read_turns};
+use crate::options::{FLAGS, NAMES, Options, read_options, read_turns, stand_together};
 use crate::{assign, numbers};
 use clap::ArgMatches;
 use std::alloc::{AllocError, Global};
@@ -72,7 +72,7 @@ fn with_areas<'a>(
 ) -> Option<Replay<'a>>
     requires { length ports.items ≤ 8 }
     ensures { option_map replay_shown result
-        ≡ told_with (λ name. first_value (found_of said.now) name) ports.items areas.items }
+        ≡ told_with (λ name. first_value (found_of said.now) name) (flag_in said.now) ports.items areas.items }
 {
     let options = read_options(said)?;
     let turns = read_turns(said, ports.len())?;
@@ -90,8 +90,12 @@ fn with_ports<'a>(
     ports: Vec<u16>,
 ) -> Result<Option<Replay<'a>>, AllocError>
     requires { length ports.items ≤ 8 }
-    ensures { IfOk result (λ r. option_map replay_shown r ≡ told_of (λ name. first_value (found_of said.now) name) ports.items) }
+    ensures { IfOk result (λ r. option_map replay_shown r
+        ≡ told_of (λ name. first_value (found_of said.now) name) (flag_in said.now) ports.items) }
 {
+    if !stand_together(said) {
+        return Ok(None);
+    }
     match read_pool(alloc, said)? {
         Some(areas) => Ok(with_areas(said, ports, areas)),
         None => Ok(None),
@@ -100,9 +104,9 @@ fn with_ports<'a>(
 
 fn read_replay<'a>(alloc: Global, words: &'a [&'a str]) -> Result<Option<Replay<'a>>, AllocError>
     ensures { IfOk result (λ r. option_map replay_shown r
-        ≡ replay_of (sorted option_names (drop 1 (map (λ w. w.now) words.entry.now)))) }
+        ≡ replay_of (sorted option_names flag_names (drop 1 (map (λ w. w.now) words.entry.now)))) }
 {
-    let Some(said) = assign::assign(alloc, NAMES.as_slice(), words)? else {
+    let Some(said) = assign::assign(alloc, NAMES.as_slice(), FLAGS.as_slice(), words)? else {
         return Ok(None);
     };
     let Some(ports) = ports_said(alloc, &said)? else {
@@ -113,10 +117,10 @@ fn read_replay<'a>(alloc: Global, words: &'a [&'a str]) -> Result<Option<Replay<
 
 /// The command that the words after the program's name ask for; `None` where they ask for none.
 ///
-/// `replay` takes 1 to 8 distinct ports, numbers from 1 to 65,535, and before, between or after them its options, each at
-/// most once, as `--name value` or `--name=value`; `make` takes a seed from 0 to 4,294,967,295 and a number of frames from
-/// 0 to 1,000,000; `check` takes none. Numbers have 1 to 18 ASCII digits; after `--` each word is one. There is no text of help or of a
-/// version.
+/// `replay` takes 1 to 8 distinct ports, numbers from 1 to 65,535, and before, between or after them its options, as
+/// `--name value` or `--name=value`, and its flags, as `--name`, each at most once; `make` takes a seed from 0 to
+/// 4,294,967,295 and a number of frames from 0 to 1,000,000; `check` takes none. Numbers have 1 to 18 ASCII digits; after
+/// `--` each word is one. There is no text of help or of a version.
 pub fn read_words<'a>(
     alloc: Global,
     words: &'a [&'a str],

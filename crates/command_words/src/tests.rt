@@ -58,7 +58,7 @@ fn check_stands_alone(rt: HostRuntime) -> Result<(), Fail> {
 
 #[test]
 fn other_words_have_no_reading(rt: HostRuntime) -> Result<(), Fail> {
-    let rows: [&[&str]; 45] = [
+    let rows: [&[&str]; 47] = [
         &[],
         &["replay"],
         &["replay", "--"],
@@ -103,6 +103,8 @@ fn other_words_have_no_reading(rt: HostRuntime) -> Result<(), Fail> {
         &["make", "0000000000000000007", "0"],
         &["make", "7", "-0"],
         &["make", "--seed=7", "0"],
+        &["make", "--polled", "7", "0"],
+        &["check", "--polled"],
         &["make", "7", "٩"],
     ];
     for words in rows {
@@ -126,6 +128,8 @@ const USUAL: Options = Options {
         stray: 0,
         quit: None,
     },
+    polled: false,
+    forward: None,
 };
 
 #[test]
@@ -201,6 +205,81 @@ fn numbers_of_options_are_read(rt: HostRuntime) -> Result<(), Fail> {
             Some(Command::Replay(replay)) => assert_eq!(&rt; replay.options, want, "{options:?}"),
             _ => assert!(&rt; false, "{options:?} aren't read"),
         }
+    }
+    Ok(())
+}
+
+/// Each way of an application, by what stands for it.
+#[test]
+fn polling_and_forwarding_are_read(rt: HostRuntime) -> Result<(), Fail> {
+    let rows: [(&[&str], bool, Option<u32>); 10] = [
+        (&["9000"], false, None),
+        (&["--polled", "9000"], true, None),
+        (&["9000", "--polled"], true, None),
+        (&["--polled", "--", "9000"], true, None),
+        (&["--split=64", "--polled", "--ring", "7", "9"], true, None),
+        (&["--forward", "0", "9000"], false, Some(0)),
+        (&["--forward=63", "9000"], false, Some(63)),
+        (&["9000", "--forward", "0063"], false, Some(63)),
+        (&["--turns", "n", "--hold=1", "9000"], false, None),
+        (&["--quit=1", "--leak=0", "--stray=0", "9000"], false, None),
+    ];
+    for (options, polled, forward) in rows {
+        let words = with_replay(rt.alloc(), options)?;
+        match read_words(rt.alloc(), words.as_slice())? {
+            Some(Command::Replay(replay)) => {
+                assert_eq!(&rt; replay.options.polled, polled, "{options:?}");
+                assert_eq!(&rt; replay.options.forward, forward, "{options:?}");
+            }
+            _ => assert!(&rt; false, "{options:?} aren't read"),
+        }
+    }
+    Ok(())
+}
+
+/// A flag out of its form, a delay out of range, and two ways at once, whichever their values.
+#[test]
+fn other_ways_have_no_reading(rt: HostRuntime) -> Result<(), Fail> {
+    let rows: [&[&str]; 30] = [
+        &["--polled", "--polled", "9000"],
+        &["--polled", "9000", "--polled"],
+        &["--polled=", "9000"],
+        &["--polled=x", "9000"],
+        &["--polled=true", "9000"],
+        &["--Polled", "9000"],
+        &["--poll", "9000"],
+        &["-polled", "9000"],
+        &["--polled"],
+        &["polled", "9000"],
+        &["--", "--polled", "9000"],
+        &["9000", "--", "--polled"],
+        &["--hold", "--polled", "9000"],
+        &["--polled", "yes", "9000"],
+        &["--polled", "--turns", "n", "9000"],
+        &["--polled", "--hold", "0", "9000"],
+        &["--hold=1", "9000", "--polled"],
+        &["--polled", "--leak", "0", "9000"],
+        &["--polled", "--stray", "0", "9000"],
+        &["--polled", "--quit", "9", "9000"],
+        &["--polled", "--forward", "0", "9000"],
+        &["--forward", "0", "--polled", "9000"],
+        &["--forward", "64", "9000"],
+        &["--forward", "-1", "9000"],
+        &["--forward=", "9000"],
+        &["--forward", "9000"],
+        &["--forward=1", "--forward=1", "9000"],
+        &["--forward=1", "--hold=0", "9000"],
+        &["--turns=n", "--forward=1", "9000"],
+        &["--forward=1", "--leak=0", "--stray=0", "--quit=0", "9000"],
+    ];
+    for options in rows {
+        let words = with_replay(rt.alloc(), options)?;
+        let reading = read_words(rt.alloc(), words.as_slice())?;
+        assert!(&rt; reading.is_none(), "{options:?} have a reading");
+        assert!(&rt;
+            what_is_wrong(words.as_slice()).is_some(),
+            "nothing is wrong with {options:?}"
+        );
     }
     Ok(())
 }
@@ -377,24 +456,35 @@ fn options_out_of_range_have_no_reading(rt: HostRuntime) -> Result<(), Fail> {
 
 static NAMES: [&str; 2] = ["size", "ring"];
 
+static FLAGS: [&str; 2] = ["loud", "long"];
+
 #[test]
 fn options_take_their_values(rt: HostRuntime) -> Result<(), Fail> {
     let words = [
         "replay",
         "--size=1=2",
         "9000",
+        "--long",
         "--ring",
         "7",
         "9001",
         "--",
         "--size",
+        "--loud",
     ];
-    let said = assign(rt.alloc(), NAMES.as_slice(), words.as_slice())?;
+    let said = assign(
+        rt.alloc(),
+        NAMES.as_slice(),
+        FLAGS.as_slice(),
+        words.as_slice(),
+    )?;
     match &said {
         Some(said) => {
             assert_eq!(&rt; said.get_str("size"), Some("1=2"));
             assert_eq!(&rt; said.get_str("ring"), Some("7"));
-            let plain = ["9000", "9001", "--size"];
+            assert_eq!(&rt; said.get_str("long"), Some("true"));
+            assert_eq!(&rt; said.get_str("loud"), Some("false"));
+            let plain = ["9000", "9001", "--size", "--loud"];
             assert_eq!(&rt; plain_words(said), Some(plain.as_slice()));
         }
         None => assert!(&rt; false),
@@ -403,12 +493,17 @@ fn options_take_their_values(rt: HostRuntime) -> Result<(), Fail> {
 }
 
 fn is_refused(alloc: Global, words: &[&str]) -> Result<bool, Fail> {
-    Ok(assign(alloc, NAMES.as_slice(), words)?.is_none())
+    Ok(assign(alloc, NAMES.as_slice(), FLAGS.as_slice(), words)?.is_none())
 }
 
 #[test]
 fn options_out_of_form_are_refused(rt: HostRuntime) -> Result<(), Fail> {
-    let rows: [&[&str]; 7] = [
+    let rows: [&[&str]; 12] = [
+        &["replay", "--loud", "--loud"],
+        &["replay", "--loud="],
+        &["replay", "--long=--size"],
+        &["replay", "--lo"],
+        &["replay", "--size", "--loud"],
         &["replay", "--size"],
         &["replay", "--size", "--", "9000"],
         &["replay", "--size", "-5"],
@@ -426,7 +521,7 @@ fn options_out_of_form_are_refused(rt: HostRuntime) -> Result<(), Fail> {
 /// What a person reads of words without a reading.
 #[test]
 fn the_first_wrong_word_is_named(rt: HostRuntime) -> Result<(), Fail> {
-    let rows: [(&[&str], &str); 25] = [
+    let rows: [(&[&str], &str); 32] = [
         (&[], "there is no command"),
         (&["--help"], "'--help' is no command"),
         (&["replay"], "there is no port"),
@@ -452,6 +547,28 @@ fn the_first_wrong_word_is_named(rt: HostRuntime) -> Result<(), Fail> {
         (
             &["replay", "--hold", "--leak", "9000"],
             "--hold wants a value",
+        ),
+        (
+            &["replay", "--polled", "1", "--polled"],
+            "--polled stands twice",
+        ),
+        (&["replay", "--polled=", "1"], "--polled takes no value"),
+        (&["replay", "--polled=x", "1"], "--polled takes no value"),
+        (
+            &["replay", "--forward", "64", "1"],
+            "--forward takes a number from 0 to 63, not '64'",
+        ),
+        (
+            &["replay", "--polled", "--hold", "0", "1"],
+            "--polled stands without --hold",
+        ),
+        (
+            &["replay", "--quit=9", "--turns=n", "--forward=0", "1"],
+            "--forward stands without --turns",
+        ),
+        (
+            &["replay", "--forward=0", "--polled", "1"],
+            "--polled stands without --forward",
         ),
         (&["replay", "0"], "'0' is no port, a number from 1 to 65535"),
         (

@@ -3,7 +3,7 @@
 use crate::areas::{few_areas, fit_together};
 use crate::making::MOST_FRAMES;
 use crate::numbers::{read_port, read_up_to};
-use crate::options::{BUFFERS, NAMES, are_turns, range_of, read_size, takes};
+use crate::options::{BUFFERS, FLAGS, NAMES, OWN, are_turns, range_of, read_size, takes};
 use arrayvec::ArrayVec;
 use std::fmt;
 
@@ -16,10 +16,12 @@ pub enum Wrong<'a> {
     NoCommand(&'a str),
     /// There is no such option.
     NoOption(&'a str),
-    /// The option stands a second time.
+    /// The option or flag stands a second time.
     Twice(&'a str),
     /// The option has no value.
     NoValue(&'a str),
+    /// The flag has one.
+    Valued(&'a str),
     /// The option takes no such value.
     Value {
         name: &'a str,
@@ -38,6 +40,8 @@ pub enum Wrong<'a> {
     TooManyBytes,
     /// The areas have too many buffers or bytes together.
     TooLargeAreas,
+    /// These two don't stand together.
+    Beside(&'static str, &'static str),
     /// Beside areas neither a number of buffers nor a size may stand.
     BesideAreas,
     /// `make` takes no such number here.
@@ -59,6 +63,7 @@ impl fmt::Display for Wrong<'_> {
             Wrong::NoOption(word) => write!(f, "there is no option '{word}'"),
             Wrong::Twice(name) => write!(f, "--{name} stands twice"),
             Wrong::NoValue(name) => write!(f, "--{name} wants a value"),
+            Wrong::Valued(name) => write!(f, "--{name} takes no value"),
             Wrong::Value { name, value, range } => write!(
                 f,
                 "--{name} takes {range}, not '{value}'"
@@ -73,6 +78,7 @@ impl fmt::Display for Wrong<'_> {
                     "--areas has more than 4096 buffers, or more than 67108864 bytes, together",
                 )
             }
+            Wrong::Beside(one, other) => write!(f, "--{one} stands without --{other}"),
             Wrong::BesideAreas => f.write_str("--areas stands without --buffers and --size"),
             Wrong::NoNumber { value, range } => write!(f, "make takes {range}, not '{value}'"),
             Wrong::NotTwoNumbers => f.write_str("make wants two numbers"),
@@ -88,12 +94,12 @@ usage: zcrx replay [--NAME VALUE].. PORT.. < CAPTURE
        zcrx check < RECORD
 replay follows the TCP flows to 1 to 8 ports, writes the stream of flow N to flow-N.bin
 in the current folder, and prints a report. Options, with what stands for each:
-  --buffers 64   1 to 4096 buffers            --hold 0    loans kept unread, to 4096
-  --size 4096    their bytes, a power of two  --leak 0    loans kept to the end, to 4096
-                 from 1024 to 65536           --stray 0   entries behind each, to 16
-  --areas A      or 1 to 4 COUNT:SIZE, by ,   --quit N    stop after so many bytes
-  --ring 64      1 to 256 places in a ring    --turns T   n the card, 0 to 7 an application:
-  --split 0      payload in a note, to 256                by turns on one thread
+  --buffers 64   1 to 4096 buffers            --hold 0     loans kept unread, to 4096
+  --size 4096    their bytes, 2^10 to 2^16    --leak 0     loans kept to the end, to 4096
+  --areas A      or 1 to 4 COUNT:SIZE, by ,   --stray 0    entries behind each, to 16
+  --ring 64      1 to 256 places in a ring    --quit N     stop after so many bytes
+  --split 0      payload in a note, to 256    --turns T    on one thread: n card, 0 to 7 application
+  --polled       loans as a polled stream     --forward D  loans to a carrier, notices D behind
 make writes a capture: a seed to 4294967295, 0 to 1000000 frames. zcrx(1) has the rest.
 ";
 
@@ -101,6 +107,7 @@ make writes a capture: a seed to 4294967295, 0 to 1000000 frames. zcrx(1) has th
 #[derive(Drop)]
 struct Said<'a> {
     named: [bool; NAMES.len()],
+    flagged: [bool; FLAGS.len()],
     areas: Option<&'a str>,
     buffers: Option<&'a str>,
     size: Option<&'a str>,
@@ -112,6 +119,7 @@ impl<'a> Said<'a> {
     fn nothing() -> Said<'a> {
         Said {
             named: [false; NAMES.len()],
+            flagged: [false; FLAGS.len()],
             areas: None,
             buffers: None,
             size: None,
@@ -120,17 +128,41 @@ impl<'a> Said<'a> {
         }
     }
 
-    /// The option of a word was named.
+    /// The place that says whether this option or flag was named.
+    fn place(&mut self, name: &str) -> Option<&mut bool> {
+        match NAMES.iter().position(|one| *one == name) {
+            Some(place) => self.named.get_mut(place),
+            None => {
+                let place = FLAGS.iter().position(|one| *one == name)?;
+                self.flagged.get_mut(place)
+            }
+        }
+    }
+
+    /// The option or flag of a word was named.
     fn name(&mut self, word: &'a str, name: &'a str) -> Result<(), Wrong<'a>> {
-        let known = NAMES.iter().position(|one| *one == name);
-        let named = known.and_then(|place| self.named.get_mut(place));
-        match named {
+        match self.place(name) {
             None => Err(Wrong::NoOption(word)),
             Some(true) => Err(Wrong::Twice(name)),
             Some(named) => {
                 *named = true;
                 Ok(())
             }
+        }
+    }
+
+    fn has(&mut self, name: &str) -> bool {
+        self.place(name).is_some_and(|named| *named)
+    }
+
+    /// The first two that don't stand together.
+    fn beside(&mut self) -> Option<Wrong<'a>> {
+        let own = OWN.iter().copied().find(|name| self.has(name));
+        match (self.has("polled"), self.has("forward"), own) {
+            (true, true, _) => Some(Wrong::Beside("polled", "forward")),
+            (true, false, Some(own)) => Some(Wrong::Beside("polled", own)),
+            (false, true, Some(own)) => Some(Wrong::Beside("forward", own)),
+            _ => None,
         }
     }
 
@@ -162,9 +194,12 @@ impl<'a> Said<'a> {
     }
 
     /// What only all words together show.
-    fn whole(&self) -> Option<Wrong<'a>> {
+    fn whole(&mut self) -> Option<Wrong<'a>> {
         if self.ports.is_empty() {
             return Some(Wrong::Portless);
+        }
+        if let Some(wrong) = self.beside() {
+            return Some(wrong);
         }
         match self.turns {
             Some(text) if !are_turns(text, self.ports.len()) => Some(Wrong::Value {
@@ -215,11 +250,12 @@ fn wrong_replay<'a>(words: &[&'a str]) -> Result<Option<Wrong<'a>>, Wrong<'a>> {
             Some(name) if options => {
                 let (name, value) = parted(name);
                 said.name(word, name)?;
-                let value = match value {
-                    Some(value) => value,
-                    None => value_behind(name, words.next())?,
-                };
-                said.option(name, value)?;
+                match value {
+                    Some(_) if FLAGS.contains(&name) => return Err(Wrong::Valued(name)),
+                    Some(value) => said.option(name, value)?,
+                    None if FLAGS.contains(&name) => {}
+                    None => said.option(name, value_behind(name, words.next())?)?,
+                }
             }
             _ if options && word.starts_with('-') && word.len() > 1 => {
                 return Err(Wrong::NoOption(word));

@@ -10,4 +10,4 @@ pub returns : goal.returns
 returns c =
     let port_is : rule_of c.action-ports.result ≡ raw_port = search rules in
     IfOk-weaker c.arg.result _ _ (λ r added. added.shape (search rules) ∙ ap (with_rule _) port_is
-    ∙ port_added _ _ c.in_ok-command_with_options.ensures) c.arg.ensures
+    ∙ port_added _ _ _ c.in_ok-command_with_flags.ensures) c.arg.ensures

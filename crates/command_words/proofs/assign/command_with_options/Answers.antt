@@ -1,6 +1,9 @@
 -- One more option, and all of them at the end.
-use Rattle.command_words.proofs.Adding.{option_added}
+use Rattle.std.proofs.Common.{[]}
+use Rattle.command_words.specs.Asking.{raw_option}
+use Rattle.command_words.proofs.Adding.{rule_added}
 use Rattle.command_words.proofs.assign.command_with_options.Goals as goal
 
 pub loop-name-preserved : goal.loop-name-preserved
-loop-name-preserved c = option_added _ _ c.args.names.now c.loop-name.name-index _ c.loop-name-test.true c.in_ok-command.ensures c.loop-name.invariant
+loop-name-preserved c =
+    rule_added raw_option [] _ _ c.args.names.now c.loop-name.name-index _ c.loop-name-test.true c.in_ok-command.ensures c.loop-name.invariant
