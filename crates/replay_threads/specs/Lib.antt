@@ -4,3 +4,4 @@ pub mod Lanes
 pub mod Made
 pub mod Played
 pub mod Reader
+pub mod Seated

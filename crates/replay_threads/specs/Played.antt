@@ -1,24 +1,23 @@
 -- All turns of a run: every role is back at the desk.
 use Rattle.std.specs.Prelude.{ℕ, List, ◌++◌, Option}
 use Rattle.board_face.specs.Ended.{HaveEnded}
-use Rattle.card_feed.specs.Feed.{end_of}
+use Rattle.flow_queues.specs.Ends.{AppEnd}
+use Rattle.card_feed.specs.Feed.{FeedState, end_of}
 use Rattle.card_feed.specs.declared.plan.Plan.{Plan}
 use Rattle.run_account.specs.Ran.{HasReadOn}
-use Rattle.run_account.specs.Running.{AreOver, RolesFit, Running}
-use Rattle.run_account.specs.declared.run.Run.{Run}
+use Rattle.run_account.specs.Running.{HasRun}
 use Rattle.word_board.specs.Board.{TheDesk, card_of}
 use Rattle.word_board.specs.Desk.{AllAreBack}
 
--- All is over and back at the desk, and the run of the plan went on to there, with whatever shelves stand behind those of its
--- applications.
+-- All is over and back at the desk, and the plan was run to there: this is what the card keeps and the applications left with, whatever
+-- shelves stand behind those of the applications.
 pub record HasPlayed {S T : Type 0} (left : S → Option (List ℕ)) (faults : S → ℕ) (kept : T → ℕ → Option (List ℕ)) (losses : T → ℕ)
-    (source source_now : S) (shelves shelves_now : List T) (plan : Plan) (desk : TheDesk) (run : Run) : Type 0 where
+    (source source_now : S) (shelves shelves_now : List T) (plan : Plan) (desk : TheDesk) (feed : FeedState)
+    (ends : List AppEnd) : Type 0 where
   pub back : AllAreBack desk.board.setting desk.view
   pub ended : HaveEnded (card_of desk.view) desk.view.apps
-  pub fit : RolesFit (card_of desk.view) desk.view.apps run
-  pub over : AreOver run
   -- the source as the ending of the reading left it
   pub at : S
-  pub ahead : HasReadOn left faults at source_now (end_of run.feed.stage)
+  pub ahead : HasReadOn left faults at source_now (end_of feed.stage)
   pub runs : (more : List T)
-      → Running left faults kept losses source at (shelves ++ more) (shelves_now ++ more) plan (card_of desk.view) desk.view.apps run
+      → HasRun left faults kept losses source at (shelves ++ more) (shelves_now ++ more) plan (card_of desk.view) desk.view.apps feed ends

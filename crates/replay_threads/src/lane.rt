@@ -1,80 +1,86 @@
-//! An application at its seat: its turns, and the loop of its thread.
-ghost use Rattle.std.specs.Prelude.{◌≡◌, true, All, IsTrue};
-ghost use Rattle.run_account.specs.Running.{WorkerFits};
-ghost use Rattle.replay_threads.specs.Lanes.{AllFit, LaneGoes, AllGo};
+//! The lanes of the applications: their turns, and the loops of their threads.
+ghost use Rattle.std.specs.Prelude.{◌≡◌, List, refl, true, All, IsTrue};
+ghost use Rattle.std.proofs.Common.{◌∙◌};
+ghost use Rattle.replay_threads.specs.Lanes.{AllGo, LaneFits, LaneGoes};
+ghost use Rattle.replay_threads.specs.Seated.{is_gone};
 
 use crate::beside::{Beside, IDLE, MOST_APPS};
 use crate::gate::Gate;
-use app_worker::{Turn, Why, app_turn};
+use crate::seated::{Came, Seated};
+use crate::sits::Sits;
 use crossbeam_utils::Backoff;
-use run_account::Worker;
 use std::alloc::Global;
 use std::sync::Wait;
 use std::thread::{self, Threads};
-use word_board::AppSeat;
 use zr_io::Shelf;
 
-/// An application between two of its turns, with its shelf.
+/// An application between two of its turns.
 pub struct Lane<'b, T> {
-    pub seat: AppSeat<'b>,
-    pub worker: Worker,
-    pub shelf: T,
+    pub seated: Seated<'b, T>,
     /// Its number.
     pub app: u32,
     /// How many turns it has taken.
     pub turns: u64,
 }
 
-/// What a turn of an application came to.
-#[derive(Clone, Copy, Debug, PartialEq, Eq)]
-enum Came {
-    /// It did something.
-    Did,
-    /// It has something to do once the card has dealt with entries of its.
-    WaitsForCard,
-    /// It has nothing to do.
-    Rests,
-}
+impl<'b, T: Shelf> Sits for Lane<'b, T> {
+    ghost fits = { LaneFits T.kept T.faults };
 
-/// What this answer says.
-fn came_of(turn: Turn) -> Came {
-    match turn {
-        Turn::Idle(Why::NoNote) => Came::Rests,
-        Turn::Idle(_) => Came::WaitsForCard,
-        Turn::Did | Turn::Finished | Turn::Failed(_) => Came::Did,
+    ghost goes = { LaneGoes T.kept T.faults };
+
+    ghost gone = { λ lane. is_gone lane.seated };
+
+    ghost same = { λ lane fits. record { board = refl; app = refl; fits = fits; runs = λ first count how runs. runs } };
+
+    ghost more = { λ was mid now before after. record {
+      board = after.board ∙ before.board;
+      app = after.app ∙ before.app;
+      fits = after.fits;
+      runs = λ first count how runs. after.runs first count how (before.runs first count how runs);
+    } };
+
+    ghost again = { λ was now goes. goes.fits };
+
+    fn app(&self) -> u32 {
+        self.app
+    }
+
+    fn turns(&self) -> u64 {
+        self.turns
+    }
+
+    fn has_left(&self) -> bool {
+        self.seated.has_left()
+    }
+
+    fn turn(&mut self, alloc: Global) -> Came {
+        self.turns = self.turns.saturating_add(1);
+        self.seated.turn(alloc)
     }
 }
 
-/// A turn of the application, unless it has left.
-fn lane_turn<T: Shelf, G: Gate>(alloc: Global, gate: &G, lane: &mut Lane<'_, T>) -> Came
-    requires fits { WorkerFits lane.old.seat.side.view lane.old.worker }
-    ensures goes { LaneGoes T.kept T.faults lane.old lane.new }
+/// A turn, unless it has left.
+fn lane_turn<W: Sits, G: Gate>(alloc: Global, gate: &G, lane: &mut W) -> Came
+    requires fits { W.fits lane.old }
+    ensures goes { W.goes lane.old lane.new }
 {
-    if lane.worker.left {
+    if lane.has_left() {
         return Came::Rests;
     }
-    gate.at(lane.app.saturating_add(1), lane.turns);
-    lane.turns = lane.turns.saturating_add(1);
-    let turn = app_turn(
-        alloc,
-        &mut lane.seat,
-        &mut lane.worker.state,
-        &mut lane.shelf,
-    );
-    lane.worker.left = matches!(turn, Turn::Finished);
-    came_of(turn)
+    gate.at(lane.app().saturating_add(1), lane.turns());
+    lane.turn(alloc)
 }
 
 /// Turns, until something is done in one. `false` says that nothing was done in many, and that the card takes none.
-fn lane_turns<T: Shelf, G: Gate, R: Wait>(
+fn lane_turns<W: Sits, G: Gate, R: Wait>(
     rt: &R,
     alloc: Global,
     gate: &G,
     beside: &Beside,
-    lane: &mut Lane<'_, T>,
+    lane: &mut W,
 ) -> bool
-    requires fits { WorkerFits lane.old.seat.side.view lane.old.worker }
-    ensures goes { LaneGoes T.kept T.faults lane.old lane.new }
+    requires fits { W.fits lane.old }
+    ensures goes { W.goes lane.old lane.new }
 {
     let backoff = Backoff::new();
     for idle in 0..IDLE {
@@ -82,58 +88,61 @@ fn lane_turns<T: Shelf, G: Gate, R: Wait>(
         match lane_turn(alloc, gate, lane) {
             Came::Did => return true,
             Came::WaitsForCard => beside.wake_card(),
-            Came::Rests => beside.answer(lane.app, asked),
+            Came::Rests => beside.answer(lane.app(), asked),
         }
-        beside.rest_lane(rt, lane.app, idle, &backoff);
+        beside.rest_lane(rt, lane.app(), idle, &backoff);
     }
     beside.card_runs()
 }
 
-/// The turns of the application, until it has left, or nothing is done in many and the card takes none.
-fn lane_loop<T: Shelf, G: Gate, R: Wait>(
+/// Turns, until it has left, or nothing is done in many and the card takes none.
+fn lane_loop<W: Sits, G: Gate, R: Wait>(
     rt: &R,
     alloc: Global,
     gate: &G,
     beside: &Beside,
-    lane: &mut Lane<'_, T>,
+    lane: &mut W,
 )
-    requires fits { WorkerFits lane.old.seat.side.view lane.old.worker }
-    ensures goes { LaneGoes T.kept T.faults lane.old lane.new }
+    requires fits { W.fits lane.old }
+    ensures goes { W.goes lane.old lane.new }
 {
     // The bound is never reached. By it the loop is seen to end.
     for _ in 0..u64::MAX {
-        if lane.worker.left || !lane_turns(rt, alloc, gate, beside, lane) {
+        if lane.has_left() {
+            return;
+        }
+        if !lane_turns(rt, alloc, gate, beside, lane) {
             return;
         }
     }
 }
 
-/// The application's loop.
-fn run_lane<T: Shelf, G: Gate, R: Wait>(
+/// The loop of a lane.
+fn run_lane<W: Sits, G: Gate, R: Wait>(
     rt: &R,
     alloc: Global,
     gate: &G,
     beside: &Beside,
-    lane: &mut Lane<'_, T>,
+    lane: &mut W,
 )
-    requires fits { WorkerFits lane.old.seat.side.view lane.old.worker }
-    ensures goes { LaneGoes T.kept T.faults lane.old lane.new }
+    requires fits { W.fits lane.old }
+    ensures goes { W.goes lane.old lane.new }
 {
-    beside.begin(rt, lane.app);
+    beside.begin(rt, lane.app());
     lane_loop(rt, alloc, gate, beside, lane);
-    beside.end(lane.app, lane.worker.left);
+    beside.end(lane.app(), lane.has_left());
 }
 
-/// The turns of all applications, side by side.
-pub fn run_lanes<T: Shelf + Send, G: Gate + Sync, R: Threads + Wait + Sync>(
+/// The turns of all lanes, side by side.
+pub fn run_lanes<W: Sits + Send, G: Gate + Sync, R: Threads + Wait + Sync>(
     rt: &R,
     alloc: Global,
     gate: &G,
     beside: &Beside,
-    lanes: &mut [Lane<'_, T>],
+    lanes: &mut [W],
 )
-    requires fit { AllFit lanes.old }
-    ensures go { AllGo T.kept T.faults lanes.old lanes.new }
+    requires fit { All W.fits lanes.old }
+    ensures go { AllGo W.goes lanes.old lanes.new }
 {
     thread::for_each_mut(
         rt,
@@ -145,15 +154,22 @@ pub fn run_lanes<T: Shelf + Send, G: Gate + Sync, R: Threads + Wait + Sync>(
     );
 }
 
-/// A turn of each application that hasn't left, in this thread.
-pub fn round<T: Shelf + Send, G: Gate + Sync, R: Threads + Sync>(
+/// Turns of all lanes come behind turns of all. It does nothing: its contract is the law.
+pub fn lanes_go_on<W: Sits>()
+    ensures same { (lanes : List W) → All W.fits lanes → AllGo W.goes lanes lanes }
+    ensures more { (first mid last : List W) → AllGo W.goes first mid → AllGo W.goes mid last → AllGo W.goes first last }
+    ensures again { (was now : List W) → AllGo W.goes was now → All W.fits now }
+{}
+
+/// A turn of each that hasn't left, in this thread.
+pub fn round<W: Sits + Send, G: Gate + Sync, R: Threads + Sync>(
     rt: &R,
     alloc: Global,
     gate: &G,
-    lanes: &mut [Lane<'_, T>],
+    lanes: &mut [W],
 )
-    requires fit { AllFit lanes.old }
-    ensures go { AllGo T.kept T.faults lanes.old lanes.new }
+    requires fit { All W.fits lanes.old }
+    ensures go { AllGo W.goes lanes.old lanes.new }
 {
     thread::for_each_mut(
         rt,
@@ -166,8 +182,8 @@ pub fn round<T: Shelf + Send, G: Gate + Sync, R: Threads + Sync>(
 }
 
 /// Whether every application has left.
-pub fn have_left<T>(lanes: &[Lane<'_, T>]) -> bool
-    ensures { IsTrue result → All (λ lane. lane.worker.left ≡ true) lanes.now }
+pub fn have_left<W: Sits>(lanes: &[W]) -> bool
+    ensures { IsTrue result → All (λ lane. W.gone lane ≡ true) lanes.now }
 {
-    lanes.iter().all(|lane| lane.worker.left)
+    lanes.iter().all(|lane| lane.has_left())
 }

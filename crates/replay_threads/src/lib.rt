@@ -15,8 +15,11 @@ mod playing;
 mod reader;
 mod reading;
 mod running;
+mod seated;
 mod seating;
+mod sits;
 mod sleeping;
+mod starting;
 
 pub use gate::{Gate, NoGate};
 pub use running::run_threads;

@@ -3,18 +3,19 @@ ghost use Rattle.std.specs.Prelude.{◌≡◌, true, All, IsTrue};
 ghost use Rattle.card_feed.specs.Feed.{IsReady};
 ghost use Rattle.replay_threads.specs.Cards.{CardGoes};
 ghost use Rattle.replay_threads.specs.Reader.{ReaderGoes};
-ghost use Rattle.replay_threads.specs.Lanes.{AllFit, AllGo};
+ghost use Rattle.replay_threads.specs.Lanes.{AllGo};
 
 use crate::beside::{Beside, IDLE};
 use crate::card::{CardLane, card_turn, run_card};
 use crate::gate::Gate;
-use crate::lane::{Lane, have_left, round, run_lanes};
+use crate::lane::{have_left, lanes_go_on, round, run_lanes};
 use crate::reader::Reader;
 use crate::reading::{read_turn, run_reader};
+use crate::sits::Sits;
 use std::alloc::Global;
 use std::sync::Wait;
 use std::thread::{Threads, join_mut};
-use zr_io::{Shelf, Source};
+use zr_io::Source;
 
 /// The loops of the reading and of the card.
 fn join_reading<S: Source + Send, G: Gate + Sync, R: Threads + Wait + Sync>(
@@ -39,7 +40,7 @@ fn join_reading<S: Source + Send, G: Gate + Sync, R: Threads + Wait + Sync>(
 }
 
 /// The loops of all.
-fn join_loops<S: Source + Send, T: Shelf + Send, G: Gate + Sync, R: Threads + Wait + Sync>(
+fn join_loops<S: Source + Send, W: Sits + Send, G: Gate + Sync, R: Threads + Wait + Sync>(
     rt: &R,
     alloc: Global,
     gate: &G,
@@ -47,13 +48,13 @@ fn join_loops<S: Source + Send, T: Shelf + Send, G: Gate + Sync, R: Threads + Wa
     source: &mut S,
     reader: &mut Reader,
     card: &mut CardLane<'_>,
-    lanes: &mut [Lane<'_, T>],
+    lanes: &mut [W],
 )
     requires ready { IsReady card.old.feed card.old.seat.side.view }
-    requires fit { AllFit lanes.old }
+    requires fit { All W.fits lanes.old }
     ensures reader { ReaderGoes S.left S.faults source.old source.new reader.old reader.new }
     ensures card { CardGoes card.old card.new }
-    ensures lanes { AllGo T.kept T.faults lanes.old lanes.new }
+    ensures lanes { AllGo W.goes lanes.old lanes.new }
 {
     join_mut(
         rt,
@@ -61,26 +62,26 @@ fn join_loops<S: Source + Send, T: Shelf + Send, G: Gate + Sync, R: Threads + Wa
             requires { IsReady card.now.feed card.now.seat.side.view }
         { join_reading(rt, gate, beside, source, reader, card) },
         &mut ||
-            requires { AllFit lanes.now }
+            requires { All W.fits lanes.now }
         { run_lanes(rt, alloc, gate, beside, lanes) },
     );
 }
 
 /// The reading, the card and the applications side by side, until each is over, or has done nothing for long and none goes on.
-fn play_beside<S: Source + Send, T: Shelf + Send, G: Gate + Sync, R: Threads + Wait + Sync>(
+fn play_beside<S: Source + Send, W: Sits + Send, G: Gate + Sync, R: Threads + Wait + Sync>(
     rt: &R,
     alloc: Global,
     gate: &G,
     source: &mut S,
     reader: &mut Reader,
     card: &mut CardLane<'_>,
-    lanes: &mut [Lane<'_, T>],
+    lanes: &mut [W],
 )
     requires ready { IsReady card.old.feed card.old.seat.side.view }
-    requires fit { AllFit lanes.old }
+    requires fit { All W.fits lanes.old }
     ensures reader { ReaderGoes S.left S.faults source.old source.new reader.old reader.new }
     ensures card { CardGoes card.old card.new }
-    ensures lanes { AllGo T.kept T.faults lanes.old lanes.new }
+    ensures lanes { AllGo W.goes lanes.old lanes.new }
 {
     let beside = Beside::new();
     if card.feed.ended() {
@@ -90,9 +91,9 @@ fn play_beside<S: Source + Send, T: Shelf + Send, G: Gate + Sync, R: Threads + W
 }
 
 /// Whether the card was closed and every application has left.
-fn are_over<T>(card: &CardLane<'_>, lanes: &[Lane<'_, T>]) -> bool
+fn are_over<W: Sits>(card: &CardLane<'_>, lanes: &[W]) -> bool
     ensures closed { IsTrue result → card.now.feed.closed ≡ true }
-    ensures left { IsTrue result → All (λ lane. lane.worker.left ≡ true) lanes.now }
+    ensures left { IsTrue result → All (λ lane. W.gone lane ≡ true) lanes.now }
 {
     card.feed.closed() && have_left(lanes)
 }
@@ -108,23 +109,24 @@ fn read_on<S: Source>(source: &mut S, reader: &mut Reader, card: &CardLane<'_>)
 
 /// Rounds, a turn of the reading, one of the card and then one of each application, until all are over. `false` says that
 /// after many they aren't.
-fn play_rounds<S: Source, T: Shelf + Send, G: Gate + Sync, R: Threads + Sync>(
+fn play_rounds<S: Source, W: Sits + Send, G: Gate + Sync, R: Threads + Sync>(
     rt: &R,
     alloc: Global,
     gate: &G,
     source: &mut S,
     reader: &mut Reader,
     card: &mut CardLane<'_>,
-    lanes: &mut [Lane<'_, T>],
+    lanes: &mut [W],
 ) -> bool
     requires ready { IsReady card.old.feed card.old.seat.side.view }
-    requires fit { AllFit lanes.old }
+    requires fit { All W.fits lanes.old }
     ensures reader { ReaderGoes S.left S.faults source.old source.new reader.old reader.new }
     ensures card { CardGoes card.old card.new }
-    ensures lanes { AllGo T.kept T.faults lanes.old lanes.new }
+    ensures lanes { AllGo W.goes lanes.old lanes.new }
     ensures closed { IsTrue result → card.new.feed.closed ≡ true }
-    ensures left { IsTrue result → All (λ lane. lane.worker.left ≡ true) lanes.new }
+    ensures left { IsTrue result → All (λ lane. W.gone lane ≡ true) lanes.new }
 {
+    lanes_go_on::<W>();
     for _ in 0..IDLE {
         if are_over(card, lanes) {
             return true;
@@ -137,23 +139,24 @@ fn play_rounds<S: Source, T: Shelf + Send, G: Gate + Sync, R: Threads + Sync>(
 }
 
 /// All turns of a run: side by side, and where loops ended before all were over, rounds, and side by side again.
-pub fn play<S: Source + Send, T: Shelf + Send, G: Gate + Sync, R: Threads + Wait + Sync>(
+pub fn play<S: Source + Send, W: Sits + Send, G: Gate + Sync, R: Threads + Wait + Sync>(
     rt: &R,
     alloc: Global,
     gate: &G,
     source: &mut S,
     reader: &mut Reader,
     card: &mut CardLane<'_>,
-    lanes: &mut [Lane<'_, T>],
+    lanes: &mut [W],
 )
     requires ready { IsReady card.old.feed card.old.seat.side.view }
-    requires fit { AllFit lanes.old }
+    requires fit { All W.fits lanes.old }
     ensures reader { ReaderGoes S.left S.faults source.old source.new reader.old reader.new }
     ensures card { CardGoes card.old card.new }
-    ensures lanes { AllGo T.kept T.faults lanes.old lanes.new }
+    ensures lanes { AllGo W.goes lanes.old lanes.new }
     ensures closed { card.new.feed.closed ≡ true }
-    ensures left { All (λ lane. lane.worker.left ≡ true) lanes.new }
+    ensures left { All (λ lane. W.gone lane ≡ true) lanes.new }
 {
+    lanes_go_on::<W>();
     for _ in rt.forever() {
         play_beside(rt, alloc, gate, source, reader, card, lanes);
         if play_rounds(rt, alloc, gate, source, reader, card, lanes) {

@@ -1,15 +1,15 @@
 //! A whole run.
-ghost use Rattle.std.specs.Prelude.{◌≡◌, ◌+◌, ◌-◌, ◌<◌, ◌≤◌, ℕ, [], length, vec_len, vec_capacity, IfOk, OnErr};
+ghost use Rattle.std.specs.Prelude.{◌≡◌, ◌+◌, ◌-◌, ◌<◌, ◌≤◌, ℕ, [], length, map, vec_len, vec_capacity, IfOk, OnErr};
 ghost use Rattle.board_face.specs.NicCalls.{apps_of, IsOpen, HasNoToken};
 ghost use Rattle.board_face.specs.declared.views.nic.NicView.{NicView};
 ghost use Rattle.card_feed.specs.Feed.{IsReady, new_feed};
 ghost use Rattle.card_feed.specs.Plan.{IsPlan, layout_of};
 ghost use Rattle.run_account.specs.Ran.{HasReadOn, LacksMemoryBeside, Ran, told_of};
-ghost use Rattle.run_account.specs.Running.{AreNew};
 ghost use Rattle.word_board.specs.Board.{card_of, new_desk};
 ghost use Rattle.word_board.specs.Desk.{AllAreBack};
 ghost use Rattle.replay_threads.specs.Played.{HasPlayed};
 ghost use Rattle.replay_threads.specs.Reader.{IsOpened};
+ghost use Rattle.replay_threads.specs.Seated.{AreStarts, left_end};
 
 use crate::card::CardLane;
 use crate::dropping::drop_rest;
@@ -18,10 +18,12 @@ use crate::lane::Lane;
 use crate::moving::move_last;
 use crate::playing::play;
 use crate::reading::{Opened, open_reading};
+use crate::seated::{Left, Start};
 use crate::seating::{close_lanes, open_lanes};
+use crate::starting::new_starts;
 use area_layout::Layout;
 use card_feed::{Feed, Outcome, Plan, new_feeds_stand};
-use run_account::{Run, new_workers, runs_are_told, runs_end_well, tell};
+use run_account::{runs_are_told, runs_end_well, tell};
 use std::alloc::{AllocError, Global};
 use std::collections::hash_map::RandomState;
 use std::sync::Wait;
@@ -48,6 +50,13 @@ fn rooms<'b, T>(
     }
 }
 
+/// What the roles begin with, and room for what the applications leave.
+struct Begun {
+    feed: Feed,
+    starts: Vec<Start>,
+    lefts: Vec<Left>,
+}
+
 /// How many buffers are free at first for the card alone: none where applications take some to copy into.
 fn free_at_first(plan: &Plan, layout: &Layout) -> u32 {
     if plan.split == 0 { layout.buffers() } else { 0 }
@@ -67,28 +76,34 @@ fn play_seated<'b, S: Source + Send, T: Shelf + Send, G: Gate + Sync, R: Threads
     lanes: Vec<Lane<'b, T>>,
     reading: Opened,
     free: u32,
-    run: Run,
-) -> Run
+    begun: Begun,
+) -> (Feed, Vec<Left>)
     requires plan { IsPlan plan.now }
     requires desk { desk.old ≡ new_desk board.now }
     requires setting { board.now.setting ≡ record { layout = layout_of plan.now; places = plan.now.ring } }
-    requires feed { run.feed ≡ new_feed plan.now.ports.items plan.now.split }
-    requires ready { (v : NicView) → IsOpen v → HasNoToken v → length plan.now.ports.items ≡ apps_of v.setting → IsReady run.feed v }
-    requires workers { AreNew plan.now run.workers.items }
+    requires feed { begun.feed ≡ new_feed plan.now.ports.items plan.now.split }
+    requires ready { (v : NicView) → IsOpen v → HasNoToken v → length plan.now.ports.items ≡ apps_of v.setting → IsReady begun.feed v }
+    requires starts { AreStarts plan.now begun.starts.items }
+    requires lefts { (begun.lefts.items ≡ []) × (length plan.now.ports.items ≤ vec_capacity begun.lefts) }
     requires shelves { vec_len shelves.old ≡ length plan.now.ports.items }
     requires lanes { (lanes.items ≡ []) × (length plan.now.ports.items ≤ vec_capacity lanes) }
     requires reading { IsOpened reading }
-    ensures played { HasPlayed S.left S.faults T.kept T.faults source.old source.new shelves.old.items shelves.new.items plan.now desk.new result }
+    ensures played { HasPlayed S.left S.faults T.kept T.faults source.old source.new shelves.old.items shelves.new.items plan.now desk.new
+        result.0 (map left_end result.1.items) }
     ensures board { desk.new.board ≡ desk.old.board }
     ensures many { vec_len shelves.new ≡ vec_len shelves.old }
     ensures room { vec_capacity shelves.new ≡ vec_capacity shelves.old }
 {
-    let Run { feed, mut workers } = run;
+    let Begun {
+        feed,
+        mut starts,
+        mut lefts,
+    } = begun;
     let Some(seat) = board.nic(desk) else {
         unreachable!()
     };
     let mut lanes = lanes;
-    open_lanes(board, desk, &mut workers, shelves, &mut lanes);
+    open_lanes(alloc, board, desk, &mut starts, shelves, &mut lanes);
     new_feeds_stand::<S>();
     let Opened {
         mut reader,
@@ -118,8 +133,8 @@ fn play_seated<'b, S: Source + Send, T: Shelf + Send, G: Gate + Sync, R: Threads
     // Its answer says that no more records were read than are read at most.
     let _ = feed.records();
     seat.back(desk);
-    close_lanes(lanes, desk, &mut workers, shelves);
-    Run { feed, workers }
+    close_lanes(lanes, desk, &mut lefts, shelves);
+    (feed, lefts)
 }
 
 /// Replays a capture with threads, over the board on words: the reading, the card and each application have a thread of their
@@ -157,11 +172,12 @@ pub fn run_threads<S: Source + Send, T: Shelf + Send, G: Gate + Sync, R: Threads
     let apps = plan.ports.len();
     let (board, mut desk) = WordBoard::open(alloc, layout, apps as u32, plan.ring)?;
     let feed = Feed::new(alloc, random, plan)?;
-    let workers = new_workers(alloc, plan)?;
+    let starts = new_starts(alloc, plan)?;
+    let lefts = Vec::with_capacity(alloc, apps)?;
     let reading = open_reading(alloc)?;
     let (lanes, mut aside) = rooms(alloc, apps, shelves.len() - apps)?;
     move_last(shelves, apps, &mut aside);
-    let run = play_seated(
+    let (feed, lefts) = play_seated(
         rt,
         alloc,
         gate,
@@ -173,12 +189,16 @@ pub fn run_threads<S: Source + Send, T: Shelf + Send, G: Gate + Sync, R: Threads
         lanes,
         reading,
         free_at_first(plan, &layout),
-        Run { feed, workers },
+        Begun {
+            feed,
+            starts,
+            lefts,
+        },
     );
     move_last(&mut aside, 0, shelves);
     aside.destroy_empty();
     runs_end_well::<S, T>();
     runs_are_told::<S, T>();
-    let outcome = tell(alloc, run, &plan.ports)?;
+    let outcome = tell(alloc, feed, &lefts, &plan.ports)?;
     Ok((outcome, board, desk))
 }

@@ -24,7 +24,7 @@ use Rattle.plain_board.proofs.OwnSide.{seen-users}
 use Rattle.plain_board.proofs.Reserves.{users-are_loans}
 use Rattle.flow_queues.specs.declared.queues.Lending.{Lending}
 use Rattle.app_worker.specs.Core.{total, Each, is_odd, lent_piece, over_read, read_out}
-use Rattle.app_worker.specs.Entries.{loans_of, lies_in}
+use Rattle.flow_queues.specs.Entries.{loans_of, lies_in}
 use Rattle.app_worker.specs.State.{State, Common, Working, LiesOutside, odd_loans}
 use Rattle.app_worker.specs.Turns.{IsCaughtUp}
 use Rattle.app_worker.proofs.Flushing.{lies-away}

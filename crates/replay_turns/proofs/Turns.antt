@@ -69,6 +69,7 @@ module _ (board board_now : Board) (was now : Run) (workers : now.workers.items 
       omega (arith, runs.many, fits.many, fits.sound.set.many, runs.plan_is.some) in
       record {
         plan_is = runs.plan_is;
+        by_turns = runs.by_turns;
         frames = more;
         feed = stands;
         setting = setting-same board board_now fits.sound sound_now apps some ∙ runs.setting;
@@ -133,6 +134,7 @@ module _ (board board_now : Board) (was now : Run) (app : ℕ) (w_was w_now : Wo
       (sym (losses-here losses later app shelf_now here_is)) (goes was_runs)) in
       record {
         plan_is = runs.plan_is;
+        by_turns = runs.by_turns;
         frames = runs.frames;
         feed = subst (λ f. FeedStands left faults first source plan.ports.items plan.split runs.frames f board_now.nic.view) (sym feed_is)
             (subst (λ nic. FeedStands left faults first source plan.ports.items plan.split runs.frames was.feed nic.view) (sym nic_is) runs.feed);

@@ -1,7 +1,7 @@
 //! How a run begins.
 
 ghost use Rattle.std.specs.Prelude.{◌≡◌, ℕ, ◌≤◌, List, length, IfOk};
-ghost use Rattle.card_feed.specs.Plan.{IsPlan};
+ghost use Rattle.card_feed.specs.Plan.{IsPlan, TakesTurns};
 ghost use Rattle.run_account.specs.Running.{Running};
 ghost use Rattle.replay_turns.specs.Following.{IsNewRun};
 ghost use Rattle.replay_turns.specs.Running.{Fits};
@@ -19,7 +19,8 @@ pub fn open<S: Source, T: Shelf>(
     random: RandomState,
     plan: &Plan,
 ) -> Result<(PlainBoard, Run), AllocError>
-    requires { IsPlan plan.now }
+    requires plan { IsPlan plan.now }
+    requires turns_only { TakesTurns plan.now }
     ensures fits { IfOk result (λ it. (shelves : ℕ) → length plan.now.ports.items ≤ shelves → Fits it.0 it.1 shelves) }
     ensures opened { IfOk result (λ it. IsNewRun plan.now it.0 it.1) }
     ensures many { IfOk result (λ it. length it.1.workers.items ≡ length plan.now.ports.items) }

@@ -2,7 +2,7 @@
 
 ghost use Rattle.std.specs.Prelude.{◌≡◌, ◌≤◌, length, vec_len, IfOk, OnErr};
 ghost use Rattle.plain_board.specs.Sound.{IsSound};
-ghost use Rattle.card_feed.specs.Plan.{IsPlan};
+ghost use Rattle.card_feed.specs.Plan.{IsPlan, TakesTurns};
 ghost use Rattle.run_account.specs.Ran.{Ran, LacksMemory, told_of};
 ghost use Rattle.replay_turns.specs.Following.{RunsBy};
 ghost use Rattle.replay_turns.specs.Schedule.{AreTurns};
@@ -11,7 +11,7 @@ use crate::opening::open;
 use crate::playing::{play_rounds, play_text};
 use card_feed::{Outcome, Plan};
 use plain_board::PlainBoard;
-use run_account::tell;
+use run_account::{Run, tell};
 use std::alloc::{AllocError, Global};
 use std::collections::hash_map::RandomState;
 use zr_io::{Shelf, Source};
@@ -30,6 +30,7 @@ pub fn run_turns<S: Source, T: Shelf>(
     turns: &str,
 ) -> Result<(Outcome, PlainBoard), AllocError>
     requires plan { IsPlan plan.now }
+    requires turns_only { TakesTurns plan.now }
     requires shelves { length plan.now.ports.items ≤ vec_len shelves.old }
     requires turns { AreTurns (length plan.now.ports.items) turns.now }
     ensures many { vec_len shelves.new ≡ vec_len shelves.old }
@@ -47,6 +48,7 @@ pub fn run_turns<S: Source, T: Shelf>(
     let (mut board, mut run) = open::<S, T>(alloc, random, plan)?;
     board = play_text(alloc, board, &mut run, source, shelves, turns);
     board = play_rounds(alloc, board, &mut run, source, shelves);
-    let outcome = tell(alloc, run, &plan.ports)?;
+    let Run { feed, workers } = run;
+    let outcome = tell(alloc, feed, &workers, &plan.ports)?;
     Ok((outcome, board))
 }

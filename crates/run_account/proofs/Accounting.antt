@@ -20,10 +20,11 @@ use Rattle.board_face.proofs.SideLemmas.{IsApp-at}
 use Rattle.page_pool.specs.Frames.{ShowFrames}
 use Rattle.app_worker.specs.Marks.{AreWholeFrames, marks_of}
 use Rattle.flow_queues.specs.Ends.{AppEnd, HasLeft}
-use Rattle.app_worker.specs.Returned.{HasReturned}
+use Rattle.flow_queues.specs.Returned.{HasReturned}
 use Rattle.card_feed.specs.Account.{offered_to, kept_in, AppAccounts, AccountsFor, IsFlowRead}
 use Rattle.card_feed.specs.Feed.{FeedState}
 use Rattle.card_feed.specs.Sent.{IsOfOwnFlow}
+use Rattle.card_feed.specs.Plan.{how_of}
 use Rattle.card_feed.specs.declared.plan.Plan.{Plan}
 use Rattle.card_feed.proofs.Sharing.{closed_show}
 use Rattle.card_feed.proofs.SentNotes.{notes-whole, notes-own}
@@ -81,9 +82,9 @@ module _ {S T : Type 0} (left : S → Option (List ℕ)) (faults : S → ℕ) (k
       }
 
   pub left-at : (a : ℕ) (app : AppSide) (end : AppEnd) → IsApp apps a app → slice_get ends a ≡ Some end
-      → HasLeft plan.how (kept_in kept shelves a) (kept_in kept shelves_now a) (losses_in losses shelves a) (losses_in losses shelves_now a)
+      → HasLeft (how_of plan) (kept_in kept shelves a) (kept_in kept shelves_now a) (losses_in losses shelves a) (losses_in losses shelves_now a)
       app.view end
-  left-at a app end here at = subst (λ (side : AppSide). HasLeft plan.how (kept_in kept shelves a) (kept_in kept shelves_now a)
+  left-at a app end here at = subst (λ (side : AppSide). HasLeft (how_of plan) (kept_in kept shelves a) (kept_in kept shelves_now a)
       (losses_in losses shelves a) (losses_in losses shelves_now a) side.view end) (side-at apps a app here) (runs.app a end at)
 
   pub line-known : (a : ℕ) (line : AppLine) → slice_get (lines_of plan.ports.items ends) a ≡ Some line
@@ -105,12 +106,12 @@ module _ {S T : Type 0} (left : S → Option (List ℕ)) (faults : S → ℕ) (k
       }
 
   app-accounts : (a : ℕ) (app : AppSide) (line : AppLine) → IsApp apps a app → slice_get (lines_of plan.ports.items ends) a ≡ Some line
-      → AppAccounts plan.how plan.split (steered_in plan.ports.items runs.frames) feed.refused nic a app line
+      → AppAccounts (how_of plan) plan.split (steered_in plan.ports.items runs.frames) feed.refused nic a app line
   app-accounts a app line here at =
       let known = line-known a line at in
       let went = left-at a app known.end here known.end_at in
       let has = told a app here in
-      subst (λ (l : AppLine). AppAccounts plan.how plan.split (steered_in plan.ports.items runs.frames) feed.refused nic a app l) (sym known.is)
+      subst (λ (l : AppLine). AppAccounts (how_of plan) plan.split (steered_in plan.ports.items runs.frames) feed.refused nic a app l) (sym known.is)
       (record {
         has_left = went.left;
         notes = has.notes;
@@ -119,7 +120,7 @@ module _ {S T : Type 0} (left : S → Option (List ℕ)) (faults : S → ℕ) (k
         copied = went.copied;
         all_lent = went.all_lent;
         within_lent = went.within_lent;
-        returned = subst (λ (side : AppSide). HasReturned plan.how known.end.stopped known.end.written side.view) (side-at apps a app here)
+        returned = subst (λ (side : AppSide). HasReturned (how_of plan) known.end.stopped known.end.written side.view) (side-at apps a app here)
             (runs.returned a known.end known.end_at);
         no_stray = has.no_stray;
       })
@@ -129,7 +130,7 @@ module _ {S T : Type 0} (left : S → Option (List ℕ)) (faults : S → ℕ) (k
   flow-accounts number a app line here at =
       let known = line-known a line at in
       subst (λ (l : AppLine). Gained (kept_in kept shelves a number) (kept_in kept shelves_now a number) (IsFlowRead app l.stopped number)) (sym known.is)
-      (flow-read (kept_in kept shelves a) (kept_in kept shelves_now a) (losses_in losses shelves a) (losses_in losses shelves_now a) plan.how app
+      (flow-read (kept_in kept shelves a) (kept_in kept shelves_now a) (losses_in losses shelves a) (losses_in losses shelves_now a) (how_of plan) app
       known.end (left-at a app known.end here known.end_at) (told a app here).whole number)
 
   pub accounts : AccountsFor kept shelves shelves_now plan runs.frames feed.refused nic apps (lines_of plan.ports.items ends) feed.pool.stats.strays
@@ -147,7 +148,7 @@ module _ {S T : Type 0} (left : S → Option (List ℕ)) (faults : S → ℕ) (k
         let own = there ends a (omega (arith, within, runs.many)) in
         let app : AppSide = side_in apps a in
         let has = told a app (side-is a within) in
-        no-flow-read (kept_in kept shelves a) (kept_in kept shelves_now a) (losses_in losses shelves a) (losses_in losses shelves_now a) plan.how
+        no-flow-read (kept_in kept shelves a) (kept_in kept shelves_now a) (losses_in losses shelves a) (losses_in losses shelves_now a) (how_of plan)
         app own.0 (runs.app a own.0 own.1) has.whole number
         (ap (marks_of number) has.taken ∙ own-marks (flows_of (steered_in plan.ports.items runs.frames)) a (sent_to a nic) has.own number none);
     strays_are = runs.stands.knows.counted.strays;

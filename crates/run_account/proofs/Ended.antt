@@ -31,6 +31,7 @@ use Rattle.card_feed.specs.Offered.{AreRefused, AreSettled, offers_of}
 use Rattle.card_feed.specs.Outcomes.{AreLinesOf, line_of as flow_line_of}
 use Rattle.card_feed.specs.declared.intake.Stage.{Stage}
 use Rattle.card_feed.specs.declared.intake.Stage.TheVariants as stage
+use Rattle.card_feed.specs.Plan.{how_of}
 use Rattle.card_feed.specs.declared.plan.Plan.{Plan}
 use Rattle.card_feed.proofs.Bridge.{give_streams}
 use Rattle.run_account.specs.Laws.{RunsAreTold, RunsEndWell}
@@ -134,10 +135,10 @@ module _ {S T : Type 0} (left : S → Option (List ℕ)) (faults : S → ℕ) (k
   searched : searches_in told_is.pool ≤ long_in plan.split (offers_of (steered_in plan.ports.items runs.frames))
   searched = omega (arith, counted.searches)
 
-  strays-few : told_is.pool.strays ≤ plan.how.stray * all_loans told_is.apps
+  strays-few : told_is.pool.strays ≤ (how_of plan).stray * all_loans told_is.apps
   strays-few =
       let most = strays-within left faults kept losses source source_now shelves shelves_now plan nic apps feed ends ended runs in
-      subst (λ lines. told_is.pool.strays ≤ plan.how.stray * all_loans lines) (sym tells.apps_are) (omega (arith, counted.strays, most))
+      subst (λ lines. told_is.pool.strays ≤ (how_of plan).stray * all_loans lines) (sym tells.apps_are) (omega (arith, counted.strays, most))
 
   -- there are too few searches for a count to stop
   searches-few : searches_in told_is.pool ≤ 16777216
@@ -210,7 +211,7 @@ module _ {S T : Type 0} (left : S → Option (List ℕ)) (faults : S → ℕ) (k
       (cases_lt a (length plan.ports.items))
 
   one-app : (a port : ℕ) (end : AppEnd) → slice_get plan.ports.items a ≡ Some port → slice_get ends a ≡ Some end → a < length plan.ports.items
-      → IsAppLine plan.how port (losses_in losses shelves a) (losses_in losses shelves_now a) told_is.flows (line_of port end)
+      → IsAppLine (how_of plan) port (losses_in losses shelves a) (losses_in losses shelves_now a) told_is.flows (line_of port end)
   one-app a port end port_at end_at within =
       let went = runs.app a end end_at in
       let has = told-at a within in
@@ -229,7 +230,7 @@ module _ {S T : Type 0} (left : S → Option (List ℕ)) (faults : S → ℕ) (k
       }
 
   app-lines : (a port : ℕ) → slice_get plan.ports.items a ≡ Some port
-      → There (slice_get told_is.apps a) (IsAppLine plan.how port (losses_in losses shelves a) (losses_in losses shelves_now a) told_is.flows)
+      → There (slice_get told_is.apps a) (IsAppLine (how_of plan) port (losses_in losses shelves a) (losses_in losses shelves_now a) told_is.flows)
   app-lines a port port_at =
       let within = slice_get_within plan.ports.items a port port_at in
       let (end, end_at) = end-there a within in

@@ -20,10 +20,12 @@ use Rattle.app_worker.specs.Kept.{flow_bytes}
 use Rattle.app_worker.specs.State.{Bare, Common, Working}
 use Rattle.flow_queues.specs.Shelves.{FlowEnds}
 use Rattle.flow_queues.specs.Totals.{Quits, capped, lent_len, loan_entries, raw_entries}
-use Rattle.app_worker.specs.Entries.{AreBlocks, WasLive}
-use Rattle.app_worker.specs.Returned.{HasReturned}
+use Rattle.flow_queues.specs.Entries.{AreBlocks, WasLive}
+use Rattle.flow_queues.specs.Returned.{HasReturned}
+use Rattle.card_feed.specs.Account.{kept_in}
+use Rattle.card_feed.specs.Plan.{TakesTurns, how_of}
 use Rattle.card_feed.specs.declared.plan.Plan.{Plan}
-use Rattle.run_account.specs.Running.{AreOver, HasRun, RolesFit, Running, WorkerFits, WorkerRuns, ends_of}
+use Rattle.run_account.specs.Running.{AreOver, HasRun, RolesFit, Running, WorkerFits, WorkerRuns, ends_of, losses_in}
 use Rattle.run_account.specs.declared.run.Run.{Run}
 use Rattle.run_account.specs.declared.run.Worker.{Worker}
 use Rattle.run_account.proofs.Counted.{flow-counted}
@@ -112,8 +114,9 @@ module _ (first kept : ℕ → Option (List ℕ)) (losses losses_now : ℕ) (how
 
 -- ---- all of them
 
-pub end-at : (workers : List Worker) (a : ℕ) (w : Worker) → slice_get workers a ≡ Some w → slice_get (ends_of workers) a ≡ Some (end_of w.state)
-end-at workers a w at = slice_get-map (λ (u : Worker). end_of u.state) workers a ∙ ap (option_map (λ (u : Worker). end_of u.state)) at
+-- one that takes turns behaves as the plan says
+pub behaves-so : (plan : Plan) → TakesTurns plan → plan.how ≡ how_of plan
+behaves-so plan by_turns = rw (by_turns.unpolled, by_turns.unforwarded) refl
 
 -- what an application left is what one's state says
 worker-of : (found : Option Worker) (end : AppEnd) → option_map (λ (u : Worker). end_of u.state) found ≡ Some end
@@ -136,12 +139,15 @@ has-run left faults kept losses source source_now shelves shelves_now plan nic a
   app = λ a end at.
       let (w, w_at, is) = worker-of (slice_get run.workers.items a) end
       (sym (slice_get-map (λ (u : Worker). end_of u.state) run.workers.items a) ∙ at) in
-      subst (HasLeft plan.how _ _ _ _ (side_in apps a).view) is
-      (has-left _ _ _ _ plan.how (side_in apps a).view w (fits.worker a w w_at) (runs.worker a w w_at) (worker-left nic apps run fits over a w w_at));
+      subst (λ how. HasLeft how (kept_in kept shelves a) (kept_in kept shelves_now a) (losses_in losses shelves a) (losses_in losses shelves_now a)
+      (side_in apps a).view end) (behaves-so plan runs.by_turns)
+      (subst (HasLeft plan.how _ _ _ _ (side_in apps a).view) is
+      (has-left _ _ _ _ plan.how (side_in apps a).view w (fits.worker a w w_at) (runs.worker a w w_at) (worker-left nic apps run fits over a w w_at)));
   returned = λ a end at.
       let (w, w_at, is) = worker-of (slice_get run.workers.items a) end (sym (slice_get-map (λ (u : Worker). end_of u.state) run.workers.items a) ∙ at) in
-      subst (λ (e : AppEnd). HasReturned plan.how e.stopped e.written (side_in apps a).view) is
-      (has-returned _ _ _ _ plan.how (side_in apps a).view w (fits.worker a w w_at) (runs.worker a w w_at) (worker-left nic apps run fits over a w w_at));
+      subst (λ how. HasReturned how end.stopped end.written (side_in apps a).view) (behaves-so plan runs.by_turns)
+      (subst (λ (e : AppEnd). HasReturned plan.how e.stopped e.written (side_in apps a).view) is
+      (has-returned _ _ _ _ plan.how (side_in apps a).view w (fits.worker a w w_at) (runs.worker a w w_at) (worker-left nic apps run fits over a w w_at)));
   many_shelves = runs.many_shelves;
   beyond = runs.beyond;
   records = runs.records;

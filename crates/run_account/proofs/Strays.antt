@@ -27,6 +27,7 @@ use Rattle.app_worker.specs.Core.{total}
 use Rattle.flow_queues.specs.Ends.{AppEnd}
 use Rattle.flow_queues.specs.Totals.{raw_entries, loan_entries, taken_len}
 use Rattle.card_feed.specs.Feed.{FeedState}
+use Rattle.card_feed.specs.Plan.{how_of}
 use Rattle.card_feed.specs.declared.plan.Plan.{Plan}
 use Rattle.run_account.specs.Ran.{all_loans, lines_of}
 use Rattle.run_account.specs.Running.{HasRun}
@@ -132,7 +133,7 @@ module _ {S T : Type 0} (left : S → Option (List ℕ)) (faults : S → ℕ) (k
       omega (arith, took-few a end at, bound, counted)
 
   app-strays : (a : ℕ) (end : AppEnd) → slice_get ends a ≡ Some end
-      → tally (λ (d : Dealt). d.app == a) (filter (λ (d : Dealt). is_stray d.fate) nic.view.dealt) ≤ plan.how.stray * end.loans
+      → tally (λ (d : Dealt). d.app == a) (filter (λ (d : Dealt). is_stray d.fate) nic.view.dealt) ≤ (how_of plan).stray * end.loans
   app-strays a end at =
       let app : AppSide = side_in apps a in
       let here = here-is a end at in
@@ -152,11 +153,11 @@ module _ {S T : Type 0} (left : S → Option (List ℕ)) (faults : S → ℕ) (k
       ∙ ap (λ b. tally (λ (d : Dealt). is_stray d.fate) (filter (λ (d : Dealt). d.app == b) nic.view.dealt)) (sym here.number) in
       let follow = went.strays in
       let given = went.entries in
-      let most : plan.how.stray * loan_entries app.view ≤ plan.how.stray * end.loans =
-      mul-le-mul_left plan.how.stray (omega (arith, given, loans-are a end at)) in
+      let most : (how_of plan).stray * loan_entries app.view ≤ (how_of plan).stray * end.loans =
+      mul-le-mul_left (how_of plan).stray (omega (arith, given, loans-are a end at)) in
       omega (arith, raw, swapped, follow, most)
 
-  pub strays-within : strays_in nic.view.dealt ≤ plan.how.stray * all_loans (lines_of plan.ports.items ends)
+  pub strays-within : strays_in nic.view.dealt ≤ (how_of plan).stray * all_loans (lines_of plan.ports.items ends)
   strays-within =
       let strays : List Dealt = filter (λ (d : Dealt). is_stray d.fate) nic.view.dealt in
       let lines : List AppLine = lines_of plan.ports.items ends in
@@ -164,13 +165,13 @@ module _ {S T : Type 0} (left : S → Option (List ℕ)) (faults : S → ℕ) (k
       shares (length plan.ports.items) strays
       (All-filter (λ (d : Dealt). is_stray d.fate) (λ d. d.app < length plan.ports.items) nic.view.dealt runs.dealt) in
       let many : length lines ≡ length plan.ports.items = many-lines plan.ports.items ends runs.many in
-      let most : over (λ a. tally (λ (d : Dealt). d.app == a) strays) 0 (length lines) ≤ plan.how.stray * all_loans lines =
-      within-loans (λ a. tally (λ (d : Dealt). d.app == a) strays) plan.how.stray lines 0
+      let most : over (λ a. tally (λ (d : Dealt). d.app == a) strays) 0 (length lines) ≤ (how_of plan).stray * all_loans lines =
+      within-loans (λ a. tally (λ (d : Dealt). d.app == a) strays) (how_of plan).stray lines 0
       (λ i line at.
       let known = line-known left faults kept losses source source_now shelves shelves_now plan nic apps feed ends ended runs i line at in
       let place : i ≡ 0 + i = omega arith in
-      subst (λ n. tally (λ (d : Dealt). d.app == n) strays ≤ plan.how.stray * line.loans) place
-      (subst (λ (l : AppLine). tally (λ (d : Dealt). d.app == i) strays ≤ plan.how.stray * l.loans) (sym known.is)
+      subst (λ n. tally (λ (d : Dealt). d.app == n) strays ≤ (how_of plan).stray * line.loans) place
+      (subst (λ (l : AppLine). tally (λ (d : Dealt). d.app == i) strays ≤ (how_of plan).stray * l.loans) (sym known.is)
       (app-strays i known.end known.end_at))) in
       let same : over (λ a. tally (λ (d : Dealt). d.app == a) strays) 0 (length lines)
       ≡ over (λ a. tally (λ (d : Dealt). d.app == a) strays) 0 (length plan.ports.items) =

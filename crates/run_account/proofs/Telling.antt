@@ -1,21 +1,20 @@
 -- Lines and counts, one after another.
-use Rattle.std.proofs.Common.{◌≡◌, ℕ, zero, suc, ◌+◌, ◌<◌, ◌≤◌, List, [], ◌∷◌, ◌++◌, length, take}
+use Rattle.std.proofs.Common.{◌≡◌, ℕ, zero, suc, ◌+◌, ◌<◌, ◌≤◌, List, [], ◌∷◌, ◌++◌, length, map, take}
 use Rattle.std.proofs.Common.{Option, Some, None, option_map}
 use Rattle.std.proofs.Common.{refl, sym, ap, ◌∙◌, length-append, arith, ⊎_elim}
 use Rattle.std.specs.List.{slice_get}
 use Rattle.std.proofs.lemmas.Bool.{cases_lt}
-use Rattle.std.proofs.lemmas.Option.{slice_get_within}
+use Rattle.std.proofs.lemmas.Option.{slice_get-map, slice_get_within}
 use Rattle.flow_table.specs.Flows.{Flow}
 use Rattle.flow_queues.specs.Ends.{AppEnd, bytes_in}
-use Rattle.app_worker.specs.StateOf.{end_of}
-use Rattle.app_worker.specs.Kept.{flow_bytes}
 use Rattle.run_account.specs.Ran.{line_of, lines_of, AreCounts}
-use Rattle.run_account.specs.Running.{ends_of}
-use Rattle.run_account.specs.declared.run.Worker.{Worker}
 use Rattle.run_account.proofs.AppLines.{one-value}
-use Rattle.run_account.proofs.Leaving.{bytes-by, end-at}
 
 -- ---- lines
+
+-- what the application at a place leaves
+pub end-at : {E : Type 0} (end : E → AppEnd) (own : List E) (a : ℕ) (e : E) → slice_get own a ≡ Some e → slice_get (map end own) a ≡ Some (end e)
+end-at end own a e at = slice_get-map end own a ∙ ap (option_map end) at
 
 next-line : (ports : List ℕ) (ends : List AppEnd) (i port : ℕ) (end : AppEnd) → slice_get ports i ≡ Some port → slice_get ends i ≡ Some end
     → lines_of (take (suc i) ports) (take (suc i) ends) ≡ lines_of (take i ports) (take i ends) ++ line_of port end ∷ []
@@ -54,20 +53,19 @@ app-of : (found : Option Flow) (app : ℕ) (flow : Flow) → option_map (λ (f :
 app-of None app flow is at = absurd (cc)
 app-of (Some f) app flow is at = let same : f ≡ flow = one-value at in ap (λ (g : Flow). g.app) (sym same) ∙ one-value is
 
-pub counts-more : (n : ℕ) (flows : List Flow) (workers : List Worker) (counts : List ℕ) (app count : ℕ) (own : Worker)
-    → AreCountsBelow n flows (ends_of workers) counts → option_map (λ (f : Flow). f.app) (slice_get flows n) ≡ Some app
-    → slice_get workers app ≡ Some own → count ≡ flow_bytes n own.state.flows → AreCountsBelow (n + 1) flows (ends_of workers) (counts ++ count ∷ [])
-counts-more n flows workers counts app count own so_far app_is own_at is = record {
+pub counts-more : (n : ℕ) (flows : List Flow) (ends : List AppEnd) (counts : List ℕ) (app count : ℕ) (own : AppEnd)
+    → AreCountsBelow n flows ends counts → option_map (λ (f : Flow). f.app) (slice_get flows n) ≡ Some app
+    → slice_get ends app ≡ Some own → count ≡ bytes_in n own.flows → AreCountsBelow (n + 1) flows ends (counts ++ count ∷ [])
+counts-more n flows ends counts app count own so_far app_is own_at is = record {
   many = length-append counts (count ∷ []) ∙ omega (arith, so_far.many);
   each = λ number flow end below at e_at. ⊎_elim
       (λ (earlier : number < n). get-before counts count number (omega (arith, earlier, so_far.many)) ∙ so_far.each number flow end earlier at e_at)
       (λ (late : n ≤ number).
       let now : number ≡ n = omega (arith, below, late) in
       let goes : flow.app ≡ app = app-of (slice_get flows n) app flow app_is (ap (slice_get flows) (sym now) ∙ at) in
-      let same : end_of own.state ≡ end = one-value (sym (end-at workers app own own_at) ∙ ap (slice_get (ends_of workers)) (sym goes) ∙ e_at) in
+      let same : own ≡ end = one-value (sym own_at ∙ ap (slice_get ends) (sym goes) ∙ e_at) in
       get-last counts count number (omega (arith, now, so_far.many))
-      ∙ ap Some (is ∙ ap (λ k. flow_bytes k own.state.flows) (sym now) ∙ sym (bytes-by number own.state.flows)
-      ∙ ap (λ (e : AppEnd). bytes_in number e.flows) same))
+      ∙ ap Some (is ∙ ap (λ k. bytes_in k own.flows) (sym now) ∙ ap (λ (e : AppEnd). bytes_in number e.flows) same))
       (cases_lt number n);
 }
 

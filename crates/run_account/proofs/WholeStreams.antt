@@ -9,6 +9,7 @@ use Rattle.board_face.specs.declared.views.nic.NicSide.{NicSide}
 use Rattle.board_face.specs.declared.views.app.AppSide.{AppSide}
 use Rattle.flow_queues.specs.Totals.{Quits}
 use Rattle.card_feed.specs.Account.{kept_in}
+use Rattle.card_feed.specs.Plan.{how_of}
 use Rattle.card_feed.specs.declared.plan.Plan.{Plan}
 use Rattle.run_account.specs.Ran.{HaveWholeStreams, Ran, Told}
 use Rattle.run_account.proofs.AppLines.{there, one-value, is-there, found-there}
@@ -23,15 +24,15 @@ module _ {S T : Type 0} (left : S → Option (List ℕ)) (faults : S → ℕ) (k
     (source source_now : S) (shelves shelves_now : List T) (plan : Plan) (told : Told) (nic : NicSide) (apps : List AppSide)
     (ran : Ran left faults kept losses source source_now shelves shelves_now plan told nic apps)
     (going : (number : ℕ) (app : AppLine) → slice_get told.apps number ≡ Some app → (app.stopped ≡ stop.No) ⊎ (app.stopped ≡ stop.Quit)) where
-  unstopped : (number : ℕ) (app : AppLine) → slice_get told.apps number ≡ Some app → plan.how.quit ≢ Some app.written → app.stopped ≡ stop.No
+  unstopped : (number : ℕ) (app : AppLine) → slice_get told.apps number ≡ Some app → (how_of plan).quit ≢ Some app.written → app.stopped ≡ stop.No
   unstopped number app at other =
       let (port, port_at) = there plan.ports.items number (omega (arith, get-within told.apps number app at, ran.many_apps)) in
       let (line, line_at, is) = found-there (slice_get told.apps number) _ (ran.app number port port_at) in
       let same : line ≡ app = one-value (sym line_at ∙ at) in
-      ⊎_elim (λ no. no) (λ quit. absurd (not-quit plan.how.quit line.written line.stopped is.quits
+      ⊎_elim (λ no. no) (λ quit. absurd (not-quit (how_of plan).quit line.written line.stopped is.quits
       (λ wrote. other (wrote ∙ ap (λ (l : AppLine). Some l.written) same)) (ap (λ (l : AppLine). l.stopped) same ∙ quit))) (going number app at)
 
-  pub whole-streams : HaveWholeStreams kept shelves shelves_now plan.ports.items plan.how.quit ran.before told
+  pub whole-streams : HaveWholeStreams kept shelves shelves_now plan.ports.items (how_of plan).quit ran.before told
   whole-streams number flow at =
       let (flow_line, flow_line_at, its_app) = found-there (slice_get told.flows number) _ (ran.flow number flow at) in
       let (app, app_at, both) = found-there (slice_get told.apps flow.app) _ its_app in

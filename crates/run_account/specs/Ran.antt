@@ -36,6 +36,7 @@ use Rattle.card_feed.specs.Offered.{AreRefused, WantsRoom, offers_of}
 use Rattle.card_feed.specs.Outcomes.{IsOutcomeOf, flow_end}
 use Rattle.card_feed.specs.declared.outcome.Outcome.{Outcome}
 use Rattle.card_feed.specs.declared.plan.Plan.{Plan}
+use Rattle.card_feed.specs.Plan.{how_of}
 use Rattle.run_account.specs.Running.{ends_of, losses_in}
 use Rattle.run_account.specs.declared.run.Run.{Run}
 
@@ -160,7 +161,7 @@ pub record Ran {S T : Type 0} (left : S → Option (List ℕ)) (faults : S → �
   pub found : found_in told.pool ≡ count_by begins_fresh nic.view.sent
   pub empty : told.pool.empty ≡ length told.refused
   -- no more strays than may follow the loans
-  pub strays : told.pool.strays ≤ plan.how.stray * all_loans told.apps
+  pub strays : told.pool.strays ≤ (how_of plan).stray * all_loans told.apps
   -- The stream theorem: each flow's shelf gained a front of what the copying receiver gives of what counts of the flow's payloads
   -- but those that were refused, and all of it where the flow's application wasn't stopped.
   pub flow : (number : ℕ) (flow : Flow) → slice_get (flows_of (steered_in plan.ports.items before)) number ≡ Some flow →
@@ -172,7 +173,7 @@ pub record Ran {S T : Type 0} (left : S → Option (List ℕ)) (faults : S → �
   pub others : (app number : ℕ) → option_map (λ (flow : Flow). flow.app) (slice_get (flows_of (steered_in plan.ports.items before)) number) ≢ Some app
       → Keeps (kept_in kept shelves app number) (kept_in kept shelves_now app number)
   pub app : (number port : ℕ) → slice_get plan.ports.items number ≡ Some port
-      → There (slice_get told.apps number) (IsAppLine plan.how port (losses_in losses shelves number)
+      → There (slice_get told.apps number) (IsAppLine (how_of plan) port (losses_in losses shelves number)
       (losses_in losses shelves_now number) told.flows)
   pub many_apps : length told.apps ≡ length plan.ports.items
   -- Where an application was stopped by its shelf, all that the shelf gained for it is counted, but for up to 4,096 bytes of one

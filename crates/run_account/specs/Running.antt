@@ -15,12 +15,12 @@ use Rattle.app_worker.specs.StateOf.{end_of}
 use Rattle.app_worker.specs.Kept.{new_state, IsFresh}
 use Rattle.app_worker.specs.Marks.{AreWholeFrames}
 use Rattle.flow_queues.specs.Shelves.{AreShelved, AreFronts}
-use Rattle.app_worker.specs.Returned.{HasReturned}
+use Rattle.flow_queues.specs.Returned.{HasReturned}
 use Rattle.app_worker.specs.State.{AppStands}
 use Rattle.flow_queues.specs.Streams.{HasFronts, HasAll}
 use Rattle.card_feed.specs.Account.{kept_in}
 use Rattle.card_feed.specs.Feed.{FeedState, IsReady, FeedStands}
-use Rattle.card_feed.specs.Plan.{IsPlan, layout_of}
+use Rattle.card_feed.specs.Plan.{IsPlan, TakesTurns, layout_of, how_of}
 use Rattle.card_feed.specs.declared.plan.Plan.{Plan}
 use Rattle.run_account.specs.declared.run.Run.{Run}
 use Rattle.run_account.specs.declared.run.Worker.{Worker}
@@ -74,11 +74,12 @@ pub record WorkerRuns (first kept : ℕ → Option (List ℕ)) (losses losses_no
   pub copies : w.state.copied ≤ w.state.loans
   pub counts : w.left ≡ true → w.state.stopped ≡ stop.No → w.state.loans ≤ w.state.written
 
--- The run of a plan so far: these frames were read and the card stands by them, each application stands by what it took,
--- and no other shelf was touched.
+-- The run so far of a plan whose applications take turns: these frames were read and the card stands by them, each application
+-- stands by what it took, and no other shelf was touched.
 pub record Running {S T : Type 0} (left : S → Option (List ℕ)) (faults : S → ℕ) (kept : T → ℕ → Option (List ℕ)) (losses : T → ℕ)
     (source source_now : S) (shelves shelves_now : List T) (plan : Plan) (nic : NicSide) (apps : List AppSide) (run : Run) : Type 0 where
   pub plan_is : IsPlan plan
+  pub by_turns : TakesTurns plan
   pub frames : List (List ℕ)
   pub feed : FeedStands left faults source source_now plan.ports.items plan.split frames run.feed nic.view
   pub setting : nic.view.setting ≡ record { layout = layout_of plan; places = plan.ring }
@@ -114,9 +115,9 @@ pub record HasRun {S T : Type 0} (left : S → Option (List ℕ)) (faults : S �
   pub setting : nic.view.setting ≡ record { layout = layout_of plan; places = plan.ring }
   pub many : length ends ≡ length plan.ports.items
   pub app : (a : ℕ) (end : AppEnd) → slice_get ends a ≡ Some end
-      → HasLeft plan.how (kept_in kept shelves a) (kept_in kept shelves_now a) (losses_in losses shelves a) (losses_in losses shelves_now a)
+      → HasLeft (how_of plan) (kept_in kept shelves a) (kept_in kept shelves_now a) (losses_in losses shelves a) (losses_in losses shelves_now a)
       (side_in apps a).view end
-  pub returned : (a : ℕ) (end : AppEnd) → slice_get ends a ≡ Some end → HasReturned plan.how end.stopped end.written (side_in apps a).view
+  pub returned : (a : ℕ) (end : AppEnd) → slice_get ends a ≡ Some end → HasReturned (how_of plan) end.stopped end.written (side_in apps a).view
   pub many_shelves : length shelves_now ≡ length shelves
   pub beyond : drop (length plan.ports.items) shelves_now ≡ drop (length plan.ports.items) shelves
   pub records : feed.tally.records ≤ 16777216

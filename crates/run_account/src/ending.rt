@@ -1,61 +1,56 @@
 //! What is told of a run that is over.
 
-ghost use Rattle.std.specs.Prelude.{◌≡◌, ◌≤◌, length, IfOk};
-ghost use Rattle.app_worker.specs.StateOf.{end_of};
-ghost use Rattle.run_account.specs.Running.{AreOver, ends_of};
-ghost use Rattle.run_account.specs.Ran.{line_of, lines_of, AreCounts, TellsOf};
+ghost use Rattle.std.specs.Prelude.{◌≡◌, ◌≤◌, length, map, true, IfOk};
+ghost use Rattle.run_account.specs.Ran.{lines_of, AreCounts, TellsOfEnds};
 
-use crate::{Run, Worker};
-use card_feed::Outcome;
+use crate::Leaves;
+use card_feed::{Feed, Outcome};
 use std::alloc::{AllocError, Global};
 use zr_kinds::AppLine;
 
-/// The line of an application.
-fn app_line(port: u16, worker: &Worker) -> AppLine
-    ensures { result ≡ line_of port (end_of worker.now.state) }
-{
-    AppLine {
-        port,
-        written: worker.state.written(),
-        loans: worker.state.loans(),
-        copied: worker.state.copied(),
-        stopped: worker.state.stopped(),
-    }
-}
-
 /// The lines of the applications, in the order of the ports.
-fn app_lines(alloc: Global, ports: &[u16], workers: &[Worker]) -> Result<Vec<AppLine>, AllocError>
-    requires { length workers.now ≡ length ports.now }
-    ensures { IfOk result (λ lines. lines.items ≡ lines_of ports.now (ends_of workers.now)) }
+fn app_lines<E: Leaves>(
+    alloc: Global,
+    ports: &[u16],
+    ends: &[E],
+) -> Result<Vec<AppLine>, AllocError>
+    requires { length ends.now ≡ length ports.now }
+    ensures { IfOk result (λ lines. lines.items ≡ lines_of ports.now (map E.end ends.now)) }
 {
-    let mut lines = Vec::with_capacity(alloc, workers.len())?;
+    let mut lines = Vec::with_capacity(alloc, ends.len())?;
     for (app, port) in ports.iter().enumerate() {
-        lines.push(app_line(*port, &workers[app]))?;
+        lines.push(ends[app].line(*port))?;
     }
     Ok(lines)
 }
 
 /// How many bytes of each flow were written.
-fn bytes_of_flows(alloc: Global, run: &Run) -> Result<Vec<u64>, AllocError>
-    requires { length run.now.feed.ports ≤ length run.now.workers.items }
-    ensures { IfOk result (λ counts. AreCounts run.now.feed.flows (ends_of run.now.workers.items) counts.items) }
+fn bytes_of_flows<E: Leaves>(alloc: Global, feed: &Feed, ends: &[E]) -> Result<Vec<u64>, AllocError>
+    requires { length feed.now.ports ≤ length ends.now }
+    ensures { IfOk result (λ counts. AreCounts feed.now.flows (map E.end ends.now) counts.items) }
 {
-    let mut bytes = Vec::with_capacity(alloc, run.feed.flows() as usize)?;
-    for flow in 0..run.feed.flows() {
-        let app = run.feed.flow_app(flow);
-        bytes.push(run.workers[app as usize].state.flow_bytes(flow))?;
+    let mut bytes = Vec::with_capacity(alloc, feed.flows() as usize)?;
+    for flow in 0..feed.flows() {
+        let app = feed.flow_app(flow);
+        bytes.push(ends[app as usize].flow_bytes(flow))?;
     }
     Ok(bytes)
 }
 
-/// Puts the outcome of a run together.
-pub fn tell(alloc: Global, run: Run, ports: &[u16]) -> Result<Outcome, AllocError>
-    requires over { AreOver run }
-    requires ports { run.feed.ports ≡ ports.now }
-    requires many { length run.workers.items ≡ length ports.now }
-    ensures { IfOk result (TellsOf run ports.now) }
+/// Puts the outcome of a run together, by what the card keeps once it was closed, and what the applications have left with, in the
+/// order of the ports.
+pub fn tell<E: Leaves>(
+    alloc: Global,
+    feed: Feed,
+    ends: &[E],
+    ports: &[u16],
+) -> Result<Outcome, AllocError>
+    requires closed { feed.closed ≡ true }
+    requires ports { feed.ports ≡ ports.now }
+    requires many { length ends.now ≡ length ports.now }
+    ensures { IfOk result (TellsOfEnds feed (map E.end ends.now) ports.now) }
 {
-    let apps = app_lines(alloc, ports, &run.workers)?;
-    let bytes = bytes_of_flows(alloc, &run)?;
-    run.feed.outcome(alloc, apps, bytes)
+    let apps = app_lines(alloc, ports, ends)?;
+    let bytes = bytes_of_flows(alloc, &feed, ends)?;
+    feed.outcome(alloc, apps, bytes)
 }

@@ -3,10 +3,12 @@
 
 mod ending;
 mod laws;
+mod left;
 mod opening;
 mod run;
 
 pub use ending::tell;
 pub use laws::{runs_are_told, runs_end_well};
-pub use opening::new_workers;
+pub use left::Leaves;
+pub use opening::{new_worker, new_workers};
 pub use run::{Run, Worker};

@@ -1,13 +1,23 @@
 //! How a run begins.
 
-ghost use Rattle.std.specs.Prelude.{IfOk};
+ghost use Rattle.std.specs.Prelude.{◌<◌, length, IfOk};
 ghost use Rattle.card_feed.specs.Plan.{IsPlan};
-ghost use Rattle.run_account.specs.Running.{AreNew};
+ghost use Rattle.run_account.specs.Running.{AreNew, IsNew};
 
 use crate::Worker;
 use app_worker::AppState;
 use card_feed::Plan;
 use std::alloc::{AllocError, Global};
+
+/// The application of a plan with this number, which has taken no turn.
+pub fn new_worker(alloc: Global, plan: &Plan, app: u32) -> Result<Worker, AllocError>
+    requires plan { IsPlan plan.now }
+    requires app { app < length plan.now.ports.items }
+    ensures { IfOk result (IsNew plan.now app) }
+{
+    let state = AppState::new(alloc, app, plan.ring, plan.how)?;
+    Ok(Worker { state, left: false })
+}
 
 /// The applications of a plan, which have taken no turn, in the order of the ports.
 pub fn new_workers(alloc: Global, plan: &Plan) -> Result<Vec<Worker>, AllocError>
@@ -17,8 +27,8 @@ pub fn new_workers(alloc: Global, plan: &Plan) -> Result<Vec<Worker>, AllocError
     let apps = plan.ports.len() as u32;
     let mut workers = Vec::with_capacity(alloc, plan.ports.len())?;
     for app in 0..apps {
-        let state = AppState::new(alloc, app, plan.ring, plan.how)?;
-        workers.push(Worker { state, left: false })?;
+        let worker = new_worker(alloc, plan, app)?;
+        workers.push(worker)?;
     }
     Ok(workers)
 }

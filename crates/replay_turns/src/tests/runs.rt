@@ -1,7 +1,7 @@
 //! One run over memory, and what it left.
 ghost use Rattle.std.specs.Prelude.{◌<◌, ◌≤◌, length, nat_eq, IsTrue, IfOk};
 ghost use Rattle.std.specs.List.{IsDistinct};
-ghost use Rattle.card_feed.specs.Plan.{IsPlan};
+ghost use Rattle.card_feed.specs.Plan.{IsPlan, TakesTurns};
 ghost use Rattle.replay_turns.specs.Schedule.{AreTurns};
 
 use crate::run_turns;
@@ -93,7 +93,8 @@ fn ports_of(alloc: Global, both: bool) -> Result<Vec<u16>, Fail>
 
 /// The plan of a setup.
 pub fn plan_of(alloc: Global, setup: &Setup) -> Result<Plan, Fail>
-    ensures { IfOk result (λ plan. IsPlan plan) }
+    ensures plan { IfOk result (λ plan. IsPlan plan) }
+    ensures turns_only { IfOk result (λ plan. TakesTurns plan) }
 {
     let Setup {
         buffers,
@@ -115,6 +116,8 @@ pub fn plan_of(alloc: Global, setup: &Setup) -> Result<Plan, Fail>
         ring,
         split,
         how,
+        polled: false,
+        forward: None,
     };
     if plan.layout().is_none() {
         return Err(Fail::from("no layout"));

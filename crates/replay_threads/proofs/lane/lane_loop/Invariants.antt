@@ -1,6 +1,5 @@
 -- The turns so far.
-use Rattle.replay_threads.specs.Lanes.{LaneGoes}
 use Rattle.replay_threads.proofs.lane.lane_loop.Given as goal
 
 abbrev pub invariant-loop : goal.invariant-loop
-invariant-loop g l = LaneGoes g.T.Shelf.kept g.T.Shelf.faults l.fn.lane l.lane
+invariant-loop g l = g.W.Sits.goes l.fn.lane l.lane

@@ -1,6 +1,5 @@
 -- Turns side by side, and rounds behind them.
 use Rattle.replay_threads.proofs.CardTurns.{goes_more, goes_same}
-use Rattle.replay_threads.proofs.LaneTurns.{all_fit, all_more, all_same}
 use Rattle.replay_threads.proofs.ReaderTurns.{reads_more, reads_same}
 use Rattle.replay_threads.proofs.playing.play.Goals as goal
 
@@ -8,21 +7,19 @@ pub loop-init : goal.loop-init
 loop-init g c = (
   reads_same g.S.Source.left g.S.Source.faults c.args.source.now c.args.reader.now,
   goes_same c.args.card.now c.requires.ready,
-  all_same g.T.Shelf.kept g.T.Shelf.faults c.args.lanes.now c.requires.fit,
+  c.lanes_go_on.ensures.same c.args.lanes.now c.requires.fit,
 )
 
 pub play_beside-requires-clause-fit : goal.play_beside-requires-clause-fit
-play_beside-requires-clause-fit g c κs within = all_fit g.T.Shelf.kept g.T.Shelf.faults c.args.lanes.now c.loop.lanes c.loop.invariant.2
+play_beside-requires-clause-fit g c κs within = c.lanes_go_on.ensures.again c.args.lanes.now c.loop.lanes c.loop.invariant.2
 
 pub play_rounds-requires-clause-fit : goal.play_rounds-requires-clause-fit
-play_rounds-requires-clause-fit g c κs within = all_fit g.T.Shelf.kept g.T.Shelf.faults c.loop.lanes c.play_beside.new.lanes c.play_beside.ensures.lanes
+play_rounds-requires-clause-fit g c κs within = c.lanes_go_on.ensures.again c.loop.lanes c.play_beside.new.lanes c.play_beside.ensures.lanes
 
 pub loop-preserved : goal.loop-preserved
 loop-preserved g c =
     let left = g.S.Source.left in
-    let faults = g.S.Source.faults in
-    let kept = g.T.Shelf.kept in
-    let losses = g.T.Shelf.faults in (
+    let faults = g.S.Source.faults in (
       reads_more left faults c.args.source.now c.play_beside.new.source c.play_rounds.new.source c.args.reader.now c.play_beside.new.reader
           c.play_rounds.new.reader
           (reads_more left faults c.args.source.now c.loop.source c.play_beside.new.source c.args.reader.now c.loop.reader c.play_beside.new.reader
@@ -30,8 +27,8 @@ loop-preserved g c =
           c.play_rounds.ensures.reader,
       goes_more c.args.card.now c.play_beside.new.card c.play_rounds.new.card
           (goes_more c.args.card.now c.loop.card c.play_beside.new.card c.loop.invariant.1 c.play_beside.ensures.card) c.play_rounds.ensures.card,
-      all_more kept losses c.args.lanes.now c.play_beside.new.lanes c.play_rounds.new.lanes
-          (all_more kept losses c.args.lanes.now c.loop.lanes c.play_beside.new.lanes c.loop.invariant.2 c.play_beside.ensures.lanes)
+      c.lanes_go_on.ensures.more c.args.lanes.now c.play_beside.new.lanes c.play_rounds.new.lanes
+          (c.lanes_go_on.ensures.more c.args.lanes.now c.loop.lanes c.play_beside.new.lanes c.loop.invariant.2 c.play_beside.ensures.lanes)
           c.play_rounds.ensures.lanes,
     )
 
@@ -51,10 +48,8 @@ returns-then-play_rounds-clause-card g c = goes_more c.args.card.now c.play_besi
 
 pub returns-then-play_rounds-clause-lanes : goal.returns-then-play_rounds-clause-lanes
 returns-then-play_rounds-clause-lanes g c =
-    let kept = g.T.Shelf.kept in
-    let losses = g.T.Shelf.faults in
-    all_more kept losses c.args.lanes.now c.play_beside.new.lanes c.play_rounds.new.lanes
-    (all_more kept losses c.args.lanes.now c.loop.lanes c.play_beside.new.lanes c.loop.invariant.2 c.play_beside.ensures.lanes)
+    c.lanes_go_on.ensures.more c.args.lanes.now c.play_beside.new.lanes c.play_rounds.new.lanes
+    (c.lanes_go_on.ensures.more c.args.lanes.now c.loop.lanes c.play_beside.new.lanes c.loop.invariant.2 c.play_beside.ensures.lanes)
     c.play_rounds.ensures.lanes
 
 pub returns-then-play_rounds-clause-left : goal.returns-then-play_rounds-clause-left

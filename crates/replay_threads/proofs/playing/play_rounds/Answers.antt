@@ -1,6 +1,5 @@
 -- One round more.
 use Rattle.replay_threads.proofs.CardTurns.{goes_more, goes_same}
-use Rattle.replay_threads.proofs.LaneTurns.{all_fit, all_more, all_same}
 use Rattle.replay_threads.proofs.ReaderTurns.{reads_more, reads_same}
 use Rattle.replay_threads.proofs.playing.play_rounds.Goals as goal
 
@@ -8,16 +7,16 @@ pub loop-init : goal.loop-init
 loop-init g c = (
   reads_same g.S.Source.left g.S.Source.faults c.args.source.now c.args.reader.now,
   goes_same c.args.card.now c.requires.ready,
-  all_same g.T.Shelf.kept g.T.Shelf.faults c.args.lanes.now c.requires.fit,
+  c.lanes_go_on.ensures.same c.args.lanes.now c.requires.fit,
 )
 
 pub round-requires-clause-fit : goal.round-requires-clause-fit
-round-requires-clause-fit g c κs within = all_fit g.T.Shelf.kept g.T.Shelf.faults c.args.lanes.now c.loop.lanes c.loop.invariant.2
+round-requires-clause-fit g c κs within = c.lanes_go_on.ensures.again c.args.lanes.now c.loop.lanes c.loop.invariant.2
 
 pub loop-preserved : goal.loop-preserved
 loop-preserved g c = (
   reads_more g.S.Source.left g.S.Source.faults c.args.source.now c.loop.source c.read_on.new.source c.args.reader.now c.loop.reader c.read_on.new.reader
       c.loop.invariant.0 c.read_on.ensures.goes,
   goes_more c.args.card.now c.loop.card c.card_turn.new.card c.loop.invariant.1 c.card_turn.ensures.goes,
-  all_more g.T.Shelf.kept g.T.Shelf.faults c.args.lanes.now c.loop.lanes c.round.new.lanes c.loop.invariant.2 c.round.ensures.go,
+  c.lanes_go_on.ensures.more c.args.lanes.now c.loop.lanes c.round.new.lanes c.loop.invariant.2 c.round.ensures.go,
 )

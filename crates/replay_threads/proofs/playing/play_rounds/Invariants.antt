@@ -8,4 +8,4 @@ abbrev pub invariant-loop : goal.invariant-loop
 invariant-loop g l =
     ReaderGoes g.S.Source.left g.S.Source.faults l.fn.source l.source l.fn.reader l.reader
     × CardGoes l.fn.card l.card
-    × AllGo g.T.Shelf.kept g.T.Shelf.faults l.fn.lanes l.lanes
+    × AllGo g.W.Sits.goes l.fn.lanes l.lanes

@@ -1,15 +1,46 @@
 -- A whole run: the shelves that were set aside stand behind the others again.
-use Rattle.std.proofs.Common.{◌≡◌, ◌++◌, length, ap, ◌∙◌, subst, sym, arith}
-use Rattle.std.specs.Prelude.{reverse}
-use Rattle.run_account.specs.Ran.{TellsOf}
+use Rattle.std.proofs.Common.{◌≡◌, Option, Some, ◌++◌, [], length, map, ap, ◌∙◌, subst, sym, arith}
+use Rattle.std.specs.Prelude.{IfSome, reverse}
+use Rattle.std.proofs.lemmas.List.{length-map}
+use Rattle.run_account.specs.Ran.{TellsOfEnds}
+use Rattle.replay_threads.specs.Seated.{left_end}
 use Rattle.replay_threads.proofs.Reversed.{put-back, set-aside}
 use Rattle.replay_threads.proofs.Told.{on-err, run-lacks, run-told}
 use Rattle.replay_threads.proofs.running.run_threads.Goals as goal
 
+-- what an option has, where it has some
+laid-out : {A : Type 0} (r : Option A) (x y : A) → r ≡ Some x → IfSome r (λ l. l ≡ y) → x ≡ y
+laid-out r x y is holds = subst (λ s. IfSome s (λ l. l ≡ y)) is holds
+
+pub move_last-requires-clause-keep : goal.move_last-requires-clause-keep
+move_last-requires-clause-keep g c = omega (arith, c.len-apps.ensures, c.requires.shelves)
+
+pub play_seated-feed-requires-clause-desk : goal.play_seated-feed-requires-clause-desk
+play_seated-feed-requires-clause-desk g c κs within = c.in_ok-board.ensures.desk
+
+pub play_seated-feed-requires-clause-setting : goal.play_seated-feed-requires-clause-setting
+play_seated-feed-requires-clause-setting g c κs within =
+    subst (λ layout. c.in_ok-board.board.setting ≡ record { layout = layout; places = c.args.plan.now.ring })
+    (laid-out _ _ _ c.unwrap-layout.ensures c.layout.ensures.value) c.in_ok-board.ensures.setting
+
+pub play_seated-feed-requires-clause-feed : goal.play_seated-feed-requires-clause-feed
+play_seated-feed-requires-clause-feed g c κs within = c.in_ok-feed.ensures.value
+
+pub play_seated-feed-requires-clause-lefts : goal.play_seated-feed-requires-clause-lefts
+play_seated-feed-requires-clause-lefts g c κs within =
+    (c.in_ok-lefts.ensures.items, omega (arith, c.in_ok-lefts.ensures.capacity, c.len-apps.ensures))
+
+pub play_seated-feed-requires-clause-shelves : goal.play_seated-feed-requires-clause-shelves
+play_seated-feed-requires-clause-shelves g c κs within = c.move_last.ensures.kept ∙ (c.len-apps.ensures ∙ c.args.plan.now.ports.ok.0)
+
+pub play_seated-feed-requires-clause-lanes : goal.play_seated-feed-requires-clause-lanes
+play_seated-feed-requires-clause-lanes g c κs within =
+    (c.in_ok-lanes.ensures.lanes.0, omega (arith, c.in_ok-lanes.ensures.lanes.1, c.len-apps.ensures))
+
 pub move_last-requires-2-clause-room : goal.move_last-requires-2-clause-room
 move_last-requires-2-clause-room g c =
     let moved = c.move_last.ensures in
-    let played = c.play_seated-run.ensures in
+    let played = c.play_seated-feed.ensures in
     omega (
       arith,
       moved.many,
@@ -29,7 +60,7 @@ returns-clause-many g c =
       arith,
       moved.many,
       moved.kept,
-      c.play_seated-run.ensures.many,
+      c.play_seated-feed.ensures.many,
       c.move_last-2.ensures.many,
       c.in_ok-lanes.aside.ok,
       ap length c.in_ok-lanes.ensures.aside.0,
@@ -42,7 +73,7 @@ returns-in_err-outcome-clause-many g c =
       arith,
       moved.many,
       moved.kept,
-      c.play_seated-run.ensures.many,
+      c.play_seated-feed.ensures.many,
       c.move_last-2.ensures.many,
       c.in_ok-lanes.aside.ok,
       ap length c.in_ok-lanes.ensures.aside.0,
@@ -54,11 +85,14 @@ returns-clause-ran g c =
     let first = set-aside c.args.shelves.now.items c.move_last.new.from.items aside
     (c.move_last.ensures.moved ∙ ap (λ l. l ++ reverse c.args.shelves.now.items) c.in_ok-lanes.ensures.aside.0) in
     let none : length c.move_last-2.new.from.items ≡ 0 = sym c.move_last-2.new.from.ok.0 ∙ c.move_last-2.ensures.kept in
-    let last = put-back c.move_last-2.new.to.items c.play_seated-run.new.shelves.items aside c.move_last-2.new.from.items c.move_last-2.ensures.moved none in
-    run-told g.S.Source.left g.S.Source.faults g.T.Shelf.kept g.T.Shelf.faults c.args.source.now c.play_seated-run.new.source c.args.shelves.now.items
-    c.move_last.new.from.items c.play_seated-run.new.shelves.items c.move_last-2.new.to.items (reverse aside) c.args.plan.now c.play_seated-run.new.desk
-    c.play_seated-run.result first last c.play_seated-run.ensures.played c.runs_end_well.ensures c.in_ok-outcome.outcome
-    (subst (λ ports. TellsOf c.play_seated-run.result ports c.in_ok-outcome.outcome) c.deref.ensures.value c.in_ok-outcome.ensures)
+    let last = put-back c.move_last-2.new.to.items c.play_seated-feed.new.shelves.items aside c.move_last-2.new.from.items c.move_last-2.ensures.moved none in
+    run-told g.S.Source.left g.S.Source.faults g.T.Shelf.kept g.T.Shelf.faults c.args.source.now c.play_seated-feed.new.source c.args.shelves.now.items
+    c.move_last.new.from.items c.play_seated-feed.new.shelves.items c.move_last-2.new.to.items (reverse aside) c.args.plan.now c.play_seated-feed.new.desk
+    c.play_seated-feed.result.0 (map left_end c.play_seated-feed.result.1.items) first last c.play_seated-feed.ensures.played c.runs_end_well.ensures
+    c.in_ok-outcome.outcome
+    (subst (λ ports. TellsOfEnds c.play_seated-feed.result.0 (map left_end c.play_seated-feed.result.1.items) ports c.in_ok-outcome.outcome) c.deref-2.ensures.value
+    (subst (λ lefts. TellsOfEnds c.play_seated-feed.result.0 (map left_end lefts) c.deref-2.result.now c.in_ok-outcome.outcome) c.deref.ensures.value
+    c.in_ok-outcome.ensures))
 
 pub returns-in_err-outcome-clause-lacks : goal.returns-in_err-outcome-clause-lacks
 returns-in_err-outcome-clause-lacks g c =
@@ -66,7 +100,19 @@ returns-in_err-outcome-clause-lacks g c =
     let first = set-aside c.args.shelves.now.items c.move_last.new.from.items aside
     (c.move_last.ensures.moved ∙ ap (λ l. l ++ reverse c.args.shelves.now.items) c.in_ok-lanes.ensures.aside.0) in
     let none : length c.move_last-2.new.from.items ≡ 0 = sym c.move_last-2.new.from.ok.0 ∙ c.move_last-2.ensures.kept in
-    let last = put-back c.move_last-2.new.to.items c.play_seated-run.new.shelves.items aside c.move_last-2.new.from.items c.move_last-2.ensures.moved none in
-    on-err _ _ (run-lacks g.S.Source.left g.S.Source.faults g.T.Shelf.kept g.T.Shelf.faults c.args.source.now c.play_seated-run.new.source
-    c.args.shelves.now.items c.move_last.new.from.items c.play_seated-run.new.shelves.items c.move_last-2.new.to.items (reverse aside) c.args.plan.now
-    c.play_seated-run.new.desk c.play_seated-run.result first last c.play_seated-run.ensures.played c.runs_are_told.ensures)
+    let last = put-back c.move_last-2.new.to.items c.play_seated-feed.new.shelves.items aside c.move_last-2.new.from.items c.move_last-2.ensures.moved none in
+    on-err _ _ (run-lacks g.S.Source.left g.S.Source.faults g.T.Shelf.kept g.T.Shelf.faults c.args.source.now c.play_seated-feed.new.source
+    c.args.shelves.now.items c.move_last.new.from.items c.play_seated-feed.new.shelves.items c.move_last-2.new.to.items (reverse aside) c.args.plan.now
+    c.play_seated-feed.new.desk c.play_seated-feed.result.0 (map left_end c.play_seated-feed.result.1.items) first last c.play_seated-feed.ensures.played
+    c.runs_are_told.ensures)
+
+pub tell-requires-clause-many : goal.tell-requires-clause-many
+tell-requires-clause-many g c =
+    ap length c.deref.ensures.value
+    ∙ (sym (length-map c.play_seated-feed.result.1.items left_end)
+    ∙ ((c.play_seated-feed.ensures.played.runs []).many ∙ sym (ap length c.deref-2.ensures.value)))
+
+pub returns-clause-setting : goal.returns-clause-setting
+returns-clause-setting g c =
+    subst (λ layout. c.in_ok-board.board.setting ≡ record { layout = layout; places = c.args.plan.now.ring })
+    (laid-out _ _ _ c.unwrap-layout.ensures c.layout.ensures.value) c.in_ok-board.ensures.setting

@@ -53,7 +53,8 @@ returns-clause-runs g c source shelves enough =
     let reserves : c.unwrap-layout.result.reserves ≡ length c.args.plan.now.ports.items = ap (λ (s : Shape). s.reserves) layout_is in
     let many = c.in_ok-workers.ensures.many in
     record {
-      plan_is = c.requires;
+      plan_is = c.requires.plan;
+      by_turns = c.requires.turns_only;
       frames = [];
       feed = rw c.in_ok-feed.ensures.value (c.new_feeds_stand.ensures source c.args.plan.now.ports.items c.args.plan.now.split
           c.in_ok-board.board.nic.view (ap (λ (b : Board). b.nic.view.sent) c.in_ok-board.ensures)

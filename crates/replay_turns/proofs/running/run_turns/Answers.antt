@@ -1,22 +1,35 @@
 -- A whole run.
-use Rattle.std.proofs.Common.{length, inl, refl, sym, ap, subst, ◌∙◌, arith}
-use Rattle.run_account.specs.Ran.{TellsOf}
+use Rattle.std.proofs.Common.{◌≡◌, ℕ, List, length, inl, refl, sym, ap, subst, ◌∙◌, arith}
+use Rattle.card_feed.specs.declared.outcome.Outcome.{Outcome}
+use Rattle.run_account.specs.Ran.{TellsOf, TellsOfEnds}
+use Rattle.run_account.specs.Running.{ends_of}
+use Rattle.run_account.specs.declared.run.Run.{Run}
+use Rattle.run_account.specs.declared.run.Worker.{Worker}
 use Rattle.replay_turns.specs.Schedule.{AreTurns}
 use Rattle.replay_turns.proofs.WholeRun.{on-err, whole-runs, text-fits, text-plan, run-by, run-told, run-lacks}
 use Rattle.replay_turns.proofs.running.run_turns.Goals as goal
+
+-- what was told of the lists that it was given is told of the run
+told : (run : Run) (workers : List Worker) (ports its_ports : List ℕ) (outcome : Outcome) → workers ≡ run.workers.items → ports ≡ its_ports
+    → TellsOfEnds run.feed (ends_of workers) ports outcome → TellsOf run its_ports outcome
+told run workers ports its_ports outcome same same_ports tells =
+    subst (λ l. TellsOfEnds run.feed (ends_of run.workers.items) l outcome) same_ports
+    (subst (λ ws. TellsOfEnds run.feed (ends_of ws) ports outcome) same tells)
 
 pub returns-clause-ran : goal.returns-clause-ran
 returns-clause-ran g c = run-told _ _ _ _ _ _ _ _ _ _ _ _ c.args.shelves.now.len c.args.plan.now _ _ _ _ _ _
     (omega (arith, c.args.shelves.now.ok)) c.requires.shelves c.deref_mut.ensures.value c.deref_mut-2.ensures.value
     c.in_ok-board.ensures.runs c.play_text-board.ensures.plays c.play_rounds-board.ensures.plays c.play_rounds-board.ensures.over
-    c.in_ok-outcome.outcome (subst (λ ports. TellsOf c.play_rounds-board.new.run ports c.in_ok-outcome.outcome) c.deref.ensures.value c.in_ok-outcome.ensures)
+    c.in_ok-outcome.outcome (told c.play_rounds-board.new.run c.deref.result.now c.deref-2.result.now c.args.plan.now.ports.items c.in_ok-outcome.outcome c.deref.ensures.value
+    c.deref-2.ensures.value c.in_ok-outcome.ensures)
 
 pub returns-clause-follows : goal.returns-clause-follows
 returns-clause-follows g c = run-by _ _ _ _ _ _ _ _ _ _ _ _ c.args.shelves.now.len c.args.plan.now _ _ _ _ _ _
     (omega (arith, c.args.shelves.now.ok)) c.requires.shelves c.deref_mut.ensures.value c.deref_mut-2.ensures.value
     c.in_ok-board.ensures.runs c.play_text-board.ensures.plays c.play_rounds-board.ensures.plays c.play_rounds-board.ensures.over
     c.args.turns.now c.in_ok-board.ensures.opened c.play_text-board.ensures.follows c.play_rounds-board.ensures.follows
-    c.in_ok-outcome.outcome (subst (λ ports. TellsOf c.play_rounds-board.new.run ports c.in_ok-outcome.outcome) c.deref.ensures.value c.in_ok-outcome.ensures)
+    c.in_ok-outcome.outcome (told c.play_rounds-board.new.run c.deref.result.now c.deref-2.result.now c.args.plan.now.ports.items c.in_ok-outcome.outcome c.deref.ensures.value
+    c.deref-2.ensures.value c.in_ok-outcome.ensures)
 
 pub returns-in_err-board-clause-lacks : goal.returns-in_err-board-clause-lacks
 returns-in_err-board-clause-lacks g c = on-err _ _ (inl (record { source_is = refl; shelves_are = refl }))
@@ -47,7 +60,7 @@ tell-requires g c =
     (omega (arith, c.args.shelves.now.ok)) c.requires.shelves c.deref_mut.ensures.value c.deref_mut-2.ensures.value
     c.in_ok-board.ensures.runs c.play_text-board.ensures.plays c.play_rounds-board.ensures.plays in
     record {
-      over = c.play_rounds-board.ensures.over;
-      ports = runs.feed.knows.ports_are ∙ sym c.deref.ensures.value;
-      many = runs.many ∙ ap length (sym c.deref.ensures.value);
+      closed = c.play_rounds-board.ensures.over.card;
+      ports = runs.feed.knows.ports_are ∙ sym c.deref-2.ensures.value;
+      many = ap length c.deref.ensures.value ∙ runs.many ∙ ap length (sym c.deref-2.ensures.value);
     }

@@ -1,5 +1,5 @@
 -- One more application, which has taken no turn.
-use Rattle.std.proofs.Common.{◌≡◌, length, Some, None, false, refl, sym, ap, ◌∙◌, subst, arith}
+use Rattle.std.proofs.Common.{◌≡◌, length, Some, None, sym, ap, ◌∙◌, subst, arith}
 use Rattle.std.specs.List.{slice_get}
 use Rattle.run_account.specs.Running.{IsNew}
 use Rattle.run_account.specs.declared.run.Worker.{Worker}
@@ -16,13 +16,13 @@ loop-app-init c = record {
 
 pub loop-app-preserved : goal.loop-app-preserved
 loop-app-preserved c =
-    let new : Worker = record { state = c.in_ok-state.state; left = false } in
+    let new : Worker = c.in_ok-worker.worker in
     let at : length c.loop-app.workers.items ≡ c.loop-app.app = c.loop-app.invariant.many in
     record {
       many = let longer = ap length c.in_ok-push.ensures.items in let l = length-push c.loop-app.workers.items new in omega (arith, longer, l, at);
       each = λ a w is. elim (in-push c.loop-app.workers.items new a w (ap (λ items. slice_get items a) (sym c.in_ok-push.ensures.items) ∙ is)) [
         | here last same ↦ subst (λ x. IsNew c.args.plan.now a x) (sym same) (subst (λ n. IsNew c.args.plan.now n new) (sym (last ∙ at))
-            (record { state_is = c.in_ok-state.ensures.state; left_is = refl; stands = c.in_ok-state.ensures.stands; shelved = c.in_ok-state.ensures.shelved }))
+            c.in_ok-worker.ensures)
         | there other is_there ↦ c.loop-app.invariant.each a w is_there
       ];
     }
