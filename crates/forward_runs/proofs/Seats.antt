@@ -1,0 +1,23 @@
+-- At the end both seats are back, and the buffers of the pool are those that were asked for.
+use Rattle.std.proofs.Common.{◌≡◌, ℕ, List, [], ◌∷◌, refl, sym, subst, ◌∙◌, arith}
+use Rattle.std.specs.Prelude.{Contains}
+use Rattle.std.proofs.lemmas.List.Elements.{Contains-push}
+use Rattle.area_layout.specs.Layout.{pool_buffers, shape_of}
+use Rattle.board_face.specs.NicCalls.{apps_of}
+use Rattle.board_face.specs.declared.views.parts.Setting.{Setting}
+use Rattle.board_face.specs.declared.views.nic.NicSide.{NicSide}
+use Rattle.board_face.specs.declared.views.app.AppSide.{AppSide}
+use Rattle.word_board.specs.Desk.{AllAreBack}
+
+-- the card and the only application are back
+pub all-back : (setting : Setting) (nic : NicSide) (app : AppSide) (due dealt : List ℕ) → apps_of setting ≡ 1 → app.view.app ≡ 0
+    → AllAreBack setting (record { nics = nic ∷ []; apps = app ∷ []; due = due; dealt = dealt })
+all-back setting nic app due dealt one number = record {
+  card = refl;
+  apps = λ a less.
+      let first : a ≡ 0 = omega (arith, less, one) in
+      subst (Contains (app.view.app ∷ [])) (number ∙ sym first) (Contains-push [] app.view.app);
+}
+
+pub only-pool : (buffers : ℕ) → pool_buffers (shape_of buffers 1 1024) ≡ buffers
+only-pool buffers = omega arith
