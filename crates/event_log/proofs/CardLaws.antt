@@ -1,0 +1,200 @@
+-- The log goes on to tell of a board after each event of the card.
+use Rattle.std.proofs.Common.{◌≡◌, ◌∙◌, ℕ, ◌+◌, ◌<◌, ◌≤◌, Bool, true, false, List, [], ◌∷◌, ◌++◌, length, eqb, ltb, Some}
+use Rattle.std.proofs.Common.{refl, sym, ap, arith, ⊎_elim, if◌then◌else◌, leb}
+use Rattle.std.specs.Prelude.{◌||◌, ◌%◌, not, count_by}
+use Rattle.std.specs.List.{list_any, list_all}
+use Rattle.std.proofs.lemmas.Bool.{lt-ltb, le-leb, eq-eqb, cases_lt}
+use Rattle.std.proofs.lemmas.List.Elements.{All-contains}
+use Rattle.area_layout.specs.Layout.{size_of}
+use Rattle.run_records.specs.declared.event.Event.TheVariants as event
+use Rattle.run_records.specs.declared.holding.Holding.{Holding}
+use Rattle.run_records.specs.declared.holding.Holding.TheVariants as holding
+use Rattle.run_records.specs.Setting.{Setting, total_buffers}
+use Rattle.run_records.specs.Setting.{pool_buffers as run_pool_buffers}
+use Rattle.run_records.specs.Holders.{Holdings, after, is_app, is_apart, is_buffer, is_same}
+use Rattle.board_face.specs.Laws.{AllSides, by_card, pool_of, user_of}
+use Rattle.board_face.specs.NicCalls.{HasOwn}
+use Rattle.board_face.specs.NicEvents.{took, placed, sent, sent_linear, gave_up, shut, passed_over, honoured, swept, nic_saw, saw_leave, nic_ended}
+use Rattle.board_face.specs.Places.{places_of, ends_behind}
+use Rattle.board_face.specs.Sides.{nic_at}
+use Rattle.board_face.specs.Tokens.{FitsBuffer}
+use Rattle.board_face.specs.declared.views.parts.Setting.{Setting as Shared}
+use Rattle.board_face.specs.declared.views.parts.Filling.{Filling}
+use Rattle.board_face.specs.declared.views.nic.NicView.{NicView}
+use Rattle.event_log.specs.CardLaws.{TookLaw, PlacedLaw, SentLaw, ShutLaw, HonouredLaw, PassedOverLaw, CardUnloggedLaw}
+use Rattle.event_log.specs.IsLogged.{AreSound, KeepsLog, run_of}
+use Rattle.event_log.specs.Settings.{setting_of}
+use Rattle.event_log.specs.Plain.{SameHoldings, weight}
+use Rattle.event_log.proofs.CardShifts.{shifts-took, shifts-placed, shifts-sent, shifts-shut, shifts-honoured, same-passed_over, same-sent_linear}
+use Rattle.event_log.proofs.Counting.{buffer-there, ends, ends-weight, held-some, length-held}
+use Rattle.event_log.proofs.Following.{Becomes, follows-by, logged-same, logs-by, was-there}
+use Rattle.event_log.proofs.Needs.{NoneReturns-card, app-there, both-said, one-becomes, pool-said, within-by, within-there}
+use Rattle.event_log.proofs.Parts.{card_weight}
+use Rattle.event_log.proofs.Settings.{pool_buffers-same}
+use Rattle.event_log.proofs.Shifts.{card-shift}
+use Rattle.event_log.proofs.Weighing.{Moves, all-pass, one_if, weight-append, weight-le}
+
+-- ---- taking
+
+none-weigh : (f : Holding → ℕ) (held : List Holding) → length held ≡ 0 → weight f held ≡ 0
+none-weigh f [] none = refl
+none-weigh f (x ∷ held) none = absurd (omega (arith, none))
+
+-- these are the holders of a buffer that had none
+pub from-none : (s : AllSides) → AreSound s → (h : Holdings) → SameHoldings h s → (b : ℕ) → pool_of s b ≡ 0 → (news : List Holding)
+    → Moves (h b) [] news news
+from-none s sound h same b none news f = omega (arith, none-weigh f (h b) (length-held s sound h same b ∙ none))
+
+pub no-length : (s : AllSides) → AreSound s → (h : Holdings) → SameHoldings h s → (b : ℕ) → pool_of s b ≡ 0 → eqb (length (h b)) 0 ≡ true
+no-length s sound h same b none = eq-eqb (length (h b)) 0 (length-held s sound h same b ∙ none)
+
+pub took-law : TookLaw
+took-law s sound buffer pool none =
+    let new = by_card s (took s.nic.view buffer) in
+    let e = event.Take buffer (pool_of new buffer) in
+    let layout = s.nic.view.setting.layout in
+    let of_pool : buffer < run_pool_buffers (run_of s).areas = omega (arith, pool, pool_buffers-same layout) in
+    let becomes : Becomes e buffer [] (holding.Own ∷ []) s = λ h same. (
+      lt-ltb buffer (total_buffers (run_of s)) (omega (arith, of_pool)),
+      (
+        holding.Own ∷ [],
+        rw (lt-ltb buffer (run_pool_buffers (run_of s).areas) of_pool, no-length s sound h same buffer none) refl,
+        from-none s sound h same buffer none (holding.Own ∷ []),
+      ),
+    ) in
+    logs-by e s new refl (follows-by e buffer [] (holding.Own ∷ []) s new refl (NoneReturns-card s (took s.nic.view buffer) sound.returns)
+    (shifts-took s buffer) (λ held p u. pool-said held (pool_of new buffer) p) becomes)
+
+-- ---- placing
+
+apart-case : (o l p m : ℕ) → (if not (leb (o + l) p || leb (p + m) o) then 1 else 0) ≤ (if ltb o (p + m) then 1 else 0)
+apart-case o l p m =
+    ⊎_elim
+    (λ less. rw (lt-ltb o (p + m) less) (at-most (not (leb (o + l) p || leb (p + m) o))))
+    (λ behind. rw (le-leb (p + m) o behind, either (leb (o + l) p)) (omega arith))
+    (cases_lt o (p + m))
+  where
+    at-most : (c : Bool) → (if c then 1 else 0) ≤ 1
+    at-most true = omega arith
+    at-most false = omega arith
+
+    either : (c : Bool) → (c || true) ≡ true
+    either true = refl
+    either false = refl
+
+-- what isn't apart ends behind the begin
+not-apart : (o l : ℕ) (x : Holding) → one_if (λ y. not (is_apart o l y)) x ≤ one_if (ends o) x
+not-apart o l holding.Own = omega arith
+not-apart o l (holding.Piece p m) = apart-case o l p m
+not-apart o l (holding.Sent a p m) = apart-case o l p m
+not-apart o l (holding.Held a p m) = apart-case o l p m
+not-apart o l (holding.Spare a) = omega arith
+not-apart o l (holding.Loan a p m) = apart-case o l p m
+not-apart o l (holding.Owed a) = omega arith
+
+module _ (s : AllSides) (sound : AreSound s) (it : Filling) (out : HasOwn s.nic.view it) (h : Holdings) (same : SameHoldings h s) where
+  -- the card is among the holders of a buffer that it fills
+  own-there : list_any (is_same holding.Own) (h it.buffer) ≡ true
+  own-there = was-there it.buffer holding.Own [] s (by_card s (shut s.nic.view it false)) (shifts-shut s it false out) refl refl h same
+
+  own-some : is_buffer (run_of s) it.buffer ≡ true
+  own-some = buffer-there s sound h same it.buffer (held-some s sound h same it.buffer holding.Own own-there)
+
+  -- and the next bytes there are nobody's
+  all-apart : (l : ℕ) → list_all (is_apart it.start l) (h it.buffer) ≡ true
+  all-apart l =
+      let behind : count_by (ends_behind it.start) (places_of it.buffer s.nic s.apps) ≡ 0 =
+      All-contains (λ o. o.buffer ≡ it.buffer → count_by (ends_behind o.start) (places_of it.buffer s.nic s.apps) ≡ 0) s.nic.view.owns it
+      (sound.places it.buffer).behind out refl in
+      all-pass (is_apart it.start l) (h it.buffer) (omega (
+        arith,
+        weight-le (one_if (λ y. not (is_apart it.start l y))) (one_if (ends it.start)) (not-apart it.start l) (h it.buffer),
+        same it.buffer (one_if (ends it.start)),
+        ends-weight s it.buffer it.start,
+        behind,
+      ))
+
+pub placed-law : PlacedLaw
+placed-law s sound it bytes out some within =
+    let l = length bytes in
+    let new = by_card s (placed s.nic.view it bytes) in
+    let e = event.Place it.buffer it.start l (pool_of new it.buffer) in
+    let x = holding.Piece it.start l in
+    let P : Filling → Type 0 = λ o. FitsBuffer o × (o.size ≡ size_of s.nic.view.setting.layout o.buffer) in
+    let fits : P it = All-contains P s.nic.view.owns it sound.fillings.card out in
+    let inside : it.start + l ≤ size_of s.nic.view.setting.layout it.buffer = omega (arith, within, fits.1) in
+    let aligned : eqb (it.start % 64) 0 ≡ true = eq-eqb (it.start % 64) 0 fits.0.aligned in
+    let becomes : Becomes e it.buffer [] (x ∷ []) s = λ h same. (
+      within-there s sound it.buffer it.start l (own-some s sound it out h same) inside,
+      (
+        h it.buffer ++ x ∷ [],
+        rw (own-there s sound it out h same, lt-ltb 0 l some, aligned, all-apart s sound it out h same l) refl,
+        λ f. omega (arith, weight-append f (h it.buffer) (x ∷ [])),
+      ),
+    ) in
+    logs-by e s new refl (follows-by e it.buffer [] (x ∷ []) s new refl (NoneReturns-card s (placed s.nic.view it bytes) sound.returns)
+    (shifts-placed s it bytes out) (λ held p u. pool-said held (pool_of new it.buffer) p) becomes)
+
+-- ---- sending and shutting
+
+pub sent-law : SentLaw
+sent-law s sound a app at note split out =
+    let p = note.place in
+    let new = by_card s (sent s.nic.view a note) in
+    let e = event.Sent a p.buffer p.offset p.len in
+    let x = holding.Piece p.offset p.len in
+    let y = holding.Sent a p.offset p.len in
+    let shifts = shifts-sent s sound.fit a app at note split out in
+    let becomes = one-becomes e p.buffer x (y ∷ []) s new sound shifts refl
+    (λ there none. rw (app-there s sound a app at, within-by s sound p.buffer p.offset p.len there none) refl) (λ held. refl) in
+    logs-by e s new refl (follows-by e p.buffer (x ∷ []) (y ∷ []) s new refl (NoneReturns-card s (sent s.nic.view a note) sound.returns) shifts
+    (λ held p u. refl) becomes)
+
+pub shut-law : ShutLaw
+shut-law s sound it last out =
+    let new = by_card s (shut s.nic.view it last) in
+    let e = event.Shut it.buffer (pool_of new it.buffer) in
+    let shifts = shifts-shut s it last out in
+    let becomes = one-becomes e it.buffer holding.Own [] s new sound shifts refl (λ there none. there) (λ held. refl) in
+    logs-by e s new refl (follows-by e it.buffer (holding.Own ∷ []) [] s new refl (NoneReturns-card s (shut s.nic.view it last) sound.returns) shifts
+    (λ held p u. pool-said held (pool_of new it.buffer) p) becomes)
+
+-- ---- entries
+
+pub honoured-law : HonouredLaw
+honoured-law s sound a app at entry buffer last owes =
+    let v = gave_up (honoured s.nic.view a entry buffer) buffer last in
+    let new = by_card s v in
+    let e = event.Honour a buffer (pool_of new buffer) (user_of new a buffer) in
+    let x = holding.Owed a in
+    let shifts = shifts-honoured s sound.fit a app at entry buffer last owes in
+    let becomes = one-becomes e buffer x [] s new sound shifts refl (λ there none. rw (app-there s sound a app at, there) refl) (λ held. refl) in
+    logs-by e s new refl (follows-by e buffer (x ∷ []) [] s new refl (NoneReturns-card s v sound.returns) shifts
+    (λ held p u. both-said held (pool_of new buffer) a (user_of new a buffer) p (u a)) becomes)
+
+stray-is : (s : Setting) (h : Holdings) (a : ℕ) → is_app s a ≡ true → after s h (event.Stray a) ≡ Some h
+unfolding after
+stray-is s h a there = rw there refl
+
+pub passed_over-law : PassedOverLaw
+passed_over-law s sound a app at entry =
+    let new = by_card s (passed_over s.nic.view a entry) in
+    logs-by (event.Stray a) s new refl (λ h same.
+    (h, stray-is (run_of s) h a (app-there s sound a app at), λ b f. same b f ∙ sym (same-passed_over s a entry b f)))
+
+-- ---- no event
+
+same-card : (s : AllSides) (v : NicView) → v.sent ≡ s.nic.view.sent → v.dealt ≡ s.nic.view.dealt → v.setting ≡ s.nic.view.setting
+    → ((b : ℕ) (f : Holding → ℕ) → card_weight f b (nic_at s.nic v) ≡ card_weight f b s.nic) → KeepsLog s (by_card s v)
+same-card s v sents deals setting weighs =
+    logged-same s (by_card s v) (ap (λ (x : Shared). setting_of x.layout) setting) (λ b f. omega (arith, card-shift s v sents deals b f, weighs b f))
+
+pub card-unlogged : CardUnloggedLaw
+card-unlogged = record {
+  sweep = λ s word found. same-card s (swept s.nic.view word found) refl refl refl (λ b f. refl);
+  linear = λ s sound a app at note split bytes.
+      logged-same s (by_card s (sent_linear s.nic.view a note bytes)) refl (λ b f. same-sent_linear s sound.fit a app at note b f split bytes);
+  look = λ s look. same-card s (nic_saw s.nic.view look) refl refl refl (λ b f. refl);
+  leave = λ s a. same-card s (saw_leave s.nic.view a) refl refl refl (λ b f. refl);
+  end = λ s. same-card s (nic_ended s.nic.view) refl refl refl (λ b f. refl);
+}

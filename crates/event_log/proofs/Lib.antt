@@ -1,0 +1,17 @@
+pub mod Sums
+pub mod Parts
+pub mod Settings
+pub mod Weighing
+pub mod Counting
+pub mod Following
+pub mod Shifts
+pub mod CardShifts
+pub mod AppShifts
+pub mod Needs
+pub mod CardLaws
+pub mod ShortFills
+pub mod AppLaws
+pub mod Runs
+pub mod Scrubs
+pub mod SoundSides
+pub mod OneSide

@@ -1,0 +1,87 @@
+-- What an event needs of the holders and of its numbers.
+use Rattle.std.proofs.Common.{◌≡◌, ◌∙◌, ℕ, ◌+◌, ◌≤◌, true, List, [], ◌∷◌, length, ltb, refl, ap, subst, arith, ⊎_elim}
+use Rattle.std.specs.Prelude.{◌&&◌, count_by, slice_index}
+use Rattle.std.proofs.lemmas.Bool.{cases_lt, lt-ltb, le-leb, eq-eqb}
+use Rattle.std.proofs.lemmas.List.Elements.{All-get_or, All-set}
+use Rattle.area_layout.specs.Layout.{size_of}
+use Rattle.run_records.specs.declared.event.Event.{Event}
+use Rattle.run_records.specs.declared.holding.Holding.{Holding}
+use Rattle.run_records.specs.declared.holding.Holding.TheVariants as holding
+use Rattle.run_records.specs.Setting.{size_of_buffer}
+use Rattle.run_records.specs.Holders.{becomes, changed, is_app, is_buffer, is_in_range, is_same, is_user, is_user_count, is_pool_count, is_within}
+use Rattle.board_face.specs.Laws.{AllSides, by_card, by_app}
+use Rattle.board_face.specs.Sides.{IsApp, app_at}
+use Rattle.board_face.specs.declared.views.nic.NicView.{NicView}
+use Rattle.board_face.specs.declared.views.app.AppView.{AppView}
+use Rattle.board_face.specs.declared.views.app.AppSide.{AppSide}
+use Rattle.board_face.proofs.ListLemmas.{eqb_same}
+use Rattle.board_face.proofs.Tallies.{weight as one}
+use Rattle.event_log.specs.IsLogged.{AreSound, NoneReturns, run_of}
+use Rattle.event_log.specs.Plain.{weight}
+use Rattle.event_log.proofs.Counting.{buffer-there, ends, held-some, held-within}
+use Rattle.event_log.proofs.Following.{Becomes, Shifts, was-there}
+use Rattle.event_log.proofs.Settings.{size-same}
+use Rattle.event_log.proofs.Weighing.{one_if, some_becomes}
+
+-- ---- nothing is under way after the event either
+
+pub NoneReturns-card : (s : AllSides) (v : NicView) → NoneReturns s → NoneReturns (by_card s v)
+NoneReturns-card s v none = record { entry = none.entry; owes = none.owes }
+
+pub NoneReturns-app : (s : AllSides) (a : ℕ) (app : AppSide) (v : AppView) → IsApp s.apps a app → NoneReturns s → NoneReturns (by_app s a app v)
+NoneReturns-app s a app v at none =
+    let P : AppSide → Type 0 = λ x. (b : ℕ) → slice_index x.inside.scrub_owes b ≡ 0 in
+    let own : P app = subst P at.is (All-get_or P s.apps a app at.there none.owes) in
+    record { entry = none.entry; owes = All-set P s.apps a (app_at app v) own none.owes }
+
+-- ---- counts
+
+pub pool-said : (held : List Holding) (p : ℕ) → length held ≡ p → is_pool_count held p ≡ true
+pool-said held p e = eq-eqb (length held) p e
+
+pub both-said : (held : List Holding) (p a u : ℕ) → length held ≡ p → count_by (is_user a) held ≡ u
+    → (is_pool_count held p && is_user_count held a u) ≡ true
+both-said held p a u e d = rw (eq-eqb (length held) p e, eq-eqb (count_by (is_user a) held) u d) refl
+
+-- ---- numbers in range
+
+pub app-there : (s : AllSides) → AreSound s → (a : ℕ) (app : AppSide) → IsApp s.apps a app → is_app (run_of s) a ≡ true
+app-there s sound a app at = lt-ltb a s.nic.view.setting.layout.reserves (omega (arith, at.there, sound.setting.many))
+
+pub within-there : (s : AllSides) → AreSound s → (b o l : ℕ) → is_buffer (run_of s) b ≡ true → o + l ≤ size_of s.nic.view.setting.layout b
+    → is_within (run_of s) b o l ≡ true
+within-there s sound b o l there within =
+    let size : o + l ≤ size_of_buffer (run_of s).areas b = omega (arith, within, size-same s.nic.view.setting.layout sound.layout b) in
+    rw (there, le-leb (o + l) (size_of_buffer (run_of s).areas b) size) refl
+
+-- bytes of which none lies behind their buffer's end
+pub within-by : (s : AllSides) → AreSound s → (b o l : ℕ) → is_buffer (run_of s) b ≡ true
+    → one (ltb (size_of s.nic.view.setting.layout b) (o + l)) ≡ 0 → is_within (run_of s) b o l ≡ true
+within-by s sound b o l there none =
+    let size = size_of s.nic.view.setting.layout b in
+    within-there s sound b o l there (⊎_elim (λ past. absurd (omega (arith, none, ap one (lt-ltb size (o + l) past)))) (λ within. within)
+    (cases_lt size (o + l)))
+
+-- ---- one holder becomes others
+
+pub same-itself : (x : Holding) → is_same x x ≡ true
+same-itself holding.Own = refl
+same-itself (holding.Piece o l) = rw (eqb_same o, eqb_same l) refl
+same-itself (holding.Sent a o l) = rw (eqb_same a, eqb_same o, eqb_same l) refl
+same-itself (holding.Held a o l) = rw (eqb_same a, eqb_same o, eqb_same l) refl
+same-itself (holding.Spare a) = eqb_same a
+same-itself (holding.Loan a o l) = rw (eqb_same a, eqb_same o, eqb_same l) refl
+same-itself (holding.Owed a) = eqb_same a
+
+-- Where the sides show that a holder ends and isn't among those that begin, it is there, and the event finds it.
+pub one-becomes : (e : Event) (buffer : ℕ) (x : Holding) (news : List Holding) (old new : AllSides) → AreSound old
+    → Shifts buffer (x ∷ []) news old new → weight (one_if (is_same x)) news ≡ 0
+    → (is_buffer (run_of old) buffer ≡ true → one (ends (size_of old.nic.view.setting.layout buffer) x) ≡ 0 → is_in_range (run_of old) e ≡ true)
+    → ((held : List Holding) → changed (run_of old) held e ≡ becomes x news held) → Becomes e buffer (x ∷ []) news old
+one-becomes e buffer x news old new sound shifts none range does h same =
+    let there = was-there buffer x news old new shifts (same-itself x) none h same in
+    let some = held-some old sound h same buffer x there in
+    let became = some_becomes x news (h buffer) there in (
+      range (buffer-there old sound h same buffer some) (held-within old sound h same buffer x there),
+      (became.0, does (h buffer) ∙ became.1, became.2),
+    )

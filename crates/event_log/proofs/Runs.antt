@@ -1,0 +1,128 @@
+-- A log from the opening of its board to the end.
+use Rattle.std.proofs.Common.{◌≡◌, ◌∙◌, ℕ, suc, ◌+◌, ◌*◌, ◌≤◌, List, [], ◌∷◌, length, map, get_or, refl, sym, ap, arith}
+use Rattle.std.proofs.Common.{⊎_elim}
+use Rattle.std.specs.Prelude.{All}
+use Rattle.std.specs.List.{filter_map}
+use Rattle.std.proofs.lemmas.Bool.{cases_lt, lt-ltb, le-ltb, false≢true}
+use Rattle.std.proofs.lemmas.List.Elements.{All-nil, All-cons}
+use Rattle.std.proofs.lemmas.List.Sums.{sum_by-cons}
+use Rattle.area_layout.specs.declared.layout.Area.{Area}
+use Rattle.area_layout.specs.Layout.{Shape, IsLayout, IsBufferSize, buffers_in, bytes_in, no_area}
+use Rattle.run_records.specs.Setting.{IsArea, IsSetting, pool_bytes}
+use Rattle.run_records.specs.declared.holding.Holding.{Holding}
+use Rattle.board_face.specs.Holders.{Kind, holders_of}
+use Rattle.board_face.specs.Laws.{AllSides, pool_of}
+use Rattle.board_face.specs.NicCalls.{apps_of}
+use Rattle.board_face.proofs.OpenedLemmas.{count-new}
+use Rattle.event_log.specs.Plain.{plain, plain_holders, weight}
+use Rattle.event_log.specs.RunLaws.{OpenedLaw, EndedLaw, opened_sides}
+use Rattle.event_log.specs.Settings.{SettingLaw, areas_of, setting_of}
+use Rattle.event_log.proofs.Settings.{in-cons, pool_buffers-same, size-same, total-same}
+use Rattle.event_log.proofs.Weighing.{weight-length}
+
+-- ---- no holder
+
+kinds-none : (kinds : List Kind) → length kinds ≡ 0 → filter_map plain kinds ≡ []
+kinds-none [] none = refl
+kinds-none (k ∷ kinds) none = absurd (omega (arith, none))
+
+pub no-holders : (s : AllSides) (b : ℕ) → pool_of s b ≡ 0 → plain_holders s b ≡ []
+no-holders s b none = kinds-none (holders_of b s.nic s.apps) none
+
+pub opened-law : OpenedLaw
+opened-law setting room most = record {
+  within = omega arith;
+  most = most;
+  small = tt;
+  holdings = λ b. [];
+  reached = refl;
+  same = λ whole b f. sym (ap (weight f) (no-holders (opened_sides setting) b (count-new b setting (apps_of setting))));
+  closed = λ closed. absurd (false≢true (sym closed));
+}
+
+-- ---- the setting
+
+bytes-cons : (a : Area) (areas : List Area) → bytes_in (a ∷ areas) ≡ a.buffers * a.size + bytes_in areas
+bytes-cons a areas = sum_by-cons (λ (x : Area). x.buffers * x.size) a areas
+
+run-bytes-cons : (area : ℕ × ℕ) (areas : List (ℕ × ℕ)) → pool_bytes (area ∷ areas) ≡ area.0 * area.1 + pool_bytes areas
+run-bytes-cons area areas = sum_by-cons (λ (n : ℕ). n) (area.0 * area.1) (map (λ (x : ℕ × ℕ). x.0 * x.1) areas)
+
+none-of : (n : ℕ) → 0 * n ≡ 0
+none-of n = omega arith
+
+bytes-same : (areas : List Area) → pool_bytes (areas_of areas) ≡ bytes_in areas
+bytes-same [] = refl
+bytes-same (a ∷ areas) =
+    ⊎_elim
+    (λ some. rw (lt-ltb 0 a.buffers some) (omega (arith, run-bytes-cons (a.buffers, a.size) (areas_of areas), bytes-cons a areas, bytes-same areas)))
+    (λ (none : a.buffers ≤ 0).
+    let zero_buffers : a.buffers ≡ 0 = omega arith in
+    let nothing : a.buffers * a.size ≡ 0 = rw zero_buffers (none-of a.size) in
+    rw (le-ltb 0 a.buffers none) (omega (arith, nothing, bytes-cons a areas, bytes-same areas)))
+    (cases_lt 0 a.buffers)
+
+few-areas : (areas : List Area) → length (areas_of areas) ≤ length areas
+few-areas [] = omega arith
+few-areas (a ∷ areas) =
+    ⊎_elim
+    (λ some. rw (lt-ltb 0 a.buffers some) (omega (arith, few-areas areas)))
+    (λ none. rw (le-ltb 0 a.buffers none) (omega (arith, few-areas areas)))
+    (cases_lt 0 a.buffers)
+
+some-area : (areas : List Area) → 1 ≤ (get_or areas 0 no_area).buffers → 1 ≤ length (areas_of areas)
+some-area [] some = absurd (omega arith)
+some-area (a ∷ areas) some = rw (lt-ltb 0 a.buffers some) (omega arith)
+
+each-area : (areas : List Area) → ((n : ℕ) → 1 ≤ (get_or areas n no_area).buffers → IsBufferSize (get_or areas n no_area).size)
+    → buffers_in areas ≤ 4096 → All IsArea (areas_of areas)
+each-area [] sizes few = All-nil IsArea
+each-area (a ∷ areas) sizes few =
+    let rest = each-area areas (λ n. sizes (suc n)) (omega (arith, few, in-cons a areas)) in
+    ⊎_elim
+    (λ some.
+    let size : IsBufferSize a.size = sizes 0 some in
+    let area : IsArea (a.buffers, a.size) = record {
+      buffers = (some, omega (arith, few, in-cons a areas));
+      size = record { power = size.power; least = size.least; most = size.most };
+    } in
+    rw (lt-ltb 0 a.buffers some) (All-cons IsArea (a.buffers, a.size) (areas_of areas) area rest))
+    (λ none. rw (le-ltb 0 a.buffers none) rest)
+    (cases_lt 0 a.buffers)
+
+pub IsSetting-layout : (layout : Shape) → IsLayout layout → IsSetting (setting_of layout)
+IsSetting-layout layout good = record {
+  areas = record {
+    some = some-area layout.areas good.first;
+    most = omega (arith, few-areas layout.areas, good.four);
+    each = each-area layout.areas good.sizes good.buffers;
+    buffers = omega (arith, pool_buffers-same layout, good.buffers);
+    bytes = omega (arith, bytes-same layout.areas, good.bytes);
+  };
+  apps = good.reserves;
+}
+
+pub setting-law : SettingLaw
+setting-law layout good = record {
+  sound = IsSetting-layout layout good;
+  pool = pool_buffers-same layout;
+  all = total-same layout;
+  sizes = size-same layout good;
+}
+
+-- ---- the end
+
+length-none : (held : List Holding) → length held ≡ 0 → held ≡ []
+length-none [] none = refl
+length-none (x ∷ held) none = absurd (omega (arith, none))
+
+pub ended-law : EndedLaw
+ended-law s kept layout logged over = record {
+  sound = IsSetting-layout s.nic.view.setting.layout layout;
+  most = omega (arith, logged.within, logged.most);
+  small = logged.small;
+  holdings = logged.holdings;
+  reached = logged.reached;
+  ended = λ whole b. length-none (logged.holdings b)
+      (sym (weight-length (logged.holdings b)) ∙ logged.same whole b (λ h. 1) ∙ ap (weight (λ h. 1)) (no-holders s b (over whole b)));
+}

@@ -1,0 +1,11 @@
+pub mod Logs
+pub mod Settings
+pub mod Plain
+pub mod IsLogged
+pub mod Fills
+pub mod CardLaws
+pub mod AppLaws
+pub mod ScrubLaw
+pub mod SoundLaw
+pub mod SideLaw
+pub mod RunLaws

@@ -1,0 +1,36 @@
+ghost use Rattle.event_log.specs.Logs.{FirstEventsLaw};
+ghost use Rattle.event_log.specs.Settings.{SettingLaw};
+ghost use Rattle.event_log.specs.SideLaw.{OneSideLaw};
+ghost use Rattle.event_log.specs.SoundLaw.{SoundLaw};
+ghost use Rattle.event_log.specs.RunLaws.{OpenedLaw, EndedLaw};
+
+/// A log that takes the events of a board one after another has the first of them that it has room for, and is whole where
+/// these are all.
+pub fn first_events()
+    ensures { FirstEventsLaw }
+{}
+
+/// A board's setting, as its record says it, has the buffers of its layout.
+pub fn setting()
+    ensures { SettingLaw }
+{}
+
+/// What a board keeps of its sides between two calls makes them sound.
+pub fn sound()
+    ensures { SoundLaw }
+{}
+
+/// Where a call changes one application's side alone, the sides after it are those before it with that one.
+pub fn one_side()
+    ensures { OneSideLaw }
+{}
+
+/// An empty log tells of a board that was just opened.
+pub fn opened()
+    ensures { OpenedLaw }
+{}
+
+/// What a log tells is a legal run: a whole log once no buffer has a holder any more, and any other at any time.
+pub fn ended()
+    ensures { EndedLaw }
+{}
