@@ -4,7 +4,7 @@ use Rattle.std.proofs.Common.{refl, sym, ap, subst, ◌∙◌, ◌⊎◌, ⊎_el
 use Rattle.std.proofs.Common.{get_or, ◌≤◌, option_map}
 use Rattle.std.proofs.lemmas.List.Folds.{list_any_at}
 use Rattle.std.proofs.lemmas.Option.{get_or_from_slice_get}
-use Rattle.std.specs.Prelude.{IfSome, OnOk, Result, Ok, Err, ◌==◌, if◌then◌else◌}
+use Rattle.std.specs.Prelude.{IfSome, OnOk, Result, Ok, Err, ◌==◌, if◌then◌else◌, is_some}
 use Rattle.std.specs.List.{slice_get}
 use Rattle.std.proofs.lemmas.Bool.{cases_eq}
 use Rattle.std.proofs.lemmas.Bool.{cases_lt}
@@ -25,9 +25,11 @@ use Rattle.board_face.specs.declared.views.app.AppSide.{AppSide}
 use Rattle.card_feed.specs.Need.{buffers_of, need_in}
 use Rattle.card_feed.specs.Offered.{offers_of, WantsRoom}
 use Rattle.card_feed.specs.declared.plan.Plan.{Plan}
+use Rattle.card_feed.specs.Plan.{how_of, plain_behaviour}
 use Rattle.run_account.specs.Running.{losses_in, losses_or}
 use Rattle.run_account.specs.Ran.{HasReadOn, HaveWholeStreams, Ran, Told}
 use Rattle.run_account.proofs.WholeStreams.{whole-streams}
+use Rattle.command_words.specs.Options.{AreInRange}
 use Rattle.command_words.specs.Words.{ReplayShown}
 use Rattle.zcrx_cli.specs.Planned.{IsPlanOf}
 use Rattle.zcrx_cli.specs.declared.card.Card.{Card}
@@ -417,11 +419,20 @@ module _ {S T : Type 0} {left : S → Option (List ℕ)} {failed : S → ℕ} {k
       (subst (λ (e : Ended). need_in plan (offers_of (steered_in plan.ports.items e.before)) ≤ buffers_of plan) (all_read-of zero all told_all) fits)
 
   streams-of : answer ≡ 0 → (all : List ℕ) → left source ≡ Some all
-      → HaveWholeStreams kept shelves shelves_now plan.ports.items plan.how.quit (ended_of plan.ports.items all).before outcome
+      → HaveWholeStreams kept shelves shelves_now plan.ports.items (how_of plan).quit (ended_of plan.ports.items all).before outcome
   streams-of zero all told_all =
-      subst (λ (e : Ended). HaveWholeStreams kept shelves shelves_now plan.ports.items plan.how.quit e.before outcome)
+      subst (λ (e : Ended). HaveWholeStreams kept shelves shelves_now plan.ports.items (how_of plan).quit e.before outcome)
       (sym (all_read-of zero all told_all))
       (whole-streams left failed kept losses source at shelves shelves_now plan outcome nic apps replayed (going-of zero))
+
+-- each application behaves as the options say
+how-said : (told : ReplayShown) (plan : Plan) → AreInRange told.options → IsPlanOf told plan → how_of plan ≡ told.options.how
+how-said told plan in_range planned = rw (planned.polled, planned.forward, planned.how) (go (told.options.polled || is_some told.options.forward) refl)
+  where
+    go : (b : Bool) → (told.options.polled || is_some told.options.forward) ≡ b
+        → (if told.options.polled || is_some told.options.forward then plain_behaviour else told.options.how) ≡ told.options.how
+    go true other = rw other (sym (in_range.plain other))
+    go false other = rw other refl
 
 -- the report went out whole
 told_well : (refusals refusals_now said answer : ℕ) (reported : Result (Unit {0}) Unreported) → OnOk reported (refusals_now ≡ refusals)
@@ -434,11 +445,11 @@ told_well refusals refusals_now said answer (Err unreported.Write) still is not_
 module _ {S T O : Type 0} {left : S → Option (List ℕ)} {failed : S → ℕ} {kept : T → ℕ → Option (List ℕ)} {losses : T → ℕ}
     (sent : O → Option (List ℕ)) (refusals : O → ℕ) {source source_now : S} {shelves shelves_now : List T} (out out_now : O)
     {plan : Plan} {outcome : Told} {answer : ℕ} where
-  pub replays : (told : ReplayShown) (card_now : Card) → IsPlanOf told plan
+  pub replays : (told : ReplayShown) (card_now : Card) → AreInRange told.options → IsPlanOf told plan
       → RanWith left failed kept losses source source_now shelves shelves_now card_now told.turns plan outcome
       → Tells (sent out) (sent out_now) (refusals out) (refusals out_now) outcome answer
       → Replays left failed kept losses sent refusals source source_now shelves shelves_now out out_now card_now told answer
-  replays told card_now planned with tells =
+  replays told card_now in_range planned with tells =
       let ran = with.ran in
       let ahead = with.ahead in
       let is : IsAnswer (status_of outcome) answer (refusals out) (refusals out_now) = is_answer (sent out) (sent out_now) (refusals out)
@@ -464,7 +475,7 @@ module _ {S T O : Type 0} {left : S → Option (List ℕ)} {failed : S → ℕ} 
         all_read = rw (← same) (all_read-of ran ahead is);
         going = going-of ran ahead is;
         enough = rw (← same) (enough-of ran ahead is);
-        streams = rw (← same, ← planned.how) (streams-of ran ahead is);
+        streams = rw (← same, ← how-said told plan in_range planned) (streams-of ran ahead is);
         settled = settled-of ran ahead is;
         sound_reads = read_well ran ahead is;
         sound_shelves = kept_well ran ahead is;

@@ -9,3 +9,5 @@ pub record IsPlanOf (told : ReplayShown) (plan : Plan) : Type 0 where
   pub ring : plan.ring ≡ told.options.ring
   pub split : plan.split ≡ told.options.split
   pub how : plan.how ≡ told.options.how
+  pub polled : plan.polled ≡ told.options.polled
+  pub forward : plan.forward ≡ told.options.forward

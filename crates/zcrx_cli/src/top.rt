@@ -5,9 +5,9 @@ ghost use Rattle.std.specs.Io.KnownBytes.{Appends};
 ghost use Rattle.zr_io.specs.Moved.{Rose};
 ghost use Rattle.area_layout.specs.Layout.{MakeLayout};
 ghost use Rattle.cap_make.specs.GeneratedCapture.{generated_capture};
-ghost use Rattle.command_words.specs.Options.{AreInRange};
+ghost use Rattle.command_words.specs.Options.{AreInRange, GoesByTurns};
 ghost use Rattle.command_words.specs.Words.{IsPortList, reading_of, replay};
-ghost use Rattle.card_feed.specs.Plan.{IsPlan};
+ghost use Rattle.card_feed.specs.Plan.{IsPlan, TakesTurns};
 ghost use Rattle.run_account.specs.Ran.{told_of};
 ghost use Rattle.replay_turns.specs.Schedule.{AreTurns};
 ghost use Rattle.zcrx_cli.specs.Cards.{IsClosed};
@@ -56,7 +56,13 @@ fn plan_of(command: Asked) -> Plan
     let Asked {
         ports,
         areas,
-        options: Options { ring, split, how },
+        options: Options {
+            ring,
+            split,
+            how,
+            polled,
+            forward,
+        },
     } = command;
     Plan {
         ports,
@@ -64,6 +70,8 @@ fn plan_of(command: Asked) -> Plan
         ring,
         split,
         how,
+        polled,
+        forward,
     }
 }
 
@@ -78,6 +86,7 @@ fn play_turns<S: Source, T: Shelf>(
     card: &mut Card,
 ) -> Result<Outcome, AllocError>
     requires plan { IsPlan plan.now }
+    requires turns_only { TakesTurns plan.now }
     requires shelves { length plan.now.ports.items ≤ vec_len shelves.old }
     requires turns { AreTurns (length plan.now.ports.items) turns.now }
     ensures many { vec_len shelves.new ≡ vec_len shelves.old }
@@ -137,6 +146,7 @@ fn replay_alone<S: Source, T: Shelf, O: Sink>(
     requires ports { IsPortList command.ports.items }
     requires areas { MakeLayout command.areas.items (length command.ports.items) }
     requires options { AreInRange command.options }
+    requires own { GoesByTurns command.options }
     requires turns { AreTurns (length command.ports.items) turns.now }
     requires shelves { vec_len shelves.old ≡ 8 }
     requires blank { card.old ≡ Card.Blank }

@@ -1,8 +1,12 @@
 //! Small captures that are drawn, and compared with the plain slow programs.
 use super::frames::{ACK, FIN, PSH_ACK, RST, SYN, Sent, frame, over_ipv6, tagged};
-use super::plain::check_plain;
+use super::plain::{WORDS, check_by};
 use std::alloc::Global;
+use std::process::Abort;
+use std::random::RandomSource;
+use std::sync::Wait;
 use std::test::Fail;
+use std::thread::Threads;
 
 /// How many captures are drawn.
 const CAPTURES: u32 = 40;
@@ -132,8 +136,11 @@ impl Drawer {
     }
 }
 
-#[test]
-fn drawn_captures_go_as_the_plain_programs_say(rt: HostRuntime) -> Result<(), Fail> {
+/// Replays drawn captures by these words: each goes as the plain programs say.
+pub fn check_drawn(
+    rt: &(impl Abort + AllocGlobal + RandomSource + Threads + Wait + Sync),
+    words: &[&str],
+) -> Result<(), Fail> {
     let alloc = rt.alloc();
     for seed in 0..CAPTURES {
         let mut drawer = Drawer::new(seed);
@@ -142,7 +149,12 @@ fn drawn_captures_go_as_the_plain_programs_say(rt: HostRuntime) -> Result<(), Fa
             frames.push(drawer.frame(alloc)?)?;
         }
         let name = format!(in alloc; "seed {seed}")?;
-        check_plain(&rt, &name, &frames)?;
+        check_by(rt, words, &name, &frames)?;
     }
     Ok(())
+}
+
+#[test]
+fn drawn_captures_go_as_the_plain_programs_say(rt: HostRuntime) -> Result<(), Fail> {
+    check_drawn(&rt, &WORDS)
 }

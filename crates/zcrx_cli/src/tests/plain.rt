@@ -16,7 +16,7 @@ use std::thread::Threads;
 const PORTS: [u16; 2] = [9000, 9001];
 
 /// The command that replays them.
-const WORDS: [&str; 3] = ["replay", "9000", "9001"];
+pub const WORDS: [&str; 3] = ["replay", "9000", "9001"];
 
 /// How many frames there are of each class, in all, and to one of the ports.
 #[derive(Clone, Copy, Default)]
@@ -146,7 +146,7 @@ fn plain_streams(alloc: Global, seen: &[Seen<'_>], count: usize) -> Result<Vec<V
     Ok(streams)
 }
 
-/// Replays a capture that ends by this status behind these frames: streams, and the report but for loans and the pool's line,
+/// Replays the two ports of a capture that ends by this status behind these frames: streams, and the report but for loans and the pool's line,
 /// have to be what the plain programs say of the frames.
 pub fn check_whole(
     rt: &(impl Abort + AllocGlobal + RandomSource + Threads + Wait + Sync),
@@ -170,11 +170,7 @@ pub fn check_whole(
         })?;
     }
     let report = report(alloc, &seen, &flows, &streams, status)?;
-    let given = Given {
-        words: &WORDS,
-        ..*given
-    };
-    let left = run(rt, &given)?;
+    let left = run(rt, given)?;
     let told = without_loans(alloc, str::from_utf8(&left.sent)?)?;
     assert_eq!(rt; told, report, "{name}");
     assert_eq!(rt; left.status, status, "{name}");
@@ -182,12 +178,27 @@ pub fn check_whole(
     check_free(rt, name, left.free, given.buffers)
 }
 
-/// Replays these frames: streams, and the report but for loans and the pool's line, have to be what the plain programs say.
+/// Replays the two ports of these frames by these words: streams, and the report but for loans and the pool's line, have to be
+/// what the plain programs say.
+pub fn check_by(
+    rt: &(impl Abort + AllocGlobal + RandomSource + Threads + Wait + Sync),
+    words: &[&str],
+    name: &str,
+    frames: &[Vec<u8>],
+) -> Result<(), Fail> {
+    let capture = capture(rt.alloc(), frames)?;
+    let given = Given {
+        words,
+        ..faultless(&capture)
+    };
+    check_whole(rt, name, frames, &given, 0)
+}
+
+/// The same, where nothing else is said.
 pub fn check_plain(
     rt: &(impl Abort + AllocGlobal + RandomSource + Threads + Wait + Sync),
     name: &str,
     frames: &[Vec<u8>],
 ) -> Result<(), Fail> {
-    let capture = capture(rt.alloc(), frames)?;
-    check_whole(rt, name, frames, &faultless(&capture), 0)
+    check_by(rt, &WORDS, name, frames)
 }

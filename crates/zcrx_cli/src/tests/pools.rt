@@ -98,6 +98,41 @@ status 0
     check_case(&rt, &case)
 }
 
+/// How many frames go to one buffer.
+const MANY: usize = 120;
+
+/// Each of many frames that are refused has its line.
+#[test]
+fn many_refused_frames_are_told(rt: HostRuntime) -> Result<(), Fail> {
+    let mut report = format!(in rt.alloc();
+        "\
+capture records {MANY} tcp {MANY} steered {MANY} other 0 fragment 0 cut 0 bad 0
+app 0 port 9000 written 1000 loans 1 copied 0 stopped no
+flow 0 port 9000 base 1000 bytes 1000 fin no end open
+"
+    )?;
+    for number in 2..=MANY {
+        let line = format!(in rt.alloc(); "refused {number}\n")?;
+        report.push_str(&line)?;
+    }
+    report.push_str("pool fast 0 refill 0 slow 1 empty 119 strays 0\nstatus 0\n")?;
+    let case = Case {
+        words: &[
+            "replay",
+            "--buffers=1",
+            "--size=1024",
+            "--hold=1",
+            "--turns=n",
+            "9000",
+        ],
+        buffers: 1,
+        payloads: &[1000; MANY],
+        written: 1000,
+        report: &report,
+    };
+    check_case(&rt, &case)
+}
+
 /// The only buffer comes back between the two frames.
 #[test]
 fn a_buffer_that_came_back_serves_again(rt: HostRuntime) -> Result<(), Fail> {

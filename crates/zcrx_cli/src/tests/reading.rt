@@ -4,7 +4,7 @@ ghost use Rattle.std.specs.Prelude.{Some};
 use super::faults::two_ports;
 use super::frames::{PSH_ACK, SYN, capture, frame, record_of, to_9000, to_9001};
 use super::limits::{check_report_behind, report_of_syns, syns};
-use super::plain::check_whole;
+use super::plain::{WORDS, check_whole};
 use super::runs::{Given, Row, Stream, check, faultless, first};
 use replay_threads::{Gate, NoGate};
 use std::alloc::Global;
@@ -129,6 +129,7 @@ fn a_failed_read_is_told_behind_the_records_before_it(rt: HostRuntime) -> Result
         let whole = last_calls.iter().filter(|last| **last < call).count();
         let name = format!(in alloc; "call {call}")?;
         let given = Given {
+            words: &WORDS,
             most: PIECE,
             source_fails: &[call],
             ..faultless(&bytes)

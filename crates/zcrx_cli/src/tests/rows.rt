@@ -12,7 +12,7 @@ use std::test::Fail;
 use std::thread::Threads;
 
 /// One segment from port 40000 to port 9000 with the bytes `hello`, at sequence number 1001.
-const HELLO: [u8; 99] = [
+pub const HELLO: [u8; 99] = [
     0xd4, 0xc3, 0xb2, 0xa1, 2, 0, 4, 0, 0, 0, 0, 0, 0, 0, 0, 0, 0, 0, 4, 0, 1, 0, 0, 0, 0, 0, 0, 0,
     0, 0, 0, 0, 0x3b, 0, 0, 0, 0x3b, 0, 0, 0, 2, 0, 0, 0, 0, 2, 2, 0, 0, 0, 0, 1, 8, 0, 0x45, 0, 0,
     0x2d, 0, 0, 0x40, 0, 0x40, 6, 0, 0, 10, 0, 0, 1, 10, 0, 0, 2, 0x9c, 0x40, 0x23, 0x28, 0, 0, 3,
@@ -41,7 +41,7 @@ const UDP_OVER_IPV6: [u8; 62] = [
 const REQUEST: &[u8] = b"GET / HTTP/1.1\r\n\r\n";
 
 /// A flow from SYN to FIN.
-fn greeting(alloc: Global) -> Result<Vec<u8>, Fail> {
+pub fn greeting(alloc: Global) -> Result<Vec<u8>, Fail> {
     let sent = [
         to_9000(1000, SYN, b""),
         to_9000(1001, PSH_ACK, b"hello"),
@@ -51,7 +51,7 @@ fn greeting(alloc: Global) -> Result<Vec<u8>, Fail> {
 }
 
 /// The report of that flow up to its status.
-const GREETED: &str = "\
+pub const GREETED: &str = "\
 capture records 3 tcp 3 steered 3 other 0 fragment 0 cut 0 bad 0
 app 0 port 9000 written 5 loans 1 copied 0 stopped no
 flow 0 port 9000 base 1001 bytes 5 fin yes end whole

@@ -16,7 +16,7 @@ use std::thread::Threads;
 const LOOKS: u32 = 100_000_000;
 
 /// How often a run is held up in another way.
-const RUNS: u32 = 200;
+pub const RUNS: u32 = 200;
 
 /// Holds each of two applications at its first turn until the other has come there too.
 #[derive(Drop)]
@@ -121,7 +121,7 @@ fn without_searches(alloc: Global, report: &str) -> Result<String, Fail> {
 }
 
 /// Replays four flows, held up in so many ways: each stream has so many bytes, and the report but for its searches is this.
-fn check_four(
+pub fn check_four(
     rt: &(impl Abort + AllocGlobal + RandomSource + Threads + Wait + Sync),
     words: &[&str],
     runs: u32,
@@ -161,7 +161,7 @@ fn check_four(
 }
 
 /// What four flows of 500 pieces come to with as many buffers as pieces.
-const FOUR_FLOWS: &str = "\
+pub const FOUR_FLOWS: &str = "\
 capture records 2000 tcp 2000 steered 2000 other 0 fragment 0 cut 0 bad 0
 app 0 port 9000 written 500000 loans 500 copied 0 stopped no
 app 1 port 9001 written 500000 loans 500 copied 0 stopped no

@@ -8,7 +8,7 @@ use std::test::Fail;
 fn faulty_words_are_answered_by_2(rt: HostRuntime) -> Result<(), Fail> {
     let alloc = rt.alloc();
     let bytes = capture_of(alloc, &[to_9000(1001, PSH_ACK, b"hello")])?;
-    let rows: [&[&str]; 44] = [
+    let rows: [&[&str]; 48] = [
         &[],
         &["replay"],
         &["replay", "--"],
@@ -52,6 +52,10 @@ fn faulty_words_are_answered_by_2(rt: HostRuntime) -> Result<(), Fail> {
         &["replay", "--size=0000000000000001024", "9000"],
         &["replay", "--", "--size=1024", "9000"],
         &["replay", "--siz", "1024", "9000"],
+        &["replay", "--polled", "--hold", "1", "9000"],
+        &["replay", "--polled=", "9000"],
+        &["replay", "--forward", "64", "9000"],
+        &["replay", "--forward", "0", "--polled", "9000"],
         &["make", "7"],
     ];
     for words in rows {

@@ -9,10 +9,16 @@ pub play_turns-requires-clause-turns : goal.play_turns-requires-clause-turns
 play_turns-requires-clause-turns g c =
     subst (λ ports. AreTurns (length ports) c.args.turns.now) (sym (c.plan_of-plan.ensures.told None).ports_are) c.requires.turns
 
+pub play_turns-requires-clause-turns_only : goal.play_turns-requires-clause-turns_only
+play_turns-requires-clause-turns_only g c =
+    let planned = c.plan_of-plan.ensures.told None in
+    record { unpolled = planned.polled ∙ c.requires.own.unpolled; unforwarded = planned.forward ∙ c.requires.own.unforwarded }
+
 pub returns-in-Ok : goal.returns-in-Ok
 returns-in-Ok g c = record {
   replays = inl (replays g.O.Sink.sent g.O.Sink.faults c.args.out.now c.tell.new.out
-      (asked_by c.args.command.ports.items c.args.command.areas.items c.args.command.options (Some c.args.turns.now)) _ (c.plan_of-plan.ensures.told _) c.in-Ok.ensures.ran c.tell.ensures);
+      (asked_by c.args.command.ports.items c.args.command.areas.items c.args.command.options (Some c.args.turns.now)) _ c.requires.options
+      (c.plan_of-plan.ensures.told _) c.in-Ok.ensures.ran c.tell.ensures);
 }
 
 pub returns : goal.returns
