@@ -1,6 +1,6 @@
 #!/usr/bin/env bash
-# Compares zcrx, with threads and by turns on one thread (`--turns n`), with tcpflow, capture by capture: time, time per frame,
-# peak memory, and whether all wrote the same bytes.
+# Compares zcrx, with threads, by turns on one thread (`--turns n`), polled (`--polled`) and forwarding (`--forward 0`), with tcpflow,
+# capture by capture: time, time per frame, peak memory, and whether all wrote the same bytes.
 #
 # usage: bench/compare.sh [RUNS [CASE..]]
 #
@@ -32,6 +32,9 @@ kept_counts=(1000 10000 40000)
 
 # What zcrx is told beside the ports.
 options=()
+
+# The ways in which zcrx runs: with threads first.
+ways=(zcrx turns polled forward)
 
 # What a program is started by.
 pinned=()
@@ -104,12 +107,14 @@ ratio() { awk -v a="$1" -v b="$2" 'BEGIN { printf "%.2f", a / b }'; }
 print_table() { # FRAMES
     printf '%-8s %8s %8s %12s %12s\n' '' 'best s' 'median s' 'us a frame' 'peak KiB'
     local name
-    for name in zcrx turns tcpflow; do
+    for name in "${ways[@]}" tcpflow; do
         row $name "$1"
     done
-    for name in zcrx turns; do
+    for name in "${ways[@]}"; do
         echo "$name / tcpflow: best $(ratio "$(best $name)" "$(best tcpflow)"), median $(ratio "$(median $name)" "$(median tcpflow)")"
     done
+    echo "polled / zcrx: best $(ratio "$(best polled)" "$(best zcrx)"), median $(ratio "$(median polled)" "$(median zcrx)")"
+    echo "forward / polled: best $(ratio "$(best forward)" "$(best polled)"), median $(ratio "$(median forward)" "$(median polled)")"
 }
 
 # The file in which tcpflow writes flow F of a capture.
@@ -120,7 +125,10 @@ compare_bytes() { # FLOWS
     for ((flow = 0; flow < $1; flow++)); do
         cmp "$work/zcrx/flow-$flow.bin" "$work/tcpflow/$(tcpflow_file $flow)" || fail "the streams of flow $flow differ"
     done
-    diff -r "$work/zcrx" "$work/turns" || fail "the streams of zcrx differ"
+    local way
+    for way in "${ways[@]:1}"; do
+        diff -r "$work/zcrx" "$work/$way" || fail "the streams of zcrx differ"
+    done
     [ "$(ls "$work/zcrx" | wc -l)" -eq "$1" ] || fail "zcrx wrote other files: $(ls "$work/zcrx")"
     echo "same bytes: $(cat "$work"/zcrx/flow-*.bin | wc -c) in $1 flow(s)"
 }
@@ -135,6 +143,8 @@ compare() {
     for ((run = 0; run < runs; run++)); do
         run_zcrx zcrx "$capture" "$flows"
         run_zcrx turns "$capture" "$flows" --turns n
+        run_zcrx polled "$capture" "$flows" --polled
+        run_zcrx forward "$capture" "$flows" --forward 0
         run_tcpflow "$capture"
     done
     echo "$title: $count frames, $(stat -c %s "$capture") bytes; $runs runs of each, in turn, on ${CPUS:-$(nproc)} processors"
@@ -153,7 +163,7 @@ compare_memory() {
 }
 
 remove_outputs() {
-    rm -rf "${work:?}"/{zcrx,turns,tcpflow,longer}{,.peak,.said,.runs}
+    rm -rf "${work:?}"/{zcrx,turns,polled,forward,tcpflow,longer}{,.peak,.said,.runs}
 }
 
 run_case() {

@@ -93,8 +93,11 @@ def entries(page, name):
 
 def options_of_code():
     code = read("crates/command_words/src/options.rt")
-    names = re.search(r"NAMES: \[&str; \d+\] = \[(.*?)\]", code, re.S).group(1)
-    names = re.findall(r'"(\w+)"', names)
+    def listed(name):
+        return re.findall(r'"(\w+)"', re.search(rf"\b{name}: \[&str; \d+\] = \[(.*?)\]", code, re.S).group(1))
+
+    names = listed("NAMES")
+    flags = listed("FLAGS")
     bounds = dict(re.findall(r"pub const (\w+): \w+ = ([\d_]+);", read("crates/area_layout/src/layout.rt")))
 
     def bound(word):
@@ -112,12 +115,15 @@ def options_of_code():
     options["size"] = numbers["SIZE"]
     options["quit"] = "any number"
     options["turns"] = (1, number(re.search(r"MOST_TURNS: usize = ([\d_]+)", code).group(1)), None)
-    return {name: options.get(name) for name in names}, bound("MAX_BYTES")
+    options["forward"] = (0, number(re.search(r"MOST_DELAY: u32 = ([\d_]+)", code).group(1)), None)
+    options |= {name: "a flag" for name in flags}
+    return {name: options.get(name) for name in names + flags}, bound("MAX_BYTES")
 
 
 def range_of(text, default):
-    if "any number" in text:
-        return "any number"
+    for kind in ("any number", "a flag"):
+        if kind in text.lower():
+            return kind
     least, most = re.search(r"([\d,]+) to ([\d,]+)", text).groups()
     return number(least), number(most), number(default) if re.fullmatch(r"[\d,]+", default or "") else None
 

@@ -4,9 +4,10 @@
 # usage: tools/refuse_memory.sh [NUMBER..]        ZCRX=FILE names another program than crates/zcrx_cli/out/zcrx_cli
 #
 # The replays are those of the demo capture, and of four payloads of 80 bytes to two applications that keep two loans each and quit
-# at 100 bytes, each with threads and by turns. NUMBER.. are those of the requests, from 1; where none is said it is each one, until
-# five runs in a row make fewer. What refuses is a small library in front of the C library's malloc, calloc and realloc, built by
-# `cc`; with it requests of the C library's own are refused too, as for a thread.
+# at 100 bytes, each with threads and by turns; and that of the demo capture, polled and forwarding. NUMBER.. are those of the
+# requests, from 1; where none is said it is each one, until five runs in a row make fewer. What refuses is a small library in front
+# of the C library's malloc, calloc and realloc, built by `cc`; with it requests of the C library's own are refused too, as for a
+# thread.
 #
 # Each run has to end by itself, with the status that its report ends in, and each stream that it leaves has to be a front of the
 # right one. Right are: status 1 with no report, or with one that ends in it; status 9 with one that tells of an application that
@@ -146,5 +147,8 @@ sweep() { # CASE CAPTURE NUMBERS WORD..
 for turns in "" --turns=nn01; do
     sweep hello "$PWD/demo-data/hello.pcap" "$*" $turns 9000 9001
     sweep four "$work/four.pcap" "$*" $turns --leak 2 --quit 100 9000 9001
+done
+for way in --polled --forward=1; do
+    sweep hello "$PWD/demo-data/hello.pcap" "$*" $way 9000 9001
 done
 [ $wrong -eq 0 ]

@@ -5,7 +5,7 @@ usage: tools/thread_runs.py [RUNS [SEED]]
 
 RUNS is 2,000 if left out, and SEED 0: run K draws by SEED + K. A capture has up to 60 frames of up to six flows to one to
 eight ports, with pieces out of order, overlapping, doubled, empty, far ahead, and flows that begin anew. Buffers may be few
-and rings short, and applications keep, leak, stray and quit. Each stream has to be what a plain copying receiver gives on the
+and rings short, and applications keep, leak, stray and quit, or are polled, or forward. Each stream has to be what a plain copying receiver gives on the
 frames that the report doesn't call refused: all of it where the application wasn't stopped, and otherwise a front of it. The
 status is 0 where all are.
 
@@ -161,6 +161,15 @@ def draw_options(draw):
     return options
 
 
+def draw_way(draw, options):
+    """The words of the options; in some runs applications are polled, or forward, and then they behave in no way of their own."""
+    way = draw.choice([[], [], ["--polled"], [f"--forward={draw.choice([0, 1, 3, 63])}"]])
+    if way:
+        for name in ("--hold", "--leak", "--stray", "--quit"):
+            options.pop(name, None)
+    return way + [f"{name}={value}" for name, value in options.items()]
+
+
 def read_report(text):
     """The lines of a report: applications, flows, refused frames, the pool's counts and the status."""
     applications, flows, refused, pool, status = [], [], set(), {}, None
@@ -191,7 +200,7 @@ def faults_of(segments, options, ports, report, folder):
             yield f"frame {number} is refused, which isn't there or whose payload travels in its note"
     if pool["empty"] != len(refused):
         yield f"{len(refused)} frames are refused, and {pool['empty']} searches found too few"
-    if pool["strays"] > options["--stray"] * sum(int(line["loans"]) for line in applications):
+    if pool["strays"] > options.get("--stray", 0) * sum(int(line["loans"]) for line in applications):
         yield f"{pool['strays']} strays"
     flows = flows_of(segments)
     if len(lines) != len(flows):
@@ -225,7 +234,7 @@ def run(program, seed):
     capture = frames.FILE_HEADER + b"".join(
         frames.record(0, frames.frame(source, port, sequence, flags, payload))
         for source, port, sequence, flags, payload in segments)
-    words = [f"{name}={value}" for name, value in options.items()]
+    words = draw_way(random.Random(f"way {seed}"), options)
     words += [str(FIRST_PORT + app) for app in range(ports)]
     with tempfile.TemporaryDirectory() as folder:
         try:
