@@ -14,6 +14,7 @@ bench/RESULTS.md:
 - what a crate stands on: docs/MAP.md, and crates.txt;
 - each relative link, with its heading, each file or script that is named, and each name in code font that looks like one of
   the code: it stands somewhere under crates/, outside comments;
+- the example of docs/USE.md stands in the test that runs it;
 - README.md has at most 130 lines.
 """
 
@@ -350,6 +351,13 @@ def check_names(options):
                 say(path.relative_to(TOP), f"no file {named}")
 
 
+def check_example():
+    example = re.search(r"```rust\n(.*?)```", read("docs/USE.md"), re.S).group(1)
+    test = "crates/stream_runs/src/tests/example.rt"
+    if example not in read(test):
+        say("docs/USE.md", f"its example isn't that of {test}")
+
+
 def main():
     page = plain(read("docs/zcrx.1"))
     options = check_options(page)
@@ -357,6 +365,7 @@ def main():
     check_report(page)
     check_crates()
     check_names(options)
+    check_example()
     lines = len(read("README.md").splitlines())
     if lines > MOST_LINES:
         say("README.md", f"{lines} lines, more than {MOST_LINES}")

@@ -17,4 +17,4 @@ pub use counting::{Tally, count, count_item, make_room};
 pub use laws::items_law;
 pub use step::{Lent, Step, Waits};
 pub use stream::LoanStream;
-pub use to_shelf::{Poured, Ran, Rests, ToShelf, close, told};
+pub use to_shelf::{Poured, Ran, Rests, ToShelf, told};

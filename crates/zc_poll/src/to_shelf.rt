@@ -116,7 +116,7 @@ fn give_back<F: AppFace>(stream: &mut LoanStream<F>, work: &mut Tally, loan: Loa
 }
 
 /// Lets the face leave, once all is given back.
-pub fn close<F: AppFace>(stream: &mut LoanStream<F>, work: &mut Tally) -> Ran
+fn close<F: AppFace>(stream: &mut LoanStream<F>, work: &mut Tally) -> Ran
     requires stands { StreamStands stream.old.desk (F.seen stream.old.face) }
     requires ended { stream.old.desk.ended ≡ true }
     requires none { (F.seen stream.old.face).loans ≡ [] }
