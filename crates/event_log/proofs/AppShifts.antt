@@ -97,11 +97,11 @@ helds-less : (v : AppView) (place : Place) → HasHeld v place → (g : Place �
     → total (λ (h : HeldPiece). g h.place) (helds_without v place) + g place ≡ total (λ (h : HeldPiece). g h.place) v.helds
 helds-less v place out g = total-without (λ (h : HeldPiece). h.place) (same_place place) place (same_place-is place) (same_place-refl place) g v.helds out
 
-loans-less : (v : AppView) (place : Place) → HasLoan v place → (g : Place → ℕ)
+pub loans-less : (v : AppView) (place : Place) → HasLoan v place → (g : Place → ℕ)
     → total (λ (l : LentPiece). g l.place) (loans_without v place) + g place ≡ total (λ (l : LentPiece). g l.place) v.loans
 loans-less v place out g = total-without (λ (l : LentPiece). l.place) (same_place place) place (same_place-is place) (same_place-refl place) g v.loans out
 
-owns-less : (v : AppView) (it : Filling) → HasSpare v it → (g : Filling → ℕ)
+pub owns-less : (v : AppView) (it : Filling) → HasSpare v it → (g : Filling → ℕ)
     → total (λ (x : SpareOwn). g x.own) (owns_without v it) + g it ≡ total (λ (x : SpareOwn). g x.own) v.owns
 owns-less v it out g = total-without (λ (x : SpareOwn). x.own) (same_filling it) it (same_filling-is it) (same_filling-refl it) g v.owns out
 

@@ -1,9 +1,9 @@
--- A log goes on to tell of a board where its buffers' holders changed as the event says.
-use Rattle.std.proofs.Common.{◌≡◌, ◌∙◌, ℕ, ◌+◌, ◌<◌, ◌≤◌, Bool, true, false, List, [], ◌∷◌, ◌++◌, length, ltb, eqb, Option, Some, None, if◌then◌else◌}
-use Rattle.std.proofs.Common.{IsTrue, refl, sym, ap, subst, arith, ⊎_elim, length-append}
-use Rattle.std.specs.Prelude.{◌&&◌, count_by, option_and_then}
+-- A log goes on to tell of a board where its buffers' holders and its tallies changed as the event says.
+use Rattle.std.proofs.Common.{◌≡◌, ◌∙◌, ℕ, ◌+◌, ◌≤◌, true, false, List, [], ◌∷◌, ◌++◌, length, eqb, Some}
+use Rattle.std.proofs.Common.{refl, sym, ap, subst, arith, ⊎_elim}
+use Rattle.std.specs.Prelude.{count_by, option_and_then}
 use Rattle.std.specs.List.{AllByRecursion, list_any}
-use Rattle.std.proofs.lemmas.Bool.{cases_Bool, false≢true, cases_lt, lt-ltb, le-ltb, eq-eqb}
+use Rattle.std.proofs.lemmas.Bool.{eq-eqb}
 use Rattle.std.proofs.lemmas.Bool.Decides.{eqb_tells}
 use Rattle.run_records.specs.declared.event.Event.{Event}
 use Rattle.run_records.specs.declared.holding.Holding.{Holding}
@@ -12,19 +12,17 @@ use Rattle.run_records.specs.Holders.{Holdings, after, all_after, no_holdings, b
 use Rattle.run_records.specs.Holders.{with_holders}
 use Rattle.run_records.specs.LegalRun.{HasSmallNumbers}
 use Rattle.board_face.specs.Laws.{AllSides, pool_of, user_of}
-use Rattle.event_log.specs.IsLogged.{IsLogged, Logs, NoneReturns, run_of}
-use Rattle.event_log.specs.Logs.{Kept, has_room, logged}
+use Rattle.event_log.specs.IsLogged.{IsLogged, KeepsLog, Logs, NoneReturns, run_of}
+use Rattle.event_log.specs.Logs.{Kept, log_of, logged}
 use Rattle.event_log.specs.Plain.{SameHoldings, plain_holders, weight}
+use Rattle.event_log.specs.Tallies.{AreTallied}
+use Rattle.event_log.proofs.FirstEvents.{first-events, some_from}
 use Rattle.event_log.proofs.Parts.{here}
 use Rattle.event_log.proofs.Counting.{pool-weight, user-weight}
+use Rattle.event_log.proofs.Tallying.{KeepsTallies, Tallies}
 use Rattle.event_log.proofs.Weighing.{Moves, any-some, one_if, weight-count, weight-length}
 
 -- ---- one event more
-
-some_from : {A B : Type 0} (value : Option A) (f : A → Option B) (result : B) → option_and_then f value ≡ Some result
-    → (a : A) × (value ≡ Some a) × (f a ≡ Some result)
-some_from None f result is = cc
-some_from (Some a) f result is = (a, refl, is)
 
 all_after-more : (s : Setting) (start h now : Holdings) (events : List Event) (e : Event) → all_after s start events ≡ Some h
     → after s h e ≡ Some now → all_after s start (events ++ e ∷ []) ≡ Some now
@@ -40,11 +38,6 @@ small-more : (events : List Event) (e : Event) → AllByRecursion HasSmallNumber
 small-more [] e small own = (own, tt)
 small-more (f ∷ events) e small own = (small.0, small-more events e small.1 own)
 
-and-true : (c d : Bool) → (c && d) ≡ true → (c ≡ true) × (d ≡ true)
-and-true true true e = (refl, refl)
-and-true true false e = absurd (false≢true e)
-and-true false d e = absurd (false≢true e)
-
 -- what the holders of each buffer weigh
 abbrev pub Weights : Type 0
 Weights = ℕ → (Holding → ℕ) → ℕ
@@ -55,54 +48,57 @@ Weigh h weights = (b : ℕ) (f : Holding → ℕ) → weight f (h b) ≡ weights
 abbrev pub weights_of : AllSides → Weights
 weights_of s b f = weight f (plain_holders s b)
 
--- The log's events lead to holders that weigh as much, while it is whole. So it tells of a board where these are the weights of
--- the board's holders.
-pub record Tells (run : Setting) (weights : Weights) (kept : Kept) : Type 0 where
-  pub within : length kept.events ≤ kept.room
+-- All events lead to holders that weigh as much, and their tallies are these. The log has the first of them. So it tells of a
+-- board where these are the weights of the board's holders, and its tallies.
+pub record Tells (run : Setting) (weights : Weights) (tallied : List Event → Type 0) (kept : Kept) : Type 0 where
   pub most : kept.room ≤ 1000000
-  pub small : AllByRecursion HasSmallNumbers kept.events
+  pub all : List Event
+  pub log_is : kept ≡ log_of kept.room all
+  pub small : AllByRecursion HasSmallNumbers all
   pub holdings : Holdings
-  pub reached : all_after run no_holdings kept.events ≡ Some holdings
-  pub same : IsTrue kept.whole → Weigh holdings weights
-  pub closed : kept.whole ≡ false → length kept.events ≡ kept.room
+  pub reached : all_after run no_holdings all ≡ Some holdings
+  pub same : Weigh holdings weights
+  pub tallies : tallied all
 
-pub tells-of : (s : AllSides) (kept : Kept) → IsLogged s kept → Tells (run_of s) (weights_of s) kept
+pub tells-of : (s : AllSides) (kept : Kept) → IsLogged s kept → Tells (run_of s) (weights_of s) (AreTallied s) kept
 tells-of s kept was = record {
-  within = was.within;
   most = was.most;
+  all = was.all;
+  log_is = was.log_is;
   small = was.small;
   holdings = was.holdings;
   reached = was.reached;
   same = was.same;
-  closed = was.closed;
+  tallies = was.tallied;
 }
 
-pub tells-as : (run : Setting) (weights others : Weights) (kept : Kept) → ((b : ℕ) (f : Holding → ℕ) → weights b f ≡ others b f)
-    → Tells run weights kept → Tells run others kept
-tells-as run weights others kept same tells = record {
-  within = tells.within;
+pub tells-as : (run : Setting) (weights others : Weights) (tallied : List Event → Type 0) (kept : Kept)
+    → ((b : ℕ) (f : Holding → ℕ) → weights b f ≡ others b f) → Tells run weights tallied kept → Tells run others tallied kept
+tells-as run weights others tallied kept same tells = record {
   most = tells.most;
+  all = tells.all;
+  log_is = tells.log_is;
   small = tells.small;
   holdings = tells.holdings;
   reached = tells.reached;
-  same = λ whole b f. tells.same whole b f ∙ same b f;
-  closed = tells.closed;
+  same = λ b f. tells.same b f ∙ same b f;
+  tallies = tells.tallies;
 }
 
--- in the setting of these sides, and with what their holders weigh
-pub logged-of : (run : Setting) (weights : Weights) (s : AllSides) (kept : Kept) → run_of s ≡ run
-    → ((b : ℕ) (f : Holding → ℕ) → weights b f ≡ weights_of s b f) → Tells run weights kept → IsLogged s kept
-logged-of run weights s kept one same was =
-    let tells = tells-as run weights (weights_of s) kept same was in
-    record {
-      within = tells.within;
-      most = tells.most;
-      small = tells.small;
-      holdings = tells.holdings;
-      reached = ap (λ r. all_after r no_holdings kept.events) one ∙ tells.reached;
-      same = tells.same;
-      closed = tells.closed;
-    }
+-- in the setting of these sides, with what their holders weigh, and with their tallies
+pub logged-of : (run : Setting) (weights : Weights) (tallied : List Event → Type 0) (s : AllSides) (kept : Kept) → run_of s ≡ run
+    → ((b : ℕ) (f : Holding → ℕ) → weights b f ≡ weights_of s b f) → ((events : List Event) → tallied events → AreTallied s events)
+    → Tells run weights tallied kept → IsLogged s kept
+logged-of run weights tallied s kept one same counts tells = record {
+  most = tells.most;
+  all = tells.all;
+  log_is = tells.log_is;
+  small = tells.small;
+  holdings = tells.holdings;
+  reached = ap (λ r. all_after r no_holdings tells.all) one ∙ tells.reached;
+  same = λ b f. tells.same b f ∙ same b f;
+  tallied = counts tells.all tells.tallies;
+}
 
 -- the holders after the event weigh as much as these
 abbrev pub Leads : Setting → Event → Weights → Weights → Type 0
@@ -112,59 +108,34 @@ Leads run e old new = (h : Holdings) → Weigh h old → (now : Holdings) × (af
 abbrev pub Follows : Event → AllSides → AllSides → Type 0
 Follows e old new = Leads (run_of old) e (weights_of old) (weights_of new)
 
-module _ (run : Setting) (e : Event) (old new : Weights) (kept : Kept) (was : Tells run old kept) where
-  taken : has_room kept ≡ true → HasSmallNumbers e → Leads run e old new → Tells run new (record kept { events = kept.events ++ e ∷ [] })
-  taken room small leads =
-      let both = and-true kept.whole (ltb (length kept.events) kept.room) room in
-      let less : length kept.events < kept.room = ⊎_elim (λ less. less)
-      (λ past. absurd (false≢true (sym (le-ltb (length kept.events) kept.room past) ∙ both.1))) (cases_lt (length kept.events) kept.room) in
-      let next = leads was.holdings (was.same both.0) in
-      record {
-        within = omega (arith, length-append kept.events (e ∷ []));
-        most = was.most;
-        small = small-more kept.events e was.small small;
-        holdings = next.0;
-        reached = all_after-more run no_holdings was.holdings next.0 kept.events e was.reached next.1;
-        same = λ whole. next.2;
-        closed = λ closed. absurd (false≢true (sym closed ∙ both.0));
-      }
+pub tells-more : (run : Setting) (e : Event) (old new : Weights) (before after : List Event → Type 0) (kept : Kept) → Tells run old before kept
+    → HasSmallNumbers e → Leads run e old new → ((events : List Event) → before events → after (events ++ e ∷ []))
+    → Tells run new after (logged kept e)
+tells-more run e old new before after kept was small leads counts =
+    let all = was.all ++ e ∷ [] in
+    let next = leads was.holdings was.same in
+    let is : logged kept e ≡ log_of kept.room all = ap (λ k. logged k e) was.log_is ∙ first-events kept.room was.all e in
+    subst (Tells run new after) (sym is) (record {
+      most = was.most;
+      all = all;
+      log_is = refl;
+      small = small-more was.all e was.small small;
+      holdings = next.0;
+      reached = all_after-more run no_holdings was.holdings next.0 was.all e was.reached next.1;
+      same = next.2;
+      tallies = counts was.all was.tallies;
+    })
 
-  passed : has_room kept ≡ false → Tells run new (record kept { whole = false })
-  passed none =
-      record {
-        within = was.within;
-        most = was.most;
-        small = was.small;
-        holdings = was.holdings;
-        reached = was.reached;
-        same = λ whole. absurd (false≢true whole);
-        closed = λ closed. ⊎_elim
-            (λ (whole : kept.whole ≡ true). ⊎_elim
-            (λ less. absurd (false≢true (sym none ∙ rw (whole, lt-ltb (length kept.events) kept.room less) refl)))
-            (λ past. omega (arith, was.within))
-            (cases_lt (length kept.events) kept.room))
-            (λ (over : kept.whole ≡ false). was.closed over)
-            (cases_Bool kept.whole);
-      }
-
-  pub tells-more : HasSmallNumbers e → Leads run e old new → Tells run new (logged kept e)
-  tells-more small leads =
-      let by : Bool → Kept = λ c. if c then record kept { events = kept.events ++ e ∷ [] } else record kept { whole = false } in
-      ⊎_elim
-      (λ (room : has_room kept ≡ true). subst (Tells run new) (sym (ap by room)) (taken room small leads))
-      (λ (none : has_room kept ≡ false). subst (Tells run new) (sym (ap by none)) (passed none))
-      (cases_Bool (has_room kept))
-
-pub logs-by : (e : Event) (old new : AllSides) → run_of new ≡ run_of old → Follows e old new → Logs e old new
-logs-by e old new one follows kept small was =
-    logged-of (run_of old) (weights_of new) new (logged kept e) one (λ b f. refl)
-    (tells-more (run_of old) e (weights_of old) (weights_of new) kept (tells-of old kept was) small follows)
+pub logs-by : (e : Event) (old new : AllSides) → run_of new ≡ run_of old → Follows e old new → Tallies e old new → Logs e old new
+logs-by e old new one follows counts kept small was =
+    logged-of (run_of old) (weights_of new) (AreTallied new) new (logged kept e) one (λ b f. refl) (λ events are. are)
+    (tells-more (run_of old) e (weights_of old) (weights_of new) (AreTallied old) (AreTallied new) kept (tells-of old kept was) small follows counts)
 
 -- where no holder changed and nothing is logged
 pub logged-same : (old new : AllSides) → run_of new ≡ run_of old → ((b : ℕ) (f : Holding → ℕ) → weights_of new b f ≡ weights_of old b f)
-    → (kept : Kept) → IsLogged old kept → IsLogged new kept
-logged-same old new one same kept was =
-    logged-of (run_of old) (weights_of old) new kept one (λ b f. sym (same b f)) (tells-of old kept was)
+    → KeepsTallies old new → KeepsLog old new
+logged-same old new one same counts kept was =
+    logged-of (run_of old) (weights_of old) (AreTallied old) new kept one (λ b f. sym (same b f)) counts (tells-of old kept was)
 
 -- ---- the holders of one buffer change
 

@@ -3,10 +3,13 @@ pub mod Parts
 pub mod Settings
 pub mod Weighing
 pub mod Counting
+pub mod FirstEvents
+pub mod Tallying
 pub mod Following
 pub mod Shifts
 pub mod CardShifts
 pub mod AppShifts
+pub mod AppTallies
 pub mod Needs
 pub mod CardLaws
 pub mod ShortFills

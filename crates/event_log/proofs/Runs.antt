@@ -1,23 +1,36 @@
 -- A log from the opening of its board to the end.
-use Rattle.std.proofs.Common.{◌≡◌, ◌∙◌, ℕ, suc, ◌+◌, ◌*◌, ◌≤◌, List, [], ◌∷◌, length, map, get_or, refl, sym, ap, arith}
+use Rattle.std.proofs.Common.{◌≡◌, ◌∙◌, ℕ, suc, ◌+◌, ◌*◌, ◌≤◌, List, [], ◌∷◌, length, map, take, get_or, leb, Option, Some, IsTrue, refl, sym, ap, subst, arith}
 use Rattle.std.proofs.Common.{⊎_elim}
 use Rattle.std.specs.Prelude.{All}
 use Rattle.std.specs.List.{filter_map}
-use Rattle.std.proofs.lemmas.Bool.{cases_lt, lt-ltb, le-ltb, false≢true}
-use Rattle.std.proofs.lemmas.List.Elements.{All-nil, All-cons}
+use Rattle.std.proofs.lemmas.Bool.{cases_lt, lt-ltb, le-ltb, le-leb, leb-true}
+use Rattle.std.proofs.lemmas.List.{length-take, take_all}
+use Rattle.std.proofs.lemmas.List.Elements.{All-nil, All-cons, All-get_or}
 use Rattle.std.proofs.lemmas.List.Sums.{sum_by-cons}
 use Rattle.area_layout.specs.declared.layout.Area.{Area}
 use Rattle.area_layout.specs.Layout.{Shape, IsLayout, IsBufferSize, buffers_in, bytes_in, no_area}
 use Rattle.run_records.specs.Setting.{IsArea, IsSetting, pool_bytes}
+use Rattle.run_records.specs.declared.event.Event.{Event}
 use Rattle.run_records.specs.declared.holding.Holding.{Holding}
+use Rattle.run_records.specs.Holders.{Holdings, all_after, no_holdings}
+use Rattle.run_records.specs.LegalRun.{IsLegalRun}
 use Rattle.board_face.specs.Holders.{Kind, holders_of}
 use Rattle.board_face.specs.Laws.{AllSides, pool_of}
 use Rattle.board_face.specs.NicCalls.{apps_of}
-use Rattle.board_face.proofs.OpenedLemmas.{count-new}
+use Rattle.board_face.specs.Opened.{new_app_view, new_apps}
+use Rattle.board_face.specs.declared.views.parts.Setting.{Setting as Shared}
+use Rattle.board_face.specs.declared.views.app.AppSide.{AppSide}
+use Rattle.board_face.proofs.OpenedLemmas.{All-new, count-new}
+use Rattle.event_log.specs.IsLogged.{IsLogged, run_of}
+use Rattle.event_log.specs.Logs.{Kept}
 use Rattle.event_log.specs.Plain.{plain, plain_holders, weight}
 use Rattle.event_log.specs.RunLaws.{OpenedLaw, EndedLaw, opened_sides}
 use Rattle.event_log.specs.Settings.{SettingLaw, areas_of, setting_of}
+use Rattle.event_log.specs.Tallies.{IsTallied}
+use Rattle.event_log.specs.ToldLaw.{ToldLaw}
+use Rattle.event_log.proofs.FirstEvents.{front-reached, front-small}
 use Rattle.event_log.proofs.Settings.{in-cons, pool_buffers-same, size-same, total-same}
+use Rattle.event_log.proofs.Tallying.{told-of}
 use Rattle.event_log.proofs.Weighing.{weight-length}
 
 -- ---- no holder
@@ -29,15 +42,30 @@ kinds-none (k ∷ kinds) none = absurd (omega (arith, none))
 pub no-holders : (s : AllSides) (b : ℕ) → pool_of s b ≡ 0 → plain_holders s b ≡ []
 no-holders s b none = kinds-none (holders_of b s.nic s.apps) none
 
+-- an application that did nothing has no loans and no spares
+new-tallied : (setting : Shared) (a : ℕ) → IsTallied a (new_app_view setting a) []
+new-tallied setting a = record { loans = refl; bytes = refl; copies = refl }
+
+abbrev NoneTallied : AppSide → Type 0
+NoneTallied app = IsTallied app.view.app app.view []
+
 pub opened-law : OpenedLaw
 opened-law setting room most = record {
-  within = omega arith;
   most = most;
+  all = [];
+  log_is = rw (take_all {A = Event} room [] (omega arith), le-leb 0 room (omega arith)) refl;
   small = tt;
   holdings = λ b. [];
   reached = refl;
-  same = λ whole b f. sym (ap (weight f) (no-holders (opened_sides setting) b (count-new b setting (apps_of setting))));
-  closed = λ closed. absurd (false≢true (sym closed));
+  same = λ b f. sym (ap (weight f) (no-holders (opened_sides setting) b (count-new b setting (apps_of setting))));
+  tallied = record {
+    apps = λ a app at.
+        let apps = new_apps setting 0 (apps_of setting) in
+        let new : NoneTallied app = subst NoneTallied at.is
+        (All-get_or NoneTallied apps a app at.there (All-new NoneTallied setting 0 (apps_of setting) (new-tallied setting))) in
+        subst (λ n. IsTallied n app.view []) at.number new;
+    strays = refl;
+  };
 }
 
 -- ---- the setting
@@ -116,13 +144,43 @@ length-none : (held : List Holding) → length held ≡ 0 → held ≡ []
 length-none [] none = refl
 length-none (x ∷ held) none = absurd (omega (arith, none))
 
-pub ended-law : EndedLaw
-ended-law s kept layout logged over = record {
-  sound = IsSetting-layout s.nic.view.setting.layout layout;
-  most = omega (arith, logged.within, logged.most);
-  small = logged.small;
+-- no holder is left of a buffer that has none
+none-left : (s : AllSides) (kept : Kept) (logged : IsLogged s kept) (b : ℕ) → pool_of s b ≡ 0 → logged.holdings b ≡ []
+none-left s kept logged b none = length-none (logged.holdings b)
+    (sym (weight-length (logged.holdings b)) ∙ logged.same b (λ h. 1) ∙ ap (weight (λ h. 1)) (no-holders s b none))
+
+pub told-law : ToldLaw
+told-law s kept logged = record {
+  all = logged.all;
+  log_is = logged.log_is;
   holdings = logged.holdings;
   reached = logged.reached;
-  ended = λ whole b. length-none (logged.holdings b)
-      (sym (weight-length (logged.holdings b)) ∙ logged.same whole b (λ h. 1) ∙ ap (weight (λ h. 1)) (no-holders s b (over whole b)));
+  ended = λ none b. none-left s kept logged b (none b);
+  apps = λ a app at. told-of a app.view logged.all (logged.tallied.apps a app at);
+  strays = logged.tallied.strays;
 }
+
+some-is : {A : Type 0} (value : Option A) (x y : A) → value ≡ Some x → value ≡ Some y → x ≡ y
+some-is value x y one other = cc
+
+pub ended-law : EndedLaw
+ended-law s kept layout logged over =
+    let room = kept.room in
+    let all = logged.all in
+    let run = run_of s in
+    let front = front-reached run no_holdings logged.holdings all room logged.reached in
+    let AreLegal : Kept → Type 0 = λ k. (IsTrue k.whole → (b : ℕ) → pool_of s b ≡ 0) → IsLegalRun run k.events k.whole in
+    subst AreLegal (sym logged.log_is)
+    (λ (none : IsTrue (leb (length all) room) → (b : ℕ) → pool_of s b ≡ 0). record {
+      sound = IsSetting-layout s.nic.view.setting.layout layout;
+      most = omega (arith, length-take room all, logged.most);
+      small = front-small all room logged.small;
+      holdings = front.0;
+      reached = front.1;
+      ended = λ whole b.
+          let whole_is : take room all ≡ all = take_all room all (leb-true (length all) room whole) in
+          let same : front.0 ≡ logged.holdings = some-is (all_after run no_holdings all) front.0 logged.holdings
+          (ap (all_after run no_holdings) (sym whole_is) ∙ front.1) logged.reached in
+          ap (λ (h : Holdings). h b) same ∙ none-left s kept logged b (none whole b);
+    })
+    over

@@ -1,11 +1,12 @@
 -- The log goes on to tell of a board after a scrub.
-use Rattle.std.proofs.Common.{◌≡◌, ◌∙◌, ℕ, zero, suc, ◌+◌, ◌*◌, ◌<◌, ◌≤◌, Bool, true, false, List, [], eqb, ltb, if◌then◌else◌}
+use Rattle.std.proofs.Common.{◌≡◌, ◌∙◌, ℕ, zero, suc, ◌+◌, ◌*◌, ◌<◌, ◌≤◌, Bool, true, false, List, [], ◌∷◌, ◌++◌, eqb, ltb, if◌then◌else◌}
 use Rattle.std.proofs.Common.{refl, sym, ap, subst, arith, ⊎_elim}
 use Rattle.std.specs.Prelude.{◌==◌, ◌≢◌, filter, not, slice_index}
 use Rattle.std.specs.List.{list_any}
 use Rattle.std.proofs.lemmas.Bool.{cases_lt, lt-ltb, le-ltb, eq-eqb}
 use Rattle.std.proofs.lemmas.Bool.Decides.{eqb_tells}
 use Rattle.std.proofs.lemmas.List.Elements.{All-get_or, All-set}
+use Rattle.run_records.specs.declared.event.Event.{Event}
 use Rattle.run_records.specs.declared.holding.Holding.{Holding}
 use Rattle.run_records.specs.declared.holding.Holding.TheVariants as holding
 use Rattle.run_records.specs.LegalRun.{HasSmallNumbers}
@@ -21,6 +22,7 @@ use Rattle.event_log.specs.IsLogged.{AreSound, IsLogged, NoneReturns, run_of}
 use Rattle.event_log.specs.Logs.{Kept, logged}
 use Rattle.event_log.specs.Plain.{weight}
 use Rattle.event_log.specs.ScrubLaw.{ScrubbedLaw, scrub_logged, scrub_of, scrubbed_sides}
+use Rattle.event_log.specs.Tallies.{AreTallied}
 use Rattle.event_log.proofs.Counting.{pool-weight, user-weight}
 use Rattle.event_log.proofs.Following.{Leads, Tells, Weights, after-is, logged-of, tells-as, tells-more, tells-of, weights_of}
 use Rattle.event_log.proofs.Needs.{app-there, both-said, same-itself}
@@ -28,6 +30,7 @@ use Rattle.event_log.proofs.Parts.{app_weight, weight-parts}
 use Rattle.event_log.proofs.Runs.{no-holders}
 use Rattle.event_log.proofs.Settings.{total-same}
 use Rattle.event_log.proofs.Shifts.{side-shift}
+use Rattle.event_log.proofs.Tallying.{gains-none, keeps-app, tallies-card}
 use Rattle.event_log.proofs.Weighing.{any-some, one_if, weight-count, weight-filter, weight-length}
 
 -- the weights without those of what an application owes
@@ -159,10 +162,15 @@ module _ (s : AllSides) (sound : AreSound s) (a : ℕ) (app : AppSide) (at : IsA
       (λ t. below-other n b f t.1)
       (eqb_tells b n)
 
+  -- a scrub tells of no loan that begins
+  scrub-tallied : (n : ℕ) (events : List Event) → AreTallied s events → AreTallied s (events ++ scrub_of new a n ∷ [])
+  scrub-tallied n events was =
+      tallies-card (scrub_of new a n) s s.nic.view (λ other. record { loans = refl; bytes = refl; copies = refl }) (omega arith) events was
+
   scrubs : (kept : Kept) → IsLogged s kept → (n : ℕ) → n ≤ total_buffers (run_of s) → ((b : ℕ) → b < n → HasSmallNumbers (scrub_of new a b))
-      → Tells (run_of s) (below n) (scrub_logged s new a kept n)
+      → Tells (run_of s) (below n) (AreTallied s) (scrub_logged s new a kept n)
   scrubs kept was zero within small =
-      tells-as (run_of s) (weights_of s) (below 0) kept (λ b f. sym (below-left 0 b f (omega arith))) (tells-of s kept was)
+      tells-as (run_of s) (weights_of s) (below 0) (AreTallied s) kept (λ b f. sym (below-left 0 b f (omega arith))) (tells-of s kept was)
   scrubs kept was (suc n) within small =
       let less : n < total_buffers (run_of s) = omega (arith, within) in
       let before = scrubs kept was n (omega (arith, within)) (λ b lower. small b (omega (arith, lower))) in
@@ -172,12 +180,13 @@ module _ (s : AllSides) (sound : AreSound s) (a : ℕ) (app : AppSide) (at : IsA
       ⊎_elim
       (λ some.
       let owes : 0 < owed n = omega (arith, some, user-owed n) in
-      subst (Tells (run_of s) (below (suc n))) (sym (ap by (lt-ltb 0 (user_of s a n) some)))
-      (tells-more (run_of s) (scrub_of new a n) (below n) (below (suc n)) so_far before last (leads n less owes)))
+      subst (Tells (run_of s) (below (suc n)) (AreTallied s)) (sym (ap by (lt-ltb 0 (user_of s a n) some)))
+      (tells-more (run_of s) (scrub_of new a n) (below n) (below (suc n)) (AreTallied s) (AreTallied s) so_far before last (leads n less owes)
+      (scrub-tallied n)))
       (λ none.
       let owes : owed n ≡ 0 = omega (arith, none, user-owed n) in
-      subst (Tells (run_of s) (below (suc n))) (sym (ap by (le-ltb 0 (user_of s a n) none)))
-      (tells-as (run_of s) (below n) (below (suc n)) so_far (stays n owes) before))
+      subst (Tells (run_of s) (below (suc n)) (AreTallied s)) (sym (ap by (le-ltb 0 (user_of s a n) none)))
+      (tells-as (run_of s) (below n) (below (suc n)) (AreTallied s) so_far (stays n owes) before))
       (cases_lt 0 (user_of s a n))
 
   -- behind the last buffer nobody has anything
@@ -195,6 +204,8 @@ module _ (s : AllSides) (sound : AreSound s) (a : ℕ) (app : AppSide) (at : IsA
 pub scrubbed-law : ScrubbedLaw
 scrubbed-law s sound a app at loans taken takes kept small was =
     let n = total_buffers (run_of s) in
-    logged-of (run_of s) (below s sound a app at loans taken takes n) (scrubbed_sides s a app taken)
-    (scrub_logged s (scrubbed_sides s a app taken) a kept n) refl (all-below s sound a app at loans taken takes)
+    let new = scrubbed_sides s a app taken in
+    let same = gains-none app.view (scrubbed_by app taken).view refl refl refl refl in
+    logged-of (run_of s) (below s sound a app at loans taken takes n) (AreTallied s) new (scrub_logged s new a kept n) refl
+    (all-below s sound a app at loans taken takes) (keeps-app s a app (scrubbed_by app taken) at same)
     (scrubs s sound a app at loans taken takes kept was n (omega arith) small)

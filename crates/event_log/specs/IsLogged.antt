@@ -1,5 +1,5 @@
--- A log that tells of a board: its events lead from no holders to those of the board, while the log is whole.
-use Rattle.std.specs.Prelude.{◌≡◌, ℕ, ◌≤◌, false, length, All, slice_index, None, Some, IsTrue}
+-- A log that tells of a board: it has the first of all events that lead from no holders to those of the board.
+use Rattle.std.specs.Prelude.{◌≡◌, ℕ, ◌≤◌, List, All, slice_index, None, Some}
 use Rattle.std.specs.List.{AllByRecursion}
 use Rattle.area_layout.specs.Layout.{IsLayout}
 use Rattle.run_records.specs.declared.event.Event.{Event}
@@ -10,22 +10,25 @@ use Rattle.board_face.specs.Fillings.{IsFilledByOne, FillingsFit}
 use Rattle.board_face.specs.Laws.{AllSides, FitTogether}
 use Rattle.board_face.specs.Places.{ArePlaced}
 use Rattle.board_face.specs.Sides.{HaveOneSetting}
-use Rattle.event_log.specs.Logs.{Kept, logged}
+use Rattle.event_log.specs.Logs.{Kept, log_of, logged}
 use Rattle.event_log.specs.Plain.{SameHoldings}
 use Rattle.event_log.specs.Settings.{setting_of}
+use Rattle.event_log.specs.Tallies.{AreTallied}
 
 -- the setting of the board that has these sides
 abbrev pub run_of : AllSides → Setting
 run_of s = setting_of s.nic.view.setting.layout
 
+-- `all` are all events so far. The log has the first of them, as many as it has room for, and is whole where these are all.
 pub record IsLogged (s : AllSides) (kept : Kept) : Type 0 where
-  pub within : length kept.events ≤ kept.room
   pub most : kept.room ≤ 1000000
-  pub small : AllByRecursion HasSmallNumbers kept.events
+  pub all : List Event
+  pub log_is : kept ≡ log_of kept.room all
+  pub small : AllByRecursion HasSmallNumbers all
   pub holdings : Holdings
-  pub reached : all_after (run_of s) no_holdings kept.events ≡ Some holdings
-  pub same : IsTrue kept.whole → SameHoldings holdings s
-  pub closed : kept.whole ≡ false → length kept.events ≡ kept.room
+  pub reached : all_after (run_of s) no_holdings all ≡ Some holdings
+  pub same : SameHoldings holdings s
+  pub tallied : AreTallied s all
 
 -- the log goes on to tell of the board, once this event was logged
 abbrev pub Logs : Event → AllSides → AllSides → Type 0

@@ -1,6 +1,7 @@
 pub mod Logs
 pub mod Settings
 pub mod Plain
+pub mod Tallies
 pub mod IsLogged
 pub mod Fills
 pub mod CardLaws
@@ -9,3 +10,4 @@ pub mod ScrubLaw
 pub mod SoundLaw
 pub mod SideLaw
 pub mod RunLaws
+pub mod ToldLaw

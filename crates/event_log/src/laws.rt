@@ -8,4 +8,4 @@ pub use app::{
     app_unlogged, back, cut, fills, got_spare, lent, lent_own, released, scrubbed, took_note,
 };
 pub use card::{card_unlogged, honoured, passed_over, placed, sent, shut, took};
-pub use run::{ended, first_events, one_side, opened, setting, sound};
+pub use run::{ended, first_events, one_side, opened, setting, sound, told};

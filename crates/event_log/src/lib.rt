@@ -11,6 +11,6 @@ mod tests;
 pub use laws::{
     app_unlogged, back, card_unlogged, cut, ended, fills, first_events, got_spare, honoured, lent,
     lent_own, one_side, opened, passed_over, placed, released, scrubbed, sent, setting, shut,
-    sound, took, took_note,
+    sound, told, took, took_note,
 };
 pub use log::EventLog;

@@ -3,6 +3,7 @@ ghost use Rattle.event_log.specs.Settings.{SettingLaw};
 ghost use Rattle.event_log.specs.SideLaw.{OneSideLaw};
 ghost use Rattle.event_log.specs.SoundLaw.{SoundLaw};
 ghost use Rattle.event_log.specs.RunLaws.{OpenedLaw, EndedLaw};
+ghost use Rattle.event_log.specs.ToldLaw.{ToldLaw};
 
 /// A log that takes the events of a board one after another has the first of them that it has room for, and is whole where
 /// these are all.
@@ -33,4 +34,10 @@ pub fn opened()
 /// What a log tells is a legal run: a whole log once no buffer has a holder any more, and any other at any time.
 pub fn ended()
     ensures { EndedLaw }
+{}
+
+/// A log, whole or not, has the first of events that lead to the board's holders, in the end to none, and tell of each
+/// application's loans and copies, and of the strays.
+pub fn told()
+    ensures { ToldLaw }
 {}

@@ -1,0 +1,105 @@
+-- What each event of an application adds to its loans and copies.
+use Rattle.std.proofs.Common.{◌≡◌, ℕ, ◌+◌, List, [], ◌∷◌, length, eqb, false, refl, sym, arith, length-append}
+use Rattle.std.specs.List.{sum_by}
+use Rattle.std.proofs.lemmas.List.Sums.{sum_by_push}
+use Rattle.zr_kinds.specs.declared.place.Place.{Place}
+use Rattle.run_records.specs.declared.event.Event.{Event}
+use Rattle.run_records.specs.declared.event.Event.TheVariants as event
+use Rattle.board_face.specs.AppCalls.{HasLoan, HasSpare}
+use Rattle.board_face.specs.AppEvents.{held_origin, lent, loan_origin, loans_without, abandoned, got_spare, owns_without, filled, own_bytes, begin_place}
+use Rattle.board_face.specs.AppEvents.{gave, lent_own}
+use Rattle.board_face.specs.Laws.{AllSides, by_app}
+use Rattle.board_face.specs.NicEvents.{fresh}
+use Rattle.board_face.specs.Sides.{IsApp, app_at}
+use Rattle.board_face.specs.Tokens.{filled_by}
+use Rattle.board_face.specs.declared.views.parts.Filling.{Filling}
+use Rattle.board_face.specs.declared.views.app.AppView.{AppView}
+use Rattle.board_face.specs.declared.views.app.AppSide.{AppSide}
+use Rattle.board_face.specs.declared.views.app.LentPiece.{LentPiece}
+use Rattle.board_face.specs.declared.views.app.SpareOwn.{SpareOwn}
+use Rattle.board_face.specs.declared.views.app.Origin.TheVariants.{Copied as of_copy}
+use Rattle.board_face.proofs.ListLemmas.{eqb_same, not-eqb}
+use Rattle.board_face.proofs.Tallies.{total}
+use Rattle.event_log.specs.Tallies.{is_stray, len_of}
+use Rattle.event_log.proofs.AppShifts.{loans-less, owns-less}
+use Rattle.event_log.proofs.Tallying.{Gains, Tallies, TellsNothing, sum-total, tallies-app}
+
+length-total : {A : Type 0} (xs : List A) → total (λ x. 1) xs ≡ length xs
+length-total [] = refl
+length-total (x ∷ xs) = omega (arith, length-total xs)
+
+-- ---- gains
+
+pub gains-returned : (v : AppView) (p : Place) → HasLoan v p → Gains 0 0 0 v (abandoned v p)
+gains-returned v p out =
+    let back : LentPiece = record { place = p; origin = loan_origin v p } in
+    let fewer : length (loans_without v p) + 1 ≡ length v.loans =
+    omega (arith, loans-less v p out (λ q. 1), length-total v.loans, length-total (loans_without v p)) in
+    let less : sum_by len_of (loans_without v p) + p.len ≡ sum_by len_of v.loans =
+    omega (arith, loans-less v p out (λ q. q.len), sum-total len_of v.loans, sum-total len_of (loans_without v p)) in
+    record {
+      loans_are = omega (arith, fewer, length-append v.returned (back ∷ []));
+      bytes_are = omega (arith, less, sum_by_push len_of v.returned back);
+      copies_are = omega arith;
+    }
+
+pub gains-gave : (v : AppView) (p : Place) → HasLoan v p → Gains 0 0 0 v (gave v p)
+gains-gave v p out =
+    let gains = gains-returned v p out in
+    record { loans_are = gains.loans_are; bytes_are = gains.bytes_are; copies_are = gains.copies_are }
+
+pub gains-got_spare : (v : AppView) (buffer : ℕ) → Gains 0 0 0 v (got_spare v buffer)
+gains-got_spare v buffer =
+    let one : SpareOwn = record { own = fresh v.setting buffer; bytes = [] } in
+    record { loans_are = omega arith; bytes_are = omega arith; copies_are = omega (arith, length-append v.owns (one ∷ [])) }
+
+owns-fewer : (v : AppView) (it : Filling) → HasSpare v it → length (owns_without v it) + 1 ≡ length v.owns
+owns-fewer v it out = omega (arith, owns-less v it out (λ x. 1), length-total v.owns, length-total (owns_without v it))
+
+pub gains-filled : (v : AppView) (it : Filling) (bytes : List ℕ) → HasSpare v it → Gains 0 0 0 v (filled v it bytes)
+gains-filled v it bytes out =
+    let one : SpareOwn = record { own = filled_by it (length bytes); bytes = bytes } in
+    record {
+      loans_are = omega arith;
+      bytes_are = omega arith;
+      copies_are = omega (arith, owns-fewer v it out, length-append (owns_without v it) (one ∷ []));
+    }
+
+gains-lent : (v : AppView) (p : Place) → Gains 1 p.len 0 v (lent v p)
+gains-lent v p =
+    let loan : LentPiece = record { place = p; origin = held_origin v p } in
+    record {
+      loans_are = omega (arith, length-append v.loans (loan ∷ []));
+      bytes_are = omega (arith, sum_by_push len_of v.loans loan);
+      copies_are = omega arith;
+    }
+
+gains-lent_own : (v : AppView) (it : Filling) → HasSpare v it → Gains 1 (length (own_bytes v it)) 1 v (lent_own v it)
+gains-lent_own v it out =
+    let loan : LentPiece = record { place = begin_place it.buffer (length (own_bytes v it)); origin = of_copy (own_bytes v it) } in
+    record {
+      loans_are = omega (arith, length-append v.loans (loan ∷ []));
+      bytes_are = omega (arith, sum_by_push len_of v.loans loan);
+      copies_are = omega (arith, owns-fewer v it out);
+    }
+
+-- ---- the tallies after an event
+
+-- an event that tells of no loan that begins
+pub tallies-none : (e : Event) (s : AllSides) (a : ℕ) (app : AppSide) (v : AppView) → IsApp s.apps a app → ((n : ℕ) → TellsNothing n e)
+    → is_stray e ≡ false → Gains 0 0 0 app.view v → Tallies e s (by_app s a app v)
+tallies-none e s a app v at nothing not_stray none =
+    tallies-app e s a app (app_at app v) at (rw ((nothing a).loans, (nothing a).bytes, (nothing a).copies) none) (λ n ne. nothing n) not_stray
+
+pub tallies-lent : (s : AllSides) (a : ℕ) (app : AppSide) → IsApp s.apps a app → (p : Place) (pool user : ℕ)
+    → Tallies (event.Lend a p.buffer p.offset p.len pool user) s (by_app s a app (lent app.view p))
+tallies-lent s a app at p pool user =
+    tallies-app (event.Lend a p.buffer p.offset p.len pool user) s a app (app_at app (lent app.view p)) at (rw (eqb_same a) (gains-lent app.view p))
+    (λ n ne. let other : eqb a n ≡ false = not-eqb a n (λ e. ne (sym e)) in record { loans = other; bytes = rw other refl; copies = refl }) refl
+
+pub tallies-lent_own : (s : AllSides) (a : ℕ) (app : AppSide) → IsApp s.apps a app → (it : Filling) → HasSpare app.view it → (pool user : ℕ)
+    → Tallies (event.Own a it.buffer (length (own_bytes app.view it)) pool user) s (by_app s a app (lent_own app.view it))
+tallies-lent_own s a app at it out pool user =
+    tallies-app (event.Own a it.buffer (length (own_bytes app.view it)) pool user) s a app (app_at app (lent_own app.view it)) at
+    (rw (eqb_same a) (gains-lent_own app.view it out))
+    (λ n ne. let other : eqb a n ≡ false = not-eqb a n (λ e. ne (sym e)) in record { loans = other; bytes = rw other refl; copies = other }) refl

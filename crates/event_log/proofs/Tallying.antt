@@ -1,0 +1,143 @@
+-- What the events tell of loans, copies and strays goes on to be so, as the sides change.
+use Rattle.std.proofs.Common.{◌≡◌, ◌∙◌, ℕ, ◌+◌, Bool, false, List, [], ◌∷◌, ◌++◌, length, get_or, set, refl, sym, ap, subst, arith, ⊎_elim}
+use Rattle.std.specs.Prelude.{◌≢◌, count_by}
+use Rattle.std.specs.List.{sum_by}
+use Rattle.std.proofs.lemmas.Bool.Decides.{eqb_tells}
+use Rattle.std.proofs.lemmas.List.{get_or-set_same, get_or-set_other, length-set}
+use Rattle.std.proofs.lemmas.List.Sums.{sum_by-cons, sum_by_push}
+use Rattle.run_records.specs.declared.event.Event.{Event}
+use Rattle.board_face.specs.Laws.{AllSides, by_card}
+use Rattle.board_face.specs.Sides.{IsApp}
+use Rattle.board_face.specs.declared.views.nic.NicView.{NicView}
+use Rattle.board_face.specs.declared.views.app.AppView.{AppView}
+use Rattle.board_face.specs.declared.views.app.AppSide.{AppSide}
+use Rattle.board_face.proofs.Parts.{count-tally}
+use Rattle.board_face.proofs.Tallies.{weight as one, total, tally-push}
+use Rattle.event_log.specs.Tallies.{AreTallied, IsTallied, is_copy, is_loan, is_stray, len_of, loan_bytes, strays_in}
+use Rattle.event_log.specs.Tallies.{strays_of}
+use Rattle.event_log.specs.ToldLaw.{IsToldOf}
+
+-- ---- one more
+
+pub count-push : {A : Type 0} (test : A → Bool) (xs : List A) (x : A) → count_by test (xs ++ x ∷ []) ≡ count_by test xs + one (test x)
+count-push test xs x = omega (arith, count-tally test (xs ++ x ∷ []), count-tally test xs, tally-push test xs x)
+
+pub sum-total : {A : Type 0} (f : A → ℕ) (xs : List A) → sum_by f xs ≡ total f xs
+sum-total f [] = refl
+sum-total f (x ∷ xs) = sum_by-cons f x xs ∙ ap (λ n. f x + n) (sum-total f xs)
+
+-- ---- one application changes
+
+-- What the application with this number is may change, and the events with it, if they tell the same of the others.
+pub side-tallied : (s : AllSides) (a : ℕ) (app now : AppSide) → IsApp s.apps a app → (before after : List Event)
+    → (IsTallied a app.view before → IsTallied a now.view after)
+    → ((other : ℕ) (v : AppView) → other ≢ a → IsTallied other v before → IsTallied other v after) → strays_in after ≡ strays_in before
+    → AreTallied s before → AreTallied (record { nic = s.nic; apps = set s.apps a now }) after
+side-tallied s a app now at before after own others strays was = record {
+  apps = λ b it there.
+      let within = length-set s.apps a now in
+      ⊎_elim
+      (λ t.
+      let e : b ≡ a = t.1 in
+      let is : it ≡ now = sym there.is ∙ ap (λ n. get_or (set s.apps a now) n it) e ∙ get_or-set_same s.apps a now it at.there in
+      subst (λ n. IsTallied n it.view after) (sym e)
+      (subst (λ (x : AppSide). IsTallied a x.view after) (sym is) (own (was.apps a app at))))
+      (λ t.
+      let same : get_or s.apps b it ≡ it = sym (get_or-set_other s.apps a b now it t.1) ∙ there.is in
+      others b it.view t.1 (was.apps b it (record { there = omega (arith, there.there, within); is = same; number = there.number })))
+      (eqb_tells b a);
+  strays = strays ∙ was.strays;
+}
+
+-- so many loans more, with so many bytes, and so many copies
+pub record Gains (loans bytes copies : ℕ) (old new : AppView) : Type 0 where
+  pub loans_are : length new.loans + length new.returned ≡ length old.loans + length old.returned + loans
+  pub bytes_are : sum_by len_of new.loans + sum_by len_of new.returned ≡ sum_by len_of old.loans + sum_by len_of old.returned + bytes
+  pub copies_are : new.spares + length old.owns ≡ old.spares + length new.owns + copies
+
+pub gains-none : (old new : AppView) → new.loans ≡ old.loans → new.returned ≡ old.returned → new.owns ≡ old.owns → new.spares ≡ old.spares
+    → Gains 0 0 0 old new
+gains-none old new loans returned owns spares = record {
+  loans_are = omega (arith, ap length loans, ap length returned);
+  bytes_are = omega (arith, ap (sum_by len_of) loans, ap (sum_by len_of) returned);
+  copies_are = omega (arith, ap length owns, spares);
+}
+
+-- one event more that tells of the application
+pub event-tallied : (a : ℕ) (e : Event) (old new : AppView) (events : List Event)
+    → Gains (one (is_loan a e)) (loan_bytes a e) (one (is_copy a e)) old new → IsTallied a old events → IsTallied a new (events ++ e ∷ [])
+event-tallied a e old new events gains was = record {
+  loans = omega (arith, count-push (is_loan a) events e, gains.loans_are, was.loans);
+  bytes = omega (arith, sum_by_push (loan_bytes a) events e, gains.bytes_are, was.bytes);
+  copies = omega (arith, count-push (is_copy a) events e, gains.copies_are, was.copies);
+}
+
+-- The event tells of no loan of this application.
+pub record TellsNothing (a : ℕ) (e : Event) : Type 0 where
+  pub loans : is_loan a e ≡ false
+  pub bytes : loan_bytes a e ≡ 0
+  pub copies : is_copy a e ≡ false
+
+nothing-gained : (a : ℕ) (e : Event) (old new : AppView) → TellsNothing a e → Gains 0 0 0 old new
+    → Gains (one (is_loan a e)) (loan_bytes a e) (one (is_copy a e)) old new
+nothing-gained a e old new nothing none = rw (nothing.loans, nothing.bytes, nothing.copies) none
+
+pub nothing-tallied : (a : ℕ) (e : Event) (old new : AppView) (events : List Event) → TellsNothing a e → Gains 0 0 0 old new
+    → IsTallied a old events → IsTallied a new (events ++ e ∷ [])
+nothing-tallied a e old new events nothing none was =
+    event-tallied a e old new events (nothing-gained a e old new nothing none) was
+
+none-gained : (v : AppView) → Gains 0 0 0 v v
+none-gained v = gains-none v v refl refl refl refl
+
+strays-push : (events : List Event) (e : Event) → is_stray e ≡ false → strays_in (events ++ e ∷ []) ≡ strays_in events
+strays-push events e not_one = omega (arith, count-push is_stray events e, ap one not_one)
+
+-- ---- the sides after an event
+
+-- the tallies are those of the new sides, where this event is one more
+abbrev pub Tallies : Event → AllSides → AllSides → Type 0
+Tallies e old new = (events : List Event) → AreTallied old events → AreTallied new (events ++ e ∷ [])
+
+abbrev pub KeepsTallies : AllSides → AllSides → Type 0
+KeepsTallies old new = (events : List Event) → AreTallied old events → AreTallied new events
+
+-- an event of an application
+pub tallies-app : (e : Event) (s : AllSides) (a : ℕ) (app now : AppSide) → IsApp s.apps a app
+    → Gains (one (is_loan a e)) (loan_bytes a e) (one (is_copy a e)) app.view now.view
+    → ((other : ℕ) → other ≢ a → TellsNothing other e) → is_stray e ≡ false → Tallies e s (record { nic = s.nic; apps = set s.apps a now })
+tallies-app e s a app now at gains nothing not_stray events was =
+    side-tallied s a app now at events (events ++ e ∷ []) (event-tallied a e app.view now.view events gains)
+    (λ other v ne. nothing-tallied other e v v events (nothing other ne) (none-gained v)) (strays-push events e not_stray) was
+
+same-tallied : (a : ℕ) (old new : AppView) (events : List Event) → Gains 0 0 0 old new → IsTallied a old events → IsTallied a new events
+same-tallied a old new events none was = record {
+  loans = omega (arith, none.loans_are, was.loans);
+  bytes = omega (arith, none.bytes_are, was.bytes);
+  copies = omega (arith, none.copies_are, was.copies);
+}
+
+pub keeps-app : (s : AllSides) (a : ℕ) (app now : AppSide) → IsApp s.apps a app → Gains 0 0 0 app.view now.view
+    → KeepsTallies s (record { nic = s.nic; apps = set s.apps a now })
+keeps-app s a app now at none events was =
+    side-tallied s a app now at events events (same-tallied a app.view now.view events none) (λ other v ne is. is) refl was
+
+-- an event of the card
+pub tallies-card : (e : Event) (s : AllSides) (v : NicView) → ((a : ℕ) → TellsNothing a e)
+    → strays_of v.dealt ≡ strays_of s.nic.view.dealt + one (is_stray e) → Tallies e s (by_card s v)
+tallies-card e s v nothing strays events was = record {
+  apps = λ a app at. nothing-tallied a e app.view app.view events (nothing a) (none-gained app.view) (was.apps a app at);
+  strays = omega (arith, count-push is_stray events e, strays, was.strays);
+}
+
+pub keeps-card : (s : AllSides) (v : NicView) → strays_of v.dealt ≡ strays_of s.nic.view.dealt → KeepsTallies s (by_card s v)
+keeps-card s v strays events was = record { apps = was.apps; strays = was.strays ∙ sym strays }
+
+-- ---- what a log tells
+
+pub told-of : (a : ℕ) (v : AppView) (events : List Event) → IsTallied a v events → IsToldOf a v events
+told-of a v events is = record {
+  loans = λ none. omega (arith, is.loans, ap length none);
+  bytes = λ none. omega (arith, is.bytes, ap (sum_by len_of) none);
+  copies = λ none. omega (arith, is.copies, ap length none);
+}

@@ -1,0 +1,73 @@
+-- What the events of a run tell of each application's loans and copies, and of the entries that the card passed over.
+use Rattle.std.specs.Prelude.{◌≡◌, ℕ, ◌+◌, ◌==◌, if◌then◌else◌, Bool, true, false, List, length, count_by}
+use Rattle.std.specs.List.{sum_by}
+use Rattle.run_records.specs.declared.event.Event.{Event}
+use Rattle.run_records.specs.declared.event.Event.TheVariants as event
+use Rattle.board_face.specs.Laws.{AllSides}
+use Rattle.board_face.specs.Sides.{IsApp}
+use Rattle.board_face.specs.declared.views.nic.Fate.{Fate}
+use Rattle.board_face.specs.declared.views.nic.Fate.TheVariants as fate
+use Rattle.board_face.specs.declared.views.nic.Dealt.{Dealt}
+use Rattle.board_face.specs.declared.views.app.LentPiece.{LentPiece}
+use Rattle.board_face.specs.declared.views.app.AppView.{AppView}
+use Rattle.board_face.specs.declared.views.app.AppSide.{AppSide}
+
+-- ---- of one event
+
+-- a loan of the application begins by it
+abbrev pub is_loan : ℕ → Event → Bool
+is_loan a (event.Lend app b o l p u) = app == a
+is_loan a (event.Own app b l p u) = app == a
+is_loan a other = false
+
+-- a loan of bytes that the application copied
+abbrev pub is_copy : ℕ → Event → Bool
+is_copy a (event.Own app b l p u) = app == a
+is_copy a other = false
+
+-- how many bytes it lends to the application
+abbrev pub loan_bytes : ℕ → Event → ℕ
+loan_bytes a (event.Lend app b o l p u) = if app == a then l else 0
+loan_bytes a (event.Own app b l p u) = if app == a then l else 0
+loan_bytes a other = 0
+
+abbrev pub is_stray : Event → Bool
+is_stray (event.Stray a) = true
+is_stray other = false
+
+-- ---- of all events
+
+abbrev pub loans_in : ℕ → List Event → ℕ
+loans_in a events = count_by (is_loan a) events
+
+abbrev pub copies_in : ℕ → List Event → ℕ
+copies_in a events = count_by (is_copy a) events
+
+abbrev pub bytes_in : ℕ → List Event → ℕ
+bytes_in a events = sum_by (loan_bytes a) events
+
+abbrev pub strays_in : List Event → ℕ
+strays_in events = count_by is_stray events
+
+-- ---- what the sides say
+
+abbrev pub len_of : LentPiece → ℕ
+len_of loan = loan.place.len
+
+abbrev pub was_stray : Fate → Bool
+was_stray fate.Stray = true
+was_stray (fate.Honoured buffer) = false
+
+abbrev pub strays_of : List Dealt → ℕ
+strays_of dealt = count_by (λ d. was_stray d.fate) dealt
+
+-- The loans of an application that began are those that it has out and those that it returned, with all their bytes; and
+-- each spare that it was given it has still, or it lent it.
+pub record IsTallied (a : ℕ) (v : AppView) (events : List Event) : Type 0 where
+  pub loans : loans_in a events ≡ length v.loans + length v.returned
+  pub bytes : bytes_in a events ≡ sum_by len_of v.loans + sum_by len_of v.returned
+  pub copies : copies_in a events + length v.owns ≡ v.spares
+
+pub record AreTallied (s : AllSides) (events : List Event) : Type 0 where
+  pub apps : (a : ℕ) (app : AppSide) → IsApp s.apps a app → IsTallied a app.view events
+  pub strays : strays_in events ≡ strays_of s.nic.view.dealt

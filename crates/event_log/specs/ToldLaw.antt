@@ -1,0 +1,31 @@
+-- What a log tells of its board at any time, whole or not: it has the first of events that lead to the board's holders, and
+-- tell of each application's loans, of its copies and of the strays.
+use Rattle.std.specs.Prelude.{◌≡◌, ℕ, List, [], length, Some}
+use Rattle.std.specs.List.{sum_by}
+use Rattle.run_records.specs.declared.event.Event.{Event}
+use Rattle.run_records.specs.Holders.{Holdings, no_holdings, all_after}
+use Rattle.board_face.specs.Laws.{AllSides, pool_of}
+use Rattle.board_face.specs.Sides.{IsApp}
+use Rattle.board_face.specs.declared.views.app.AppView.{AppView}
+use Rattle.board_face.specs.declared.views.app.AppSide.{AppSide}
+use Rattle.event_log.specs.IsLogged.{IsLogged, run_of}
+use Rattle.event_log.specs.Logs.{Kept, log_of}
+use Rattle.event_log.specs.Tallies.{bytes_in, copies_in, len_of, loans_in, strays_in, strays_of}
+
+-- Where the application has no loan out, its loans are those that it returned. Where it has no spare, it lent each.
+pub record IsToldOf (a : ℕ) (v : AppView) (events : List Event) : Type 0 where
+  pub loans : v.loans ≡ [] → loans_in a events ≡ length v.returned
+  pub bytes : v.loans ≡ [] → bytes_in a events ≡ sum_by len_of v.returned
+  pub copies : v.owns ≡ [] → copies_in a events ≡ v.spares
+
+pub record IsTold (s : AllSides) (kept : Kept) : Type 0 where
+  pub all : List Event
+  pub log_is : kept ≡ log_of kept.room all
+  pub holdings : Holdings
+  pub reached : all_after (run_of s) no_holdings all ≡ Some holdings
+  pub ended : ((b : ℕ) → pool_of s b ≡ 0) → (b : ℕ) → holdings b ≡ []
+  pub apps : (a : ℕ) (app : AppSide) → IsApp s.apps a app → IsToldOf a app.view all
+  pub strays : strays_in all ≡ strays_of s.nic.view.dealt
+
+abbrev pub ToldLaw : Type 0
+ToldLaw = (s : AllSides) (kept : Kept) → IsLogged s kept → IsTold s kept
