@@ -14,7 +14,7 @@ use Rattle.board_face.proofs.OwnBufferLemmas.{AppLiesInOwn-abandoned}
 use Rattle.board_face.proofs.FillingsFitLemmas.{FillingsFit-same}
 use Rattle.board_face.proofs.AreShownLemmas.{AreShown-abandoned}
 use Rattle.board_parts.specs.Counts.{user_at}
-use Rattle.plain_board.specs.Board.{Arrays, Board, byte_of}
+use Rattle.plain_board.specs.Stand.{Arrays, Stand, byte_of}
 use Rattle.plain_board.specs.Returns.{loans_out}
 use Rattle.plain_board.specs.Sound.{IsSound}
 use Rattle.plain_board.proofs.AppFrames.{IsSet-app, was-at_rest, AreCounted-app, was-returned, AreRelayed-kept, was-relayed, returns-app, was-returns}
@@ -24,7 +24,7 @@ use Rattle.plain_board.proofs.Users.{loans-there, user-other, user-lowered}
 use Rattle.plain_board.proofs.TokensLie.{loan-some, loan-none, loan-lies}
 use Rattle.board_face.proofs.WrittenLemmas.{loans-fewer, returned-more, owed-more, IsClear-fewer}
 
-module _ (board : Board) (a : ℕ) (x : AppSide) (place : Place) (sound : IsSound board) (here : IsApp board.apps a x) (out : HasLoan x.view place) where
+module _ (board : Stand) (a : ℕ) (x : AppSide) (place : Place) (sound : IsSound board) (here : IsApp board.apps a x) (out : HasLoan x.view place) where
   abbrev now : AppSide
   now = app_at x (abandoned x.view place)
 

@@ -26,7 +26,7 @@ use Rattle.board_face.proofs.Tallies.{weight, tally, tally-flat, total-set}
 use Rattle.board_parts.specs.Counts.{user_at}
 use Rattle.board_face.specs.Blank.{blank_app}
 use Rattle.plain_board.specs.declared.others.Others.{Others}
-use Rattle.plain_board.specs.Board.{Arrays, Board, setting_of, side_of}
+use Rattle.plain_board.specs.Stand.{Arrays, Stand, setting_of, side_of}
 use Rattle.plain_board.specs.Returns.{AreReturns, entries_on_way, loans_out, reach_of}
 use Rattle.plain_board.specs.Sound.{IsSound, IsRing, IsSet, IsAtRest, AreCounted, AreRelayed, AreFlags, AreKept, AreDue, AreBooked, IsPhased, ArePhased}
 use Rattle.plain_board.specs.Sound.{notes_of, refills_of, taken_of}
@@ -41,7 +41,7 @@ pub times_used : (b : ℕ) (nic : NicSide) (apps : List AppSide)
     → count_by (nat_eq b) (used_buffers nic apps) ≡ count_by (nat_eq b) nic.view.used + times_picked b apps
 times_used b nic apps = count-append b nic.view.used (picked_buffers apps)
 
-module _ (board : Board) (a : ℕ) (x now : AppSide) (sound : IsSound board) (here : IsApp board.apps a x) where
+module _ (board : Stand) (a : ℕ) (x now : AppSide) (sound : IsSound board) (here : IsApp board.apps a x) where
   -- each application is as before, but this one
   pub at-then : (k : ℕ) (y : AppSide) → IsApp (set board.apps a now) k y → ((k ≡ a) × (y ≡ now)) ⊎ ((k ≢ a) × IsApp board.apps k y)
   at-then k y it =
@@ -313,10 +313,10 @@ side-then apps a x now here = get_or-set_same apps a now blank_app here.there
 
 -- what stands beside it stays
 pub others-then : (nic : NicSide) (apps : List AppSide) (a : ℕ) (now : AppSide)
-    → ◌≡◌ {A = Others} (record { card = nic; apps = set (set apps a now) a blank_app; number = a })
-    (record { card = nic; apps = set apps a blank_app; number = a })
-others-then nic apps a now = ap (λ sides. record { card = nic; apps = sides; number = a }) (set-set apps a now blank_app)
+    → ◌≡◌ {A = Others} (record { card = nic; apps = set (set apps a now) a blank_app; number = a; room = 0 })
+    (record { card = nic; apps = set apps a blank_app; number = a; room = 0 })
+others-then nic apps a now = ap (λ sides. record { card = nic; apps = sides; number = a; room = 0 }) (set-set apps a now blank_app)
 
 -- the application is one of the board's
-pub here-of : (board : Board) (a : ℕ) → IsSound board → a < board.arrays.layout.reserves → IsApp board.apps a (side_of board a)
+pub here-of : (board : Stand) (a : ℕ) → IsSound board → a < board.arrays.layout.reserves → IsApp board.apps a (side_of board a)
 here-of board a sound within = IsApp-at board.apps a blank_app sound.set.numbers (let many = sound.set.many in omega arith)

@@ -12,7 +12,7 @@ use Rattle.board_face.proofs.RelayLemmas.{Relayed-app}
 use Rattle.board_face.proofs.IsFilledByOneLemmas.{IsFilledByOne-same}
 use Rattle.board_face.proofs.FillingsFitLemmas.{FillingsFit-same}
 use Rattle.board_face.proofs.AreShownLemmas.{AreShown-same}
-use Rattle.plain_board.specs.Board.{Board, byte_of}
+use Rattle.plain_board.specs.Stand.{Stand, byte_of}
 use Rattle.plain_board.specs.Returns.{entries_on_way, IsOfLoan}
 use Rattle.plain_board.specs.Sound.{IsSound}
 use Rattle.plain_board.proofs.AppFrames.{IsSet-app, was-at_rest, AreCounted-app, was-returned, AreRelayed-kept, was-relayed, returns-app, was-returns}
@@ -23,7 +23,7 @@ use Rattle.plain_board.proofs.AppFrames.{was-booked_filled, was-booked_raw, AreP
 abbrev pub told_of : AppView → Bool → Bool → Bool → List AppLook → AppView
 told_of v settled quiet ended looks = record v { settled = settled; quiet = quiet; ended = ended; looks = looks }
 
-module _ (board : Board) (a : ℕ) (x : AppSide) (sound : IsSound board) (here : IsApp board.apps a x) (settled quiet ended : Bool) (looks : List AppLook) where
+module _ (board : Stand) (a : ℕ) (x : AppSide) (sound : IsSound board) (here : IsApp board.apps a x) (settled quiet ended : Bool) (looks : List AppLook) where
   abbrev pub learnt : AppSide
   learnt = app_at x (told_of x.view settled quiet ended looks)
 
@@ -96,7 +96,7 @@ module _ (board : Board) (a : ℕ) (x : AppSide) (sound : IsSound board) (here :
       }
   -- and it stays soundly what it was, where it learnt nothing of its slots and of the end
 
-pub IsSound-looked : (board : Board) (a : ℕ) (x : AppSide) (look : AppLook) → IsSound board → IsApp board.apps a x
+pub IsSound-looked : (board : Stand) (a : ℕ) (x : AppSide) (look : AppLook) → IsSound board → IsApp board.apps a x
     → IsSound (record { arrays = board.arrays; nic = board.nic; apps = set board.apps a (app_at x (app_saw x.view look)) })
 IsSound-looked board a x look sound here =
     let was = sound.returns a x here in

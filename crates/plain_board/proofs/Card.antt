@@ -15,12 +15,12 @@ use Rattle.board_face.specs.declared.views.app.AppSide.{AppSide}
 use Rattle.board_face.proofs.NicLemmas.{user_count-nic}
 use Rattle.board_face.proofs.RelayLemmas.{Relayed-nic}
 use Rattle.plain_board.specs.Returns.{AreReturns}
-use Rattle.plain_board.specs.Board.{Arrays, Board}
+use Rattle.plain_board.specs.Stand.{Arrays, Stand}
 use Rattle.plain_board.specs.Sound.{IsSound, IsSet, AreCounted, AreRelayed, AreBooked, IsPhased, ArePhased}
 use Rattle.plain_board.proofs.Lists.{counts-set}
 
 -- the board's setting is that of its arrays
-pub within-setting : (board : Board) (a : ℕ) → IsSound board → a < apps_of board.nic.view.setting → a < board.arrays.layout.reserves
+pub within-setting : (board : Stand) (a : ℕ) → IsSound board → a < apps_of board.nic.view.setting → a < board.arrays.layout.reserves
 within-setting board a sound few = omega (arith, few, ap (λ s. s.layout.reserves) sound.set.card)
 
 pub IsSet-nic : (setting : Setting) (nic : NicSide) (v : NicView) (apps : List AppSide) → v.setting ≡ nic.view.setting → IsSet setting nic apps

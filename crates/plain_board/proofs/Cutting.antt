@@ -16,7 +16,7 @@ use Rattle.board_face.proofs.IsFilledByOneLemmas.{IsFilledByOne-cut}
 use Rattle.board_face.proofs.OwnBufferLemmas.{AppLiesInOwn-cut}
 use Rattle.board_face.proofs.AreShownLemmas.{AreShown-cut}
 use Rattle.board_parts.specs.Free.{listed_in}
-use Rattle.plain_board.specs.Board.{Board, byte_of}
+use Rattle.plain_board.specs.Stand.{Stand, byte_of}
 use Rattle.plain_board.specs.Sound.{IsSound}
 use Rattle.plain_board.proofs.Lists.{weight-other, same-or-other, raised}
 use Rattle.plain_board.proofs.AppFrames.{free_places-side, was-own}
@@ -32,7 +32,7 @@ once-more p p' f f' w e free more which =
     (arith, e, before, after))
     which
 
-module _ (board : Board) (a : ℕ) (x : AppSide) (place : Place) (at : ℕ) (sound : IsSound board) (here : IsApp board.apps a x) (stays : IsHere x.view)
+module _ (board : Stand) (a : ℕ) (x : AppSide) (place : Place) (at : ℕ) (sound : IsSound board) (here : IsApp board.apps a x) (stays : IsHere x.view)
     (out : HasHeld x.view place) (front : 0 < at) (rest : at < place.len) where
   abbrev cut_side : AppSide
   cut_side = app_at x (cut x.view place at)

@@ -22,7 +22,7 @@ use Rattle.board_face.proofs.FreeLemmas.{user_count-le}
 use Rattle.board_face.proofs.RelayLemmas.{way-taken}
 use Rattle.board_parts.specs.Free.{listed_in, listed_below}
 use Rattle.board_parts.proofs.FreeLists.{IsEachOnce-free, free-fit}
-use Rattle.plain_board.specs.Board.{Board}
+use Rattle.plain_board.specs.Stand.{Stand}
 use Rattle.plain_board.specs.Finish.{IsOver, free_of, IsEachOnce, HasNoCounts, IsServed, BoardsEndWell}
 use Rattle.plain_board.specs.Sound.{IsSound, IsPhased}
 use Rattle.plain_board.proofs.Dealing.{entries-relayed}
@@ -35,7 +35,7 @@ total-zero f (x ∷ xs) none = omega (arith, All-head (λ x. f x ≡ 0) x xs non
 
 -- ---- nobody has anything
 
-module _ (board : Board) (sound : IsSound board) (over : IsOver board) where
+module _ (board : Stand) (sound : IsSound board) (over : IsOver board) where
   module _ (k : ℕ) (d : AppSide) (there : k < length board.apps) where
     abbrev app : AppSide
     app = get_or board.apps k d

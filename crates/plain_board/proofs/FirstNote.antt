@@ -22,7 +22,7 @@ use Rattle.board_face.proofs.PlaceTallies.{in_buffer, app_places, held_places, l
 use Rattle.board_face.proofs.AppLemmas.{IsNext}
 use Rattle.board_face.proofs.IsFilledByOneLemmas.{fillings-alone}
 use Rattle.board_face.proofs.ApartLemmas.{AreApart-all}
-use Rattle.plain_board.specs.Board.{Board, setting_of}
+use Rattle.plain_board.specs.Stand.{Stand, setting_of}
 use Rattle.plain_board.specs.Sound.{IsSound, IsProper}
 use Rattle.plain_board.proofs.Lists.{All-none}
 use Rattle.board_face.proofs.LiesLemmas.{total-at}
@@ -51,7 +51,7 @@ All-some f (y ∷ ys) none =
     (cases_lt 0 (f y).len))
     (All-some f ys (λ b. omega (arith, none b)))
 
-module _ (board : Board) (a : ℕ) (x : AppSide) (sound : IsSound board) (here : IsApp board.apps a x) (note : Note) (next : IsNext board.nic x note) where
+module _ (board : Stand) (a : ℕ) (x : AppSide) (sound : IsSound board) (here : IsApp board.apps a x) (note : Note) (next : IsNext board.nic x note) where
   proper : IsProper next.next
   proper =
       let all : All IsProper (on_way board.nic x) = All-drop IsProper (length x.view.taken) (sent_to x.view.app board.nic)

@@ -23,7 +23,7 @@ use Rattle.board_face.proofs.FillingsFitLemmas.{FillingsFit-same}
 use Rattle.board_face.proofs.AreShownLemmas.{AreShown-gave}
 use Rattle.board_parts.specs.Rings.{ring_in, pushed}
 use Rattle.board_parts.specs.Counts.{user_at}
-use Rattle.plain_board.specs.Board.{Arrays, Board, byte_of}
+use Rattle.plain_board.specs.Stand.{Arrays, Stand, byte_of}
 use Rattle.plain_board.specs.Returns.{AreReturns, entries_on_way, reach_of}
 use Rattle.plain_board.proofs.RingSlots.{IsRing-at, IsRing-pushed}
 use Rattle.plain_board.specs.Sound.{IsRing, IsSound, notes_of, refills_of, taken_of}
@@ -36,7 +36,7 @@ use Rattle.plain_board.proofs.Abandoning.{loans-rest}
 use Rattle.board_face.proofs.WrittenLemmas.{AreReturns-gave}
 use Rattle.plain_board.proofs.Writing.{way-longer, reach-longer, dealt-within}
 
-module _ (board : Board) (a : ℕ) (x : AppSide) (place : Place) (sound : IsSound board) (here : IsApp board.apps a x) (out : HasLoan x.view place) where
+module _ (board : Stand) (a : ℕ) (x : AppSide) (place : Place) (sound : IsSound board) (here : IsApp board.apps a x) (out : HasLoan x.view place) where
   abbrev now : AppSide
   now = app_at x (gave x.view place)
 

@@ -25,7 +25,7 @@ use Rattle.board_face.proofs.RelayLemmas.{Relayed-app}
 use Rattle.board_face.proofs.FewLemmas.{pool_count-few}
 use Rattle.board_face.proofs.FillingsFitLemmas.{FillingsFit-same}
 use Rattle.board_parts.specs.Free.{listed_in}
-use Rattle.plain_board.specs.Board.{Arrays, Board, byte_of}
+use Rattle.plain_board.specs.Stand.{Arrays, Stand, byte_of}
 use Rattle.plain_board.specs.Sound.{IsSound, IsAtRest}
 use Rattle.board_face.proofs.LiesLemmas.{total-at}
 use Rattle.plain_board.proofs.FirstNote.{in-own}
@@ -35,7 +35,7 @@ use Rattle.plain_board.proofs.AppFrames.{was-booked_raw, ArePhased-app, was-phas
 
 -- ---- a held piece
 
-module _ (board : Board) (a : ℕ) (x : AppSide) (place : Place) (sound : IsSound board) (here : IsApp board.apps a x) (out : HasHeld x.view place) where
+module _ (board : Stand) (a : ℕ) (x : AppSide) (place : Place) (sound : IsSound board) (here : IsApp board.apps a x) (out : HasHeld x.view place) where
   pub is_held : 0 < pool_count place.buffer board.nic board.apps
   is_held =
       omega (
@@ -100,7 +100,7 @@ module _ (board : Board) (a : ℕ) (x : AppSide) (place : Place) (sound : IsSoun
 
 -- ---- an event of held pieces alone
 
-module _ (board : Board) (a : ℕ) (x : AppSide) (helds : List HeldPiece) (pool : List ℕ) (listed : List Bool) (sound : IsSound board)
+module _ (board : Stand) (a : ℕ) (x : AppSide) (helds : List HeldPiece) (pool : List ℕ) (listed : List Bool) (sound : IsSound board)
     (here : IsApp board.apps a x) (stays : IsHere x.view) where
   abbrev pub side_then : AppSide
   side_then = app_at x (record x.view { helds = helds })

@@ -34,7 +34,7 @@ use Rattle.board_face.proofs.OwnBufferLemmas.{LieInOwn-nic}
 use Rattle.board_face.proofs.AreShownLemmas.{AreShown-honoured, AreShown-gave_up}
 use Rattle.board_parts.specs.Free.{listed_in}
 use Rattle.board_parts.specs.Counts.{user_at}
-use Rattle.plain_board.specs.Board.{Board, byte_of}
+use Rattle.plain_board.specs.Stand.{Stand, byte_of}
 use Rattle.plain_board.specs.Returns.{AreReturns, is_some_of, returns, names, abandoned_in}
 use Rattle.plain_board.specs.Sound.{IsSound, refills_of}
 use Rattle.plain_board.proofs.Lists.{counts-set, weight-same, weight-other, same-or-other, same-user}
@@ -76,7 +76,7 @@ and-none a c i b apart =
     (λ t. let other : (a == c) ≡ false = t.0 in ap (λ z. weight (z && (i == b))) other)
     (eqb_tells a c)
 
-module _ (board : Board) (a i : ℕ) (x : AppSide) (e : Rqe) (es : List Rqe) (sound : IsSound board) (here : IsApp board.apps a x)
+module _ (board : Stand) (a i : ℕ) (x : AppSide) (e : Rqe) (es : List Rqe) (sound : IsSound board) (here : IsApp board.apps a x)
     (found : refills_of board.arrays a ≡ e ∷ es)
     (named : judged board.arrays.layout e ≡ Some i) (inside : i < total board.arrays.layout)
     (some : 0 < get_or board.arrays.users (user_at board.arrays.layout a i) 0) where
@@ -123,6 +123,9 @@ module _ (board : Board) (a i : ℕ) (x : AppSide) (e : Rqe) (es : List Rqe) (so
       (λ raw. let none = ((rw front.way at (h.clear i)).0 raw names_it).0 in
       omega (arith, users_here, some, none, count-tally (λ l. l.place.buffer == i) x.view.loans))
       (cases_Bool front.first.of_loan)
+
+  pub owes_one : 1 ≤ length (owed_in i board.nic x)
+  owes_one = omega (arith, owes_some, length-owed_in i board.nic x)
 
   pub owes : Owes i board.nic x
   owes = record { owes = omega (arith, owes_some); returning = (returned i).returning }

@@ -17,17 +17,17 @@ use Rattle.board_face.proofs.OwnBufferLemmas.{AppLiesInOwn-lent}
 use Rattle.board_face.proofs.FillingsFitLemmas.{FillingsFit-same}
 use Rattle.board_face.proofs.AreShownLemmas.{AreShown-lent}
 use Rattle.board_parts.specs.Counts.{user_at}
-use Rattle.plain_board.specs.Board.{Board, byte_of}
+use Rattle.plain_board.specs.Stand.{Stand, byte_of}
 use Rattle.plain_board.specs.Sound.{IsSound}
 use Rattle.plain_board.proofs.AppFrames.{was-booked_filled, was-own}
 use Rattle.plain_board.proofs.TokensLie.{held-lies}
 use Rattle.plain_board.proofs.OnLoan.{IsSound-on_loan}
 
-pub held-within : (board : Board) (a : ℕ) (x : AppSide) (place : Place) (sound : IsSound board) (here : IsApp board.apps a x) (out : HasHeld x.view place)
+pub held-within : (board : Stand) (a : ℕ) (x : AppSide) (place : Place) (sound : IsSound board) (here : IsApp board.apps a x) (out : HasHeld x.view place)
     → place.buffer < total board.arrays.layout
 held-within board a x place sound here out = (held-lies board a x sound here place out).0.buffer
 
-pub IsSound-lent : (board : Board) (a : ℕ) (x : AppSide) (place : Place) (sound : IsSound board) (here : IsApp board.apps a x) (out : HasHeld x.view place)
+pub IsSound-lent : (board : Stand) (a : ℕ) (x : AppSide) (place : Place) (sound : IsSound board) (here : IsApp board.apps a x) (out : HasHeld x.view place)
     (can : CanLend x.view) (n m : ℕ)
     → n ≡ get_or board.arrays.users (user_at board.arrays.layout a place.buffer) 0 + 1
     → m ≡ get_or board.arrays.loans (user_at board.arrays.layout a place.buffer) 0 + 1

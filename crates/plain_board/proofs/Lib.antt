@@ -44,3 +44,6 @@ pub mod Reading
 pub mod OwnLending
 pub mod RingSlots
 pub mod NotNow
+pub mod Counting
+pub mod Logging
+pub mod Polls

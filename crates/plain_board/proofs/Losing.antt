@@ -23,7 +23,7 @@ use Rattle.board_face.proofs.ListLemmas.{not-eqb}
 use Rattle.board_face.proofs.Tallies.{weight, weight-le, total, length-flat}
 use Rattle.zr_kinds.specs.declared.place.Note.{Note}
 use Rattle.board_face.proofs.SideLemmas.{IsApp-at}
-use Rattle.plain_board.specs.Board.{Board}
+use Rattle.plain_board.specs.Stand.{Stand}
 use Rattle.plain_board.specs.Sound.{IsSound}
 use Rattle.plain_board.proofs.AppFrames.{times_picked, times_used}
 use Rattle.plain_board.proofs.Lists.{count-push, count-append, weight-other}
@@ -182,7 +182,7 @@ lost-case true false true n m k some a b = omega arith
 lost-case true false false n m k some a b = omega (arith, some refl, a refl, b refl)
 lost-case false c u n m k some a b = omega arith
 
-module _ (board : Board) (sound : IsSound board) where
+module _ (board : Stand) (sound : IsSound board) where
   lost-picked : (b : ℕ) → b < pool_buffers board.nic.view.setting.layout → weight (is_lost board.nic.view b) ≤ times_picked b board.apps
   lost-picked b within =
       let v = board.nic.view in

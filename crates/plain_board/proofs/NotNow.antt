@@ -20,7 +20,7 @@ use Rattle.board_face.proofs.SideLemmas.{IsApp-at}
 use Rattle.board_face.proofs.RelayLemmas.{way-taken}
 use Rattle.board_parts.specs.Rings.{ring_in}
 use Rattle.board_parts.specs.Free.{IsPicked}
-use Rattle.plain_board.specs.Board.{Board, others_of}
+use Rattle.plain_board.specs.Stand.{Stand, others_of}
 use Rattle.plain_board.specs.Sound.{IsSound, notes_of, refills_of}
 use Rattle.plain_board.specs.Returns.{entries_on_way}
 use Rattle.plain_board.specs.Seen.{IsFoundLowest}
@@ -39,7 +39,7 @@ count-drop test zero xs = omega arith
 count-drop test (suc k) [] = omega arith
 count-drop test (suc k) (x ∷ xs) = omega (arith, count-drop test k xs)
 
-module _ (board : Board) (a : ℕ) (x : AppSide) (sound : IsSound board) (here : IsApp board.apps a x) where
+module _ (board : Stand) (a : ℕ) (x : AppSide) (sound : IsSound board) (here : IsApp board.apps a x) where
   pub full-written : (ring_in board.arrays.refills a).capacity ≤ length (ring_in board.arrays.refills a).items → HasWrittenRingful x.view
   full-written full =
       let there : a < length board.arrays.refills = let many = sound.set.many in let t = here.there in omega (arith, sound.sizes.refills) in
@@ -66,7 +66,7 @@ module _ (board : Board) (a : ℕ) (x : AppSide) (sound : IsSound board) (here :
 
 -- ---- notes on their way were sent
 
-pub full-sent : (board : Board) (a : ℕ) → IsSound board → a < length board.apps
+pub full-sent : (board : Stand) (a : ℕ) → IsSound board → a < length board.apps
     → (get_or board.arrays.notes a (buffer [] 0)).capacity ≤ length (notes_of board.arrays a) → HasSentRingful board.nic.view a
 full-sent board a sound there full =
     let app = side_in board.apps a in
@@ -77,7 +77,7 @@ full-sent board a sound there full =
     let sent = ap (λ n. length (sent_to n board.nic)) here.number in
     omega (arith, full, room, places, simp length-map at way, length-drop (length app.view.taken) (sent_to app.view.app board.nic), sent)
 
-module _ (board : Board) (a : ℕ) (x : AppSide) (sound : IsSound board) (here : IsApp board.apps a x) where
+module _ (board : Stand) (a : ℕ) (x : AppSide) (sound : IsSound board) (here : IsApp board.apps a x) where
   -- one that was told the end sees that the card has ended
   pub untold : board.arrays.ended ≡ false → (told : Bool) → x.view.ended ≡ told → told ≡ false
   untold going true is =

@@ -30,7 +30,7 @@ use Rattle.board_face.proofs.AreShownLemmas.{AreShown-sent, AreShown-sent_linear
 use Rattle.board_face.proofs.RelayLemmas.{taken-within, Relayed-sent, Relayed-sent_other}
 use Rattle.board_parts.specs.declared.slots.NoteSlot.{NoteSlot}
 use Rattle.board_parts.specs.Free.{listed_in}
-use Rattle.plain_board.specs.Board.{Arrays, Board, byte_of}
+use Rattle.plain_board.specs.Stand.{Arrays, Stand, byte_of}
 use Rattle.board_parts.specs.Rings.{pushed}
 use Rattle.plain_board.specs.Sound.{IsSound, IsRing, AreRelayed, IsProper, refills_of, notes_of, taken_of}
 use Rattle.plain_board.proofs.RingSlots.{IsRing-pushed}
@@ -49,7 +49,7 @@ pub record IsPosted (old new : NicView) (s : SentNote) : Type 0 where
   pub dealt : new.dealt ≡ old.dealt
   pub sent : new.sent ≡ old.sent ++ s ∷ []
 
-module _ (board : Board) (a : ℕ) (x : AppSide) (v : NicView) (s : SentNote) (slot : NoteSlot) (sound : IsSound board) (here : IsApp board.apps a x)
+module _ (board : Stand) (a : ℕ) (x : AppSide) (v : NicView) (s : SentNote) (slot : NoteSlot) (sound : IsSound board) (here : IsApp board.apps a x)
     (room : length (get_or board.arrays.notes a (buffer [] 0)).items < (get_or board.arrays.notes a (buffer [] 0)).capacity)
     (posted : IsPosted board.nic.view v s) (target : s.app ≡ a) (text : taken_of slot ≡ as_taken s)
     (same : (b : ℕ) → pool_count b (nic_at board.nic v) board.apps ≡ pool_count b board.nic board.apps) where
@@ -134,7 +134,7 @@ module _ (board : Board) (a : ℕ) (x : AppSide) (v : NicView) (s : SentNote) (s
   }
 
 -- no application has taken more notes than were sent to it
-taken-few : (board : Board) → IsSound board → (x : AppSide) → Contains board.apps x → length x.view.taken ≤ length (sent_to x.view.app board.nic)
+taken-few : (board : Stand) → IsSound board → (x : AppSide) → Contains board.apps x → length x.view.taken ≤ length (sent_to x.view.app board.nic)
 taken-few board sound x has =
     let it : IsApp board.apps has.0 x = subst (IsApp board.apps has.0) has.2 (IsApp-at board.apps has.0 x sound.set.numbers has.1) in
     taken-within board.nic x _ _ (sound.relayed.relayed has.0 x it)
@@ -144,7 +144,7 @@ if-true true t u e = refl
 if-true false t u e = absurd (let none : ⊥ = cc in none)
 
 -- a split note with its piece
-pub IsSound-sent : (board : Board) (a : ℕ) (x : AppSide) (note : Note) (bytes : List ℕ) → IsSound board → IsApp board.apps a x → IsOpen board.nic.view
+pub IsSound-sent : (board : Stand) (a : ℕ) (x : AppSide) (note : Note) (bytes : List ℕ) → IsSound board → IsApp board.apps a x → IsOpen board.nic.view
     → HasPiece board.nic.view note.place → IsSplitNote note
     → length (get_or board.arrays.notes a (buffer [] 0)).items < (get_or board.arrays.notes a (buffer [] 0)).capacity → IsSound (record {
       arrays = record board.arrays {
@@ -176,7 +176,7 @@ if-false true t u e same = absurd (let none : ⊥ = cc in none)
 if-false false t u e same = same
 
 -- a note in which its bytes travel
-pub IsSound-sent_linear : (board : Board) (a : ℕ) (x : AppSide) (note : Note) (room bytes : List ℕ) → IsSound board → IsApp board.apps a x
+pub IsSound-sent_linear : (board : Stand) (a : ℕ) (x : AppSide) (note : Note) (room bytes : List ℕ) → IsSound board → IsApp board.apps a x
     → IsOpen board.nic.view → IsLinearNote note → note.total ≡ length bytes → take note.total room ≡ bytes
     → length (get_or board.arrays.notes a (buffer [] 0)).items < (get_or board.arrays.notes a (buffer [] 0)).capacity → IsSound (record {
       arrays = record board.arrays {

@@ -18,7 +18,7 @@ use Rattle.board_face.proofs.Parts.{app_count, user_part, count-tally}
 use Rattle.board_face.proofs.FreeLemmas.{user_count-le}
 use Rattle.board_face.proofs.RelayLemmas.{Relayed-app}
 use Rattle.board_parts.specs.Counts.{user_at}
-use Rattle.plain_board.specs.Board.{Arrays, Board, byte_of}
+use Rattle.plain_board.specs.Stand.{Arrays, Stand, byte_of}
 use Rattle.plain_board.specs.Returns.{loans_out}
 use Rattle.plain_board.specs.Sound.{IsSound}
 use Rattle.plain_board.proofs.AppFrames.{IsSet-app, was-at_rest, AreCounted-app, was-returned, AreRelayed-kept, was-relayed, returns-app, was-returns}
@@ -28,7 +28,7 @@ use Rattle.plain_board.proofs.Users.{loans-there, users-there, user-other, user-
 pub use Rattle.board_face.proofs.ReturnLemmas.{IsClear-of_loans}
 use Rattle.plain_board.proofs.TokensLie.{part-le, pool-few}
 
-module _ (board : Board) (a : ℕ) (x : AppSide) (buffer : ℕ) (sound : IsSound board) (here : IsApp board.apps a x)
+module _ (board : Stand) (a : ℕ) (x : AppSide) (buffer : ℕ) (sound : IsSound board) (here : IsApp board.apps a x)
     (within : buffer < total board.arrays.layout) where
   abbrev user : ℕ
   user = user_at board.arrays.layout a buffer

@@ -28,7 +28,7 @@ use Rattle.plain_board.specs.Returns.{AreReturns, entries_on_way, loans_out, rea
 use Rattle.board_parts.specs.Opened.{new_apps}
 use Rattle.board_parts.specs.Free.{listed_in}
 use Rattle.board_parts.specs.Counts.{user_at}
-use Rattle.plain_board.specs.Board.{Board, new_board, byte_of}
+use Rattle.plain_board.specs.Stand.{Stand, new_stand, byte_of}
 use Rattle.plain_board.specs.Sound.{IsRing, IsSound, IsAtRest, IsProper, IsPhased}
 
 left-new : (s : Setting) (first n : ℕ) → replicate n false ≡ map (λ app. app.view.left) (new_apps s first n)
@@ -60,9 +60,9 @@ module _ (layout : Shape) (places : ℕ) (good : IsLayout layout) (some : 1 ≤ 
   news = All-new (IsNew s) s 0 layout.reserves (λ a. refl)
 
   abbrev AreLengths : AppSide → Type 0
-  AreLengths app = All (λ own. get_or (new_board layout places).arrays.filled own.own.buffer 0 ≡ length own.bytes) app.view.owns
+  AreLengths app = All (λ own. get_or (new_stand layout places).arrays.filled own.own.buffer 0 ≡ length own.bytes) app.view.owns
 
-  pub IsSound-new : IsSound (new_board layout places)
+  pub IsSound-new : IsSound (new_stand layout places)
   IsSound-new = record {
     sizes = record {
       layout = good;
@@ -133,7 +133,7 @@ module _ (layout : Shape) (places : ℕ) (good : IsLayout layout) (some : 1 ≤ 
     };
     filled = FillingsFit-opened s apps news;
     by_one = λ b. IsFilledByOne-opened b s apps news;
-    shown = AreShown-opened (byte_of (new_board layout places).arrays) s apps news;
+    shown = AreShown-opened (byte_of (new_stand layout places).arrays) s apps news;
     notes = All-nil IsProper;
     own_buffers = record {
       card = record { pieces = All-nil _; sent = All-nil _ };
@@ -162,5 +162,5 @@ module _ (layout : Shape) (places : ℕ) (good : IsLayout layout) (some : 1 ≤ 
 
 -- the same of lists that are made by lengths which turn out to be right
 pub IsSound-opened : (layout : Shape) (places : ℕ) → IsLayout layout → 1 ≤ places → places ≤ 256
-    → (board : Board) → board ≡ new_board layout places → IsSound board
+    → (board : Stand) → board ≡ new_stand layout places → IsSound board
 IsSound-opened layout places good some few board e = subst IsSound (sym e) (IsSound-new layout places good some few)

@@ -23,7 +23,7 @@ use Rattle.board_face.proofs.OwnBufferLemmas.{AppLiesInOwn-lent_own}
 use Rattle.board_face.proofs.FillingsFitLemmas.{FillingsFit-lent_own}
 use Rattle.board_face.proofs.AreShownLemmas.{AreShown-lent_own}
 use Rattle.board_parts.specs.Counts.{user_at}
-use Rattle.plain_board.specs.Board.{Board, byte_of}
+use Rattle.plain_board.specs.Stand.{Stand, byte_of}
 use Rattle.plain_board.specs.Sound.{IsSound}
 use Rattle.plain_board.proofs.AppFrames.{was-booked_filled, was-own}
 use Rattle.plain_board.proofs.TokensLie.{spare-within}
@@ -52,7 +52,7 @@ booked-at filled own (x ∷ xs) (suc k, there, e) all =
     ∙ All-head (λ s. get_or filled s.own.buffer 0 ≡ length s.bytes) x xs all)
     (λ other. booked-at filled own xs (k, omega arith, e) (All-tail (λ s. get_or filled s.own.buffer 0 ≡ length s.bytes) x xs all))
 
-module _ (board : Board) (a : ℕ) (x : AppSide) (own : Filling) (sound : IsSound board) (here : IsApp board.apps a x) (out : HasSpare x.view own) where
+module _ (board : Stand) (a : ℕ) (x : AppSide) (own : Filling) (sound : IsSound board) (here : IsApp board.apps a x) (out : HasSpare x.view own) where
   pub own-there : own.buffer < length board.arrays.filled
   own-there = omega (arith, spare-within board a x sound here own out, sound.sizes.filled)
 

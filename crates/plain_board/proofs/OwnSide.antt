@@ -18,7 +18,7 @@ use Rattle.board_face.proofs.AppLemmas.{pool_count-app, user_count-app}
 use Rattle.board_face.specs.Blank.{blank_app}
 use Rattle.board_parts.specs.Free.{listed_in, HasNoneListed}
 use Rattle.board_face.proofs.OpenedLemmas.{all-alike}
-use Rattle.plain_board.specs.Board.{Board, others_of}
+use Rattle.plain_board.specs.Stand.{Stand, others_of}
 use Rattle.plain_board.specs.Seen.{self_of, all_of, HasNothingListed}
 use Rattle.plain_board.specs.Sound.{IsSound, IsAtRest}
 use Rattle.plain_board.proofs.AppFrames.{has-setting, was-at_rest, was-phased}
@@ -30,7 +30,7 @@ hands-none b (app ∷ apps) rest =
     let here = All-head IsAtRest app apps rest in
     omega (arith, ap (tally (nat_eq b)) here.hands, hands-none b apps (All-tail IsAtRest app apps rest))
 
-module _ (board : Board) (a : ℕ) (x : AppSide) (sound : IsSound board) (here : IsApp board.apps a x) where
+module _ (board : Stand) (a : ℕ) (x : AppSide) (sound : IsSound board) (here : IsApp board.apps a x) where
   abbrev self : AppSide
   self = self_of (app_gist x.view)
 

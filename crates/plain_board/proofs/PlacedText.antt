@@ -21,7 +21,7 @@ use Rattle.board_face.proofs.OwnBufferLemmas.{LieInOwn-placed}
 use Rattle.board_face.proofs.AreShownLemmas.{AreShown-placed}
 use Rattle.board_parts.specs.Area.{stored}
 use Rattle.board_parts.specs.Free.{listed_in}
-use Rattle.plain_board.specs.Board.{Board, byte_of}
+use Rattle.plain_board.specs.Stand.{Stand, byte_of}
 use Rattle.plain_board.specs.Sound.{IsSound}
 use Rattle.plain_board.proofs.Lists.{weight-same, weight-other, same-or-other}
 use Rattle.plain_board.proofs.Shutting.{of_pool, is_held, used-nowhere}
@@ -36,7 +36,7 @@ once-placed p p' f w e more which =
     (λ some. used-nowhere p f e some ∙ sym (used-nowhere p' (if p' == 0 then 1 else 0) refl (omega arith)))
     which
 
-module _ (board : Board) (own : Filling) (bytes : List ℕ) (sound : IsSound board) (out : HasOwn board.nic.view own)
+module _ (board : Stand) (own : Filling) (bytes : List ℕ) (sound : IsSound board) (out : HasOwn board.nic.view own)
     (fits : own.start + length bytes ≤ own.size) where
   pub inside : own.buffer < total board.arrays.layout
   inside = let p = of_pool board own sound out in omega arith

@@ -30,7 +30,7 @@ use Rattle.board_face.proofs.OwnBufferLemmas.{AppLiesInOwn-took_note}
 use Rattle.board_face.proofs.AreShownLemmas.{AreShown-took_note, AreShown-took_linear}
 use Rattle.board_parts.specs.declared.slots.NoteSlot.{NoteSlot}
 use Rattle.board_parts.specs.Rings.{popped}
-use Rattle.plain_board.specs.Board.{Arrays, Board, others_of, byte_of}
+use Rattle.plain_board.specs.Stand.{Arrays, Stand, others_of, byte_of}
 use Rattle.plain_board.specs.Seen.{IsSeenBy}
 use Rattle.plain_board.proofs.RingSlots.{IsRing-popped}
 use Rattle.plain_board.specs.Sound.{IsRing, IsSound, IsAtRest, notes_of, refills_of, taken_of}
@@ -45,7 +45,7 @@ use Rattle.plain_board.proofs.AppTold.{IsSound-told, IsSound-looked}
 abbrev pub ended_if : AppView → Bool → AppView
 ended_if v ended = if ended then told_end v else app_saw v NoNote
 
-module _ (board : Board) (a : ℕ) (x : AppSide) (sound : IsSound board) (here : IsApp board.apps a x) (none : notes_of board.arrays a ≡ []) where
+module _ (board : Stand) (a : ℕ) (x : AppSide) (sound : IsSound board) (here : IsApp board.apps a x) (none : notes_of board.arrays a ≡ []) where
   none-way : on_way board.nic x ≡ []
   none-way =
       let e = ap length (way-taken board.nic x _ _ (sound.relayed.relayed a x here)) in
@@ -74,7 +74,7 @@ AppOnlySaw-none v = record { event = refl; rose = AppRose-app_saw v NoNote }
 
 -- ---- a note is taken
 
-module _ (board : Board) (a : ℕ) (x : AppSide) (slot : NoteSlot) (rest : List NoteSlot) (sound : IsSound board) (here : IsApp board.apps a x)
+module _ (board : Stand) (a : ℕ) (x : AppSide) (slot : NoteSlot) (rest : List NoteSlot) (sound : IsSound board) (here : IsApp board.apps a x)
     (stays : IsHere x.view) (found : notes_of board.arrays a ≡ slot ∷ rest) where
   abbrev pub ring_then : Buffer NoteSlot
   ring_then = popped (get_or board.arrays.notes a (buffer [] 0))

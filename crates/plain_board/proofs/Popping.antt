@@ -13,7 +13,7 @@ use Rattle.board_face.specs.declared.views.nic.Dealt.{Dealt}
 use Rattle.board_face.specs.declared.views.nic.NicView.{NicView}
 use Rattle.board_face.specs.declared.views.app.AppSide.{AppSide}
 use Rattle.board_face.proofs.RelayLemmas.{Relayed-dealt, Relayed-dealt_other}
-use Rattle.plain_board.specs.Board.{Arrays, Board}
+use Rattle.plain_board.specs.Stand.{Arrays, Stand}
 use Rattle.board_parts.specs.Rings.{popped}
 use Rattle.plain_board.specs.Returns.{entries_on_way, reach_of}
 use Rattle.plain_board.proofs.RingSlots.{IsRing-popped}
@@ -27,10 +27,10 @@ pub other-number : (apps : List AppSide) (a k : ℕ) (y : AppSide) → IsApp app
 other-number apps a k y it ne e = ne (sym it.number ∙ e)
 
 -- the ring without the entry
-abbrev pub ring_then : Board → ℕ → Buffer Rqe
+abbrev pub ring_then : Stand → ℕ → Buffer Rqe
 ring_then board a = popped (get_or board.arrays.refills a (buffer [] 0))
 
-module _ (board : Board) (a : ℕ) (x : AppSide) (e : Rqe) (es : List Rqe) (sound : IsSound board) (here : IsApp board.apps a x)
+module _ (board : Stand) (a : ℕ) (x : AppSide) (e : Rqe) (es : List Rqe) (sound : IsSound board) (here : IsApp board.apps a x)
     (found : refills_of board.arrays a ≡ e ∷ es)
     (v : NicView) (d : Dealt) (sents : v.sent ≡ board.nic.view.sent) (deals : v.dealt ≡ board.nic.view.dealt ++ d ∷ []) (mine : d.app ≡ a)
     (its : d.entry ≡ e) where

@@ -25,7 +25,7 @@ use Rattle.board_face.proofs.FillingsFitLemmas.{FillingsFit-same}
 use Rattle.board_face.proofs.AreShownLemmas.{AreShown-same}
 use Rattle.board_face.proofs.WrittenLemmas.{way-written, AreReturns-pushed}
 use Rattle.board_parts.specs.Rings.{ring_in, pushed}
-use Rattle.plain_board.specs.Board.{Board, byte_of, others_of}
+use Rattle.plain_board.specs.Stand.{Stand, byte_of, others_of}
 use Rattle.plain_board.specs.Returns.{AreReturns, entries_on_way, reach_of}
 use Rattle.plain_board.specs.Seen.{IsSeenBy}
 use Rattle.plain_board.proofs.RingSlots.{IsRing-pushed}
@@ -57,7 +57,7 @@ dealt-within nic app ns es relayed = omega (
   length-map app.view.written (λ w. w.entry),
 )
 
-module _ (board : Board) (a : ℕ) (x : AppSide) (entry : Rqe) (sound : IsSound board) (here : IsApp board.apps a x) where
+module _ (board : Stand) (a : ℕ) (x : AppSide) (entry : Rqe) (sound : IsSound board) (here : IsApp board.apps a x) where
   abbrev one : WrittenEntry
   one = record { entry = entry; of_loan = false }
 

@@ -13,7 +13,7 @@ use Rattle.board_face.specs.declared.views.app.TakenNote.{TakenNote}
 use Rattle.board_face.specs.declared.views.app.AppView.{AppView}
 use Rattle.board_face.specs.declared.views.app.AppSide.{AppSide}
 use Rattle.board_face.proofs.LookLemmas.{AppTold-none, AppTold-one}
-use Rattle.plain_board.specs.Board.{Board, others_of}
+use Rattle.plain_board.specs.Stand.{Stand, others_of}
 use Rattle.plain_board.specs.Returns.{entries_on_way}
 use Rattle.plain_board.specs.Seen.{IsSeenBy}
 use Rattle.plain_board.specs.Sound.{IsSound, refills_of}
@@ -31,7 +31,7 @@ entries-many nic app ns es relayed =
 abbrev pub quiet_if : AppView → Bool → AppView
 quiet_if v quiet = if quiet then fell_quiet v else app_saw v NotQuiet
 
-module _ (board : Board) (a : ℕ) (x : AppSide) (sound : IsSound board) (here : IsApp board.apps a x) where
+module _ (board : Stand) (a : ℕ) (x : AppSide) (sound : IsSound board) (here : IsApp board.apps a x) where
   many : length (entries_on_way board.nic x) ≡ length (refills_of board.arrays a)
   many = entries-many board.nic x _ _ (sound.relayed.relayed a x here)
 

@@ -26,7 +26,7 @@ use Rattle.board_face.proofs.IsFilledByOneLemmas.{IsFilledByOne-same}
 use Rattle.board_face.proofs.FillingsFitLemmas.{FillingsFit-same}
 use Rattle.board_face.proofs.AreShownLemmas.{AreShown-same}
 use Rattle.board_parts.specs.Area.{loaded}
-use Rattle.plain_board.specs.Board.{Board, byte_of}
+use Rattle.plain_board.specs.Stand.{Stand, byte_of}
 use Rattle.plain_board.specs.Sound.{IsSound, taken_of, notes_of, refills_of}
 use Rattle.plain_board.proofs.AppFrames.{IsSet-app, was-at_rest, AreCounted-app, was-returned, AreRelayed-kept, was-relayed, returns-app, was-returns}
 use Rattle.plain_board.proofs.AppFrames.{AreFlags-kept, AreFreeOnce-app, AreKept-app, AreDue-app, was-given, was-due, AreBooked-app, was-booked_loans}
@@ -78,7 +78,7 @@ Relayed-reads nic x place from (b ∷ bytes) ns es is relayed =
     Relayed-read nic x (has_read x.view place from (b ∷ bytes))
     (record { origin = further (loan_origin x.view place) from; bytes = b ∷ bytes }) ns es refl refl refl refl is relayed
 
-module _ (board : Board) (a : ℕ) (x : AppSide) (place : Place) (sound : IsSound board) (here : IsApp board.apps a x) (out : HasLoan x.view place) where
+module _ (board : Stand) (a : ℕ) (x : AppSide) (place : Place) (sound : IsSound board) (here : IsApp board.apps a x) (out : HasLoan x.view place) where
   pub lies : LiesIn board.arrays.layout place
   lies = (loan-lies board a x sound here place out).0
 

@@ -19,7 +19,7 @@ use Rattle.board_face.proofs.IsFilledByOneLemmas.{IsFilledByOne-released}
 use Rattle.board_face.proofs.OwnBufferLemmas.{AppLiesInOwn-released}
 use Rattle.board_face.proofs.AreShownLemmas.{AreShown-released}
 use Rattle.board_parts.specs.Free.{listed_in}
-use Rattle.plain_board.specs.Board.{Board, byte_of}
+use Rattle.plain_board.specs.Stand.{Stand, byte_of}
 use Rattle.plain_board.specs.Sound.{IsSound}
 use Rattle.plain_board.proofs.Lists.{weight-other, weight-none, same-or-other, lowered}
 use Rattle.plain_board.proofs.Freeing.{and-right, and-true, listed-set}
@@ -63,7 +63,7 @@ past-pool : (came : Bool) (i b m : ℕ) → (came ≡ true → i < m) → m ≤ 
 past-pool true i b m inside past = weight-other i b (λ e. absurd (let less = inside refl in omega arith))
 past-pool false i b m inside past = refl
 
-module _ (board : Board) (a : ℕ) (x : AppSide) (place : Place) (sound : IsSound board) (here : IsApp board.apps a x) (stays : IsHere x.view)
+module _ (board : Stand) (a : ℕ) (x : AppSide) (place : Place) (sound : IsSound board) (here : IsApp board.apps a x) (stays : IsHere x.view)
     (out : HasHeld x.view place) where
   abbrev released_side : AppSide
   released_side = app_at x (released x.view place)

@@ -10,6 +10,7 @@ use Rattle.board_face.specs.AppCalls.{CanScrub}
 use Rattle.board_face.specs.Counts.{pool_count}
 use Rattle.board_face.specs.FreeOnce.{AreFreeOnce, free_places}
 use Rattle.board_face.specs.Holders.{ended_in, owed_in, returned_in}
+use Rattle.board_face.specs.Laws.{TookAll}
 use Rattle.board_face.specs.declared.views.app.AppSide.{AppSide}
 use Rattle.board_face.proofs.ListLemmas.{eqb_same, not-eqb}
 use Rattle.board_face.proofs.Tallies.{weight}
@@ -21,7 +22,7 @@ use Rattle.board_face.proofs.AreShownLemmas.{AreShown-scrubbed}
 use Rattle.board_parts.specs.Area.{loaded}
 use Rattle.board_parts.specs.Counts.{user_at, HasFewUsers, came_back, TakesBack}
 use Rattle.board_parts.specs.Free.{listed_in}
-use Rattle.plain_board.specs.Board.{Board, byte_of}
+use Rattle.plain_board.specs.Stand.{Stand, byte_of}
 use Rattle.plain_board.specs.Sound.{IsSound, IsAtRest}
 use Rattle.plain_board.proofs.AppFrames.{has-setting, IsSet-app, was-at_rest, AreCounted-app, was-returned, AreRelayed-kept, was-relayed, returns-app}
 use Rattle.plain_board.proofs.AppFrames.{was-returns, AreFlags-kept, free_places-side, AreKept-app, AreDue-app, was-given, was-due, AreBooked-app}
@@ -55,7 +56,7 @@ more-case true false now e = omega arith
 more-case true true now e = omega (arith, ap weight e)
 more-case false was now e = omega (arith, ap weight e)
 
-module _ (board : Board) (a : ℕ) (x : AppSide) (sound : IsSound board) (here : IsApp board.apps a x) where
+module _ (board : Stand) (a : ℕ) (x : AppSide) (sound : IsSound board) (here : IsApp board.apps a x) where
   -- its holdings are among those of all
   app-few : (b : ℕ) → app_count b board.nic x ≤ pool_count b board.nic board.apps
   app-few b = let all = total-of (app_count b board.nic) board.apps a x here.there in omega
@@ -107,6 +108,9 @@ module _ (board : Board) (a : ℕ) (x : AppSide) (sound : IsSound board) (here :
         let short : length (took_of layout a users) ≤ b = simp length-take (omega (arith, past)) in
         omega (arith, ap (λ (us : List ℕ). get_or us b 0) is, get_or_past (took_of layout a users) b 0 short, none, app-few b, sound.counted.beyond b past))
         (cases_lt b (all_buffers layout))
+
+    pub takes-all : TookAll board.nic x took
+    takes-all b = omega (arith, takes b, length-drop (ended_in b board.nic x) (returned_in b x), returned_in-count b x)
 
     module _ (users' pool' : List ℕ) (listed' : List Bool)
         (back : TakesBack board.arrays.layout a board.arrays.users users' board.arrays.pool pool' board.arrays.listed listed') where

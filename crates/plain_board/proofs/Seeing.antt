@@ -24,7 +24,7 @@ use Rattle.board_face.proofs.LookLemmas.{NicTold-none, NicTold-one, NicTold-two}
 use Rattle.board_face.proofs.RelayLemmas.{way-taken}
 use Rattle.board_face.specs.Blank.{blank_app}
 use Rattle.board_parts.specs.Counts.{user_at}
-use Rattle.plain_board.specs.Board.{Arrays, Board}
+use Rattle.plain_board.specs.Stand.{Arrays, Stand}
 use Rattle.plain_board.specs.Returns.{entries_on_way}
 use Rattle.plain_board.specs.Sound.{IsSound, notes_of, refills_of}
 use Rattle.plain_board.specs.Seen.{card_of, IsSeenByCard, IsJudged}
@@ -37,7 +37,7 @@ none-mapped : {A B : Type 0} (f : A → B) (xs : List A) → map f xs ≡ [] →
 none-mapped f [] e = refl
 none-mapped f (x ∷ xs) e = absurd (let none : ⊥ = cc in none)
 
-module _ (board : Board) (sound : IsSound board) where
+module _ (board : Stand) (sound : IsSound board) where
   -- what is said of each look whose count rose
   abbrev pub IsSo : NicLook → Type 0
   IsSo look = IsSeenByCard look (nic_gist board.nic.view) board.apps

@@ -15,7 +15,7 @@ use Rattle.board_face.specs.declared.views.app.AppSide.{AppSide}
 use Rattle.board_face.proofs.LookLemmas.{AppTold-none, AppTold-one}
 use Rattle.board_face.proofs.Parts.{count-tally}
 use Rattle.board_face.proofs.Tallies.{weight}
-use Rattle.plain_board.specs.Board.{Board, others_of}
+use Rattle.plain_board.specs.Stand.{Stand, others_of}
 use Rattle.plain_board.specs.Returns.{IsOfLoan, is_raw, reach_of, entries_on_way}
 use Rattle.plain_board.specs.Seen.{IsSeenBy}
 use Rattle.plain_board.specs.Sound.{IsSound}
@@ -71,7 +71,7 @@ is-some (suc n) e = omega arith
 abbrev pub settled_if : AppView → Bool → AppView
 settled_if v settled = if settled then came_to_rest v else app_saw v RawOnItsWay
 
-module _ (board : Board) (a : ℕ) (x : AppSide) (sound : IsSound board) (here : IsApp board.apps a x) where
+module _ (board : Stand) (a : ℕ) (x : AppSide) (sound : IsSound board) (here : IsApp board.apps a x) where
   pub IsSound-settled : (settled : Bool) → settled ≡ (get_or board.arrays.raw a 0 == 0)
       → IsSound (record { arrays = board.arrays; nic = board.nic; apps = set board.apps a (app_at x (settled_if x.view settled)) })
   IsSound-settled true is =
@@ -91,5 +91,5 @@ module _ (board : Board) (a : ℕ) (x : AppSide) (sound : IsSound board) (here :
   pub still-settled : x.view.settled ≡ true → get_or board.arrays.raw a 0 ≡ 0
   still-settled e = sound.booked.raw a x here ∙ reach-none _ ((sound.returns a x here).settled e)
 
-pub there-raw : (board : Board) (a : ℕ) → IsSound board → a < board.arrays.layout.reserves → a < length board.arrays.raw
+pub there-raw : (board : Stand) (a : ℕ) → IsSound board → a < board.arrays.layout.reserves → a < length board.arrays.raw
 there-raw board a sound within = omega (arith, sound.sizes.raw)

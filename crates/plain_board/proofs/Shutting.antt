@@ -18,7 +18,7 @@ use Rattle.board_face.proofs.OwnBufferLemmas.{LieInOwn-nic}
 use Rattle.board_face.proofs.AreShownLemmas.{AreShown-shut}
 use Rattle.board_face.proofs.Tallies.{weight}
 use Rattle.board_parts.specs.Free.{listed_in}
-use Rattle.plain_board.specs.Board.{Board, byte_of}
+use Rattle.plain_board.specs.Stand.{Stand, byte_of}
 use Rattle.plain_board.specs.Sound.{IsSound}
 use Rattle.plain_board.proofs.Lists.{weight-none, weight-same, weight-other, same-or-other}
 use Rattle.plain_board.proofs.Freeing.{and-true, All-at, cache_after, listed_after, places-after, cache-grows, cache-short, length-listed_after, once-freed}
@@ -35,7 +35,7 @@ pub outside : (last : Bool) (f w : ℕ) → f ≡ 0 → w ≡ 0 → f + (if last
 outside true f w empty none = omega arith
 outside false f w empty none = omega arith
 
-module _ (board : Board) (own : Filling) (sound : IsSound board) (out : HasOwn board.nic.view own) where
+module _ (board : Stand) (own : Filling) (sound : IsSound board) (out : HasOwn board.nic.view own) where
   pools : pool_buffers board.nic.view.setting.layout ≡ pool_buffers board.arrays.layout
   pools = ap (λ s. pool_buffers s.layout) sound.set.card
 

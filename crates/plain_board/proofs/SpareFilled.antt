@@ -26,7 +26,7 @@ use Rattle.board_face.proofs.OwnBufferLemmas.{AppLiesInOwn-filled}
 use Rattle.board_face.proofs.FillingsFitLemmas.{FillingsFit-spare, FillingsFit-filled}
 use Rattle.board_face.proofs.AreShownLemmas.{AreShown-filled}
 use Rattle.board_parts.specs.Area.{stored}
-use Rattle.plain_board.specs.Board.{Arrays, Board, byte_of}
+use Rattle.plain_board.specs.Stand.{Arrays, Stand, byte_of}
 use Rattle.plain_board.specs.Sound.{IsSound}
 use Rattle.board_face.proofs.LiesLemmas.{total-of}
 use Rattle.plain_board.proofs.Lists.{weight-same, All-none}
@@ -35,7 +35,7 @@ use Rattle.plain_board.proofs.AppFrames.{IsSet-app, was-at_rest, AreCounted-app,
 use Rattle.plain_board.proofs.AppFrames.{AreFlags-kept, AreFreeOnce-app, AreKept-app, AreDue-app, was-given, was-due, AreBooked-app, was-booked_loans}
 use Rattle.plain_board.proofs.AppFrames.{was-booked_filled, was-booked_raw, ArePhased-app, was-phased, was-own, OwnBuffers-app}
 
-module _ (board : Board) (a : ℕ) (x : AppSide) (own : Filling) (sound : IsSound board) (here : IsApp board.apps a x) (out : HasSpare x.view own) where
+module _ (board : Stand) (a : ℕ) (x : AppSide) (own : Filling) (sound : IsSound board) (here : IsApp board.apps a x) (out : HasSpare x.view own) where
   -- its buffer is one of the area
   pub spare-there : own.buffer < all_buffers board.arrays.layout
   spare-there =

@@ -30,7 +30,7 @@ use Rattle.board_face.proofs.IsFilledByOneLemmas.{IsFilledByOne-got_spare, filli
 use Rattle.board_face.proofs.OwnBufferLemmas.{AppLiesInOwn-got_spare}
 use Rattle.board_face.proofs.AreShownLemmas.{AreShown-got_spare}
 use Rattle.board_parts.specs.Free.{listed_in, HasNoneListed, IsPicked}
-use Rattle.plain_board.specs.Board.{Arrays, Board, setting_of, others_of, byte_of}
+use Rattle.plain_board.specs.Stand.{Arrays, Stand, setting_of, others_of, byte_of}
 use Rattle.plain_board.specs.Seen.{IsSeenBy}
 use Rattle.plain_board.specs.Sound.{IsSound, IsAtRest}
 use Rattle.plain_board.proofs.Lists.{weight-other, weight-swap, count-push, once-taken, same-or-other, All-none, raised}
@@ -56,7 +56,7 @@ listed-less listed i b there was =
     (eqb_tells i b)
 
 -- What is picked is a listed buffer, which isn't listed then, or the reserve. Nobody has it.
-pub record IsUnheld (board : Board) (a buffer : ℕ) (listed : List Bool) : Type 0 where
+pub record IsUnheld (board : Stand) (a buffer : ℕ) (listed : List Bool) : Type 0 where
   pub within : buffer < total board.arrays.layout
   pub none : pool_count buffer board.nic board.apps ≡ 0
   pub len : length listed ≡ length board.arrays.listed
@@ -65,7 +65,7 @@ pub record IsUnheld (board : Board) (a buffer : ℕ) (listed : List Bool) : Type
   pub fewer : (b : ℕ) → weight (listed_in listed b) ≤ weight (listed_in board.arrays.listed b)
   pub which : (buffer < pool_buffers board.arrays.layout) ⊎ ((buffer ≡ pool_buffers board.arrays.layout + a) × HasNoneListed board.arrays.listed)
 
-module _ (board : Board) (a buffer : ℕ) (x : AppSide) (listed : List Bool) (sound : IsSound board) (here : IsApp board.apps a x)
+module _ (board : Stand) (a buffer : ℕ) (x : AppSide) (listed : List Bool) (sound : IsSound board) (here : IsApp board.apps a x)
     (picked : IsPicked board.arrays.listed listed board.arrays.pool (pool_buffers board.arrays.layout + a) buffer) where
   pub is_unheld : IsUnheld board a buffer listed
   is_unheld =
@@ -96,7 +96,7 @@ module _ (board : Board) (a buffer : ℕ) (x : AppSide) (listed : List Bool) (so
       })
       picked.which
 
-module _ (board : Board) (a buffer : ℕ) (listed : List Bool) (sound : IsSound board) (free : IsUnheld board a buffer listed) where
+module _ (board : Stand) (a buffer : ℕ) (listed : List Bool) (sound : IsSound board) (free : IsUnheld board a buffer listed) where
   pub there-pool : buffer < length board.arrays.pool
   there-pool = omega (arith, free.within, sound.sizes.pool)
 
@@ -124,7 +124,7 @@ pick-pool false buffer b m is within = sym (weight-other buffer b (λ e. absurd 
 
 -- ---- the spare
 
-module _ (board : Board) (a buffer : ℕ) (x : AppSide) (listed : List Bool) (sound : IsSound board) (here : IsApp board.apps a x) (stays : IsHere x.view)
+module _ (board : Stand) (a buffer : ℕ) (x : AppSide) (listed : List Bool) (sound : IsSound board) (here : IsApp board.apps a x) (stays : IsHere x.view)
     (due : MaySpare x.view) (free : IsUnheld board a buffer listed) where
   abbrev now : AppSide
   now = app_at x (got_spare x.view buffer)
@@ -322,7 +322,7 @@ module _ (board : Board) (a buffer : ℕ) (x : AppSide) (listed : List Bool) (so
 
 -- ---- no spare
 
-module _ (board : Board) (a : ℕ) (x : AppSide) (sound : IsSound board) (here : IsApp board.apps a x) where
+module _ (board : Stand) (a : ℕ) (x : AppSide) (sound : IsSound board) (here : IsApp board.apps a x) where
   pub told-none : HasNoneListed board.arrays.listed → 0 < get_or board.arrays.pool (pool_buffers board.arrays.layout + a) 0
       → AppTold (λ look. IsSeenBy look (app_gist x.view) (others_of board a)) x.view (app_saw x.view NoSpare)
   told-none none held =

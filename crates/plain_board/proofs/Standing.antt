@@ -12,7 +12,7 @@ use Rattle.board_face.specs.declared.views.app.Origin.TheVariants.{Note as of_no
 use Rattle.board_face.specs.declared.views.app.LentPiece.{LentPiece}
 use Rattle.board_face.specs.declared.views.app.AppSide.{AppSide}
 use Rattle.board_face.proofs.RelayLemmas.{bytes_sent-past, take-drop-none}
-use Rattle.plain_board.specs.Board.{Board, byte_of}
+use Rattle.plain_board.specs.Stand.{Stand, byte_of}
 use Rattle.plain_board.specs.Sound.{IsSound}
 use Rattle.plain_board.specs.Lent.{IsLent, LentTextsStand}
 
@@ -37,7 +37,7 @@ All-of : {A : Type 0} (P : A → Type 0) (xs : List A) (x : A) → All P xs → 
 All-of P xs x all (k, within, e) = subst P e (all k x within)
 
 -- a loan that is out or owed is shown
-lent-shown : (board : Board) (a : ℕ) (app : AppSide) (l : LentPiece) → IsSound board → IsApp board.apps a app → IsLent board.nic app l
+lent-shown : (board : Stand) (a : ℕ) (app : AppSide) (l : LentPiece) → IsSound board → IsApp board.apps a app → IsLent board.nic app l
     → IsShown (byte_of board.arrays) l.place (text_of board.nic app l.origin l.place)
 lent-shown board a app l sound here lent =
     let shown : AppIsShown (byte_of board.arrays) board.nic app = subst (AppIsShown (byte_of board.arrays) board.nic) here.is

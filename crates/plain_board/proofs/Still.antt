@@ -18,7 +18,7 @@ use Rattle.board_face.proofs.IsFilledByOneLemmas.{IsFilledByOne-nic}
 use Rattle.board_face.proofs.OwnBufferLemmas.{LieInOwn-nic}
 use Rattle.board_face.proofs.AreShownLemmas.{AreShown-nic}
 use Rattle.board_parts.specs.Free.{listed_in}
-use Rattle.plain_board.specs.Board.{Board, byte_of}
+use Rattle.plain_board.specs.Stand.{Stand, byte_of}
 use Rattle.plain_board.specs.Sound.{IsSound}
 use Rattle.plain_board.proofs.Card.{IsSet-nic, AreCounted-same, AreRelayed-nic, AreReturns-nic, AreBooked-nic, ArePhased-nic}
 
@@ -39,7 +39,7 @@ pool_count-still b nic v apps still =
     let same : nic_count b (nic_at nic v) ≡ nic_count b nic = rw (still.owns, still.pieces) refl in
     omega (arith, pool_count-nic b nic v apps still.sent still.dealt)
 
-pub IsSound-still : (board : Board) (v : NicView) → IsSound board → IsStill board.nic.view v → (board.nic.view.ended ≡ true → v.ended ≡ true)
+pub IsSound-still : (board : Stand) (v : NicView) → IsSound board → IsStill board.nic.view v → (board.nic.view.ended ≡ true → v.ended ≡ true)
     → (v.ended ≡ true → HasNoToken v) → IsSound (record {
       arrays = record board.arrays { ended = v.ended };
       nic = nic_at board.nic v;
@@ -90,7 +90,7 @@ IsSound-still board v sound still ends none = record {
 }
 
 -- the same where the card didn't end
-pub IsSound-seen : (board : Board) (v : NicView) → IsSound board → IsStill board.nic.view v → v.ended ≡ board.nic.view.ended
+pub IsSound-seen : (board : Stand) (v : NicView) → IsSound board → IsStill board.nic.view v → v.ended ≡ board.nic.view.ended
     → IsSound (record { arrays = board.arrays; nic = nic_at board.nic v; apps = board.apps })
 IsSound-seen board v sound still same =
     let now : v.ended ≡ board.arrays.ended = same ∙ sym sound.flags.ended in
@@ -104,17 +104,17 @@ IsSound-seen board v sound still same =
 pub still : (v : NicView) (ended : Bool) (gone : List ℕ) (looks : List NicLook) → IsStill v (record v { ended = ended; gone = gone; looks = looks })
 still v ended gone looks = record { setting = refl; cache = refl; swept = refl; used = refl; owns = refl; pieces = refl; sent = refl; dealt = refl }
 
-pub IsSound-ended : (board : Board) → IsSound board → HasNoToken board.nic.view
+pub IsSound-ended : (board : Stand) → IsSound board → HasNoToken board.nic.view
     → IsSound (record { arrays = record board.arrays { ended = true }; nic = nic_at board.nic (nic_ended board.nic.view); apps = board.apps })
 IsSound-ended board sound none = IsSound-still board (nic_ended board.nic.view) sound (still board.nic.view true board.nic.view.gone board.nic.view.looks)
     (λ e. refl) (λ e. record { owns = none.owns; pieces = none.pieces })
 
-pub IsSound-saw : (board : Board) (look : NicLook) → IsSound board
+pub IsSound-saw : (board : Stand) (look : NicLook) → IsSound board
     → IsSound (record { arrays = board.arrays; nic = nic_at board.nic (nic_saw board.nic.view look); apps = board.apps })
 IsSound-saw board look sound = IsSound-seen board (nic_saw board.nic.view look) sound
     (still board.nic.view board.nic.view.ended board.nic.view.gone (look ∷ board.nic.view.looks)) refl
 
-pub IsSound-asked : (board : Board) (a : ℕ) (gone : Bool) → IsSound board
+pub IsSound-asked : (board : Stand) (a : ℕ) (gone : Bool) → IsSound board
     → IsSound (record {
       arrays = board.arrays;
       nic = if gone then nic_at board.nic (saw_leave board.nic.view a) else nic_at board.nic

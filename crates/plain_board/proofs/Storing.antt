@@ -14,7 +14,7 @@ use Rattle.board_face.specs.declared.views.app.AppSide.{AppSide}
 use Rattle.board_face.proofs.StoresAtLemmas.{StoresAt, HasNoText, HasNoText-behind}
 use Rattle.board_face.proofs.AreShownLemmas.{AreShown-stored_at}
 use Rattle.board_parts.specs.Area.{stored}
-use Rattle.plain_board.specs.Board.{Arrays, byte_of}
+use Rattle.plain_board.specs.Stand.{Arrays, byte_of}
 use Rattle.plain_board.specs.Sound.{HasSizes}
 
 -- ---- the area

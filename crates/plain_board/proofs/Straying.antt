@@ -31,7 +31,7 @@ use Rattle.board_face.proofs.OwnBufferLemmas.{LieInOwn-nic}
 use Rattle.board_face.proofs.AreShownLemmas.{AreShown-passed_over}
 use Rattle.board_face.proofs.Tallies.{weight}
 use Rattle.board_parts.specs.Counts.{user_at}
-use Rattle.plain_board.specs.Board.{Board, byte_of}
+use Rattle.plain_board.specs.Stand.{Stand, byte_of}
 use Rattle.plain_board.specs.Returns.{AreReturns, returns, abandoned_in, is_some_of, IsNamed}
 use Rattle.plain_board.specs.Sound.{IsSound, refills_of}
 use Rattle.plain_board.proofs.Card.{IsSet-nic, none-lowered}
@@ -44,7 +44,7 @@ some-of : (o : Option ℕ) → IsSome o → (i : ℕ) × (o ≡ Some i)
 some-of None h = absurd (let none : ⊥ = cc in none)
 some-of (Some i) h = (i, refl)
 
-module _ (board : Board) (a : ℕ) (x : AppSide) (e : Rqe) (es : List Rqe) (sound : IsSound board) (here : IsApp board.apps a x)
+module _ (board : Stand) (a : ℕ) (x : AppSide) (e : Rqe) (es : List Rqe) (sound : IsSound board) (here : IsApp board.apps a x)
     (found : refills_of board.arrays a ≡ e ∷ es)
     (none : IfSome (judged board.arrays.layout e) (λ i. get_or board.arrays.users (user_at board.arrays.layout a i) 0 ≡ 0)) where
   same_layout : x.view.setting.layout ≡ board.arrays.layout

@@ -21,7 +21,7 @@ use Rattle.board_face.proofs.AreShownLemmas.{AreShown-swept}
 use Rattle.board_face.proofs.LookLemmas.{NicRose-nic_saw}
 use Rattle.board_face.proofs.Tallies.{weight}
 use Rattle.board_parts.specs.Free.{listed_in}
-use Rattle.plain_board.specs.Board.{Board, byte_of}
+use Rattle.plain_board.specs.Stand.{Stand, byte_of}
 use Rattle.board_parts.specs.Free.{listed_from, found_in, word_len, word_end}
 use Rattle.plain_board.specs.Sound.{IsSound}
 use Rattle.plain_board.proofs.Lists.{weight-same, weight-other, count-push, count-append}
@@ -103,7 +103,7 @@ module _ (listed : List Bool) (first : ℕ) where
 
 -- ---- the board
 
-module _ (board : Board) (word : ℕ) (sound : IsSound board) (inside : word < free_words_of board.nic.view.setting) where
+module _ (board : Stand) (word : ℕ) (sound : IsSound board) (inside : word < free_words_of board.nic.view.setting) where
   pools : pool_buffers board.nic.view.setting.layout ≡ pool_buffers board.arrays.layout
   pools = ap (λ s. pool_buffers s.layout) sound.set.card
 

@@ -21,7 +21,7 @@ use Rattle.board_face.proofs.OwnBufferLemmas.{LieInOwn-nic}
 use Rattle.board_face.proofs.AreShownLemmas.{AreShown-took}
 use Rattle.board_face.proofs.Tallies.{weight}
 use Rattle.board_parts.specs.Free.{listed_in}
-use Rattle.plain_board.specs.Board.{Board, byte_of}
+use Rattle.plain_board.specs.Stand.{Stand, byte_of}
 use Rattle.plain_board.specs.Sound.{IsSound}
 use Rattle.plain_board.proofs.Lists.{take-last, once-taken, same-or-other, count-push, weight-same, weight-other, weight-swap, All-none}
 use Rattle.plain_board.proofs.Freeing.{zero-test}
@@ -34,14 +34,14 @@ free-case true f e some = (refl, e)
 free-case false f e some = absurd (omega (arith, e))
 
 -- The buffer that stands last in the cache is one of the pool, stands there alone, and has no holder.
-pub record IsSpareIn (b : ℕ) (board : Board) : Type 0 where
+pub record IsSpareIn (b : ℕ) (board : Stand) : Type 0 where
   pub of_pool : b < pool_buffers board.arrays.layout
   pub once : free_places (listed_in board.arrays.listed) b board.nic board.apps ≡ 1
   pub none : pool_count b board.nic board.apps ≡ 0
   pub there : b < length board.arrays.pool
   pub count : get_or board.arrays.pool b 0 ≡ 0
 
-module _ (board : Board) (buffer : ℕ) (sound : IsSound board) (found : last_item board.arrays.cache ≡ Some buffer) where
+module _ (board : Stand) (buffer : ℕ) (sound : IsSound board) (found : last_item board.arrays.cache ≡ Some buffer) where
   pub last : board.nic.view.cache ≡ (took board.nic.view buffer).cache ++ buffer ∷ []
   last = take-last board.nic.view.cache buffer (ap last_item (sym sound.cached) ∙ found)
 

@@ -5,8 +5,7 @@ use Rattle.std.specs.Prelude.{◌==◌, ◌↔◌, nat_lt, Contains, IsTrue}
 use Rattle.std.proofs.lemmas.Bool.{cases_lt, lt-ltb, ltb-true, eq-eqb}
 use Rattle.std.proofs.lemmas.Bool.Decides.{eqb_tells}
 use Rattle.zr_kinds.specs.declared.place.Place.{Place}
-use Rattle.area_layout.specs.Layout.{total as all_buffers, size_of, LiesIn}
-use Rattle.area_layout.proofs.Words.{words_apart}
+use Rattle.area_layout.specs.Layout.{total as all_buffers, LiesIn}
 use Rattle.board_face.specs.Sides.{IsApp}
 use Rattle.board_face.specs.AppCalls.{HasHeld, HasLoan, HasSpare, IsLive}
 use Rattle.board_face.specs.Counts.{pool_count}
@@ -18,11 +17,11 @@ use Rattle.board_face.proofs.Tallies.{weight, tally}
 use Rattle.board_face.proofs.Parts.{app_count, count-tally, pool_count-parts}
 use Rattle.board_face.proofs.PlaceTallies.{in_buffer, app_places}
 use Rattle.board_face.proofs.AppLemmas.{owns-without}
-use Rattle.board_face.proofs.FewLemmas.{pool_count-few}
 use Rattle.board_face.proofs.LiesLemmas.{total-at, helds-at, loans-at, lies-by as place-lies}
-use Rattle.plain_board.specs.Board.{Board}
+use Rattle.plain_board.specs.Stand.{Stand}
 use Rattle.plain_board.specs.Returns.{loans_out}
 use Rattle.plain_board.specs.Sound.{IsSound}
+use Rattle.plain_board.proofs.Counting.{holders-few}
 
 -- ---- one among many
 
@@ -40,7 +39,7 @@ live-to b [] (k, there, e) = absurd (omega arith)
 live-to b (x ∷ xs) (zero, there, e) = omega (arith, ap weight (eq-eqb x.place.buffer b e))
 live-to b (x ∷ xs) (suc k, there, e) = omega (arith, live-to b xs (k, omega arith, e))
 
-module _ (board : Board) (a : ℕ) (x : AppSide) (sound : IsSound board) (here : IsApp board.apps a x) where
+module _ (board : Stand) (a : ℕ) (x : AppSide) (sound : IsSound board) (here : IsApp board.apps a x) where
   -- an application has no more holders than there are
   pub part-le : (b : ℕ) → app_count b board.nic x ≤ pool_count b board.nic board.apps
   part-le b = omega (arith, pool_count-parts b board.nic board.apps, total-at (app_count b board.nic) board.apps a x here.there here.is)
@@ -53,11 +52,7 @@ module _ (board : Board) (a : ℕ) (x : AppSide) (sound : IsSound board) (here :
 
   -- no buffer has many holders
   pub pool-few : (b : ℕ) → pool_count b board.nic board.apps ≤ 65537
-  pool-few b =
-      let few = pool_count-few b board.nic board.apps (sound.shown.places b) (sound.by_one b) in
-      let layout = ap (λ s. size_of s.layout b) sound.set.card in
-      let most = ((words_apart board.arrays.layout sound.sizes.layout).size b).most in
-      omega (arith, few, layout, most)
+  pool-few b = holders-few board sound b
 
   -- where the place is one of its buffer's, it lies in the area and has a byte
   lies-by : (p : Place) → 0 < app_count p.buffer board.nic x

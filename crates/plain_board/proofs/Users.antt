@@ -7,19 +7,19 @@ use Rattle.std.proofs.lemmas.Bool.Decides.{eqb_tells}
 use Rattle.area_layout.specs.Layout.{total}
 use Rattle.board_face.proofs.Tallies.{weight}
 use Rattle.board_parts.specs.Counts.{user_at}
-use Rattle.plain_board.specs.Board.{Board}
+use Rattle.plain_board.specs.Stand.{Stand}
 use Rattle.plain_board.specs.Sound.{IsSound}
 use Rattle.plain_board.proofs.Lists.{same-user}
 
 user-row : (t n a b : ℕ) → a < n → b < t → a * t + b < n * t
 user-row t n a b app within = omega (arith, mul-add-lt a t b n app within)
 
-pub loans-there : (board : Board) → IsSound board → (a b : ℕ) → a < board.arrays.layout.reserves → b < total board.arrays.layout
+pub loans-there : (board : Stand) → IsSound board → (a b : ℕ) → a < board.arrays.layout.reserves → b < total board.arrays.layout
     → user_at board.arrays.layout a b < length board.arrays.loans
 loans-there board sound a b app within = let row = user-row (total board.arrays.layout) board.arrays.layout.reserves a b app within in omega
     (arith, row, sound.sizes.loans)
 
-pub users-there : (board : Board) → IsSound board → (a b : ℕ) → a < board.arrays.layout.reserves → b < total board.arrays.layout
+pub users-there : (board : Stand) → IsSound board → (a b : ℕ) → a < board.arrays.layout.reserves → b < total board.arrays.layout
     → user_at board.arrays.layout a b < length board.arrays.users
 users-there board sound a b app within = let row = user-row (total board.arrays.layout) board.arrays.layout.reserves a b app within in omega
     (arith, row, sound.sizes.users)

@@ -15,7 +15,7 @@ use Rattle.board_face.specs.declared.views.app.WrittenEntry.{WrittenEntry}
 use Rattle.board_face.specs.declared.views.app.AppSide.{AppSide}
 use Rattle.board_face.proofs.LookLemmas.{AppTold-one}
 use Rattle.board_parts.specs.Rings.{ring_in}
-use Rattle.plain_board.specs.Board.{Board, others_of}
+use Rattle.plain_board.specs.Stand.{Stand, others_of}
 use Rattle.plain_board.specs.Seen.{IsSeenBy}
 use Rattle.plain_board.specs.Sound.{IsSound}
 use Rattle.plain_board.proofs.AppFrames.{has-setting, was-relayed}
@@ -52,7 +52,7 @@ reach-longer (v ∷ ws) w of_loan = rw (reach-longer ws w of_loan) refl
 -- ---- where the ring is full
 
 -- as many entries are on their way as the ring has slots
-pub told-in_use : (board : Board) (a : ℕ) (x : AppSide) → IsSound board → IsApp board.apps a x
+pub told-in_use : (board : Stand) (a : ℕ) (x : AppSide) → IsSound board → IsApp board.apps a x
     → (ring_in board.arrays.refills a).capacity ≤ length (ring_in board.arrays.refills a).items
     → AppTold (λ look. IsSeenBy look (app_gist x.view) (others_of board a)) x.view (app_saw x.view RefillInUse)
 told-in_use board a x sound here full =

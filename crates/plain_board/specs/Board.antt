@@ -1,55 +1,39 @@
--- The board for one thread as plain data: what each role has done and knows, and the arrays.
-use Rattle.std.specs.Prelude.{◌≡◌, ℕ, ◌*◌, ◌+◌, ◌≤◌, Bool, true, false, List, [], replicate, slice_index, slice_set}
-use Rattle.circular_buffer.specs.Buffer.{Buffer, buffer}
-use Rattle.zr_kinds.specs.declared.ring.Rqe.{Rqe}
-use Rattle.area_layout.specs.Layout.{Shape, pool_buffers, total, begin_of}
-use Rattle.board_face.specs.Opened.{new_nic}
+-- The board for one thread as its callers see it: what it is made of, and the log of its events.
+use Rattle.std.specs.Prelude.{ℕ, List, slice_set}
+use Rattle.area_layout.specs.Layout.{Shape}
+use Rattle.board_face.specs.Blank.{blank_app}
+use Rattle.board_face.specs.Laws.{AllSides}
 use Rattle.board_face.specs.Sides.{side_in}
-use Rattle.board_face.specs.declared.views.parts.Setting.{Setting}
 use Rattle.board_face.specs.declared.views.nic.NicSide.{NicSide}
 use Rattle.board_face.specs.declared.views.app.AppSide.{AppSide}
-use Rattle.board_face.specs.Blank.{blank_app}
-use Rattle.board_parts.specs.Opened.{new_apps}
-use Rattle.board_parts.specs.declared.slots.NoteSlot.{NoteSlot}
+use Rattle.event_log.specs.Logs.{Kept}
+use Rattle.event_log.specs.RunLaws.{opened_log}
+use Rattle.plain_board.specs.declared.logged.Logged.{Logged}
+use Rattle.plain_board.specs.declared.others.Applications.{Applications}
 use Rattle.plain_board.specs.declared.others.Others.{Others}
-
--- Counts and flags, and what lies in the area and in the slots.
-pub record Arrays : Type 0 where
-  pub layout : Shape
-  pub places : ℕ
-  -- the bytes of all buffers, one buffer after another
-  pub area : List ℕ
-  -- the pool count of each buffer
-  pub pool : List ℕ
-  -- the user counts, those of one application after another
-  pub users : List ℕ
-  -- how many loans each application has out in each buffer, in the same order
-  pub loans : List ℕ
-  -- how many bytes the filled spare in a buffer has, where there is one
-  pub filled : List ℕ
-  -- whether a pool buffer is on the free list
-  pub listed : List Bool
-  -- the card's cache, in the order in which buffers entered
-  pub cache : List ℕ
-  -- the notes and the refill entries on their way, by application
-  pub notes : List (Buffer NoteSlot)
-  pub refills : List (Buffer Rqe)
-  -- how many refill entries on their way don't stand behind the last raw one, by application
-  pub raw : List ℕ
-  pub ended : Bool
-  pub left : List Bool
+use Rattle.plain_board.specs.Stand.{Arrays, Stand, new_stand}
 
 pub record Board : Type 0 where
   pub arrays : Arrays
   pub nic : NicSide
   pub apps : List AppSide
+  -- the events so far
+  pub log : Kept
 
-abbrev pub setting_of : Arrays → Setting
-setting_of arrays = record { layout = arrays.layout; places = arrays.places }
+abbrev pub board_of : Logged → Board
+board_of logged = record {
+  arrays = logged.contents.arrays;
+  nic = logged.contents.nic;
+  apps = logged.contents.apps;
+  log = logged.log;
+}
 
--- the byte of a buffer at an offset
-abbrev pub byte_of : Arrays → ℕ → ℕ → ℕ
-byte_of arrays buffer offset = slice_index arrays.area (begin_of arrays.layout buffer + offset)
+-- what it is made of
+abbrev pub stand_of : Board → Stand
+stand_of board = record { arrays = board.arrays; nic = board.nic; apps = board.apps }
+
+abbrev pub sides_of : Board → AllSides
+sides_of board = record { nic = board.nic; apps = board.apps }
 
 -- the board as an application holds it
 pub record Part : Type 0 where
@@ -60,45 +44,15 @@ pub record Part : Type 0 where
 abbrev pub side_of : Board → ℕ → AppSide
 side_of board a = side_in board.apps a
 
--- what no call of an application changes: the card's side, those of the other applications, and its own number
+-- what no call of the card changes: the sides of the applications, and for how many events the log has room
+abbrev pub applications_of : Board → Applications
+applications_of board = record { apps = board.apps; room = board.log.room }
+
+-- what no call of an application changes: the card's side, those of the other applications, its own number, and the log's room
 abbrev pub others_of : Board → ℕ → Others
-others_of board a = record { card = board.nic; apps = slice_set board.apps a blank_app; number = a }
+others_of board a = record { card = board.nic; apps = slice_set board.apps a blank_app; number = a; room = board.log.room }
 
--- No count, no free place, no byte and no note changed.
-pub record IsUntouched (old new : Arrays) : Type 0 where
-  pub area : new.area ≡ old.area
-  pub pool : new.pool ≡ old.pool
-  pub users : new.users ≡ old.users
-  pub loans : new.loans ≡ old.loans
-  pub filled : new.filled ≡ old.filled
-  pub listed : new.listed ≡ old.listed
-  pub cache : new.cache ≡ old.cache
-  pub notes : new.notes ≡ old.notes
-
--- A board that was just opened: each pool buffer is on the free list, and all else is empty or 0.
-abbrev pub new_board : Shape → ℕ → Board
-new_board layout places = record {
-  arrays = record {
-    layout = layout;
-    places = places;
-    area = replicate (begin_of layout (total layout)) 0;
-    pool = replicate (total layout) 0;
-    users = replicate (layout.reserves * total layout) 0;
-    loans = replicate (layout.reserves * total layout) 0;
-    filled = replicate (total layout) 0;
-    listed = replicate (pool_buffers layout) true;
-    cache = [];
-    notes = replicate layout.reserves (buffer [] places);
-    refills = replicate layout.reserves (buffer [] places);
-    raw = replicate layout.reserves 0;
-    ended = false;
-    left = replicate layout.reserves false;
-  };
-  nic = new_nic (record { layout = layout; places = places });
-  apps = new_apps (record { layout = layout; places = places }) 0 layout.reserves;
-}
-
--- The memory that was taken at opening, in which `finish` lists the free buffers.
-pub record HasRoom (layout : Shape) (free : List ℕ) (room : ℕ) : Type 0 where
-  pub empty : free ≡ []
-  pub free_room : pool_buffers layout ≤ room
+-- a board that was just opened, whose log has room for so many events
+abbrev pub new_board : Shape → ℕ → ℕ → Board
+new_board layout places room =
+    let stand = new_stand layout places in record { arrays = stand.arrays; nic = stand.nic; apps = stand.apps; log = opened_log room }

@@ -4,11 +4,11 @@ use Rattle.area_layout.specs.Layout.{pool_buffers}
 use Rattle.board_face.specs.Counts.{pool_count, user_count}
 pub use Rattle.board_face.specs.Ended.{IsEachOnce, IsServed}
 use Rattle.board_parts.specs.Free.{listed_below}
-use Rattle.plain_board.specs.Board.{Arrays, Board}
+use Rattle.plain_board.specs.Stand.{Arrays, Stand}
 use Rattle.plain_board.specs.Sound.{IsSound}
 
 -- the card ended, and every application left
-pub record IsOver (board : Board) : Type 0 where
+pub record IsOver (board : Stand) : Type 0 where
   pub card : board.nic.view.ended ≡ true
   pub apps : All (λ app. app.view.left ≡ true) board.apps
 
@@ -17,7 +17,7 @@ abbrev pub free_of : Arrays → List ℕ
 free_of arrays = arrays.cache ++ listed_below arrays.listed (length arrays.listed)
 
 -- All counts are 0, and no buffer has a holder.
-pub record HasNoCounts (board : Board) : Type 0 where
+pub record HasNoCounts (board : Stand) : Type 0 where
   pub pool : All (λ n. n ≡ 0) board.arrays.pool
   pub users : All (λ n. n ≡ 0) board.arrays.users
   pub holders : (b : ℕ) → pool_count b board.nic board.apps ≡ 0
@@ -25,10 +25,10 @@ pub record HasNoCounts (board : Board) : Type 0 where
 
 -- What `finish` says of a board, which also holds of one that stays: each pool buffer is free once, nobody has a buffer, and
 -- every application was served.
-pub record HasEndedWell (board : Board) : Type 0 where
+pub record HasEndedWell (board : Stand) : Type 0 where
   pub once : IsEachOnce (pool_buffers board.arrays.layout) (free_of board.arrays)
   pub counts : HasNoCounts board
   pub served : All (IsServed board.nic) board.apps
 
 abbrev pub BoardsEndWell : Type 0
-BoardsEndWell = (board : Board) → IsSound board → IsOver board → HasEndedWell board
+BoardsEndWell = (board : Stand) → IsSound board → IsOver board → HasEndedWell board

@@ -8,7 +8,7 @@ use Rattle.board_face.specs.declared.views.nic.SentNote.{SentNote}
 use Rattle.board_face.specs.declared.views.nic.NicSide.{NicSide}
 use Rattle.board_face.specs.declared.views.app.LentPiece.{LentPiece}
 use Rattle.board_face.specs.declared.views.app.AppSide.{AppSide}
-use Rattle.plain_board.specs.Board.{Board, byte_of}
+use Rattle.plain_board.specs.Stand.{Stand, byte_of}
 use Rattle.plain_board.specs.Sound.{IsSound}
 
 -- the loan is out, or was given back or abandoned and is still owed
@@ -22,6 +22,6 @@ pub record IsFront (before after : List SentNote) : Type 0 where
 
 abbrev pub LentTextsStand : Type 0
 LentTextsStand =
-    (old new : Board) → IsSound old → IsSound new → (a : ℕ) (was now : AppSide) → IsApp old.apps a was → IsApp new.apps a now
+    (old new : Stand) → IsSound old → IsSound new → (a : ℕ) (was now : AppSide) → IsApp old.apps a was → IsApp new.apps a now
     → IsFront (sent_to a old.nic) (sent_to a new.nic) → (l : LentPiece) → IsLent old.nic was l → IsLent new.nic now l
     → (i : ℕ) → i < l.place.len → byte_of new.arrays l.place.buffer (l.place.offset + i) ≡ byte_of old.arrays l.place.buffer (l.place.offset + i)

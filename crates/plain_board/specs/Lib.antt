@@ -1,7 +1,10 @@
-pub mod Board
+pub mod Stand
 pub mod Returns
 pub mod Sound
 pub mod Seen
 pub mod Finish
 pub mod Lent
 pub mod Users
+pub mod Events
+pub mod Recorded
+pub mod Board

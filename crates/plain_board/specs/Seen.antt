@@ -20,7 +20,7 @@ use Rattle.board_face.specs.declared.views.app.AppView.{AppView}
 use Rattle.board_face.specs.declared.views.app.AppSide.{AppSide}
 use Rattle.plain_board.specs.declared.others.Others.{Others}
 use Rattle.board_face.specs.Sides.{side_in}
-use Rattle.plain_board.specs.Board.{Board, side_of, others_of}
+use Rattle.plain_board.specs.Stand.{Stand, side_of, others_of}
 use Rattle.plain_board.specs.Returns.{entries_on_way, is_raw}
 
 -- ---- the card
@@ -42,7 +42,7 @@ IsSeenByCard (LastHolder b) v apps = pool_count b (card_of v) apps ≡ 1
 IsSeenByCard (StillHeld b) v apps = 2 ≤ pool_count b (card_of v) apps
 
 -- An entry of the application was dealt with, and its fate is that which the user counts of the board before give it.
-pub record IsJudged (old new : Board) (a : ℕ) : Type 0 where
+pub record IsJudged (old new : Stand) (a : ℕ) : Type 0 where
   pub entry : Rqe
   pub dealt : new.nic.view.dealt
       ≡ old.nic.view.dealt ++ record {
@@ -95,10 +95,10 @@ pub record IsFoundLowest (buffer : ℕ) (v : AppView) (others : Others) : Type 0
 -- ---- what a call saw
 
 -- Each look whose count rose for the card is so of the board before.
-abbrev pub CardSawSo : Board → Board → Type 0
+abbrev pub CardSawSo : Stand → Stand → Type 0
 CardSawSo old new = NicTold (λ look. IsSeenByCard look (nic_gist old.nic.view) old.apps) old.nic.view new.nic.view
 
 -- Each look whose count rose for the application is so of the board before.
-abbrev pub AppSawSo : Board → Board → ℕ → Type 0
+abbrev pub AppSawSo : Stand → Stand → ℕ → Type 0
 AppSawSo old new app =
     AppTold (λ look. IsSeenBy look (app_gist (side_of old app).view) (others_of old app)) (side_of old app).view (side_of new app).view

@@ -26,7 +26,7 @@ use Rattle.board_parts.specs.declared.slots.NoteSlot.{NoteSlot}
 use Rattle.plain_board.specs.Returns.{AreReturns, entries_on_way, loans_out, reach_of}
 use Rattle.board_parts.specs.Free.{listed_in}
 use Rattle.board_parts.specs.Counts.{user_at}
-use Rattle.plain_board.specs.Board.{Arrays, Board, setting_of, byte_of}
+use Rattle.plain_board.specs.Stand.{Arrays, Stand, setting_of, byte_of}
 
 -- The arrays have an element for each buffer, for each application, or for both.
 pub record HasSizes (arrays : Arrays) : Type 0 where
@@ -107,7 +107,7 @@ pub record AreBooked (arrays : Arrays) (nic : NicSide) (apps : List AppSide) : T
   pub filled : (a : ℕ) (app : AppSide) → IsApp apps a app → All (λ s. slice_index arrays.filled s.own.buffer ≡ length s.bytes) app.view.owns
   pub raw : (a : ℕ) (app : AppSide) → IsApp apps a app → slice_index arrays.raw a ≡ reach_of (entries_on_way nic app)
 
-pub record IsSound (board : Board) : Type 0 where
+pub record IsSound (board : Stand) : Type 0 where
   pub sizes : HasSizes board.arrays
   pub cached : board.arrays.cache ≡ board.nic.view.cache
   pub set : IsSet (setting_of board.arrays) board.nic board.apps

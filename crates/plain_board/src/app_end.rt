@@ -1,7 +1,8 @@
 ghost use Rattle.std.specs.Prelude.{◌≡◌, ◌<◌};
 ghost use Rattle.board_face.specs.AppCalls.{IsHere, CanScrub, CanLeave};
 ghost use Rattle.board_face.specs.AppEvents.{scrubbed, left_board};
-ghost use Rattle.plain_board.specs.Board.{side_of, others_of};
+ghost use Rattle.plain_board.specs.Events.{TookOwed};
+ghost use Rattle.plain_board.specs.Stand.{side_of, others_of};
 
 use crate::contents::Contents;
 use board_parts::{note_at, put, take_back};
@@ -14,6 +15,7 @@ impl Contents {
         requires here { IsHere (side_of self.old app).view }
         requires can { CanScrub (side_of self.old app).view }
         ensures view { (side_of self.new app).view ≡ scrubbed (side_of self.old app).view }
+        ensures taken { TookOwed self.old self.new app }
         ensures others { others_of self.new app ≡ others_of self.old app }
         ensures layout { self.new.arrays.layout ≡ self.old.arrays.layout }
     {
@@ -34,6 +36,7 @@ impl Contents {
         requires here { IsHere (side_of self.old app).view }
         requires can { CanLeave (side_of self.old app).view }
         ensures view { (side_of self.new app).view ≡ left_board (side_of self.old app).view }
+        ensures inside { (side_of self.new app).inside ≡ (side_of self.old app).inside }
         ensures others { others_of self.new app ≡ others_of self.old app }
         ensures layout { self.new.arrays.layout ≡ self.old.arrays.layout }
     {

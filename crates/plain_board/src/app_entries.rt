@@ -3,7 +3,7 @@ ghost use Rattle.board_face.specs.declared.views.app.AppLook.TheVariants.{Refill
 ghost use Rattle.board_face.specs.AppCalls.{IsHere, NamesNoLoan, AppOnlySaw};
 ghost use Rattle.board_face.specs.AppEvents.{pushed_raw, came_to_rest, fell_quiet};
 ghost use Rattle.board_face.specs.NotNow.{HasWritten, HasWrittenRingful, HasPushedRaw};
-ghost use Rattle.plain_board.specs.Board.{side_of, others_of};
+ghost use Rattle.plain_board.specs.Stand.{side_of, others_of};
 ghost use Rattle.plain_board.specs.Seen.{AppSawSo};
 
 use crate::contents::Contents;
@@ -23,6 +23,7 @@ impl Contents {
             (λ back. (back ≡ entry) × AppOnlySaw RefillInUse (side_of self.old app).view (side_of self.new app).view) }
         ensures full { IfErr result (λ _. HasWrittenRingful (side_of self.old app).view) }
         ensures told { AppSawSo self.old self.new app }
+        ensures inside { (side_of self.new app).inside ≡ (side_of self.old app).inside }
         ensures others { others_of self.new app ≡ others_of self.old app }
         ensures layout { self.new.arrays.layout ≡ self.old.arrays.layout }
     {
@@ -46,6 +47,7 @@ impl Contents {
         ensures raw { result ≡ false → HasPushedRaw (side_of self.old app).view }
         ensures told { AppSawSo self.old self.new app }
         ensures still { (side_of self.old app).view.settled ≡ true → IsTrue result }
+        ensures inside { (side_of self.new app).inside ≡ (side_of self.old app).inside }
         ensures others { others_of self.new app ≡ others_of self.old app }
         ensures layout { self.new.arrays.layout ≡ self.old.arrays.layout }
     {
@@ -63,6 +65,7 @@ impl Contents {
             (AppOnlySaw NotQuiet (side_of self.old app).view (side_of self.new app).view) }
         ensures some { result ≡ false → HasWritten (side_of self.old app).view }
         ensures told { AppSawSo self.old self.new app }
+        ensures inside { (side_of self.new app).inside ≡ (side_of self.old app).inside }
         ensures others { others_of self.new app ≡ others_of self.old app }
         ensures layout { self.new.arrays.layout ≡ self.old.arrays.layout }
     {

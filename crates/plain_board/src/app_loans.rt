@@ -3,7 +3,7 @@ ghost use Rattle.board_face.specs.declared.views.app.AppLook.TheVariants.{Refill
 ghost use Rattle.board_face.specs.AppCalls.{IsHere, HasLoan, IsLive, AppOnlySaw, ShowsCopy};
 ghost use Rattle.board_face.specs.AppEvents.{has_read, loan_origin, gave, abandoned};
 ghost use Rattle.board_face.specs.NotNow.{HasWrittenRingful};
-ghost use Rattle.plain_board.specs.Board.{side_of, others_of};
+ghost use Rattle.plain_board.specs.Stand.{side_of, others_of};
 ghost use Rattle.plain_board.specs.Seen.{AppSawSo};
 
 use crate::contents::Contents;
@@ -21,6 +21,7 @@ impl Contents {
         requires within { from + length into.old ≤ loan.now.len }
         ensures view { (side_of self.new app).view ≡ has_read (side_of self.old app).view loan.now from into.new }
         ensures copied { ShowsCopy (loan_origin (side_of self.old app).view loan.now) from into.new }
+        ensures inside { (side_of self.new app).inside ≡ (side_of self.old app).inside }
         ensures others { others_of self.new app ≡ others_of self.old app }
         ensures layout { self.new.arrays.layout ≡ self.old.arrays.layout }
     {
@@ -40,6 +41,7 @@ impl Contents {
             (λ back. (back ≡ loan) × AppOnlySaw RefillInUse (side_of self.old app).view (side_of self.new app).view) }
         ensures full { IfErr result (λ _. HasWrittenRingful (side_of self.old app).view) }
         ensures told { AppSawSo self.old self.new app }
+        ensures inside { (side_of self.new app).inside ≡ (side_of self.old app).inside }
         ensures others { others_of self.new app ≡ others_of self.old app }
         ensures layout { self.new.arrays.layout ≡ self.old.arrays.layout }
     {
@@ -65,6 +67,7 @@ impl Contents {
         requires here { IsHere (side_of self.old app).view }
         requires out { HasLoan (side_of self.old app).view loan }
         ensures view { (side_of self.new app).view ≡ abandoned (side_of self.old app).view loan }
+        ensures inside { (side_of self.new app).inside ≡ (side_of self.old app).inside }
         ensures others { others_of self.new app ≡ others_of self.old app }
         ensures layout { self.new.arrays.layout ≡ self.old.arrays.layout }
     {

@@ -1,7 +1,7 @@
 ghost use Rattle.std.specs.Prelude.{◌≡◌, ◌<◌, false};
 ghost use Rattle.board_face.specs.AppCalls.{IsHere, Looked};
 ghost use Rattle.board_face.specs.declared.answers.Polled.TheVariants.{Empty as got_none};
-ghost use Rattle.plain_board.specs.Board.{side_of, others_of};
+ghost use Rattle.plain_board.specs.Stand.{side_of, others_of};
 ghost use Rattle.plain_board.specs.Seen.{AppSawSo};
 
 use crate::contents::Contents;
@@ -18,6 +18,7 @@ impl Contents {
         ensures view { Looked (side_of self.old app).view (side_of self.new app).view linear.new result }
         ensures untold { result ≡ got_none → (side_of self.old app).view.ended ≡ false }
         ensures told { AppSawSo self.old self.new app }
+        ensures inside { (side_of self.new app).inside ≡ (side_of self.old app).inside }
         ensures others { others_of self.new app ≡ others_of self.old app }
         ensures layout { self.new.arrays.layout ≡ self.old.arrays.layout }
     {

@@ -2,7 +2,7 @@ ghost use Rattle.std.specs.Prelude.{◌≡◌, ◌<◌};
 ghost use Rattle.board_face.specs.AppCalls.{IsHere, HasHeld, CanLend};
 ghost use Rattle.board_face.specs.AppEvents.{cut, released, lent};
 ghost use Rattle.board_face.specs.Texts.{front_place, rest_place};
-ghost use Rattle.plain_board.specs.Board.{side_of, others_of};
+ghost use Rattle.plain_board.specs.Stand.{side_of, others_of};
 
 use crate::contents::Contents;
 use board_face::{Held, Loan};
@@ -20,6 +20,7 @@ impl Contents {
         requires rest { at < held.len }
         ensures places { (result.0 ≡ front_place held at) × (result.1 ≡ rest_place held at) }
         ensures view { (side_of self.new app).view ≡ cut (side_of self.old app).view held at }
+        ensures inside { (side_of self.new app).inside ≡ (side_of self.old app).inside }
         ensures others { others_of self.new app ≡ others_of self.old app }
         ensures layout { self.new.arrays.layout ≡ self.old.arrays.layout }
     {
@@ -43,6 +44,7 @@ impl Contents {
         requires can { CanLend (side_of self.old app).view }
         ensures place { result ≡ held }
         ensures view { (side_of self.new app).view ≡ lent (side_of self.old app).view held }
+        ensures inside { (side_of self.new app).inside ≡ (side_of self.old app).inside }
         ensures others { others_of self.new app ≡ others_of self.old app }
         ensures layout { self.new.arrays.layout ≡ self.old.arrays.layout }
     {
@@ -60,6 +62,7 @@ impl Contents {
         requires here { IsHere (side_of self.old app).view }
         requires out { HasHeld (side_of self.old app).view held }
         ensures view { (side_of self.new app).view ≡ released (side_of self.old app).view held }
+        ensures inside { (side_of self.new app).inside ≡ (side_of self.old app).inside }
         ensures others { others_of self.new app ≡ others_of self.old app }
         ensures layout { self.new.arrays.layout ≡ self.old.arrays.layout }
     {

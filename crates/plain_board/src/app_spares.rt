@@ -4,7 +4,8 @@ ghost use Rattle.board_face.specs.Tokens.{filled_by};
 ghost use Rattle.board_face.specs.AppCalls.{IsHere, HasSpare, CanLend, MaySpare, IsFilled, AppOnlySaw, GotSpare};
 ghost use Rattle.board_face.specs.NotNow.{HasUsedReserve};
 ghost use Rattle.board_face.specs.AppEvents.{app_gist, filled, own_bytes, begin_place, lent_own};
-ghost use Rattle.plain_board.specs.Board.{side_of, others_of};
+ghost use Rattle.board_face.specs.Counts.{pool_count};
+ghost use Rattle.plain_board.specs.Stand.{side_of, others_of};
 ghost use Rattle.plain_board.specs.Seen.{AppSawSo, IsFoundLowest};
 
 use crate::contents::Contents;
@@ -23,8 +24,10 @@ impl Contents {
             (AppOnlySaw NoSpare (side_of self.old app).view (side_of self.new app).view)
             (λ own. GotSpare (side_of self.old app).view (side_of self.new app).view own) }
         ensures held { IfNone result (HasUsedReserve (side_of self.old app).view) }
+        ensures unheld { IfSome result (λ own. pool_count own.buffer self.old.nic self.old.apps ≡ 0) }
         ensures lowest { IfSome result (λ own. IsFoundLowest own.buffer (app_gist (side_of self.old app).view) (others_of self.old app)) }
         ensures told { AppSawSo self.old self.new app }
+        ensures inside { (side_of self.new app).inside ≡ (side_of self.old app).inside }
         ensures others { others_of self.new app ≡ others_of self.old app }
         ensures layout { self.new.arrays.layout ≡ self.old.arrays.layout }
     {
@@ -50,6 +53,7 @@ impl Contents {
         requires few { length bytes.now ≤ 256 }
         ensures own { own.new ≡ filled_by own.old (length bytes.now) }
         ensures view { (side_of self.new app).view ≡ filled (side_of self.old app).view own.old bytes.now }
+        ensures inside { (side_of self.new app).inside ≡ (side_of self.old app).inside }
         ensures others { others_of self.new app ≡ others_of self.old app }
         ensures layout { self.new.arrays.layout ≡ self.old.arrays.layout }
     {
@@ -75,6 +79,7 @@ impl Contents {
         requires filled { IsFilled (side_of self.old app).view own }
         ensures place { result ≡ begin_place own.buffer (length (own_bytes (side_of self.old app).view own)) }
         ensures view { (side_of self.new app).view ≡ lent_own (side_of self.old app).view own }
+        ensures inside { (side_of self.new app).inside ≡ (side_of self.old app).inside }
         ensures others { others_of self.new app ≡ others_of self.old app }
         ensures layout { self.new.arrays.layout ≡ self.old.arrays.layout }
     {

@@ -1,33 +1,41 @@
 ghost use Rattle.std.specs.Prelude.{◌≡◌, ◌<◌, ◌≤◌, All, IfOk};
 ghost use Rattle.area_layout.specs.Layout.{pool_buffers};
-ghost use Rattle.plain_board.specs.Board.{new_board};
+ghost use Rattle.plain_board.specs.Board.{new_board, stand_of, sides_of};
 ghost use Rattle.plain_board.specs.Finish.{IsOver, free_of, IsEachOnce, HasNoCounts, IsServed};
+ghost use Rattle.plain_board.specs.Recorded.{IsRecorded};
 ghost use Rattle.plain_board.specs.Sound.{IsSound};
 
 use crate::contents::Contents;
+use crate::logged::Logged;
 use crate::{PlainApp, PlainNic};
 use area_layout::Layout;
+use event_log::EventLog;
+use run_records::Log;
 use std::alloc::{AllocError, Global};
 use std::marker::Model;
 use zr_kinds::Ended;
 
-/// A board for one thread: counts, rings and free buffers in plain arrays. All its memory is taken at opening. It stands
-/// behind a pointer, since it goes into a role's hands for each turn, and back.
+/// A board for one thread: counts, rings and free buffers in plain arrays, and a log of its events. All its memory is taken
+/// at opening. It stands behind a pointer, since it goes into a role's hands for each turn, and back.
 #[derive(Drop)]
 pub struct PlainBoard {
-    pub(crate) board: Box<Contents>,
+    pub(crate) board: Box<Logged>,
 }
 
 impl Model for PlainBoard {
-    ghost use Rattle.plain_board.specs.Board.{Board};
+    ghost use Rattle.plain_board.specs.Board.{Board, board_of, sides_of};
+    ghost use Rattle.plain_board.specs.Recorded.{IsRecorded};
 
     ghost Value = { Board };
 
-    ghost view = { λ b. b.board.value };
+    ghost view = { λ b. board_of b.board.value };
+
+    ghost invariant = { λ b. IsRecorded (sides_of (view b)) (view b).log };
 }
 
 impl PlainBoard {
-    /// A board on which nothing has happened, each pool buffer on the free list. All its memory is taken here.
+    /// A board on which nothing has happened, each pool buffer on the free list. All its memory is taken here. It keeps no
+    /// event.
     pub fn open(
         alloc: Global,
         layout: Layout,
@@ -37,10 +45,28 @@ impl PlainBoard {
         requires reserves { layout.reserves ≡ apps }
         requires some { 1 ≤ places }
         requires few { places ≤ 256 }
-        ensures { IfOk result (λ board. board ≡ new_board layout places) }
+        ensures { IfOk result (λ board. board ≡ new_board layout places 0) }
+    {
+        PlainBoard::open_logged(alloc, layout, apps, places, 0)
+    }
+
+    /// A board as `open` gives it, whose log has room for so many events.
+    pub fn open_logged(
+        alloc: Global,
+        layout: Layout,
+        apps: u32,
+        places: u32,
+        events: u32,
+    ) -> Result<PlainBoard, AllocError>
+        requires reserves { layout.reserves ≡ apps }
+        requires some { 1 ≤ places }
+        requires few { places ≤ 256 }
+        requires room { events ≤ 1000000 }
+        ensures { IfOk result (λ board. board ≡ new_board layout places events) }
     {
         let contents = Contents::open(alloc, layout, apps, places)?;
-        let board = Box::new(alloc, contents)?;
+        let log = EventLog::open(alloc, events)?;
+        let board = Box::new(alloc, Logged { contents, log })?;
         Ok(PlainBoard { board })
     }
 
@@ -62,23 +88,33 @@ impl PlainBoard {
         }
     }
 
+    /// The events so far, and whether they are all.
+    pub fn log(&self) -> &Log
+        ensures events { result.now.events.items ≡ self.now.log.events }
+        ensures whole { result.now.whole ≡ self.now.log.whole }
+    {
+        self.board.log.log()
+    }
+
     /// What holds of every board, between any two calls: counts are holders, each pool buffer is free once or held, the
     /// area has each text at its place, what lies in the slots is what is on its way, what was read is what was sent, and
-    /// no entry of a loan was a stray. It does nothing: its contract says so.
+    /// no entry of a loan was a stray; and the log tells of all that happened. It does nothing: its contract says so.
     pub fn sound(&self)
-        ensures { IsSound self.now }
+        ensures contents { IsSound (stand_of self.now) }
+        ensures log { IsRecorded (sides_of self.now) self.now.log }
     {
-        self.board.sound();
+        self.board.contents.sound();
     }
 
     /// Ends a board that all have left, and answers its free buffers. It takes no memory.
     pub fn finish(self) -> Ended
-        requires { IsOver self }
+        requires { IsOver (stand_of self) }
         ensures order { result.free.items ≡ free_of self.arrays }
         ensures once { IsEachOnce (pool_buffers self.arrays.layout) result.free.items }
-        ensures counts { HasNoCounts self }
+        ensures counts { HasNoCounts (stand_of self) }
         ensures served { All (IsServed self.nic) self.apps }
     {
-        Box::into_inner(self.board).finish()
+        let Logged { contents, log: _ } = Box::into_inner(self.board);
+        contents.finish()
     }
 }

@@ -1,11 +1,12 @@
 ghost use Rattle.std.specs.Prelude.{◌≡◌, ℕ, ◌/◌, ◌<◌, ◌≤◌, [], ◌∷◌, ◌++◌, false, length, slice_index, ◌==◌, MatchOption};
-ghost use Rattle.std.specs.Prelude.{MatchBool, IfOk};
+ghost use Rattle.std.specs.Prelude.{MatchBool, IfOk, IfSome};
+ghost use Rattle.board_face.specs.Counts.{pool_count};
 ghost use Rattle.board_face.specs.NicCalls.{apps_of, IsOpen, HasOwn, HasNoToken, TookBuffer, SweptWord, free_words_of, lost_of, sent_unsplit_bytes};
 ghost use Rattle.board_face.specs.NicEvents.{word_bits, shut, nic_ended, saw_leave, nic_saw};
 ghost use Rattle.board_face.specs.declared.views.nic.NicLook.TheVariants.{NotLeft};
 ghost use Rattle.board_face.specs.Sides.{nic_at};
 ghost use Rattle.board_parts.specs.Free.{listed_in};
-ghost use Rattle.plain_board.specs.Board.{new_board};
+ghost use Rattle.plain_board.specs.Stand.{new_stand};
 ghost use Rattle.plain_board.specs.Seen.{CardSawSo};
 
 use area_layout::Layout;
@@ -49,11 +50,11 @@ pub struct Contents {
 }
 
 impl Model for Contents {
-    ghost use Rattle.plain_board.specs.Board.{Board, HasRoom};
+    ghost use Rattle.plain_board.specs.Stand.{Stand, HasRoom};
     ghost use Rattle.plain_board.specs.Sound.{IsSound};
     ghost use Rattle.std.specs.Prelude.{vec_capacity};
 
-    ghost Value = { Board };
+    ghost Value = { Stand };
 
     ghost view = { λ s. record {
       arrays = record {
@@ -92,7 +93,7 @@ impl Contents {
         requires reserves { layout.reserves ≡ apps }
         requires some { 1 ≤ places }
         requires few { places ≤ 256 }
-        ensures { IfOk result (λ board. board ≡ new_board layout places) }
+        ensures { IfOk result (λ board. board ≡ new_stand layout places) }
     {
         let buffers = layout.buffers() as usize;
         let total = layout.total() as usize;
@@ -133,6 +134,7 @@ impl Contents {
         ensures view { MatchOption result
             ((self.old.nic.view.cache ≡ []) × (self.new ≡ self.old))
             (λ own. TookBuffer self.old.nic.view self.new.nic.view own) }
+        ensures unheld { IfSome result (λ own. pool_count own.buffer self.old.nic self.old.apps ≡ 0) }
         ensures apps { self.new.apps ≡ self.old.apps }
     {
         let Some(buffer) = self.cache.pop() else {

@@ -1,5 +1,6 @@
 //! The board for one thread: counts, rings and free buffers in plain arrays. The card and each application reach it
-//! through a part that holds the whole board and gives it back.
+//! through a part that holds the whole board and gives it back. A board logs what happens to the holders of its buffers, as
+//! far as its log has room.
 #![tactic(auto)]
 
 mod app;
@@ -14,8 +15,10 @@ mod card_entries;
 mod card_notes;
 mod card_places;
 mod contents;
+mod counts;
 mod finish;
 mod laws;
+mod logged;
 mod nic;
 mod others;
 mod readers;
@@ -24,7 +27,7 @@ pub use app::PlainApp;
 pub use board::PlainBoard;
 pub use laws::{boards_end_well, lent_texts_stand, users_are_loans};
 pub use nic::PlainNic;
-pub use others::Others;
+pub use others::{Applications, Others};
 
 #[cfg(test)]
 mod tests;

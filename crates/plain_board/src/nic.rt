@@ -2,29 +2,34 @@ ghost use Rattle.std.specs.Prelude.{◌≡◌, ◌≢◌, ℕ, ◌/◌, ◌<◌,
 ghost use Rattle.board_face.specs.NicCalls.{apps_of, free_words_of, lost_of, sent_unsplit_bytes, SweptWord, DealtWith};
 ghost use Rattle.board_face.specs.NicEvents.{word_bits};
 ghost use Rattle.board_parts.specs.Free.{listed_in};
-ghost use Rattle.plain_board.specs.Board.{IsUntouched};
+ghost use Rattle.plain_board.specs.Board.{stand_of, sides_of, applications_of};
+ghost use Rattle.plain_board.specs.Recorded.{IsRecorded};
+ghost use Rattle.plain_board.specs.Stand.{IsUntouched};
 ghost use Rattle.plain_board.specs.Sound.{IsSound};
 ghost use Rattle.plain_board.specs.Seen.{IsSeenByCard, IsJudged, CardSawSo};
 
-use crate::PlainBoard;
-use crate::contents::Contents;
-use board_face::{AppSide, Entry, NicFace, Own, Piece};
-use std::collections::LinkedList;
+use crate::logged::Logged;
+use crate::{Applications, PlainBoard};
+use board_face::{Entry, NicFace, Own, Piece};
+use run_records::Event;
 use std::marker::Model;
 use zr_kinds::Note;
 
 /// The board in the card's hands.
 #[derive(Drop)]
 pub struct PlainNic {
-    pub(crate) board: Box<Contents>,
+    pub(crate) board: Box<Logged>,
 }
 
 impl Model for PlainNic {
-    ghost use Rattle.plain_board.specs.Board.{Board};
+    ghost use Rattle.plain_board.specs.Board.{Board, board_of, sides_of};
+    ghost use Rattle.plain_board.specs.Recorded.{IsRecorded};
 
     ghost Value = { Board };
 
-    ghost view = { λ n. n.board.value };
+    ghost view = { λ n. board_of n.board.value };
+
+    ghost invariant = { λ n. IsRecorded (sides_of (view n)) (view n).log };
 }
 
 impl PlainNic {
@@ -37,45 +42,54 @@ impl PlainNic {
 
     /// What holds of the board, as `PlainBoard::sound` says it.
     pub fn sound(&self)
-        ensures { IsSound self.now }
+        ensures contents { IsSound (stand_of self.now) }
+        ensures log { IsRecorded (sides_of self.now) self.now.log }
     {
-        self.board.sound();
+        self.board.contents.sound();
     }
 }
 
 impl NicFace for PlainNic {
-    ghost use Rattle.plain_board.specs.Seen.{IsSeenByCard, IsJudged, CardSawSo};
+    ghost use Rattle.plain_board.specs.Board.{applications_of};
+    ghost use Rattle.plain_board.specs.Seen.{IsSeenByCard};
 
-    type Beside = LinkedList<AppSide>;
+    type Beside = Applications;
 
     ghost seen = { λ n. n.nic.view };
 
-    ghost beside = { λ n. n.apps };
+    ghost beside = { applications_of };
 
-    ghost tells = { IsSeenByCard };
+    ghost tells = { λ look v beside. IsSeenByCard look v beside.apps };
 
     fn apps(&self) -> u32 {
-        self.board.layout.total() - self.board.layout.buffers()
+        let layout = &self.board.contents.layout;
+        layout.total() - layout.buffers()
     }
 
     fn places(&self) -> u32 {
-        self.board.places
+        self.board.contents.places
     }
 
     fn size(&self) -> u32 {
-        self.board.layout.size()
+        self.board.contents.layout.size()
     }
 
     fn free_words(&self) -> u32 {
-        self.board.layout.buffers().div_ceil(64)
+        self.board.contents.layout.buffers().div_ceil(64)
     }
 
     fn cached(&self) -> u32 {
-        self.board.cache.len() as u32
+        self.board.contents.cache.len() as u32
     }
 
     fn take(&mut self) -> Option<Own> {
-        self.board.take()
+        self.board.contents.sound();
+        let own = self.board.contents.take()?;
+        self.board.contents.sound();
+        let buffer = own.buffer();
+        let pool = self.board.contents.pool_count(buffer);
+        self.board.log.push(Event::Take { buffer, pool });
+        Some(own)
     }
 
     /// Beyond the face: no buffer of the word is listed then.
@@ -84,11 +98,14 @@ impl NicFace for PlainNic {
         requires word { word < free_words_of self.old.nic.view.setting }
         ensures view { SweptWord self.old.nic.view self.new.nic.view word result }
         ensures bound { lost_of self.new.nic.view ≤ sent_unsplit_bytes self.new.nic.view }
-        ensures told { CardSawSo self.old self.new }
-        ensures beside { self.new.apps ≡ self.old.apps }
+        ensures told { CardSawSo (stand_of self.old) (stand_of self.new) }
+        ensures beside { applications_of self.new ≡ applications_of self.old }
         ensures emptied { (b : ℕ) → b / word_bits ≡ word → listed_in self.new.arrays.listed b ≡ false }
     {
-        self.board.sweep(word)
+        self.board.contents.sound();
+        let count = self.board.contents.sweep(word);
+        self.board.contents.sound();
+        count
     }
 
     /// Beyond the face: an entry is judged by the user counts as they are, and a stray changes no count, no free place,
@@ -96,35 +113,74 @@ impl NicFace for PlainNic {
     fn entry(&mut self, app: u32) -> Entry
         requires app { app < apps_of self.old.nic.view.setting }
         ensures view { DealtWith self.old.nic.view self.new.nic.view app result }
-        ensures told { CardSawSo self.old self.new }
-        ensures beside { self.new.apps ≡ self.old.apps }
+        ensures told { CardSawSo (stand_of self.old) (stand_of self.new) }
+        ensures beside { applications_of self.new ≡ applications_of self.old }
         ensures stray { result ≡ Entry.Stray → IsUntouched self.old.arrays self.new.arrays }
-        ensures judged { result ≢ Entry.Empty → IsJudged self.old self.new app }
+        ensures judged { result ≢ Entry.Empty → IsJudged (stand_of self.old) (stand_of self.new) app }
     {
-        self.board.entry(app)
+        self.board.contents.sound();
+        let (entry, returned) = self.board.contents.entry(app);
+        self.board.contents.sound();
+        if let Some(buffer) = returned {
+            let pool = self.board.contents.pool_count(buffer);
+            let user = self.board.contents.user_count(app, buffer);
+            self.board.log.push(Event::Honour {
+                app,
+                buffer,
+                pool,
+                user,
+            });
+        } else if let Entry::Stray = entry {
+            self.board.log.push(Event::Stray { app });
+        }
+        entry
     }
 
     fn place(&mut self, own: &mut Own, bytes: &[u8]) -> Piece {
-        self.board.place(own, bytes)
+        self.board.contents.sound();
+        let piece = self.board.contents.place(own, bytes);
+        self.board.contents.sound();
+        let place = piece.place();
+        let pool = self.board.contents.pool_count(place.buffer);
+        self.board.log.push(Event::Place {
+            buffer: place.buffer,
+            offset: place.offset,
+            len: place.len,
+            pool,
+        });
+        piece
     }
 
     fn send(&mut self, app: u32, note: Note, piece: Piece) -> Result<(), Piece> {
-        self.board.send(app, note, piece)
+        self.board.contents.sound();
+        self.board.contents.send(app, note, piece)?;
+        self.board.log.push(Event::Sent {
+            app,
+            buffer: note.place.buffer,
+            offset: note.place.offset,
+            len: note.place.len,
+        });
+        Ok(())
     }
 
     fn send_linear(&mut self, app: u32, note: Note, bytes: &[u8]) -> bool {
-        self.board.send_linear(app, note, bytes)
+        self.board.contents.sound();
+        self.board.contents.send_linear(app, note, bytes)
     }
 
     fn shut(&mut self, own: Own) {
-        self.board.shut(own);
+        let buffer = own.buffer();
+        self.board.contents.sound();
+        self.board.contents.shut(own);
+        let pool = self.board.contents.pool_count(buffer);
+        self.board.log.push(Event::Shut { buffer, pool });
     }
 
     fn end(&mut self) {
-        self.board.end();
+        self.board.contents.end();
     }
 
     fn left(&mut self, app: u32) -> bool {
-        self.board.left(app)
+        self.board.contents.left(app)
     }
 }

@@ -1,6 +1,15 @@
 use board_face::{AppSide, NicSide};
 use std::collections::LinkedList;
 
+/// What stands beside the card on its board, as contracts see it. No value of it is made.
+#[derive(Drop)]
+pub struct Applications {
+    /// The sides of all applications.
+    pub apps: LinkedList<AppSide>,
+    /// For how many events the board's log has room.
+    pub room: u32,
+}
+
 /// What stands beside an application on its board, as contracts see it. No value of it is made.
 #[derive(Drop)]
 pub struct Others {
@@ -9,4 +18,6 @@ pub struct Others {
     pub apps: LinkedList<AppSide>,
     /// This application's number.
     pub number: u32,
+    /// For how many events the board's log has room.
+    pub room: u32,
 }

@@ -4,6 +4,7 @@ ghost use Rattle.face_table.specs.AppHand.{IsAppHand};
 ghost use Rattle.plain_board.specs.Board.{side_of};
 
 mod areas;
+mod events;
 mod tokens;
 
 use super::PlainBoard;
@@ -139,7 +140,7 @@ fn scrub_takes_what_is_owed(rt: HostRuntime) -> Result<(), Fail> {
         let (rows, rest) = table.split_at_checked(count).ok_or("too few rows")?;
         board = play(&rt, board, &mut card, &mut app, rows);
         table = rest;
-        let contents = &board.board;
+        let contents = &board.board.contents;
         assert_eq!(&rt;
             contents.users.as_slice(),
             [users, 0, 0].as_slice(),

@@ -8,7 +8,7 @@ use Rattle.board_face.specs.declared.views.app.AppView.{AppView}
 use Rattle.plain_board.specs.Board.{Board, new_board, side_of}
 use Rattle.zc_poll.specs.Fresh.{IsUntouched}
 
-pub begun : (board : Board) (layout : Shape) (places : ℕ) → board ≡ new_board layout places → 1 ≡ layout.reserves
+pub begun : (board : Board) (layout : Shape) (places : ℕ) → board ≡ new_board layout places 0 → 1 ≡ layout.reserves
     → (side_of board 0).view ≡ new_app_view (record { layout = layout; places = places }) 0
 begun board layout places is one =
     rw is (ap (λ n. (side_in (new_apps (record { layout = layout; places = places }) 0 n) 0).view) (sym one))

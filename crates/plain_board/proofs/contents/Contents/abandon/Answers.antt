@@ -1,6 +1,6 @@
 -- One loan less is out, and one more is owed.
 use Rattle.std.proofs.Common.{refl}
-use Rattle.plain_board.proofs.AppFrames.{here-of, others-then}
+use Rattle.plain_board.proofs.AppFrames.{here-of, others-then, side-then}
 use Rattle.plain_board.proofs.Abandoning.{IsSound-abandoned, loan-there, loan-counted}
 use Rattle.plain_board.proofs.contents.Contents.abandon.Goals as goal
 
@@ -28,3 +28,8 @@ invariant_of-self c =
 
 pub returns-clause-others : goal.returns-clause-others
 returns-clause-others c = rw (← c.self.view_is, c.note_at.ensures) (others-then c.self.inside.nic c.self.inside.apps.items c.args.app _)
+
+pub returns-clause-inside : goal.returns-clause-inside
+returns-clause-inside c =
+    let here = here-of _ c.args.app c.self.invariant.0 (rw (← c.self.view_is) at c.requires.app) in
+    rw (← c.self.view_is, c.note_at.ensures, side-then c.self.inside.apps.items c.args.app _ _ here) refl

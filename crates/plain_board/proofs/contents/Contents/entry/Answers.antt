@@ -13,7 +13,7 @@ use Rattle.plain_board.proofs.Still.{IsSound-saw}
 use Rattle.board_face.proofs.SideLemmas.{IsApp-at}
 use Rattle.plain_board.proofs.Popping.{front-some, front-none, rings-same}
 use Rattle.plain_board.proofs.Straying.{IsSound-passed_over, PassedOver-passed_over}
-use Rattle.plain_board.proofs.Honouring.{is_held, IsSound-honoured, came-zero, came-pool, came-code, FreedEntry-honoured, HonouredEntry-honoured}
+use Rattle.plain_board.proofs.Honouring.{is_held, owes_one, IsSound-honoured, came-zero, came-pool, came-code, FreedEntry-honoured, HonouredEntry-honoured}
 use Rattle.plain_board.proofs.Seeing.{IsJudged-passed_over, IsJudged-honoured, NicTold-empty, NicTold-passed_over, NicTold-honoured}
 use Rattle.plain_board.proofs.contents.Contents.entry.Goals as goal
 use Rattle.plain_board.proofs.contents.Contents.entry.Goals.{then-free, else-free}
@@ -125,11 +125,11 @@ returns-clause-view c =
       | then-free w ↦
           let both = sym c.came_free-free.ensures ∙ w.if-free.true in
           let of_pool : i < pool_buffers v.setting.layout = rw pools (ltb-true i (pool_buffers c.self.inside.layout) (and-right _ _ both)) in
-          rw (← c.self.view_is, c.note-2.ensures, w.result-is, and-left (c.lower-left.result == 0) _ both)
+          rw (← c.self.view_is, c.note-2.ensures, w.answer-is, and-left (c.lower-left.result == 0) _ both)
           (FreedEntry-honoured v c.args.app i c.in-Some.entry named of_pool)
       | else-free w ↦
           let both = sym c.came_free-free.ensures ∙ w.if-free.false in
-          rw (← c.self.view_is, c.note-2.ensures, w.result-is)
+          rw (← c.self.view_is, c.note-2.ensures, w.answer-is)
           (HonouredEntry-honoured v c.args.app i c.in-Some.entry _ named (λ last. rw pools (not-below _ i (pool_buffers c.self.inside.layout) last both)))
     ]
 
@@ -152,3 +152,14 @@ returns-clause-judged c = λ some.
     let owed = rw c.as_slice.ensures.value at c.in-Some-owed_buffer.ensures in
     rw (← c.self.view_is, c.note-2.ensures) (IsJudged-honoured _ sound c.args.app c.in-Some-owed_buffer.buffer c.in-Some.entry _ _
     (let many = sound.set.many in omega arith) owed.0 owed.1 owed.2)
+
+pub returns-clause-returned : goal.returns-clause-returned
+returns-clause-returned c =
+    let sound = c.self.invariant.0 in
+    let few = within-setting _ _ c.self.invariant.0 (rw (← c.self.view_is) at c.requires) in
+    let here = IsApp-at c.self.inside.apps.items c.args.app blank_app sound.set.numbers (let many = sound.set.many in omega arith) in
+    let found = front-some _ c.in-Some.entry (sym c.take_front.ensures.front ∙ c.in-Some.is) in
+    let owed = rw c.as_slice.ensures.value at c.in-Some-owed_buffer.ensures in
+    let one = owes_one _ c.args.app c.in-Some-owed_buffer.buffer _ c.in-Some.entry _ sound here found owed.0 owed.1 owed.2 in
+    rw (← c.self.view_is, c.note-2.ensures)
+    (record { entry = c.in-Some.entry; last = c.lower-left.result == 0; owed = one; event = refl })

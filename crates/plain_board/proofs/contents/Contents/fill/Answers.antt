@@ -1,5 +1,6 @@
 -- The bytes are stored at the begin of the spare's buffer, in which nothing else lies.
-use Rattle.plain_board.proofs.AppFrames.{here-of, others-then}
+use Rattle.std.proofs.Common.{refl}
+use Rattle.plain_board.proofs.AppFrames.{here-of, others-then, side-then}
 use Rattle.plain_board.proofs.SpareFilled.{spare-there, lies-in, fits-area, fits-token, IsSound-filled}
 use Rattle.plain_board.proofs.contents.Contents.fill.Goals as goal
 
@@ -40,3 +41,8 @@ invariant_of-self c =
 
 pub returns-clause-others : goal.returns-clause-others
 returns-clause-others c = rw (← c.self.view_is, c.note_at.ensures) (others-then c.self.inside.nic c.self.inside.apps.items c.args.app _)
+
+pub returns-clause-inside : goal.returns-clause-inside
+returns-clause-inside c =
+    let here = here-of _ c.args.app c.self.invariant.0 (rw (← c.self.view_is) at c.requires.app) in
+    rw (← c.self.view_is, c.note_at.ensures, side-then c.self.inside.apps.items c.args.app _ _ here) refl

@@ -1,6 +1,6 @@
 -- The piece's buffer has one user more.
 use Rattle.std.proofs.Common.{refl}
-use Rattle.plain_board.proofs.AppFrames.{here-of, others-then}
+use Rattle.plain_board.proofs.AppFrames.{here-of, others-then, side-then}
 use Rattle.plain_board.proofs.Lending.{IsSound-lent, held-within}
 use Rattle.plain_board.proofs.OnLoan.{user-there, loan-there, user-few, loan-few}
 use Rattle.plain_board.proofs.contents.Contents.lend.Goals as goal
@@ -48,3 +48,8 @@ invariant_of-self c =
 
 pub returns-clause-others : goal.returns-clause-others
 returns-clause-others c = rw (← c.self.view_is, c.note_at.ensures) (others-then c.self.inside.nic c.self.inside.apps.items c.args.app _)
+
+pub returns-clause-inside : goal.returns-clause-inside
+returns-clause-inside c =
+    let here = here-of _ c.args.app c.self.invariant.0 (rw (← c.self.view_is) at c.requires.app) in
+    rw (← c.self.view_is, c.note_at.ensures, side-then c.self.inside.apps.items c.args.app _ _ here) refl

@@ -2,7 +2,7 @@
 use Rattle.std.proofs.Common.{◌∙◌, ap, refl, arith}
 use Rattle.std.proofs.lemmas.List.{get_or_read}
 use Rattle.board_face.specs.AppEvents.{begin_place}
-use Rattle.plain_board.proofs.AppFrames.{here-of, others-then}
+use Rattle.plain_board.proofs.AppFrames.{here-of, others-then, side-then}
 use Rattle.plain_board.proofs.TokensLie.{spare-within}
 use Rattle.plain_board.proofs.OnLoan.{user-there, loan-there, user-few, loan-few}
 use Rattle.plain_board.proofs.OwnLending.{IsSound-lent_own, own-there, own-filled}
@@ -69,3 +69,8 @@ returns-clause-place c =
 
 pub returns-clause-others : goal.returns-clause-others
 returns-clause-others c = rw (← c.self.view_is, c.note_at.ensures) (others-then c.self.inside.nic c.self.inside.apps.items c.args.app _)
+
+pub returns-clause-inside : goal.returns-clause-inside
+returns-clause-inside c =
+    let here = here-of _ c.args.app c.self.invariant.0 (rw (← c.self.view_is) at c.requires.app) in
+    rw (← c.self.view_is, c.note_at.ensures, side-then c.self.inside.apps.items c.args.app _ _ here) refl

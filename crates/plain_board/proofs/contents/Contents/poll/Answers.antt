@@ -94,3 +94,18 @@ returns-clause-view c =
 
 pub returns-clause-others : goal.returns-clause-others
 returns-clause-others c = rw (← c.self.view_is, c.note_at-2.ensures) (others-then c.self.inside.nic c.self.inside.apps.items c.args.app _)
+
+pub returns-in_default-clause-inside : goal.returns-in_default-clause-inside
+returns-in_default-clause-inside c =
+    let here = here-of _ c.args.app c.self.invariant.0 (rw (← c.self.view_is) at c.requires.app) in
+    rw (← c.self.view_is, c.note_at.ensures, side-then c.self.inside.apps.items c.args.app _ _ here) refl
+
+pub returns-then-note-clause-inside : goal.returns-then-note-clause-inside
+returns-then-note-clause-inside c =
+    let here = here-of _ c.args.app c.self.invariant.0 (rw (← c.self.view_is) at c.requires.app) in
+    rw (← c.self.view_is, c.note_at-then-note.ensures, side-then c.self.inside.apps.items c.args.app _ _ here) refl
+
+pub returns-clause-inside : goal.returns-clause-inside
+returns-clause-inside c =
+    let here = here-of _ c.args.app c.self.invariant.0 (rw (← c.self.view_is) at c.requires.app) in
+    rw (← c.self.view_is, c.note_at-2.ensures, side-then c.self.inside.apps.items c.args.app _ _ here) refl

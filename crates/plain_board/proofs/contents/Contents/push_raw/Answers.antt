@@ -46,3 +46,13 @@ overflow_cast-entries c =
     in
     let few = ring-few _ c.args.app _ c.args.entry c.self.invariant.0 here (c.if-not-put_back.ensures.room refl) in
     omega (arith, many, few)
+
+pub returns-then-not-put_back-clause-inside : goal.returns-then-not-put_back-clause-inside
+returns-then-not-put_back-clause-inside c =
+    let here = here-of _ c.args.app c.self.invariant.0 (rw (← c.self.view_is) at c.requires.app) in
+    rw (← c.self.view_is, c.note_at.ensures, side-then c.self.inside.apps.items c.args.app _ _ here) refl
+
+pub returns-clause-inside : goal.returns-clause-inside
+returns-clause-inside c =
+    let here = here-of _ c.args.app c.self.invariant.0 (rw (← c.self.view_is) at c.requires.app) in
+    rw (← c.self.view_is, c.note_at-2.ensures, side-then c.self.inside.apps.items c.args.app _ _ here) refl

@@ -1,5 +1,5 @@
 -- It is quiet where no entry lies in the application's refill slots.
-use Rattle.std.proofs.Common.{ap, sym, ◌∙◌}
+use Rattle.std.proofs.Common.{refl, ap, sym, ◌∙◌}
 use Rattle.std.specs.Prelude.{◌==◌}
 use Rattle.plain_board.proofs.AppFrames.{here-of, others-then, side-then}
 use Rattle.plain_board.proofs.Quieting.{IsSound-quiet, told-quiet}
@@ -30,3 +30,8 @@ returns-clause-some c = λ no.
     let here = here-of _ c.args.app c.self.invariant.0 within in
     let many = rw c.as_slice.ensures.value at c.ring_len-quiet.ensures in
     rw (← c.self.view_is) (some-written _ c.args.app _ c.self.invariant.0 here (sym (ap (λ n. n == 0) many) ∙ no))
+
+pub returns-clause-inside : goal.returns-clause-inside
+returns-clause-inside c =
+    let here = here-of _ c.args.app c.self.invariant.0 (rw (← c.self.view_is) at c.requires.app) in
+    rw (← c.self.view_is, c.note_at.ensures, side-then c.self.inside.apps.items c.args.app _ _ here) refl

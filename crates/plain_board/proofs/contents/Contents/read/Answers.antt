@@ -1,6 +1,6 @@
 -- What the area has at the loan's place is the loan's text.
-use Rattle.std.proofs.Common.{length}
-use Rattle.plain_board.proofs.AppFrames.{here-of, others-then}
+use Rattle.std.proofs.Common.{refl, length}
+use Rattle.plain_board.proofs.AppFrames.{here-of, others-then, side-then}
 use Rattle.plain_board.proofs.Reading.{IsSound-read, bytes-there, shows-copy, lies}
 use Rattle.plain_board.proofs.contents.Contents.read.Goals as goal
 
@@ -37,3 +37,8 @@ returns-clause-copied c =
 
 pub returns-clause-others : goal.returns-clause-others
 returns-clause-others c = rw (← c.self.view_is, c.note_at.ensures) (others-then c.self.inside.nic c.self.inside.apps.items c.args.app _)
+
+pub returns-clause-inside : goal.returns-clause-inside
+returns-clause-inside c =
+    let here = here-of _ c.args.app c.self.invariant.0 (rw (← c.self.view_is) at c.requires.app) in
+    rw (← c.self.view_is, c.note_at.ensures, side-then c.self.inside.apps.items c.args.app _ _ here) refl

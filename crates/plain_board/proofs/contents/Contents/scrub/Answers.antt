@@ -1,6 +1,6 @@
 -- The user counts of the application are what it owes, of which each carries a reference.
-use Rattle.plain_board.proofs.AppFrames.{here-of, others-then}
-use Rattle.plain_board.proofs.Scrubbing.{few-users, IsSound-scrubbed}
+use Rattle.plain_board.proofs.AppFrames.{here-of, others-then, side-then}
+use Rattle.plain_board.proofs.Scrubbing.{few-users, IsSound-scrubbed, takes-all}
 use Rattle.plain_board.proofs.contents.Contents.scrub.Goals as goal
 
 pub take_back-requires-clause-few : goal.take_back-requires-clause-few
@@ -20,3 +20,13 @@ invariant_of-self c =
 
 pub returns-clause-others : goal.returns-clause-others
 returns-clause-others c = rw (← c.self.view_is, c.note_at.ensures) (others-then c.self.inside.nic c.self.inside.apps.items c.args.app _)
+
+pub returns-clause-taken : goal.returns-clause-taken
+returns-clause-taken c =
+    let here = here-of _ c.args.app c.self.invariant.0 (rw (← c.self.view_is) at c.requires.app) in
+    let can = rw (← c.self.view_is) at c.requires.can in
+    rw (← c.self.view_is, c.note_at.ensures, c.as_slice-users.ensures.value) (record {
+      total = _;
+      all = takes-all _ c.args.app _ c.self.invariant.0 here can;
+      side = side-then c.self.inside.apps.items c.args.app _ _ here;
+    })

@@ -39,3 +39,8 @@ returns-clause-raw c = λ no.
     let here = here-of _ c.args.app c.self.invariant.0 within in
     let raw = get_or_read c.self.inside.raw.items c.args.app c.index.result.now (there-raw _ c.args.app c.self.invariant.0 within) c.index.ensures 0 in
     rw (← c.self.view_is) (raw-pushed _ c.args.app _ c.self.invariant.0 here (sym (ap (λ n. n == 0) raw) ∙ no))
+
+pub returns-clause-inside : goal.returns-clause-inside
+returns-clause-inside c =
+    let here = here-of _ c.args.app c.self.invariant.0 (rw (← c.self.view_is) at c.requires.app) in
+    rw (← c.self.view_is, c.note_at.ensures, side-then c.self.inside.apps.items c.args.app _ _ here) refl

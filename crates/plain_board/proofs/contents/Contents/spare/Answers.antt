@@ -1,5 +1,5 @@
 -- The lowest listed buffer has no holder, and neither has the reserve where its count is 0.
-use Rattle.std.proofs.Common.{arith}
+use Rattle.std.proofs.Common.{refl, arith}
 use Rattle.board_face.specs.declared.views.app.AppLook.TheVariants.{NoSpare}
 use Rattle.board_face.proofs.TokenLemmas.{FitsBuffer-fresh}
 use Rattle.plain_board.proofs.AppFrames.{here-of, others-then, side-then}
@@ -103,3 +103,20 @@ returns-clause-lowest c =
     let here = here-of _ c.args.app c.self.invariant.0 within in
     let picked = rw (c.as_slice.ensures.value, c.buffers.ensures.value) at c.in-Some.ensures in
     rw (← c.self.view_is, c.new.ensures) (found-lowest _ c.args.app _ c.self.invariant.0 here c.in-Some.buffer _ picked)
+
+pub returns-in_default-clause-inside : goal.returns-in_default-clause-inside
+returns-in_default-clause-inside c =
+    let here = here-of _ c.args.app c.self.invariant.0 (rw (← c.self.view_is) at c.requires.app) in
+    rw (← c.self.view_is, c.note_at.ensures, side-then c.self.inside.apps.items c.args.app _ _ here) refl
+
+pub returns-clause-inside : goal.returns-clause-inside
+returns-clause-inside c =
+    let here = here-of _ c.args.app c.self.invariant.0 (rw (← c.self.view_is) at c.requires.app) in
+    rw (← c.self.view_is, c.note_at-2.ensures, side-then c.self.inside.apps.items c.args.app _ _ here) refl
+
+pub returns-clause-unheld : goal.returns-clause-unheld
+returns-clause-unheld c =
+    let within = rw (← c.self.view_is) at c.requires.app in
+    let here = here-of _ c.args.app c.self.invariant.0 within in
+    let picked = rw (c.as_slice.ensures.value, c.buffers.ensures.value) at c.in-Some.ensures in
+    rw (← c.self.view_is, c.new.ensures) (is_unheld _ c.args.app c.in-Some.buffer _ _ c.self.invariant.0 here picked).none

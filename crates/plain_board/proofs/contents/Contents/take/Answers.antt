@@ -29,3 +29,6 @@ pub returns-clause-view : goal.returns-clause-view
 returns-clause-view c =
     let found = sym c.pop.ensures.value ∙ c.in-Some.is in
     rw (← c.self.view_is, c.note-2.ensures, c.new.ensures, c.size_of-size.ensures.value) (TookBuffer-took _ c.in-Some.buffer c.self.invariant.0 found)
+
+pub returns-clause-unheld : goal.returns-clause-unheld
+returns-clause-unheld c = rw (← c.self.view_is, c.new.ensures) (is_spare _ c.in-Some.buffer c.self.invariant.0 (sym c.pop.ensures.value ∙ c.in-Some.is)).none

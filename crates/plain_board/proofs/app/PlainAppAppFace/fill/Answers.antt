@@ -1,0 +1,27 @@
+-- No event tells of it.
+use Rattle.board_face.specs.AppEvents.{filled}
+use Rattle.event_log.proofs.AppLaws.{app-unlogged}
+use Rattle.event_log.proofs.ShortFills.{fills-law}
+use Rattle.board_face.specs.Sides.{app_at}
+use Rattle.plain_board.specs.Stand.{side_of, sides_of}
+use Rattle.plain_board.proofs.AppFrames.{here-of}
+use Rattle.plain_board.proofs.Logging.{by-view, app-keeps}
+use Rattle.plain_board.proofs.app.PlainAppAppFace.fill.Goals as goal
+
+pub invariant_of-self : goal.invariant_of-self
+invariant_of-self c =
+    let old = c.self.inside.board.value.contents in
+    let a = c.self.inside.app in
+    let x = side_of old a in
+    let before = rw c.deref.ensures at c.sound.ensures in
+    let here = here-of old a before c.self.invariant.0 in
+    let view = rw c.deref_mut.ensures.value at c.fill.ensures.view in
+    let inside = rw c.deref_mut.ensures.value at c.fill.ensures.inside in
+    let others = rw c.deref_mut.ensures.value at c.fill.ensures.others in
+    let layout = rw c.deref_mut.ensures.value at c.fill.ensures.layout in
+    let out = rw (← c.self.view_is) at c.requires.out in
+    let own = c.args.own.now in
+    let bytes = c.args.bytes.now in
+    let now = app_at x (filled x.view own bytes) in
+    let by = by-view old c.fill.new.self a _ before c.self.invariant.0 others inside view in
+    rw c.deref_mut.ensures.value (rw layout c.self.invariant.0, app-keeps old c.fill.new.self a now by (app-unlogged.fill (sides_of old) a x here own bytes out) (fills-law.fill old.apps a x here own bytes c.requires.few) _ c.self.invariant.1)

@@ -1,0 +1,31 @@
+-- It is logged with the counts that its buffer has then.
+use Rattle.std.proofs.Common.{refl}
+use Rattle.board_face.specs.Laws.{pool_of, user_of}
+use Rattle.board_face.specs.AppEvents.{lent}
+use Rattle.run_records.specs.declared.event.Event.TheVariants as event
+use Rattle.event_log.proofs.AppLaws.{lent-law}
+use Rattle.board_face.specs.Sides.{app_at}
+use Rattle.plain_board.specs.Stand.{side_of, sides_of}
+use Rattle.plain_board.proofs.AppFrames.{here-of}
+use Rattle.plain_board.proofs.Logging.{by-view, sides-sound, same-spares, app-logs}
+use Rattle.plain_board.proofs.app.PlainAppAppFace.lend.Goals as goal
+
+pub invariant_of-self : goal.invariant_of-self
+invariant_of-self c =
+    let old = c.self.inside.board.value.contents in
+    let a = c.self.inside.app in
+    let x = side_of old a in
+    let before = rw c.deref.ensures at c.sound.ensures in
+    let here = here-of old a before c.self.invariant.0 in
+    let view = rw c.deref_mut.ensures.value at c.lend-loan.ensures.view in
+    let inside = rw c.deref_mut.ensures.value at c.lend-loan.ensures.inside in
+    let others = rw c.deref_mut.ensures.value at c.lend-loan.ensures.others in
+    let layout = rw c.deref_mut.ensures.value at c.lend-loan.ensures.layout in
+    let out = rw (← c.self.view_is) at c.requires.out in
+    let p = c.args.held in
+    let now = app_at x (lent x.view p) in
+    let by = by-view old c.lend-loan.new.self a _ before c.self.invariant.0 others inside view in
+    rw (c.push.ensures.log, c.deref_mut-2.ensures.value, c.deref_mut.ensures.value) (
+      rw layout c.self.invariant.0,
+      app-logs old c.lend-loan.new.self a now by (λ n. event.Lend a p.buffer p.offset p.len (pool_of n p.buffer) (user_of n a p.buffer)) (lent-law (sides_of old) (sides-sound old before) a x here p out) (same-spares old c.lend-loan.new.self a now by refl) _ (rw (c.pool_count-pool.ensures, c.deref-2.ensures, c.user_count-user.ensures, c.deref-3.ensures, c.place-place.ensures, c.lend-loan.ensures.place) refl) c.push.ensures.small _ c.self.invariant.1,
+    )

@@ -1,0 +1,19 @@
+-- Each buffer in which the application had a user count is logged with the counts that the scrub leaves there.
+use Rattle.plain_board.proofs.Logging.{scrub-logs}
+use Rattle.plain_board.proofs.app.PlainAppAppFace.scrub.Goals as goal
+
+pub invariant_of-self : goal.invariant_of-self
+invariant_of-self c =
+    let old = c.self.inside.board.value.contents in
+    let new = c.scrub.new.self in
+    let a = c.self.inside.app in
+    let before = rw c.deref.ensures at c.sound.ensures in
+    let can = rw (← c.self.view_is) at c.requires.can in
+    let taken = rw (c.deref_mut-2.ensures.value, c.log_scrub.ensures.contents, c.deref_mut.ensures.value) at c.scrub.ensures.taken in
+    let others = rw (c.deref_mut-2.ensures.value, c.log_scrub.ensures.contents, c.deref_mut.ensures.value) at c.scrub.ensures.others in
+    let layout = rw (c.deref_mut-2.ensures.value, c.log_scrub.ensures.contents, c.deref_mut.ensures.value) at c.scrub.ensures.layout in
+    let log = rw c.deref_mut.ensures.value at c.log_scrub.ensures.log in
+    rw c.deref_mut-2.ensures.value (
+      rw layout c.self.invariant.0,
+      scrub-logs old new a before c.self.invariant.0 others can.loans taken _ _ log c.self.invariant.1,
+    )

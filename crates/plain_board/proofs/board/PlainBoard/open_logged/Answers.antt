@@ -1,0 +1,11 @@
+-- An empty log tells of a board on which nothing has happened.
+use Rattle.board_face.specs.declared.views.parts.Setting.{Setting}
+use Rattle.event_log.proofs.Runs.{opened-law}
+use Rattle.event_log.proofs.ShortFills.{fills-law}
+use Rattle.plain_board.proofs.board.PlainBoard.open_logged.Goals as goal
+
+pub invariant_of-result : goal.invariant_of-result
+invariant_of-result c =
+    let setting : Setting = record { layout = c.args.layout; places = c.args.places } in
+    rw (c.in_ok-board.ensures.ok, c.in_ok-contents.ensures, c.in_ok-log.ensures)
+    (record { logged = opened-law setting c.args.events c.requires.room; short = fills-law.opened setting })

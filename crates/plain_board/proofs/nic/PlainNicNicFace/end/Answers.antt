@@ -1,0 +1,12 @@
+-- No event tells of it.
+use Rattle.event_log.proofs.CardLaws.{card-unlogged}
+use Rattle.plain_board.specs.Stand.{sides_of}
+use Rattle.plain_board.proofs.Logging.{card-keeps}
+use Rattle.plain_board.proofs.nic.PlainNicNicFace.end.Goals as goal
+
+pub invariant_of-self : goal.invariant_of-self
+invariant_of-self c =
+    let old = c.self.inside.board.value.contents in
+    let done = rw c.deref_mut.ensures.value at c.end.ensures.view in
+    let apps = rw c.deref_mut.ensures.value at c.end.ensures.apps in
+    rw c.deref_mut.ensures.value (card-keeps old c.end.new.self _ done apps (card-unlogged.end (sides_of old)) _ c.self.invariant)

@@ -1,0 +1,19 @@
+-- No event tells of it.
+use Rattle.std.proofs.Common.{refl}
+use Rattle.board_face.specs.NicEvents.{swept}
+use Rattle.event_log.proofs.CardLaws.{card-unlogged}
+use Rattle.plain_board.specs.Stand.{sides_of}
+use Rattle.plain_board.proofs.Logging.{nic-by, card-keeps}
+use Rattle.plain_board.proofs.nic.PlainNicNicFace.sweep.Goals as goal
+
+pub invariant_of-self : goal.invariant_of-self
+invariant_of-self c =
+    let old = c.self.inside.board.value.contents in
+    let new = c.sweep-count.new.self in
+    let before = rw c.deref.ensures at c.sound.ensures in
+    let after = rw c.deref-2.ensures at c.sound-2.ensures in
+    let done = rw c.deref_mut.ensures.value at c.sweep-count.ensures.view in
+    let apps = rw c.deref_mut.ensures.value at c.sweep-count.ensures.apps in
+    let v = swept old.nic.view c.args.word done.found in
+    rw c.deref_mut.ensures.value
+    (card-keeps old new v (nic-by old new v before after done.event refl) apps (card-unlogged.sweep (sides_of old) c.args.word done.found) _ c.self.invariant)
