@@ -147,7 +147,7 @@ pieces-are-frames base (n ∷ ns) m xs placed later is is_later stand size same 
     (pieces-are-frames base ns n (xs ++ marks_of_note n) placed (received_note base later n) is next_is stand.2
     (length-append xs (marks_of_note n) ∙ (omega (arith, at, n_len))) then-same))
     (λ (begins : n.note.frame ≢ m.note.frame).
-    let starts : n.note.at ≡ 0 = (stand.1.next begins).0 in
+    let starts : n.note.at ≡ 0 = stand.1.next begins in
     let placed2 : Placed Mark = received_part base placed m.note.seq m.note.total 0 xs in
     let is2 : IsReceived placed2 = received-is base placed m.note.seq m.note.total 0 xs is (omega (arith, size, stand.0.within)) in
     let next-same : AreSame (received_note base later n) (received_part base placed2 n.note.seq n.note.total 0 (marks_of_note n)) =

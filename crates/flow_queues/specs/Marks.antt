@@ -87,27 +87,27 @@ pub record GoesOn (first second : Note) : Type 0 where
 abbrev pub Begins : Note → Type 0
 Begins note = note.at ≡ 0
 
--- the second goes on with the frame of the first, or the first ends its frame and the second begins one
+-- the second goes on with the frame of the first, or begins one
 pub record Follows (first second : Note) : Type 0 where
   pub same : second.frame ≡ first.frame → GoesOn first second
-  pub next : second.frame ≢ first.frame → Begins second × (first.at + first.place.len ≡ first.total)
+  pub next : second.frame ≢ first.frame → Begins second
 
--- and frames are taken in the order of their numbers
-pub record FollowsInOrder (m n : Numbered) : Type 0 where
-  pub follows : Follows m.note n.note
-  pub rises : n.note.frame ≢ m.note.frame → m.note.frame < n.note.frame
+-- none of these is a piece of this frame
+abbrev pub AreOfOthers : ℕ → List Numbered → Type 0
+AreOfOthers frame [] = Unit {0}
+AreOfOthers frame (n ∷ ns) = (n.note.frame ≢ frame) × AreOfOthers frame ns
 
 -- the piece lies in its frame, which is no longer than a frame may be
 pub record Fits (n : Numbered) : Type 0 where
   pub within : n.note.at + n.note.place.len ≤ n.note.total
   pub bounded : n.note.total ≤ 65515
 
--- all of these follow each other, from the one before them on
+-- All of these follow each other, from the one before them on. Once another frame begins, no piece of the one before comes.
 abbrev pub AllStand : Numbered → List Numbered → Type 0
 AllStand y [] = Fits y
-AllStand y (n ∷ ns) = Fits y × FollowsInOrder y n × AllStand n ns
+AllStand y (n ∷ ns) = Fits y × Follows y.note n.note × (n.note.frame ≢ y.note.frame → AreOfOthers y.note.frame ns) × AllStand n ns
 
--- The pieces of each frame stand together, in order, and all of them but perhaps those of the last.
+-- The pieces of each frame stand together, in order, from its first on. A frame may lack its last pieces, and frames come in any order.
 abbrev pub StandTogether : List Numbered → Type 0
 StandTogether [] = Unit {0}
 StandTogether (n ∷ ns) = (n.note.at ≡ 0) × AllStand n ns
