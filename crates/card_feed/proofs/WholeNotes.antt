@@ -1,18 +1,23 @@
 -- Notes that show frames are taken as whole frames.
-use Rattle.std.proofs.Common.{◌≡◌, ℕ, suc, ◌+◌, ◌<◌, ◌≤◌, List, [], ◌∷◌, ◌++◌, length, map, true, false, refl, sym, ap}
+use Rattle.std.proofs.Common.{◌≡◌, ◌≢◌, ℕ, suc, ◌+◌, ◌<◌, ◌≤◌, List, [], ◌∷◌, ◌++◌, length, map, true, false, refl, sym, ap}
 use Rattle.std.proofs.Common.{subst, ◌∙◌, ⊎_elim, arith, All}
-use Rattle.std.proofs.lemmas.Bool.{cases_Bool, cases_lt}
+use Rattle.std.proofs.lemmas.Bool.{cases_Bool, cases_lt, cases_eq}
 use Rattle.std.proofs.lemmas.List.Elements.{All-head, All-tail}
 use Rattle.zr_kinds.specs.declared.place.Place.{Place}
 use Rattle.board_face.specs.Relay.{as_taken, IsProper}
 use Rattle.board_face.specs.declared.views.nic.SentNote.{SentNote}
 use Rattle.board_face.specs.declared.views.app.TakenNote.{TakenNote}
-use Rattle.app_worker.specs.Marks.{Numbered, numbered, FollowsInOrder, Fits, AllStand, AreWholeFrames}
+use Rattle.flow_queues.specs.Marks.{Numbered, numbered, AreOfOthers, Follows, Fits, AllStand, AreWholeFrames}
 use Rattle.page_pool.specs.Frames.{Offered, IsNoteOf, ShowRest, ShowsFrame, ShowFrames}
 use Rattle.card_feed.specs.Sent.{FirstNotesAreWhole}
 use Rattle.card_feed.proofs.NotesShown.{AreAbove, Ascend, HaveBytes}
 
 -- ---- each note follows the one before it
+
+-- the second goes on with the frame of the first, or begins one with a higher number
+pub record FollowsInOrder (m n : Numbered) : Type 0 where
+  pub follows : Follows m.note n.note
+  pub rises : n.note.frame ≢ m.note.frame → m.note.frame < n.note.frame
 
 abbrev at_number : ℕ → SentNote → Numbered
 at_number k s = record { number = k; note = s.note }
@@ -42,12 +47,11 @@ goes_on o k j y s of_y of_s begin = record {
   rises = λ other. absurd (other (of_s.frame ∙ sym of_y.frame));
 }
 
-begins_next : (k j : ℕ) (y s : SentNote) → y.note.frame < s.note.frame → s.note.at ≡ 0 → y.note.at + y.note.place.len ≡ y.note.total
-    → FollowsInOrder (at_number k y) (at_number j s)
-begins_next k j y s above begin ends = record {
+begins_next : (k j : ℕ) (y s : SentNote) → y.note.frame < s.note.frame → s.note.at ≡ 0 → FollowsInOrder (at_number k y) (at_number j s)
+begins_next k j y s above begin = record {
   follows = record {
     same = λ same. absurd (omega (arith, same, above));
-    next = λ _. (begin, ends);
+    next = λ _. begin;
   };
   rises = λ _. above;
 }
@@ -76,10 +80,9 @@ leads split o mine some shows = ⊎_elim
 -- the notes of one frame, from one of them on, and then those of later frames
 frame-linked : (o : Offered) (from k : ℕ) (y : SentNote) (mine rest : List SentNote) → IsNoteOf o y → y.note.at + y.note.place.len ≡ from
     → ShowRest o from mine
-    → ((z : SentNote) (j : ℕ) → IsNoteOf o z → z.note.at + z.note.place.len ≡ length o.payload
-    → AreLinked (at_number j z) (numbered (suc j) (map as_taken rest)))
+    → ((z : SentNote) (j : ℕ) → IsNoteOf o z → AreLinked (at_number j z) (numbered (suc j) (map as_taken rest)))
     → AreLinked (at_number k y) (numbered (suc k) (map as_taken (mine ++ rest)))
-frame-linked o from k y [] rest of_y ends show later = later y k of_y (ends ∙ show)
+frame-linked o from k y [] rest of_y ends show later = later y k of_y
 frame-linked o from k y (s ∷ mine) rest of_y ends show later = (
   goes_on o k (suc k) y s of_y show.0.of_frame (show.0.begin ∙ sym ends),
   frame-linked o (from + s.note.place.len) (suc k) s mine rest show.0.of_frame (ap (λ n. n + s.note.place.len) show.0.begin) show.1 later,
@@ -87,16 +90,15 @@ frame-linked o from k y (s ∷ mine) rest of_y ends show later = (
 
 -- the notes of later frames, behind the last of a frame
 later-linked : (split : ℕ) (os : List Offered) (k : ℕ) (y : SentNote) (notes : List SentNote) → ShowFrames split os notes → AreAbove y.note.frame os
-    → Ascend os → HaveBytes os → y.note.at + y.note.place.len ≡ y.note.total → AreLinked (at_number k y) (numbered (suc k) (map as_taken notes))
-later-linked split [] k y notes shows above ascend some ends = rw shows tt
-later-linked split (o ∷ os) k y notes shows above ascend some ends =
+    → Ascend os → HaveBytes os → AreLinked (at_number k y) (numbered (suc k) (map as_taken notes))
+later-linked split [] k y notes shows above ascend some = rw shows tt
+later-linked split (o ∷ os) k y notes shows above ascend some =
     let lead = leads split o shows.0 some.0 shows.3 in
     let are : notes ≡ lead.first ∷ (lead.others ++ shows.1) = shows.2 ∙ ap (λ ns. ns ++ shows.1) lead.are in
     subst (λ ns. AreLinked (at_number k y) (numbered (suc k) (map as_taken ns))) (sym are) (
-      begins_next k (suc k) y lead.first (omega (arith, above.0, lead.of_frame.frame)) lead.begin ends,
+      begins_next k (suc k) y lead.first (omega (arith, above.0, lead.of_frame.frame)) lead.begin,
       frame-linked o lead.first.note.place.len (suc k) lead.first lead.others shows.1 lead.of_frame (omega (arith, lead.begin)) lead.rest
-          (λ z j of_z whole. later-linked split os j z shows.1 shows.4 (subst (λ n. AreAbove n os) (sym of_z.frame) ascend.0) ascend.1 some.1
-          (whole ∙ sym of_z.total)),
+          (λ z j of_z. later-linked split os j z shows.1 shows.4 (subst (λ n. AreAbove n os) (sym of_z.frame) ascend.0) ascend.1 some.1),
     )
 
 pub shown-linked : (split : ℕ) (os : List Offered) (notes : List SentNote) → ShowFrames split os notes → Ascend os → HaveBytes os
@@ -108,8 +110,7 @@ shown-linked split (o ∷ os) notes shows ascend some =
     subst (λ ns. LinkTogether (numbered 0 (map as_taken ns))) (sym are) (
       lead.begin,
       frame-linked o lead.first.note.place.len 0 lead.first lead.others shows.1 lead.of_frame (omega (arith, lead.begin)) lead.rest
-          (λ z j of_z whole. later-linked split os j z shows.1 shows.4 (subst (λ n. AreAbove n os) (sym of_z.frame) ascend.0) ascend.1 some.1
-          (whole ∙ sym of_z.total)),
+          (λ z j of_z. later-linked split os j z shows.1 shows.4 (subst (λ n. AreAbove n os) (sym of_z.frame) ascend.0) ascend.1 some.1),
     )
 
 -- ---- the first of them
@@ -126,9 +127,18 @@ first_fits : (y : Numbered) (ns : List Numbered) → AllStand y ns → Fits y
 first_fits y [] all = all
 first_fits y (n ∷ ns) all = all.0
 
+others-first : (frame k : ℕ) (taken later : List TakenNote) → AreOfOthers frame (numbered k (taken ++ later)) → AreOfOthers frame (numbered k taken)
+others-first frame k [] later others = tt
+others-first frame k (t ∷ taken) later others = (others.0, others-first frame (suc k) taken later others.1)
+
 stand-first : (k : ℕ) (y : Numbered) (taken later : List TakenNote) → AllStand y (numbered k (taken ++ later)) → AllStand y (numbered k taken)
 stand-first k y [] later all = first_fits y (numbered k later) all
-stand-first k y (t ∷ taken) later all = (all.0, all.1, stand-first (suc k) _ taken later all.2)
+stand-first k y (t ∷ taken) later all = (
+  all.0,
+  all.1,
+  λ next. others-first y.note.frame (suc k) taken later (all.2 next),
+  stand-first (suc k) _ taken later all.3,
+)
 
 pub first-whole : FirstNotesAreWhole
 first-whole [] later whole = tt
@@ -145,12 +155,23 @@ proper-fits k s proper = ⊎_elim
     record { within = omega (arith, is.from_begin, len); bounded = omega (arith, is.few_bytes) })
     (cases_Bool s.note.split)
 
+-- the frames of all that follow are higher
+others-above : (frame : ℕ) (y : Numbered) (ns : List Numbered) → frame < y.note.frame → AreLinked y ns → AreOfOthers frame ns
+others-above frame y [] above linked = tt
+others-above frame y (n ∷ ns) above linked =
+    let higher : frame < n.note.frame = ⊎_elim
+    (λ (goes : n.note.frame ≡ y.note.frame). omega (arith, goes, above))
+    (λ begins. omega (arith, linked.0.rises begins, above))
+    (cases_eq n.note.frame y.note.frame) in
+    (λ same. absurd (omega (arith, same, higher)), others-above frame n ns higher linked.1)
+
 proper-stand : (k : ℕ) (y : SentNote) (notes : List SentNote) → IsProper y → All IsProper notes
     → AreLinked (at_number k y) (numbered (suc k) (map as_taken notes)) → AllStand (at_number k y) (numbered (suc k) (map as_taken notes))
 proper-stand k y [] proper others linked = proper-fits k y proper
 proper-stand k y (s ∷ notes) proper others linked = (
   proper-fits k y proper,
-  linked.0,
+  linked.0.follows,
+  λ next. others-above y.note.frame (at_number (suc k) s) _ (linked.0.rises next) linked.1,
   proper-stand (suc k) s notes (All-head IsProper s notes others) (All-tail IsProper s notes others) linked.1,
 )
 

@@ -23,6 +23,8 @@ pub struct Plan {
     pub polled: bool,
     /// Each application forwards its loans by a carrier over its shelf, which tells of a loan once so many more went out: 0 to 63.
     pub forward: Option<u32>,
+    /// The board keeps a log of its first events, where one thread runs it.
+    pub events: bool,
 }
 
 impl Plan {

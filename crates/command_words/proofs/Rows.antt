@@ -15,6 +15,7 @@ usual = record {
   how = record { hold = 0; leak = 0; stray = 0; quit = None };
   polled = false;
   forward = None;
+  events = false;
 }
 
 abbrev shown : List ℕ → Option Shown
@@ -195,6 +196,36 @@ forwarding_and_polled = refl
 forwarding_and_quit : reading_of (codes "replay" ∷ codes "--quit=1" ∷ codes "--forward=0" ∷ codes "9000" ∷ []) ≡ None
 unfolding assigned pool_of options_of behaviour_of stand_together
 forwarding_and_quit = refl
+
+-- ---- the record of a run
+
+by_events : reading_of (codes "replay" ∷ codes "--events" ∷ codes "--turns" ∷ codes "n" ∷ codes "9000" ∷ []) ≡ told (record usual { events = true }) (Some (codes "n"))
+unfolding assigned pool_of options_of behaviour_of stand_together
+by_events = refl
+
+events_behind_turns : reading_of (codes "replay" ∷ codes "--turns=n" ∷ codes "9000" ∷ codes "--events" ∷ []) ≡ told (record usual { events = true }) (Some (codes "n"))
+unfolding assigned pool_of options_of behaviour_of stand_together
+events_behind_turns = refl
+
+events_without_turns : reading_of (codes "replay" ∷ codes "--events" ∷ codes "9000" ∷ []) ≡ None
+unfolding assigned pool_of options_of behaviour_of stand_together
+events_without_turns = refl
+
+events_twice : reading_of (codes "replay" ∷ codes "--events" ∷ codes "--events" ∷ codes "--turns=n" ∷ codes "9000" ∷ []) ≡ None
+unfolding assigned pool_of options_of behaviour_of stand_together
+events_twice = refl
+
+events_with_value : reading_of (codes "replay" ∷ codes "--events=1" ∷ codes "--turns=n" ∷ codes "9000" ∷ []) ≡ None
+unfolding assigned pool_of options_of behaviour_of stand_together
+events_with_value = refl
+
+events_and_polled : reading_of (codes "replay" ∷ codes "--events" ∷ codes "--polled" ∷ codes "9000" ∷ []) ≡ None
+unfolding assigned pool_of options_of behaviour_of stand_together
+events_and_polled = refl
+
+events_and_forwarding : reading_of (codes "replay" ∷ codes "--events" ∷ codes "--forward=0" ∷ codes "9000" ∷ []) ≡ None
+unfolding assigned pool_of options_of behaviour_of stand_together
+events_and_forwarding = refl
 
 -- ---- a seed and a number of frames
 

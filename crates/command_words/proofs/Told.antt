@@ -1,6 +1,6 @@
 -- What is read as a replay may be told to one; and its options are those that were said.
 use Rattle.std.proofs.Common.{ℕ, ◌≡◌, ◌∙◌, true, false, refl, sym, ap, List, length, Option, Some, None, option_map, codes}
-use Rattle.std.specs.Prelude.{IfSome, Bool, option_and_then, is_some, if◌then◌else◌}
+use Rattle.std.specs.Prelude.{IfSome, IsSome, Bool, option_and_then, is_some, if◌then◌else◌}
 use Rattle.std.specs.Borrow.{Bor}
 use Rattle.std.proofs.lemmas.Option.{option_and_then_some, same_Some}
 use Rattle.clap.specs.Matches.{found_of, first_value, matched_of, raw_values}
@@ -8,14 +8,14 @@ use Rattle.clap.specs.declared.parser.matches.ArgMatches.{ArgMatches}
 use Rattle.command_words.specs.Asking.{Answers, flag_in, port_id}
 use Rattle.command_words.specs.Assigned.{Text, Said, if_any, is_among, value_said}
 use Rattle.command_words.specs.Numbers.{ports_of}
-use Rattle.command_words.specs.Options.{AreTurns, behaviour_of, flag_names, option_names, options_of, stand_together, turns_of}
+use Rattle.command_words.specs.Options.{AreTurns, are_turns, behaviour_of, flag_names, option_names, options_of, stand_together, turns_of}
 use Rattle.command_words.specs.Areas.{pool_of}
 use Rattle.command_words.specs.Words.{IsReplay, ReplayShown, replay_of, replay_shown, told_of, told_with}
 use Rattle.command_words.specs.declared.reading.Replay.{Replay as Told}
 use Rattle.command_words.proofs.Porting.{ports_read}
 use Rattle.command_words.proofs.AreaRanges.{pool-makes}
 use Rattle.command_words.proofs.Ranges.{turns_of-turns}
-use Rattle.command_words.proofs.Ways.{options_of-in_range, own-turns}
+use Rattle.command_words.proofs.Ways.{logged-turns, options_of-in_range, own-turns}
 
 its_turns : (apps : ℕ) (turns : Option (Bor Text)) → IfSome (option_map (λ text. text.now) turns) (AreTurns apps)
     → IfSome turns (λ text. AreTurns apps text.now)
@@ -28,6 +28,17 @@ its_own : (apps : ℕ) (said : Option Text) (turns : Option (Bor Text)) (P : Typ
 its_own apps said None P is own = tt
 its_own apps None (Some text) P is own = let bad : None ≡ Some text.now = same_Some None (Some text.now) is in cc
 its_own apps (Some word) (Some text) P is own = own refl
+
+-- and who has them asked for a record said a text of them
+its_record : (apps : ℕ) (said : Option Text) (turns : Option (Bor Text)) (P : Type 0) → turns_of apps said ≡ Some (option_map (λ text. text.now) turns)
+    → (P → is_some said ≡ true) → P → IsSome turns
+its_record apps said (Some text) P is asks asked = refl
+its_record apps None None P is asks asked = let bad : false ≡ true = asks asked in cc
+its_record apps (Some word) None P is asks asked = absurd (no_turns (are_turns apps word) is)
+  where
+    no_turns : (b : Bool) → (if b then Some (Some word) else None) ≡ Some None → ⊥
+    no_turns true e = let bad : Some word ≡ None = same_Some _ None e in cc
+    no_turns false e = cc
 
 -- what a test lets through
 let_through : {A : Type 0} (test : Bool) (o : Option A) (y : A) → (if test then o else None) ≡ Some y → (test ≡ true) × (o ≡ Some y)
@@ -57,6 +68,8 @@ told-replay value flag words told is =
       options = options_of-in_range value flag told.options together.0 are_options;
       turns = its_turns (length told.ports.items) told.turns
           (turns_of-turns (length told.ports.items) (value (codes "turns")) _ are_turns);
+      logged = its_record (length told.ports.items) (value (codes "turns")) told.turns _ are_turns
+          (logged-turns value flag told.options together.0 are_options);
       own = its_own (length told.ports.items) (value (codes "turns")) told.turns _ are_turns (own-turns value flag told.options together.0 are_options);
     }))))
 
@@ -88,6 +101,7 @@ module _ (f g : Text → Option Text) (a b : Text → Bool) (same : AreSame f g)
         same (codes "quit") refl,
         same (codes "forward") refl,
         flagged (codes "polled") refl,
+        flagged (codes "events") refl,
       ) refl
 
   with-same : (ports : List ℕ) (areas : List (ℕ × ℕ)) → told_with f a ports areas ≡ told_with g b ports areas
@@ -103,6 +117,7 @@ module _ (f g : Text → Option Text) (a b : Text → Bool) (same : AreSame f g)
         same (codes "forward") refl,
         same (codes "turns") refl,
         flagged (codes "polled") refl,
+        flagged (codes "events") refl,
       ) refl
 
   behind-same : (ports : List ℕ) (o : Option (List (ℕ × ℕ))) → option_and_then (told_with f a ports) o ≡ option_and_then (told_with g b ports) o

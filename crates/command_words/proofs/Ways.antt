@@ -1,5 +1,5 @@
 -- Applications go by one way: what is said of turns of their own, of polling and of forwarding.
-use Rattle.std.proofs.Common.{ℕ, ◌≡◌, ◌∙◌, ◌≤◌, ◌||◌, Bool, true, false, refl, sym, subst, arith, codes, Option, Some, None, is_some, option_map}
+use Rattle.std.proofs.Common.{ℕ, ◌≡◌, ◌∙◌, ◌≤◌, ◌||◌, not, Bool, true, false, refl, sym, subst, arith, codes, Option, Some, None, is_some, option_map}
 use Rattle.std.specs.Prelude.{IfSome}
 use Rattle.std.specs.List.{list_any}
 use Rattle.std.proofs.lemmas.Option.{option_and_then_some, same_Some}
@@ -8,7 +8,7 @@ use Rattle.command_words.specs.Numbers.{up_to, value_of}
 use Rattle.command_words.specs.Options.{AreInRange, GoesByTurns, at_most_one, behaviour_of, delay_of, number_or, options_of, own_names, stand_together}
 use Rattle.command_words.specs.declared.options.Options.{Options}
 use Rattle.command_words.proofs.Matching.{none_of, or_parts}
-use Rattle.command_words.proofs.Ranges.{AreKept, behaviour_of-kept, number_or-within, read-within}
+use Rattle.command_words.proofs.Ranges.{AreKept, and_parts, behaviour_of-kept, number_or-within, read-within}
 
 record IsOneAtMost (a b c : Bool) : Type 0 where
   pub first : a ≡ true → (b ≡ false) × (c ≡ false)
@@ -31,6 +31,7 @@ pub record HasParts (value : Text → Option Text) (flag : Text → Bool) (optio
   pub how : behaviour_of value ≡ Some options.how
   pub polled : options.polled ≡ flag (codes "polled")
   pub forward : delay_of (value (codes "forward")) ≡ Some options.forward
+  pub events : options.events ≡ flag (codes "events")
 
 pub options_of-parts : (value : Text → Option Text) (flag : Text → Bool) (options : Options) → options_of value flag ≡ Some options
     → HasParts value flag options
@@ -41,7 +42,7 @@ options_of-parts value flag options is =
     option_and_then_some _ (behaviour_of value) options with_split (λ how how_is with_how.
     option_and_then_some _ (delay_of (value (codes "forward"))) options with_how (λ forward forward_is whole.
     subst (HasParts value flag) (same_Some _ options whole)
-    (record { ring = ring_is; split = split_is; how = how_is; polled = refl; forward = forward_is })))))
+    (record { ring = ring_is; split = split_is; how = how_is; polled = refl; forward = forward_is; events = refl })))))
 
 -- ---- the delay
 
@@ -66,9 +67,13 @@ module _ (value : Text → Option Text) (flag : Text → Bool) (options : Option
   forward_said : is_some options.forward ≡ is_some (value (codes "forward"))
   forward_said = (delay_of-delay (value (codes "forward")) options.forward parts.forward).0
 
-  apart : IsOneAtMost (list_any (λ name. is_some (value name)) own_names) (flag (codes "polled")) (is_some (value (codes "forward")))
+  ways : (at_most_one (list_any (λ name. is_some (value name)) own_names) (flag (codes "polled")) (is_some (value (codes "forward"))) ≡ true)
+      × ((not (flag (codes "events")) || is_some (value (codes "turns"))) ≡ true)
   unfolding stand_together
-  apart = one_at_most _ _ _ together
+  ways = and_parts _ _ together
+
+  apart : IsOneAtMost (list_any (λ name. is_some (value name)) own_names) (flag (codes "polled")) (is_some (value (codes "forward")))
+  apart = one_at_most _ _ _ ways.0
 
   -- where applications are polled or forward
   plain-how : (options.polled || is_some options.forward) ≡ true
@@ -109,3 +114,7 @@ module _ (value : Text → Option Text) (flag : Text → Bool) (options : Option
   own-turns said =
       let others = apart.first (rw said refl) in
       record { unpolled = parts.polled ∙ others.0; unforwarded = none_of options.forward (forward_said ∙ others.1) }
+
+  -- where the record of the run is asked for
+  pub logged-turns : options.events ≡ true → is_some (value (codes "turns")) ≡ true
+  logged-turns asked = let flagged : flag (codes "events") ≡ true = sym parts.events ∙ asked in rw flagged at ways.1

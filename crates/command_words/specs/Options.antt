@@ -16,7 +16,7 @@ option_names =
 
 -- its flags
 abbrev pub flag_names : List Text
-flag_names = codes "polled" ∷ []
+flag_names = codes "polled" ∷ codes "events" ∷ []
 
 -- of three, one at most
 abbrev pub at_most_one : Bool → Bool → Bool → Bool
@@ -64,16 +64,25 @@ options_of value flag =
     given (number_or 0 0 256 (value (codes "split"))) (λ split.
     given (behaviour_of value) (λ how.
     given (delay_of (value (codes "forward"))) (λ forward.
-    Some (record { ring = ring; split = split; how = how; polled = flag (codes "polled"); forward = forward })))))
+    Some (record {
+      ring = ring;
+      split = split;
+      how = how;
+      polled = flag (codes "polled");
+      forward = forward;
+      events = flag (codes "events");
+    })))))
 
 -- the options that say how an application takes turns of its own
 abbrev pub own_names : List Text
 own_names = codes "turns" ∷ codes "hold" ∷ codes "leak" ∷ codes "stray" ∷ codes "quit" ∷ []
 
--- Applications take turns of their own, or are polled, or forward: it is said of one of these at most, by whichever values.
+-- Applications take turns of their own, or are polled, or forward: it is said of one of these at most, by whichever values. The record of
+-- a run is asked for only with a text of turns.
 unfoldable pub stand_together : (Text → Option Text) → (Text → Bool) → Bool
 stand_together value flag =
     at_most_one (list_any (λ name. is_some (value name)) own_names) (flag (codes "polled")) (is_some (value (codes "forward")))
+    && (not (flag (codes "events")) || is_some (value (codes "turns")))
 
 -- `n`, or the digit of one of so many applications
 abbrev pub is_turn : ℕ → ℕ → Bool

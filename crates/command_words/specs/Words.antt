@@ -1,6 +1,6 @@
 -- What the command's words mean.
-use Rattle.std.specs.Prelude.{ℕ, ◌≤◌, ⊤, List, [], ◌∷◌, length, nat_eq, if◌then◌else◌, Option, Some, None, option_and_then, option_map}
-use Rattle.std.specs.Prelude.{codes, All, IfSome, Bool}
+use Rattle.std.specs.Prelude.{ℕ, ◌≡◌, ◌≤◌, ⊤, true, List, [], ◌∷◌, length, nat_eq, if◌then◌else◌, Option, Some, None, option_and_then, option_map}
+use Rattle.std.specs.Prelude.{codes, All, IfSome, IsSome, Bool}
 use Rattle.std.specs.List.{IsDistinct}
 use Rattle.std.specs.Str.{bytes_eq}
 use Rattle.area_layout.specs.Layout.{MakeLayout}
@@ -95,6 +95,8 @@ pub record IsReplay (told : Replay) : Type 0 where
   pub options : AreInRange told.options
   pub turns : IfSome told.turns (λ text. AreTurns (length told.ports.items) text.now)
   pub own : IfSome told.turns (λ text. GoesByTurns told.options)
+  -- the record of a run is asked for only with a text of turns
+  pub logged : told.options.events ≡ true → IsSome told.turns
 
 abbrev pub IsCommand : Command → Type 0
 IsCommand (Command.Replay told) = IsReplay told

@@ -26,6 +26,8 @@ pub struct Options {
     pub polled: bool,
     /// Where each application hands its loans to a carrier, how far the carrier's notices stay behind.
     pub forward: Option<u32>,
+    /// Whether the record of the run goes out behind its report.
+    pub events: bool,
 }
 
 /// The names of the options, without their dashes.
@@ -35,7 +37,7 @@ pub static NAMES: [&str; 11] = [
 ];
 
 /// The names of the flags, without their dashes.
-pub static FLAGS: [&str; 1] = ["polled"];
+pub static FLAGS: [&str; 2] = ["polled", "events"];
 
 /// The options that say how an application takes turns of its own.
 pub(crate) static OWN: [&str; 5] = ["turns", "hold", "leak", "stray", "quit"];
@@ -174,6 +176,7 @@ pub fn read_options(said: &ArgMatches) -> Option<Options>
         how,
         polled: is_flagged(said, "polled"),
         forward,
+        events: is_flagged(said, "events"),
     })
 }
 
@@ -192,7 +195,8 @@ fn any_said(said: &ArgMatches, names: &[&str]) -> bool
     }
 }
 
-/// Whether it is said of one way at most that applications go by it: turns of their own, polled, forwarding.
+/// Whether it is said of one way at most that applications go by it: turns of their own, polled, forwarding. The record of a
+/// run is asked for only with a text of turns.
 #[tactic(auto, unfolding(crate::specs::Options::stand_together))]
 pub fn stand_together(said: &ArgMatches) -> bool
     ensures { result ≡ stand_together (λ name. first_value (found_of said.now) name) (flag_in said.now) }
@@ -200,7 +204,11 @@ pub fn stand_together(said: &ArgMatches) -> bool
     let own = any_said(said, OWN.as_slice());
     let polled = is_flagged(said, "polled");
     let forward = is_said(said, "forward");
-    !(own && polled) && !(own && forward) && !(polled && forward)
+    let events = is_flagged(said, "events");
+    !(own && polled)
+        && !(own && forward)
+        && !(polled && forward)
+        && (!events || is_said(said, "turns"))
 }
 
 fn is_turn(letter: u8, apps: usize) -> bool

@@ -130,6 +130,7 @@ const USUAL: Options = Options {
     },
     polled: false,
     forward: None,
+    events: false,
 };
 
 #[test]
@@ -271,6 +272,54 @@ fn other_ways_have_no_reading(rt: HostRuntime) -> Result<(), Fail> {
         &["--forward=1", "--hold=0", "9000"],
         &["--turns=n", "--forward=1", "9000"],
         &["--forward=1", "--leak=0", "--stray=0", "--quit=0", "9000"],
+    ];
+    for options in rows {
+        let words = with_replay(rt.alloc(), options)?;
+        let reading = read_words(rt.alloc(), words.as_slice())?;
+        assert!(&rt; reading.is_none(), "{options:?} have a reading");
+        assert!(&rt;
+            what_is_wrong(words.as_slice()).is_some(),
+            "nothing is wrong with {options:?}"
+        );
+    }
+    Ok(())
+}
+
+/// The record of a run is asked for by a flag, before or behind its turns.
+#[test]
+fn events_are_read(rt: HostRuntime) -> Result<(), Fail> {
+    let rows: [(&[&str], bool); 5] = [
+        (&["--turns", "n", "9000"], false),
+        (&["--turns", "n", "--events", "9000"], true),
+        (&["--events", "--turns=n0", "9000"], true),
+        (&["9000", "--hold", "1", "--events", "--turns", "0"], true),
+        (&["--turns=n", "--split=64", "9000", "--events"], true),
+    ];
+    for (options, events) in rows {
+        let words = with_replay(rt.alloc(), options)?;
+        match read_words(rt.alloc(), words.as_slice())? {
+            Some(Command::Replay(replay)) => {
+                assert_eq!(&rt; replay.options.events, events, "{options:?}");
+                assert!(&rt; replay.turns.is_some(), "{options:?}");
+            }
+            _ => assert!(&rt; false, "{options:?} aren't read"),
+        }
+    }
+    Ok(())
+}
+
+#[test]
+fn events_without_turns_have_no_reading(rt: HostRuntime) -> Result<(), Fail> {
+    let rows: [&[&str]; 9] = [
+        &["--events", "9000"],
+        &["--hold=0", "--events", "9000"],
+        &["--events", "--polled", "9000"],
+        &["--events", "--polled", "--turns=n", "9000"],
+        &["--forward=0", "--events", "9000"],
+        &["--events", "--turns=n", "9000", "--events"],
+        &["--events=1", "--turns=n", "9000"],
+        &["--turns", "--events", "9000"],
+        &["--turns=n", "9000", "--", "--events"],
     ];
     for options in rows {
         let words = with_replay(rt.alloc(), options)?;
@@ -521,7 +570,7 @@ fn options_out_of_form_are_refused(rt: HostRuntime) -> Result<(), Fail> {
 /// What a person reads of words without a reading.
 #[test]
 fn the_first_wrong_word_is_named(rt: HostRuntime) -> Result<(), Fail> {
-    let rows: [(&[&str], &str); 32] = [
+    let rows: [(&[&str], &str); 35] = [
         (&[], "there is no command"),
         (&["--help"], "'--help' is no command"),
         (&["replay"], "there is no port"),
@@ -570,6 +619,15 @@ fn the_first_wrong_word_is_named(rt: HostRuntime) -> Result<(), Fail> {
             &["replay", "--forward=0", "--polled", "1"],
             "--polled stands without --forward",
         ),
+        (
+            &["replay", "--events", "1"],
+            "--events stands only with --turns",
+        ),
+        (
+            &["replay", "--forward=0", "--events", "1"],
+            "--events stands only with --turns",
+        ),
+        (&["replay", "--events=", "1"], "--events takes no value"),
         (&["replay", "0"], "'0' is no port, a number from 1 to 65535"),
         (
             &["replay", "--", "--hold"],

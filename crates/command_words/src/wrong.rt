@@ -42,6 +42,8 @@ pub enum Wrong<'a> {
     TooLargeAreas,
     /// These two don't stand together.
     Beside(&'static str, &'static str),
+    /// The flag stands only with the option.
+    Only(&'static str, &'static str),
     /// Beside areas neither a number of buffers nor a size may stand.
     BesideAreas,
     /// `make` takes no such number here.
@@ -79,6 +81,7 @@ impl fmt::Display for Wrong<'_> {
                 )
             }
             Wrong::Beside(one, other) => write!(f, "--{one} stands without --{other}"),
+            Wrong::Only(flag, option) => write!(f, "--{flag} stands only with --{option}"),
             Wrong::BesideAreas => f.write_str("--areas stands without --buffers and --size"),
             Wrong::NoNumber { value, range } => write!(f, "make takes {range}, not '{value}'"),
             Wrong::NotTwoNumbers => f.write_str("make wants two numbers"),
@@ -93,7 +96,7 @@ usage: zcrx replay [--NAME VALUE].. PORT.. < CAPTURE
        zcrx make SEED FRAMES > CAPTURE
        zcrx check < RECORD
 replay follows the TCP flows to 1 to 8 ports, writes the stream of flow N to flow-N.bin
-in the current folder, and prints a report. Options, with what stands for each:
+in the current folder, and prints a report, with --events also the run's record. Options:
   --buffers 64   1 to 4096 buffers            --hold 0     loans kept unread, to 4096
   --size 4096    their bytes, 2^10 to 2^16    --leak 0     loans kept to the end, to 4096
   --areas A      or 1 to 4 COUNT:SIZE, by ,   --stray 0    entries behind each, to 16
@@ -155,13 +158,14 @@ impl<'a> Said<'a> {
         self.place(name).is_some_and(|named| *named)
     }
 
-    /// The first two that don't stand together.
+    /// The first two that don't stand together, or the flag that stands without its option.
     fn beside(&mut self) -> Option<Wrong<'a>> {
         let own = OWN.iter().copied().find(|name| self.has(name));
         match (self.has("polled"), self.has("forward"), own) {
             (true, true, _) => Some(Wrong::Beside("polled", "forward")),
             (true, false, Some(own)) => Some(Wrong::Beside("polled", own)),
             (false, true, Some(own)) => Some(Wrong::Beside("forward", own)),
+            _ if self.has("events") && !self.has("turns") => Some(Wrong::Only("events", "turns")),
             _ => None,
         }
     }

@@ -1,3 +1,5 @@
+mod record;
+
 use crate::{Report, Unreported, answer, write_report};
 use std::alloc::Global;
 use std::test::*;

@@ -1,0 +1,22 @@
+use Rattle.std.proofs.Common.{[], ◌∷◌, ◌++◌, ap, sym, ◌∙◌, append_assoc}
+use Rattle.std.proofs.lemmas.List.{take_all}
+use Rattle.std.specs.Fmt.{decimal}
+use Rattle.std.specs.List.{flat_map}
+use Rattle.run_report.proofs.Gathering.{joined-behind}
+use Rattle.run_report.proofs.record.put_line.Goals as goal
+
+pub returns : goal.returns
+returns c =
+    let old = c.args.block.now.bytes in
+    record {
+      bytes = c.push_str-2.ensures.bytes
+          ∙ ap (λ l. l ++ 10 ∷ []) (
+          c.loop-number.invariant.0
+          ∙ ap (λ l. c.push_str.new.self.bytes ++ flat_map (λ n. 32 ∷ decimal n) l)
+          (take_all c.loop-number.number-index c.args.numbers.now c.loop-number-test.false)
+          ∙ ap (λ l. l ++ flat_map (λ n. 32 ∷ decimal n) c.args.numbers.now) c.push_str.ensures.bytes
+          ∙ append_assoc old c.args.word.now _
+          ∙ ap (λ l. old ++ l) (sym (joined-behind 32 decimal c.args.word.now c.args.numbers.now))
+          )
+          ∙ append_assoc old _ (10 ∷ []);
+    }
