@@ -5,7 +5,7 @@ use Rattle.board_face.specs.Ended.{HaveEnded}
 use Rattle.board_face.specs.Sides.{IsApp}
 use Rattle.board_face.specs.declared.views.parts.Setting.{Setting}
 use Rattle.board_face.proofs.SideLemmas.{IsApp-at}
-use Rattle.plain_board.specs.Board.{Board, side_of}
+use Rattle.plain_board.specs.Board.{Board, stand_of, side_of}
 use Rattle.plain_board.proofs.Ending.{boards-end_well}
 use Rattle.run_account.specs.Running.{AreOver}
 use Rattle.run_account.specs.declared.run.Run.{Run}
@@ -32,5 +32,5 @@ module _ (board : Board) (run : Run) (shelves : ℕ) (fits : Fits board run shel
           many = fits.sound.set.many ∙ ap (λ (s : Setting). s.layout.reserves) (sym fits.sound.set.card);
         };
         proper = fits.sound.notes;
-        served = (boards-end_well board fits.sound (record { card = card; apps = left })).served;
+        served = (boards-end_well (stand_of board) fits.sound (record { card = card; apps = left })).served;
       }

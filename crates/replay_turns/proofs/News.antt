@@ -13,8 +13,8 @@ side-new s first (suc n) zero number is below = ap (λ k. new_app s k) (let e : 
 side-new s first (suc n) (suc a) number is below = side-new s (suc first) n a number (omega (arith, is)) (omega arith)
 
 -- the side of an application of a board that was just opened
-pub begun : (board : Board) (layout : Shape) (places a : ℕ) → board ≡ new_board layout places → a < layout.reserves
+pub begun : (board : Board) (layout : Shape) (places room a : ℕ) → board ≡ new_board layout places room → a < layout.reserves
     → (side_of board a).view ≡ new_app_view (record { layout = layout; places = places }) a
-begun board layout places a is below =
+begun board layout places room a is below =
     ap (λ (b : Board). (side_of b a).view) is
     ∙ ap (λ (side : AppSide). side.view) (side-new (record { layout = layout; places = places }) 0 layout.reserves a a (omega arith) below)

@@ -15,7 +15,7 @@ use Rattle.board_face.specs.declared.views.app.WrittenEntry.{WrittenEntry}
 use Rattle.board_face.specs.declared.views.app.AppSide.{AppSide}
 use Rattle.board_face.proofs.Parts.{count-tally, returned_in-count}
 use Rattle.board_face.proofs.Tallies.{tally, tally-map}
-use Rattle.plain_board.specs.Board.{Board, others_of}
+use Rattle.plain_board.specs.Board.{Board, stand_of, others_of}
 use Rattle.plain_board.specs.Seen.{HoldsReserve, all_of}
 use Rattle.plain_board.specs.Sound.{IsSound}
 use Rattle.plain_board.specs.Users.{IsMadeOfLoans}
@@ -80,7 +80,7 @@ named-loans layout b (l ∷ loans) laid odd =
 
 -- ---- the reserve
 
-module _ (board : Board) (a : ℕ) (x : AppSide) (st : State) (sound : IsSound board) (here : IsApp board.apps a x) (works : Working st x.view)
+module _ (board : Board) (a : ℕ) (x : AppSide) (st : State) (sound : IsSound (stand_of board)) (here : IsApp board.apps a x) (works : Working st x.view)
     (common : Common st x.view) (caught : IsCaughtUp st x.view) (empty : entries_on_way board.nic x ≡ []) where
   none-out : loans_out (reserve_of x.view) x ≡ 0
   none-out =
@@ -100,7 +100,7 @@ module _ (board : Board) (a : ℕ) (x : AppSide) (st : State) (sound : IsSound b
       )
 
   laid : IsLayout x.view.setting.layout
-  laid = rw (has-setting board a x x sound here) sound.sizes.layout
+  laid = rw (has-setting (stand_of board) a x x sound here) sound.sizes.layout
 
   none-abandoned : abandoned_in (reserve_of x.view) x ≡ 0
   none-abandoned =
@@ -121,14 +121,14 @@ module _ (board : Board) (a : ℕ) (x : AppSide) (st : State) (sound : IsSound b
   no-users : user_count a (reserve_of x.view) board.nic board.apps ≡ 0
   no-users =
       let b = reserve_of x.view in
-      let made : IsMadeOfLoans board a b x = users-are_loans board sound a b x here in
+      let made : IsMadeOfLoans (stand_of board) a b x = users-are_loans (stand_of board) sound a b x here in
       omega (arith, made.users, made.owed none-abandoned, none-out, ap (λ ws. count_by (returns x.view.setting.layout b) ws) empty)
 
   pub not-held : HoldsReserve (app_gist x.view) (others_of board a) → ⊥
   not-held holds =
       let b = reserve_of x.view in
       let users : user_count x.view.app b board.nic (all_of (app_gist x.view) (others_of board a)) ≡ 0 =
-      seen-users board a x sound here x.view.app b ∙ (ap (λ n. user_count n b board.nic board.apps) here.number ∙ no-users) in
+      seen-users (stand_of board) a x sound here x.view.app b ∙ (ap (λ n. user_count n b board.nic board.apps) here.number ∙ no-users) in
       let spares = ap (λ own. count_by (λ s. s.own.buffer == b) own) common.owns in
       let held = holds.held in
       let own = holds.own in

@@ -6,7 +6,8 @@ use Rattle.std.specs.List.{slice_get}
 use Rattle.board_face.specs.declared.views.app.AppSide.{AppSide}
 use Rattle.board_face.specs.declared.views.parts.Setting.{Setting}
 use Rattle.board_face.specs.Sides.{side_in}
-use Rattle.plain_board.specs.Board.{Board, side_of, setting_of}
+use Rattle.plain_board.specs.Board.{Board, stand_of, side_of}
+use Rattle.plain_board.specs.Stand.{setting_of}
 use Rattle.plain_board.specs.Sound.{IsSound}
 use Rattle.card_feed.specs.Account.{kept_in}
 use Rattle.board_face.specs.declared.views.nic.Dealt.{Dealt}
@@ -24,7 +25,7 @@ use Rattle.run_account.proofs.Places.{InSet, here, there, in-set, get-set_same, 
 -- ---- the board
 
 -- as many applications, so as many reserves
-reserves-same : (board board_now : Board) → IsSound board → IsSound board_now → length board_now.apps ≡ length board.apps
+reserves-same : (board board_now : Board) → IsSound (stand_of board) → IsSound (stand_of board_now) → length board_now.apps ≡ length board.apps
     → board_now.arrays.layout.reserves ≡ board.arrays.layout.reserves
 reserves-same board board_now sound sound_now many = sym sound_now.set.many ∙ many ∙ sound.set.many
 
@@ -34,7 +35,7 @@ one-setting s t [] some are are_t = absurd (omega arith)
 one-setting s t (app ∷ apps) some are are_t = sym (are_t 0 app (omega arith)) ∙ are 0 app (omega arith)
 
 -- the applications have one setting with the card, so it is that of before
-setting-same : (board board_now : Board) → IsSound board → IsSound board_now → board_now.apps ≡ board.apps → 0 < length board.apps
+setting-same : (board board_now : Board) → IsSound (stand_of board) → IsSound (stand_of board_now) → board_now.apps ≡ board.apps → 0 < length board.apps
     → board_now.nic.view.setting ≡ board.nic.view.setting
 setting-same board board_now sound sound_now apps some =
     sound_now.set.card
@@ -45,7 +46,7 @@ setting-same board board_now sound sound_now apps some =
 -- ---- the card
 
 module _ (board board_now : Board) (was now : Run) (workers : now.workers.items ≡ was.workers.items) (apps : board_now.apps ≡ board.apps)
-    (sound_now : IsSound board_now) (ready : IsReady now.feed board_now.nic.view) where
+    (sound_now : IsSound (stand_of board_now)) (ready : IsReady now.feed board_now.nic.view) where
   pub card-fits : (n : ℕ) → Fits board was n → Fits board_now now n
   card-fits n fits = record {
     sound = sound_now;
@@ -90,7 +91,7 @@ module _ (board board_now : Board) (was now : Run) (workers : now.workers.items 
 module _ (board board_now : Board) (was now : Run) (app : ℕ) (w_was w_now : Worker) (is_was : slice_get was.workers.items app ≡ Some w_was)
     (feed_is : now.feed ≡ was.feed) (items_are : now.workers.items ≡ set was.workers.items app w_now)
     (nic_is : board_now.nic ≡ board.nic) (others : (b : ℕ) → b ≢ app → side_of board_now b ≡ side_of board b)
-    (many_apps : length board_now.apps ≡ length board.apps) (sound_now : IsSound board_now) where
+    (many_apps : length board_now.apps ≡ length board.apps) (sound_now : IsSound (stand_of board_now)) where
   many-now : length now.workers.items ≡ length was.workers.items
   many-now = ap length items_are ∙ length-set was.workers.items app w_now
 
@@ -172,5 +173,6 @@ plays-through left faults kept losses a b c k l m first second third u v w befor
   fits = after.fits;
   workers = after.workers ∙ before.workers;
   many = after.many ∙ before.many;
+  room = after.room ∙ before.room;
   runs = λ source firsts plan runs. after.runs source firsts plan (before.runs source firsts plan runs);
 }

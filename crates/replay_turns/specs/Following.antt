@@ -2,7 +2,7 @@
 use Rattle.std.specs.Prelude.{◌≡◌, ◌≢◌, ℕ, zero, suc, ◌<◌, ◌⊎◌, true, false, List, [], ◌∷◌, ◌++◌, length, map, set, Option, Some}
 use Rattle.std.specs.List.{slice_get}
 use Rattle.board_face.specs.AppEvents.{app_gist}
-use Rattle.plain_board.specs.Board.{Board, new_board, side_of, others_of}
+use Rattle.plain_board.specs.Board.{Board, new_board, stand_of, side_of, others_of}
 use Rattle.plain_board.specs.Seen.{IsSeenBy, IsSeenByCard}
 use Rattle.plain_board.specs.Sound.{IsSound}
 use Rattle.app_worker.specs.Turns.{Turns, look_of}
@@ -18,6 +18,7 @@ use Rattle.run_account.specs.Ran.{TellsOf, Told, told_of}
 use Rattle.run_account.specs.Running.{AreNew, AreOver}
 use Rattle.run_account.specs.declared.run.Run.{Run}
 use Rattle.run_account.specs.declared.run.Worker.{Worker}
+use Rattle.replay_turns.specs.Events.{room_of}
 use Rattle.replay_turns.specs.Schedule.{role_of}
 use Rattle.replay_turns.specs.declared.role.Role.{Role}
 use Rattle.replay_turns.specs.declared.role.Role.TheVariants.{Card, App}
@@ -44,7 +45,7 @@ pub record CardMoves {S T : Type 0} (left : S → Option (List ℕ)) (faults : S
   pub apps : now.board.apps ≡ was.board.apps
   pub workers : now.run.workers.items ≡ was.run.workers.items
   pub shelves : now.shelves ≡ was.shelves
-  pub sound : IsSound now.board
+  pub sound : IsSound (stand_of now.board)
 
 -- An application had a turn, with this answer; where it did nothing, that is so. Only its side moved, with its shelf.
 pub record AppMoves {S T : Type 0} (kept : T → ℕ → Option (List ℕ)) (losses : T → ℕ) (app : ℕ) (worker : Worker) (was now : Moment S T) : Type 0 where
@@ -65,7 +66,7 @@ pub record AppMoves {S T : Type 0} (kept : T → ℕ → Option (List ℕ)) (los
   pub card : now.board.nic ≡ was.board.nic
   pub others : (b : ℕ) → b ≢ app → side_of now.board b ≡ side_of was.board b
   pub many : length now.board.apps ≡ length was.board.apps
-  pub sound : IsSound now.board
+  pub sound : IsSound (stand_of now.board)
 
 -- The role had a turn. An application that has left does nothing in it.
 abbrev pub Moves : {S T : Type 0} → (S → Option (List ℕ)) → (S → ℕ) → (T → ℕ → Option (List ℕ)) → (T → ℕ) → Role → Moment S T → Moment S T → Type 0
@@ -94,7 +95,7 @@ rounds_of apps (suc n) = rounds_of apps n ++ round_of apps
 
 -- Nobody has taken a turn.
 pub record IsNewRun (plan : Plan) (board : Board) (run : Run) : Type 0 where
-  pub board_is : board ≡ new_board (layout_of plan) plan.ring
+  pub board_is : board ≡ new_board (layout_of plan) plan.ring (room_of plan)
   pub feed_is : run.feed ≡ new_feed plan.ports.items plan.split
   pub workers : AreNew plan run.workers.items
 

@@ -5,7 +5,7 @@ ghost use Rattle.zr_kinds.specs.declared.behaviour.Stopped.TheVariants.{No};
 ghost use Rattle.zr_kinds.specs.declared.fault.Fault.TheVariants.{Write};
 ghost use Rattle.board_face.specs.AppCalls.{IsHere};
 ghost use Rattle.board_face.specs.AppEvents.{app_gist};
-ghost use Rattle.plain_board.specs.Board.{side_of, others_of};
+ghost use Rattle.plain_board.specs.Board.{stand_of, side_of, others_of};
 ghost use Rattle.plain_board.specs.Seen.{IsSeenBy, IsSeenByCard};
 ghost use Rattle.plain_board.specs.Sound.{IsSound};
 ghost use Rattle.app_worker.specs.Marks.{AreWholeFrames};
@@ -43,7 +43,8 @@ pub(crate) fn card_step<S: Source>(
         (feed_steps feed.old board.nic.view < feed_steps feed.new result.0.nic.view)
         (IsIdle IsSeenByCard result.0.apps feed.old feed.new board.nic.view result.0.nic.view) }
     ensures apps { result.0.apps ≡ board.apps }
-    ensures sound { IsSound result.0 }
+    ensures room { result.0.log.room ≡ board.log.room }
+    ensures sound { IsSound (stand_of result.0) }
 {
     let mut face = board.nic();
     let did = nic_turn(feed, source, &mut face);
@@ -99,7 +100,8 @@ pub(crate) fn app_step<T: Shelf>(
     ensures card { result.0.nic ≡ board.nic }
     ensures others { (b : ℕ) → b ≢ app → side_of result.0 b ≡ side_of board b }
     ensures many { length result.0.apps ≡ length board.apps }
-    ensures sound { IsSound result.0 }
+    ensures room { result.0.log.room ≡ board.log.room }
+    ensures sound { IsSound (stand_of result.0) }
 {
     let mut face = board.app(app);
     let turn = app_turn(alloc, &mut face, st, shelf);

@@ -3,6 +3,7 @@
 ghost use Rattle.std.specs.Prelude.{◌≡◌, ℕ, ◌≤◌, List, length, IfOk};
 ghost use Rattle.card_feed.specs.Plan.{IsPlan, TakesTurns};
 ghost use Rattle.run_account.specs.Running.{Running};
+ghost use Rattle.replay_turns.specs.Events.{room_of};
 ghost use Rattle.replay_turns.specs.Following.{IsNewRun};
 ghost use Rattle.replay_turns.specs.Running.{Fits};
 
@@ -12,6 +13,17 @@ use run_account::{Run, new_workers};
 use std::alloc::{AllocError, Global};
 use std::collections::hash_map::RandomState;
 use zr_io::{Shelf, Source};
+
+/// How many events a log has room for.
+const MOST_EVENTS: u32 = 1_000_000;
+
+/// For how many events the board's log has room.
+fn room(plan: &Plan) -> u32
+    ensures room { result ≡ room_of plan.now }
+    ensures most { result ≤ 1000000 }
+{
+    if plan.events { MOST_EVENTS } else { 0 }
+}
 
 /// Opens the board of a plan, at which nobody has taken a turn. The keys of the flows are hashed with `random`.
 pub fn open<S: Source, T: Shelf>(
@@ -28,7 +40,8 @@ pub fn open<S: Source, T: Shelf>(
         → Running S.left S.faults T.kept T.faults source source shelves shelves plan.now it.0.nic it.0.apps it.1) }
 {
     let layout = plan.layout().unwrap();
-    let board = PlainBoard::open(alloc, layout, plan.ports.len() as u32, plan.ring)?;
+    let apps = plan.ports.len() as u32;
+    let board = PlainBoard::open_logged(alloc, layout, apps, plan.ring, room(plan))?;
     let feed = Feed::new(alloc, random, plan)?;
     let workers = new_workers(alloc, plan)?;
     board.sound();

@@ -1,9 +1,12 @@
 //! A whole run.
 
 ghost use Rattle.std.specs.Prelude.{◌≡◌, ◌≤◌, length, vec_len, IfOk, OnErr};
+ghost use Rattle.plain_board.specs.Board.{stand_of, sides_of};
+ghost use Rattle.plain_board.specs.Recorded.{IsRecorded};
 ghost use Rattle.plain_board.specs.Sound.{IsSound};
 ghost use Rattle.card_feed.specs.Plan.{IsPlan, TakesTurns};
 ghost use Rattle.run_account.specs.Ran.{Ran, LacksMemory, told_of};
+ghost use Rattle.replay_turns.specs.Events.{room_of};
 ghost use Rattle.replay_turns.specs.Following.{RunsBy};
 ghost use Rattle.replay_turns.specs.Schedule.{AreTurns};
 
@@ -41,13 +44,17 @@ pub fn run_turns<S: Source, T: Shelf>(
     ensures follows { IfOk result (λ it. RunsBy S.left S.faults T.kept T.faults source.old source.new shelves.old.items shelves.new.items plan.now
         turns.now (told_of it.0) it.1) }
     // The board is sound too.
-    ensures sound { IfOk result (λ it. IsSound it.1) }
+    ensures sound { IfOk result (λ it. IsSound (stand_of it.1)) }
+    // And its log tells of it. There is room for 1,000,000 events where the plan asks for a log, and for none else.
+    ensures recorded { IfOk result (λ it. IsRecorded (sides_of it.1) it.1.log) }
+    ensures room { IfOk result (λ it. it.1.log.room ≡ room_of plan.now) }
     // Want of memory comes before the first turn or behind the last.
     ensures lacks { OnErr result (LacksMemory S.left S.faults T.kept T.faults source.old source.new shelves.old.items shelves.new.items plan.now) }
 {
     let (mut board, mut run) = open::<S, T>(alloc, random, plan)?;
     board = play_text(alloc, board, &mut run, source, shelves, turns);
     board = play_rounds(alloc, board, &mut run, source, shelves);
+    board.sound();
     let Run { feed, workers } = run;
     let outcome = tell(alloc, feed, &workers, &plan.ports)?;
     Ok((outcome, board))

@@ -1,6 +1,7 @@
 //! Whole runs over memory.
 
 mod drawn;
+mod events;
 mod extremes;
 mod frames;
 mod limits;

@@ -162,6 +162,7 @@ impl Drawer {
                 stray: self.below(3),
                 quit: [None, None, Some(70), Some(400)][self.draw() as usize % 4],
             },
+            events: false,
         }
     }
 

@@ -27,6 +27,7 @@ fn setup_of(number: usize) -> Setup {
             stray: [0, 16][number / 32 % 2],
             quit: [None, Some(100)][number / 64 % 2],
         },
+        events: false,
     }
 }
 

@@ -6,6 +6,7 @@ ghost use Rattle.replay_turns.specs.Schedule.{AreTurns};
 
 use crate::run_turns;
 use card_feed::{Outcome, Plan};
+use run_records::Event;
 use std::alloc::Global;
 use std::collections::hash_map::RandomState;
 use std::process::Abort;
@@ -27,6 +28,7 @@ pub struct Setup {
     pub ring: u32,
     pub split: u32,
     pub how: Behaviour,
+    pub events: bool,
 }
 
 /// An application that does nothing but read, write and give back.
@@ -45,6 +47,7 @@ pub const USUAL: Setup = Setup {
     ring: 64,
     split: 0,
     how: EAGER,
+    events: false,
 };
 
 /// What a run is given.
@@ -76,6 +79,9 @@ pub const fn faultless(bytes: &[u8]) -> Given<'_> {
 pub struct Left {
     pub outcome: Outcome,
     pub shelves: Vec<MemShelf>,
+    /// What the board's log has, and whether that is all.
+    pub events: Vec<Event>,
+    pub whole: bool,
     /// How many buffers are free at the end.
     pub free: usize,
 }
@@ -102,6 +108,7 @@ pub fn plan_of(alloc: Global, setup: &Setup) -> Result<Plan, Fail>
         ring,
         split,
         how,
+        events,
         ..
     } = *setup;
     if ring == 0 || ring > 256 || split > 256 {
@@ -118,6 +125,7 @@ pub fn plan_of(alloc: Global, setup: &Setup) -> Result<Plan, Fail>
         how,
         polled: false,
         forward: None,
+        events,
     };
     if plan.layout().is_none() {
         return Err(Fail::from("no layout"));
@@ -164,10 +172,15 @@ pub fn run(
     assert!(rt; shelves.len() >= plan.ports.len());
     let random = RandomState::new(rt)?;
     let (outcome, board) = run_turns(alloc, random, &mut source, &mut shelves, &plan, given.turns)?;
+    let log = board.log();
+    let events = log.events.to_vec(alloc)?;
+    let whole = log.whole;
     let free = board.finish().free.len();
     Ok(Left {
         outcome,
         shelves,
+        events,
+        whole,
         free,
     })
 }

@@ -1,5 +1,7 @@
-use Rattle.std.proofs.Common.{rules}
+use Rattle.std.proofs.Common.{rules, ◌≡◌, ap}
 use Rattle.app_worker.specs.Marks.{AreWholeFrames}
+use Rattle.plain_board.specs.Board.{others_of}
+use Rattle.plain_board.specs.declared.others.Others.{Others}
 use Rattle.flow_queues.specs.Shelves.{AreShelved, AreFronts}
 use Rattle.flow_queues.specs.Streams.{HasFronts, HasAll}
 use Rattle.replay_turns.proofs.Standing.{others_stand, view_stands}
@@ -8,6 +10,12 @@ use Rattle.replay_turns.proofs.board_turns.app_step.Goals as goal
 pub returns-clause-others : goal.returns-clause-others
 returns-clause-others g c = rw c.back-board.ensures
     (others_stand c.args.board c.app_turn-turn.new.face.board c.args.app c.app_turn-turn.new.face.app (rw c.app-face.ensures at c.app_turn-turn.ensures.beside))
+
+pub returns-clause-room : goal.returns-clause-room
+returns-clause-room g c =
+    let beside : others_of c.app_turn-turn.new.face.board c.app_turn-turn.new.face.app ≡ others_of c.args.board c.args.app =
+    rw c.app-face.ensures at c.app_turn-turn.ensures.beside in
+    rw c.back-board.ensures (ap (λ (o : Others). o.room) beside)
 
 pub returns-clause-told : goal.returns-clause-told
 returns-clause-told g c why idle = search (rules, c.app_turn-turn.ensures.told why idle)

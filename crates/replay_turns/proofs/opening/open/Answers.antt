@@ -18,7 +18,9 @@ returns-clause-opened g c =
     let layout_is : c.unwrap-layout.result ≡ layout_of c.args.plan.now =
     subst (λ (r : Option Shape). IfSome r (λ l. l ≡ layout_of c.args.plan.now)) c.unwrap-layout.ensures c.layout.ensures.value in
     record {
-      board_is = c.in_ok-board.ensures ∙ ap (λ (l : Shape). new_board l c.args.plan.now.ring) layout_is;
+      board_is = c.in_ok-board.ensures
+          ∙ ap (λ (l : Shape). new_board l c.args.plan.now.ring c.room.result) layout_is
+          ∙ ap (new_board (layout_of c.args.plan.now) c.args.plan.now.ring) c.room.ensures.room;
       feed_is = c.in_ok-feed.ensures.value;
       workers = c.in_ok-workers.ensures;
     }
@@ -35,11 +37,11 @@ returns-clause-fits g c shelves enough =
     let board_reserves : c.in_ok-board.board.arrays.layout.reserves ≡ c.unwrap-layout.result.reserves =
     ap (λ (b : Board). b.arrays.layout.reserves) c.in_ok-board.ensures in
     record {
-      sound = c.sound.ensures;
+      sound = c.sound.ensures.contents;
       roles = record {
         ready = rw c.in_ok-board.ensures (c.in_ok-feed.ensures.ready _ refl (record { owns = refl; pieces = refl }) (sym reserves));
         worker = λ a w is. let within = get-within c.in_ok-workers.workers.items a w is in
-            new-fits c.args.plan.now _ a _ w (begun c.in_ok-board.board c.unwrap-layout.result c.args.plan.now.ring a c.in_ok-board.ensures
+            new-fits c.args.plan.now _ a _ w (begun c.in_ok-board.board c.unwrap-layout.result c.args.plan.now.ring c.room.result a c.in_ok-board.ensures
             (omega (arith, within, many, reserves))) (c.in_ok-workers.ensures.each a w is);
       };
       many = many ∙ sym reserves ∙ sym board_reserves;
@@ -63,7 +65,7 @@ returns-clause-runs g c source shelves enough =
       setting = rw c.in_ok-board.ensures (rw layout_is refl);
       many = many;
       worker = λ a w is. let within = get-within c.in_ok-workers.workers.items a w is in
-          new-runs c.args.plan.now _ a _ w (begun c.in_ok-board.board c.unwrap-layout.result c.args.plan.now.ring a c.in_ok-board.ensures
+          new-runs c.args.plan.now _ a _ w (begun c.in_ok-board.board c.unwrap-layout.result c.args.plan.now.ring c.room.result a c.in_ok-board.ensures
           (omega (arith, within, many, reserves))) (c.in_ok-workers.ensures.each a w is) _ _;
       many_shelves = refl;
       beyond = refl;

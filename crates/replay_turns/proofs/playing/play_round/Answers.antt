@@ -8,7 +8,7 @@ use Rattle.replay_turns.proofs.playing.play_round.Goals as goal
 
 pub loop-app-init : goal.loop-app-init
 loop-app-init g c = (
-  record { fits = c.step-board.ensures.plays.fits; workers = refl; many = refl; runs = λ first firsts plan runs. runs },
+  record { fits = c.step-board.ensures.plays.fits; workers = refl; many = refl; room = refl; runs = λ first firsts plan runs. runs },
   (moment c.step-board.new.source c.step-board.new.shelves c.step-board.result.0 c.step-board.new.run, c.step-board.ensures.moves, refl),
   begins c.args.board c.step-board.result.0 c.args.run.now c.step-board.new.run c.step-board.result.1 c.step-board.ensures.answer,
 )

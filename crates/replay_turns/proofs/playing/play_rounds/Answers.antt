@@ -10,7 +10,7 @@ use Rattle.replay_turns.proofs.Turns.{plays-through}
 use Rattle.replay_turns.proofs.playing.play_rounds.Goals as goal
 
 pub loop-alloc-init : goal.loop-alloc-init
-loop-alloc-init g c = (record { fits = c.requires.fits; workers = refl; many = refl; runs = λ first firsts plan runs. runs }, 0, refl)
+loop-alloc-init g c = (record { fits = c.requires.fits; workers = refl; many = refl; room = refl; runs = λ first firsts plan runs. runs }, 0, refl)
 
 pub loop-alloc-preserved : goal.loop-alloc-preserved
 loop-alloc-preserved g c =

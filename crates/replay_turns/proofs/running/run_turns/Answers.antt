@@ -1,5 +1,6 @@
 -- A whole run.
 use Rattle.std.proofs.Common.{◌≡◌, ℕ, List, length, inl, refl, sym, ap, subst, ◌∙◌, arith}
+use Rattle.plain_board.specs.Board.{Board}
 use Rattle.card_feed.specs.declared.outcome.Outcome.{Outcome}
 use Rattle.run_account.specs.Ran.{TellsOf, TellsOfEnds}
 use Rattle.run_account.specs.Running.{ends_of}
@@ -30,6 +31,12 @@ returns-clause-follows g c = run-by _ _ _ _ _ _ _ _ _ _ _ _ c.args.shelves.now.l
     c.args.turns.now c.in_ok-board.ensures.opened c.play_text-board.ensures.follows c.play_rounds-board.ensures.follows
     c.in_ok-outcome.outcome (told c.play_rounds-board.new.run c.deref.result.now c.deref-2.result.now c.args.plan.now.ports.items c.in_ok-outcome.outcome c.deref.ensures.value
     c.deref-2.ensures.value c.in_ok-outcome.ensures)
+
+pub returns-clause-room : goal.returns-clause-room
+returns-clause-room g c =
+    c.play_rounds-board.ensures.plays.room
+    ∙ c.play_text-board.ensures.plays.room
+    ∙ ap (λ (b : Board). b.log.room) c.in_ok-board.ensures.opened.board_is
 
 pub returns-in_err-board-clause-lacks : goal.returns-in_err-board-clause-lacks
 returns-in_err-board-clause-lacks g c = on-err _ _ (inl (record { source_is = refl; shelves_are = refl }))

@@ -24,7 +24,7 @@ use Rattle.replay_turns.proofs.stepping.app_turn.Goals as goal
 
 pub returns-then-index : goal.returns-then-index
 returns-then-index g c = record {
-  plays = λ source. record { fits = c.requires.fits; workers = refl; many = refl; runs = λ first firsts plan runs. runs };
+  plays = λ source. record { fits = c.requires.fits; workers = refl; many = refl; room = refl; runs = λ first firsts plan runs. runs };
   answer = gone-idle c.args.board c.args.run.now c.args.app c.index.result.now
       (slice_get_read c.args.run.now.workers.items _ c.args.app c.index.result.now refl c.requires.app c.index.ensures) c.if-index.true;
   moves = λ source. (
@@ -90,6 +90,7 @@ returns g c =
             (record { stands = step.stands; here = λ left. step.here (not_left left); gone = λ left. ((finished left).1, (finished left).2) }));
         workers = length-set c.args.run.now.workers.items c.args.app w_now;
         many = length-set c.args.shelves.now c.args.app shelf_now;
+        room = step.room;
         runs = λ first firsts plan runs.
             app-runs board board_now c.args.run.now run_now c.args.app w_was w_now is_was refl refl step.card step.others step.many step.sound
             g.S.Source.left g.S.Source.faults g.T.Shelf.kept g.T.Shelf.faults first source firsts c.args.shelves.now plan

@@ -30,6 +30,7 @@ returns-in-Card g c =
         fits = card-fits c.args.board c.card_step-turn.result.0 c.args.run.now run_now refl step.apps step.sound step.ready _ fits;
         workers = refl;
         many = refl;
+        room = step.room;
         runs = λ first firsts plan runs.
             let turns = step.turns first plan.ports.items plan.split runs.frames runs.feed in
             card-runs c.args.board c.card_step-turn.result.0 c.args.run.now run_now refl step.apps step.sound step.ready
