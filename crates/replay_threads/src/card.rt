@@ -31,8 +31,6 @@ pub struct CardLane<'b> {
     pub turns: u64,
     /// How many applications it has seen leave: the first so many.
     pub gone: u32,
-    /// How many buffers are free at first for it alone: none where applications take some to copy into.
-    pub free: u32,
 }
 
 /// Whether the card was closed and has seen every application leave.
@@ -123,79 +121,96 @@ fn next_needs(card: &mut CardLane<'_>) -> Option<u32>
     }
 }
 
-/// Waits until so many buffers are cached, or each application has found nothing more to do: what they still have isn't on its
-/// way back.
-fn wait_for<R: Wait>(rt: &R, beside: &Beside, needed: u32, card: &mut CardLane<'_>)
+/// What came of a turn of the card.
+#[derive(Clone, Copy, Debug)]
+pub enum Went {
+    Did,
+    Idle,
+    /// Buffers for the next frame are on their way back, and it wasn't taken.
+    Waits,
+}
+
+/// Whether something was done.
+fn went_by(did: bool) -> Went {
+    if did { Went::Did } else { Went::Idle }
+}
+
+/// Looks for so many buffers. `false` says that they aren't there, and that an application may have some on their way back: since
+/// the card asked it hasn't had a turn with nothing to do.
+fn look_for(beside: &Beside, pace: &mut Pace, needed: u32, card: &mut CardLane<'_>) -> bool
     requires ready { IsReady card.old.feed card.old.seat.side.view }
     requires few { needed ≤ 64 }
     ensures goes { CardGoes card.old card.new }
 {
-    let asking = beside.ask();
-    let backoff = Backoff::new();
-    for looks in 0..u32::MAX {
-        // What they gave back before they answered is there when the search looks.
-        let answered = beside.have_answered(card.seat.apps(), asking);
-        if nic_prepare(&mut card.feed, &mut card.seat, needed) || answered {
-            return;
-        }
-        // Some may wait for entries that this look dealt with.
-        beside.wake_lanes();
-        beside.rest_card(rt, looks, &backoff);
-    }
+    // What they gave back before they answered is there when the search looks.
+    let asking = pace.ask(beside);
+    let answered = beside.have_answered(card.seat.apps(), asking);
+    let found = nic_prepare(&mut card.feed, &mut card.seat, needed);
+    pace.see(card.seat.cached());
+    found || answered
 }
 
-/// A turn of the card that offers the next frame. Where its buffers may not be free the card looks for them first, and waits for those
-/// that are on their way back.
-fn offering_turn<G: Gate, R: Wait>(
-    rt: &R,
+/// Whether a frame that needs so many buffers may be offered. Where they may not be free the card looks for them first.
+fn may_offer(beside: &Beside, pace: &mut Pace, needed: u32, card: &mut CardLane<'_>) -> bool
+    requires ready { IsReady card.old.feed card.old.seat.side.view }
+    requires few { needed ≤ 64 }
+    ensures goes { CardGoes card.old card.new }
+{
+    if pace.knows(needed) {
+        return true;
+    }
+    look_for(beside, pace, needed, card)
+}
+
+/// A turn of the card that offers the next frame, unless buffers for it are on their way back.
+fn offering_turn<G: Gate>(
     gate: &G,
     beside: &Beside,
     pace: &mut Pace,
     needed: u32,
     card: &mut CardLane<'_>,
-) -> bool
+) -> Went
     requires ready { IsReady card.old.feed card.old.seat.side.view }
     requires few { needed ≤ 64 }
     ensures goes { CardGoes card.old card.new }
 {
-    if !pace.knows(needed) {
-        wait_for(rt, beside, needed, card);
-        pace.see(card.seat.cached());
+    if !may_offer(beside, pace, needed, card) {
+        return Went::Waits;
     }
+    pace.go_on();
     let before = card.seat.cached();
     let searches = card.feed.searches();
     let did = card_turn(gate, card);
     let swept = card.feed.searches().slow > searches.slow
         || card.feed.searches().empty > searches.empty;
     pace.count(needed, swept, before, card.seat.cached());
-    did
+    went_by(did)
 }
 
 /// A turn of the card. It takes no other frame than the one whose buffers were looked for.
-fn paced_turn<G: Gate, R: Wait>(
-    rt: &R,
+pub fn paced_turn<G: Gate>(
     gate: &G,
     beside: &Beside,
     pace: &mut Pace,
     card: &mut CardLane<'_>,
-) -> bool
+) -> Went
     requires ready { IsReady card.old.feed card.old.seat.side.view }
     ensures goes { CardGoes card.old card.new }
 {
     if card.feed.ended() || card.feed.at_hand() {
-        return card_turn(gate, card);
+        return went_by(card_turn(gate, card));
     }
     if card.feed.pending() > 0 {
-        return quiet_turn(gate, pace, card);
+        return went_by(quiet_turn(gate, pace, card));
     }
     match next_needs(card) {
-        Some(needed) => offering_turn(rt, gate, beside, pace, needed, card),
-        None => quiet_turn(gate, pace, card),
+        Some(needed) => offering_turn(gate, beside, pace, needed, card),
+        None => went_by(quiet_turn(gate, pace, card)),
     }
 }
 
-/// Turns, until something is done in one. `false` says that nothing was done in many, and that the capture isn't read, or that an
-/// application stays behind.
+/// Turns, until something is done in one: also while buffers are on their way back. `false` says that nothing was done in many, and
+/// that the capture isn't read, or that an application stays behind.
 fn card_turns<G: Gate, R: Wait>(
     rt: &R,
     gate: &G,
@@ -207,24 +222,35 @@ fn card_turns<G: Gate, R: Wait>(
     ensures goes { CardGoes card.old card.new }
 {
     let backoff = Backoff::new();
-    for idle in 0..IDLE {
+    let mut idle = 0u32;
+    for looks in 0..u32::MAX {
         if beside.is_halted() {
             return false;
         }
-        if paced_turn(rt, gate, beside, pace, card) {
-            return true;
+        match paced_turn(gate, beside, pace, card) {
+            Went::Did => return true,
+            Went::Idle if idle >= IDLE => return beside.is_reading(),
+            Went::Idle => idle = idle.saturating_add(1),
+            // Some may wait for entries that this look dealt with.
+            Went::Waits => beside.wake_lanes(),
         }
-        beside.rest_card(rt, idle, &backoff);
+        beside.rest_card(rt, looks, &backoff);
     }
-    beside.is_reading()
+    false
 }
 
 /// The turns of the card, until it is over, nothing is done in many, or an application stays behind.
-fn card_loop<G: Gate, R: Wait>(rt: &R, gate: &G, beside: &Beside, card: &mut CardLane<'_>)
+fn card_loop<G: Gate, R: Wait>(
+    rt: &R,
+    gate: &G,
+    beside: &Beside,
+    free: u32,
+    card: &mut CardLane<'_>,
+)
     requires ready { IsReady card.old.feed card.old.seat.side.view }
     ensures goes { CardGoes card.old card.new }
 {
-    let mut pace = Pace::new(card.free);
+    let mut pace = Pace::new(free);
     // The bound is never reached. By it the loop is seen to end.
     for _ in 0..u64::MAX {
         if card.feed.ended() {
@@ -236,14 +262,20 @@ fn card_loop<G: Gate, R: Wait>(rt: &R, gate: &G, beside: &Beside, card: &mut Car
     }
 }
 
-/// The card's loop. It begins once all applications have begun theirs.
-pub fn run_card<G: Gate, R: Wait>(rt: &R, gate: &G, beside: &Beside, card: &mut CardLane<'_>)
+/// The card's loop, where so many buffers are free at first for it alone. It begins once all applications have begun theirs.
+pub fn run_card<G: Gate, R: Wait>(
+    rt: &R,
+    gate: &G,
+    beside: &Beside,
+    free: u32,
+    card: &mut CardLane<'_>,
+)
     requires ready { IsReady card.old.feed card.old.seat.side.view }
     ensures goes { CardGoes card.old card.new }
 {
     if beside.all_begin(rt, card.seat.apps()) {
         beside.set_card(true);
-        card_loop(rt, gate, beside, card);
+        card_loop(rt, gate, beside, free, card);
         beside.set_card(false);
     }
 }

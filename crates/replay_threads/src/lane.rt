@@ -11,6 +11,7 @@ use crate::sits::Sits;
 use crossbeam_utils::Backoff;
 use std::alloc::Global;
 use std::sync::Wait;
+use std::sync::atomic::{AtomicBool, Ordering};
 use std::thread::{self, Threads};
 use zr_io::Shelf;
 
@@ -71,6 +72,20 @@ fn lane_turn<W: Sits, G: Gate>(alloc: Global, gate: &G, lane: &mut W) -> Came
     lane.turn(alloc)
 }
 
+/// A turn, of which the card is told where nothing was done. `false` says that nothing was.
+fn told_turn<W: Sits, G: Gate>(alloc: Global, gate: &G, beside: &Beside, lane: &mut W) -> bool
+    requires fits { W.fits lane.old }
+    ensures goes { W.goes lane.old lane.new }
+{
+    let asked = beside.asked();
+    match lane_turn(alloc, gate, lane) {
+        Came::Did => return true,
+        Came::WaitsForCard => beside.wake_card(),
+        Came::Rests => beside.answer(lane.app(), asked),
+    }
+    false
+}
+
 /// Turns, until something is done in one. `false` says that nothing was done in many, and that the card takes none.
 fn lane_turns<W: Sits, G: Gate, R: Wait>(
     rt: &R,
@@ -84,11 +99,8 @@ fn lane_turns<W: Sits, G: Gate, R: Wait>(
 {
     let backoff = Backoff::new();
     for idle in 0..IDLE {
-        let asked = beside.asked();
-        match lane_turn(alloc, gate, lane) {
-            Came::Did => return true,
-            Came::WaitsForCard => beside.wake_card(),
-            Came::Rests => beside.answer(lane.app(), asked),
+        if told_turn(alloc, gate, beside, lane) {
+            return true;
         }
         beside.rest_lane(rt, lane.app(), idle, &backoff);
     }
@@ -161,24 +173,29 @@ pub fn lanes_go_on<W: Sits>()
     ensures again { (was now : List W) → AllGo W.goes was now → All W.fits now }
 {}
 
-/// A turn of each that hasn't left, in this thread.
+/// A turn of each that hasn't left, in this thread. `false` says that nothing was done.
 pub fn round<W: Sits + Send, G: Gate + Sync, R: Threads + Sync>(
     rt: &R,
     alloc: Global,
     gate: &G,
+    beside: &Beside,
     lanes: &mut [W],
-)
+) -> bool
     requires fit { All W.fits lanes.old }
     ensures go { AllGo W.goes lanes.old lanes.new }
 {
+    let did = AtomicBool::new(false);
     thread::for_each_mut(
         rt,
         lanes,
         1,
         &|_, lane| {
-            lane_turn(alloc, gate, lane);
+            if told_turn(alloc, gate, beside, lane) {
+                did.store(true, Ordering::SeqCst);
+            }
         },
     );
+    did.load(Ordering::SeqCst)
 }
 
 /// Whether every application has left.

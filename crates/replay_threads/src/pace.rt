@@ -2,17 +2,41 @@
 //! No clause speaks of it: a search says how many there are. Where payloads travel in notes the cache alone is known, since
 //! applications take buffers from the free list then, to copy into.
 
+use crate::beside::Beside;
+
 /// What the card knows of the buffers that are free.
 #[derive(Drop)]
 pub struct Pace {
     /// At least so many are cached or on the free list.
     known: u32,
+    /// The asking behind which it waits for buffers to come back, if it does.
+    asking: Option<u64>,
 }
 
 impl Pace {
     /// So many are free, for the card alone.
     pub fn new(buffers: u32) -> Pace {
-        Pace { known: buffers }
+        Pace {
+            known: buffers,
+            asking: None,
+        }
+    }
+
+    /// The asking behind which it waits. It asks once, however often it looks then.
+    pub fn ask(&mut self, beside: &Beside) -> u64 {
+        match self.asking {
+            Some(asking) => asking,
+            None => {
+                let asking = beside.ask();
+                self.asking = Some(asking);
+                asking
+            }
+        }
+    }
+
+    /// It doesn't wait any more.
+    pub fn go_on(&mut self) {
+        self.asking = None;
     }
 
     /// Whether so many are free for sure.

@@ -6,15 +6,16 @@ ghost use Rattle.replay_threads.specs.Reader.{ReaderGoes};
 ghost use Rattle.replay_threads.specs.Lanes.{AllGo};
 
 use crate::beside::{Beside, IDLE};
-use crate::card::{CardLane, card_turn, run_card};
+use crate::card::{CardLane, Went, paced_turn, run_card};
 use crate::gate::Gate;
 use crate::lane::{have_left, lanes_go_on, round, run_lanes};
+use crate::pace::Pace;
 use crate::reader::Reader;
 use crate::reading::{read_turn, run_reader};
 use crate::sits::Sits;
 use std::alloc::Global;
 use std::sync::Wait;
-use std::thread::{Threads, join_mut};
+use std::thread::{Threads, available_parallelism, join_mut};
 use zr_io::Source;
 
 /// The loops of the reading and of the card.
@@ -22,6 +23,7 @@ fn join_reading<S: Source + Send, G: Gate + Sync, R: Threads + Wait + Sync>(
     rt: &R,
     gate: &G,
     beside: &Beside,
+    free: u32,
     source: &mut S,
     reader: &mut Reader,
     card: &mut CardLane<'_>,
@@ -35,7 +37,7 @@ fn join_reading<S: Source + Send, G: Gate + Sync, R: Threads + Wait + Sync>(
         &mut || run_reader(rt, beside, source, reader),
         &mut ||
             requires { IsReady card.now.feed card.now.seat.side.view }
-        { run_card(rt, gate, beside, card) },
+        { run_card(rt, gate, beside, free, card) },
     );
 }
 
@@ -45,6 +47,7 @@ fn join_loops<S: Source + Send, W: Sits + Send, G: Gate + Sync, R: Threads + Wai
     alloc: Global,
     gate: &G,
     beside: &Beside,
+    free: u32,
     source: &mut S,
     reader: &mut Reader,
     card: &mut CardLane<'_>,
@@ -60,7 +63,7 @@ fn join_loops<S: Source + Send, W: Sits + Send, G: Gate + Sync, R: Threads + Wai
         rt,
         &mut ||
             requires { IsReady card.now.feed card.now.seat.side.view }
-        { join_reading(rt, gate, beside, source, reader, card) },
+        { join_reading(rt, gate, beside, free, source, reader, card) },
         &mut ||
             requires { All W.fits lanes.now }
         { run_lanes(rt, alloc, gate, beside, lanes) },
@@ -68,11 +71,14 @@ fn join_loops<S: Source + Send, W: Sits + Send, G: Gate + Sync, R: Threads + Wai
 }
 
 /// The reading, the card and the applications side by side, until each is over, or has done nothing for long and none goes on.
+/// Nothing is done where they don't have threads of their own.
 fn play_beside<S: Source + Send, W: Sits + Send, G: Gate + Sync, R: Threads + Wait + Sync>(
     rt: &R,
     alloc: Global,
     gate: &G,
+    are_apart: bool,
     source: &mut S,
+    free: u32,
     reader: &mut Reader,
     card: &mut CardLane<'_>,
     lanes: &mut [W],
@@ -83,11 +89,15 @@ fn play_beside<S: Source + Send, W: Sits + Send, G: Gate + Sync, R: Threads + Wa
     ensures card { CardGoes card.old card.new }
     ensures lanes { AllGo W.goes lanes.old lanes.new }
 {
+    lanes_go_on::<W>();
+    if !are_apart {
+        return;
+    }
     let beside = Beside::new();
     if card.feed.ended() {
         beside.stop_reading();
     }
-    join_loops(rt, alloc, gate, &beside, source, reader, card, lanes);
+    join_loops(rt, alloc, gate, &beside, free, source, reader, card, lanes);
 }
 
 /// Whether the card was closed and every application has left.
@@ -98,22 +108,24 @@ fn are_over<W: Sits>(card: &CardLane<'_>, lanes: &[W]) -> bool
     card.feed.closed() && have_left(lanes)
 }
 
-/// A turn of the reading, as long as the card wants more of the capture.
-fn read_on<S: Source>(source: &mut S, reader: &mut Reader, card: &CardLane<'_>)
+/// A turn of the reading, where nothing else was done, as long as the card wants more of the capture. It may be long: a pipe may
+/// have no more for hours.
+fn read_on<S: Source>(is_idle: bool, source: &mut S, reader: &mut Reader, card: &CardLane<'_>)
     ensures goes { ReaderGoes S.left S.faults source.old source.new reader.old reader.new }
 {
-    if !card.feed.ended() {
+    if is_idle && !card.feed.ended() {
         read_turn(reader, source);
     }
 }
 
-/// Rounds, a turn of the reading, one of the card and then one of each application, until all are over. `false` says that
-/// after many they aren't.
+/// Rounds, a turn of the card and then one of each application, and behind one in which nothing was done a turn of the reading,
+/// until all are over. `false` says that after many they aren't. So many buffers are free at first for the card alone.
 fn play_rounds<S: Source, W: Sits + Send, G: Gate + Sync, R: Threads + Sync>(
     rt: &R,
     alloc: Global,
     gate: &G,
     source: &mut S,
+    free: u32,
     reader: &mut Reader,
     card: &mut CardLane<'_>,
     lanes: &mut [W],
@@ -127,23 +139,44 @@ fn play_rounds<S: Source, W: Sits + Send, G: Gate + Sync, R: Threads + Sync>(
     ensures left { IsTrue result → All (λ lane. W.gone lane ≡ true) lanes.new }
 {
     lanes_go_on::<W>();
+    let beside = Beside::new();
+    let mut pace = Pace::new(free);
     for _ in 0..IDLE {
         if are_over(card, lanes) {
             return true;
         }
-        read_on(source, reader, card);
-        card_turn(gate, card);
-        round(rt, alloc, gate, lanes);
+        let went = paced_turn(gate, &beside, &mut pace, card);
+        let did = round(rt, alloc, gate, &beside, lanes);
+        let is_idle = !did && matches!(went, Went::Idle);
+        read_on(is_idle, source, reader, card);
     }
     are_over(card, lanes)
 }
 
-/// All turns of a run: side by side, and where loops ended before all were over, rounds, and side by side again.
+/// For how many processors a run is laid out.
+fn processors<G: Gate, R: Threads>(rt: &R, gate: &G) -> usize {
+    if let Some(processors) = gate.processors() {
+        return processors;
+    }
+    match available_parallelism(rt) {
+        Ok(processors) => processors.get(),
+        Err(_) => usize::MAX,
+    }
+}
+
+/// How many buffers are surely free before the rounds: behind turns only the card's looks tell.
+fn free_for_rounds(are_apart: bool, free: u32) -> u32 {
+    if are_apart { 0 } else { free }
+}
+
+/// All turns of a run: side by side, and where loops ended before all were over, rounds, and side by side again. For one processor
+/// there are rounds alone: threads would wait for each other at each step. So many buffers are free at first for the card alone.
 pub fn play<S: Source + Send, W: Sits + Send, G: Gate + Sync, R: Threads + Wait + Sync>(
     rt: &R,
     alloc: Global,
     gate: &G,
     source: &mut S,
+    free: u32,
     reader: &mut Reader,
     card: &mut CardLane<'_>,
     lanes: &mut [W],
@@ -157,11 +190,17 @@ pub fn play<S: Source + Send, W: Sits + Send, G: Gate + Sync, R: Threads + Wait 
     ensures left { All (λ lane. W.gone lane ≡ true) lanes.new }
 {
     lanes_go_on::<W>();
+    let are_apart = processors(rt, gate) > 1;
+    let mut free = free;
     for _ in rt.forever() {
-        play_beside(rt, alloc, gate, source, reader, card, lanes);
-        if play_rounds(rt, alloc, gate, source, reader, card, lanes) {
+        play_beside(
+            rt, alloc, gate, are_apart, source, free, reader, card, lanes,
+        );
+        let still_free = free_for_rounds(are_apart, free);
+        if play_rounds(rt, alloc, gate, source, still_free, reader, card, lanes) {
             return;
         }
+        free = 0;
     }
     unreachable!()
 }

@@ -117,13 +117,13 @@ fn play_seated<'b, S: Source + Send, T: Shelf + Send, G: Gate + Sync, R: Threads
         spares,
         turns: 0,
         gone: 0,
-        free,
     };
     play(
         rt,
         alloc,
         gate,
         source,
+        free,
         &mut reader,
         &mut card,
         lanes.as_mut_slice(),

@@ -10,13 +10,10 @@ loop-init g c = (
   c.lanes_go_on.ensures.same c.args.lanes.now c.requires.fit,
 )
 
-pub round-requires-clause-fit : goal.round-requires-clause-fit
-round-requires-clause-fit g c κs within = c.lanes_go_on.ensures.again c.args.lanes.now c.loop.lanes c.loop.invariant.2
-
 pub loop-preserved : goal.loop-preserved
 loop-preserved g c = (
   reads_more g.S.Source.left g.S.Source.faults c.args.source.now c.loop.source c.read_on.new.source c.args.reader.now c.loop.reader c.read_on.new.reader
       c.loop.invariant.0 c.read_on.ensures.goes,
-  goes_more c.args.card.now c.loop.card c.card_turn.new.card c.loop.invariant.1 c.card_turn.ensures.goes,
-  c.lanes_go_on.ensures.more c.args.lanes.now c.loop.lanes c.round.new.lanes c.loop.invariant.2 c.round.ensures.go,
+  goes_more c.args.card.now c.loop.card c.paced_turn-went.new.card c.loop.invariant.1 c.paced_turn-went.ensures.goes,
+  c.lanes_go_on.ensures.more c.args.lanes.now c.loop.lanes c.round-did.new.lanes c.loop.invariant.2 c.round-did.ensures.go,
 )
