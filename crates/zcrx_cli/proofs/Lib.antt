@@ -1,3 +1,4 @@
 pub mod Found
+pub mod Recording
 pub mod Behind
 pub mod Statuses

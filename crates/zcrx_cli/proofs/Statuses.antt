@@ -32,6 +32,7 @@ use Rattle.run_account.proofs.WholeStreams.{whole-streams}
 use Rattle.command_words.specs.Options.{AreInRange}
 use Rattle.command_words.specs.Words.{ReplayShown}
 use Rattle.zcrx_cli.specs.Planned.{IsPlanOf}
+use Rattle.zcrx_cli.specs.Records.{HasRecord, record_in}
 use Rattle.zcrx_cli.specs.declared.card.Card.{Card}
 use Rattle.zcrx_cli.proofs.Behind.{ended_of-behind}
 use Rattle.run_account.proofs.AppLines.{found-there, there}
@@ -447,9 +448,10 @@ module _ {S T O : Type 0} {left : S → Option (List ℕ)} {failed : S → ℕ} 
     {plan : Plan} {outcome : Told} {answer : ℕ} where
   pub replays : (told : ReplayShown) (card_now : Card) → AreInRange told.options → IsPlanOf told plan
       → RanWith left failed kept losses source source_now shelves shelves_now card_now told.turns plan outcome
-      → Tells (sent out) (sent out_now) (refusals out) (refusals out_now) outcome answer
+      → HasRecord plan outcome card_now
+      → Tells (sent out) (sent out_now) (refusals out) (refusals out_now) outcome (record_in plan card_now) answer
       → Replays left failed kept losses sent refusals source source_now shelves shelves_now out out_now card_now told answer
-  replays told card_now in_range planned with tells =
+  replays told card_now in_range planned with recorded tells =
       let ran = with.ran in
       let ahead = with.ahead in
       let is : IsAnswer (status_of outcome) answer (refusals out) (refusals out_now) = is_answer (sent out) (sent out_now) (refusals out)
@@ -462,6 +464,7 @@ module _ {S T O : Type 0} {left : S → Option (List ℕ)} {failed : S → ℕ} 
         ran = with;
         reported = tells.reported;
         report = tells.report;
+        recorded = recorded;
         answered = tells.answered;
         reached = rw (← same) (reached-of ran ahead is);
         ending = rw (← same) (some-weaker (left source) _ _ ran.ended.shown (λ all shows. ending-of ran ahead is all shows));

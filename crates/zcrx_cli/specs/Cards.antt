@@ -5,6 +5,8 @@ use Rattle.board_face.specs.Ended.{IsEachOnce, IsServed}
 use Rattle.board_face.specs.declared.views.nic.NicSide.{NicSide}
 use Rattle.board_face.specs.declared.views.app.AppSide.{AppSide}
 use Rattle.plain_board.specs.Finish.{IsOver, free_of, HasNoCounts}
+use Rattle.plain_board.specs.Board.{sides_of, stand_of}
+use Rattle.plain_board.specs.Recorded.{IsRecorded}
 use Rattle.plain_board.specs.Sound.{IsSound}
 use Rattle.word_board.specs.Board.{card_of}
 use Rattle.word_board.specs.Desk.{AllAreBack, AreServed, HasNoHolders, StandInOrder}
@@ -13,7 +15,7 @@ use Rattle.zcrx_cli.specs.declared.card.Card.{Card}
 -- there is a board, and it is over
 abbrev pub HasOver : Card → Type 0
 HasOver Card.Blank = ⊥
-HasOver (Card.Plain board) = IsOver board
+HasOver (Card.Plain board) = IsOver (stand_of board)
 HasOver (Card.Words board desk) = (desk.board ≡ board) × AllAreBack board.setting desk.view
 
 -- there is none, or one that is over
@@ -25,7 +27,7 @@ IsClosed card = HasOver card
 abbrev pub HasFreed : Card → List ℕ → Type 0
 HasFreed Card.Blank free = ⊥
 HasFreed (Card.Plain board) free =
-    (free ≡ free_of board.arrays) × IsEachOnce (pool_buffers board.arrays.layout) free × HasNoCounts board × All (IsServed board.nic) board.apps
+    (free ≡ free_of board.arrays) × IsEachOnce (pool_buffers board.arrays.layout) free × HasNoCounts (stand_of board) × All (IsServed board.nic) board.apps
 HasFreed (Card.Words board desk) free =
     StandInOrder (card_of desk.view).view.cache free × IsEachOnce (pool_buffers board.setting.layout) free × HasNoHolders desk.view
     × AreServed desk.view
@@ -36,8 +38,8 @@ HasSides Card.Blank nic apps = ⊥
 HasSides (Card.Plain board) nic apps = (board.nic ≡ nic) × (board.apps ≡ apps)
 HasSides (Card.Words board desk) nic apps = (card_of desk.view ≡ nic) × (desk.view.apps ≡ apps) × (nic.view.setting ≡ board.setting)
 
--- With a text of turns it is the board for one thread, and that is sound; without one the board on words.
+-- With a text of turns it is the board for one thread, which is sound, and its log tells of it; without one the board on words.
 abbrev pub IsOfWay : Option (List ℕ) → Card → Type 0
-IsOfWay (Some turns) (Card.Plain board) = IsSound board
+IsOfWay (Some turns) (Card.Plain board) = IsSound (stand_of board) × IsRecorded (sides_of board) board.log
 IsOfWay None (Card.Words board desk) = ⊤
 IsOfWay turns card = ⊥

@@ -3,4 +3,5 @@ pub mod Making
 pub mod Checking
 pub mod Cards
 pub mod Planned
+pub mod Records
 pub mod StreamTheorem

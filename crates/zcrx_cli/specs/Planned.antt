@@ -11,3 +11,4 @@ pub record IsPlanOf (told : ReplayShown) (plan : Plan) : Type 0 where
   pub how : plan.how ≡ told.options.how
   pub polled : plan.polled ≡ told.options.polled
   pub forward : plan.forward ≡ told.options.forward
+  pub events : plan.events ≡ told.options.events

@@ -1,5 +1,5 @@
 -- What a replay leaves: the streams on their shelves, the report, the status, and the board of the run.
-use Rattle.std.specs.Prelude.{◌≡◌, ◌≢◌, ℕ, ◌<◌, ◌≤◌, List, [], ◌∷◌, length, ◌==◌, true, Option, Some, None, Result, IfSome, OnOk, ◌⊎◌, ⊤}
+use Rattle.std.specs.Prelude.{◌≡◌, ◌≢◌, ℕ, ◌<◌, ◌≤◌, List, [], ◌∷◌, ◌++◌, length, ◌==◌, true, Option, Some, None, Result, IfSome, OnOk, ◌⊎◌, ⊤}
 use Rattle.std.specs.List.{list_any, slice_get}
 use Rattle.zr_kinds.specs.declared.fault.Fault.{Fault}
 use Rattle.zr_kinds.specs.declared.fault.Fault.TheVariants.{Cut}
@@ -22,6 +22,7 @@ use Rattle.run_report.specs.Report.{report_of, Reports, answer_of}
 use Rattle.run_report.specs.declared.report.Unreported.{Unreported}
 use Rattle.zcrx_cli.specs.Cards.{HasOver, HasSides, IsClosed, IsOfWay}
 use Rattle.zcrx_cli.specs.Planned.{IsPlanOf}
+use Rattle.zcrx_cli.specs.Records.{HasRecord, record_in}
 use Rattle.zcrx_cli.specs.Status.{end_number, status_of}
 use Rattle.zcrx_cli.specs.Making.{Makes}
 use Rattle.zcrx_cli.specs.Checking.{Checks}
@@ -83,9 +84,12 @@ pub record Replays {S T O : Type 0} (left : S → Option (List ℕ)) (failed : S
   -- The stream theorem, what the lines of the report say, and the board in the card.
   pub outcome : Told
   pub ran : RanWith left failed kept losses source source_now shelves shelves_now card_now told.turns plan outcome
-  -- The report, with the status of that outcome, went out whole; or not, and then the answer says so.
+  -- The report, with the status of that outcome, went out whole, and the record behind it where one is asked for; or not, and then the
+  -- answer says so.
   pub reported : Result (Unit {0}) Unreported
-  pub report : Reports (sent out) (sent out_now) (refusals out) (refusals out_now) (text_of outcome) reported
+  pub report : Reports (sent out) (sent out_now) (refusals out) (refusals out_now) (text_of outcome ++ record_in plan card_now) reported
+  -- The record tells of that run.
+  pub recorded : HasRecord plan outcome card_now
   pub answered : answer ≡ answer_of (status_of outcome) reported
   -- What was taken ends as all the bytes do, after the same records and by the same fault, unless memory ran out or a read failed.
   pub reached : IfSome (left source) (λ all. Took (left source) (left source_now) (λ taken. ended_of told.ports taken ≡ ended_of told.ports all))
@@ -194,9 +198,9 @@ IsThreaded (Some (make told)) = ⊥
 IsThreaded (Some check) = ⊥
 IsThreaded None = ⊥
 
--- the report of an outcome, and the answer
-pub record Tells (sent now : Option (List ℕ)) (refusals refusals_now : ℕ) (outcome : Told) (answer : ℕ) : Type 0 where
+-- the report of an outcome, what stands behind it, and the answer
+pub record Tells (sent now : Option (List ℕ)) (refusals refusals_now : ℕ) (outcome : Told) (record_text : List ℕ) (answer : ℕ) : Type 0 where
   pub reported : Result (Unit {0}) Unreported
-  pub report : Reports sent now refusals refusals_now (text_of outcome) reported
+  pub report : Reports sent now refusals refusals_now (text_of outcome ++ record_text) reported
   pub still : OnOk reported (refusals_now ≡ refusals)
   pub answered : answer ≡ answer_of (status_of outcome) reported

@@ -7,6 +7,7 @@ mod checking;
 mod closing;
 mod drawn;
 mod enough;
+mod events;
 mod faults;
 mod forwarding;
 mod frames;

@@ -1,17 +1,19 @@
 //! The top call: a command's words, a source, eight shelves and a sink.
 
-ghost use Rattle.std.specs.Prelude.{◌≡◌, ◌≢◌, ℕ, ◌≤◌, ◌<◌, ◌⊎◌, List, Option, None, Some, IfSome, IfOk, IfErr, OnErr, Ok, map, length, take, nat_eq, vec_len};
+ghost use Rattle.std.specs.Prelude.{◌≡◌, ◌≢◌, ℕ, ◌≤◌, ◌<◌, ◌⊎◌, List, Option, None, Some, IfSome, IfOk, IfErr, OnErr, OnOk, Ok, ◌++◌, map, length, take, nat_eq, vec_len};
 ghost use Rattle.std.specs.Io.KnownBytes.{Appends};
-ghost use Rattle.zr_io.specs.Moved.{Rose};
+ghost use Rattle.zr_io.specs.Moved.{AddsPiece, HasCause, Rose};
 ghost use Rattle.area_layout.specs.Layout.{MakeLayout};
 ghost use Rattle.cap_make.specs.GeneratedCapture.{generated_capture};
 ghost use Rattle.command_words.specs.Options.{AreInRange, GoesByTurns};
 ghost use Rattle.command_words.specs.Words.{IsPortList, reading_of, replay};
 ghost use Rattle.card_feed.specs.Plan.{IsPlan, TakesTurns};
 ghost use Rattle.run_account.specs.Ran.{told_of};
+ghost use Rattle.run_report.specs.Report.{Reports, report_of};
 ghost use Rattle.replay_turns.specs.Schedule.{AreTurns};
 ghost use Rattle.zcrx_cli.specs.Cards.{IsClosed};
 ghost use Rattle.zcrx_cli.specs.Planned.{IsPlanOf};
+ghost use Rattle.zcrx_cli.specs.Records.{HasRecord, record_in};
 ghost use Rattle.zcrx_cli.specs.StreamTheorem.{Answers, Commands, IsThreaded, IsUntouched, LacksMemoryBy, RanWith, RepliesTo, Tells, asked_by};
 
 use crate::card::Card;
@@ -22,7 +24,7 @@ use card_feed::{Outcome, Plan};
 use command_words::{Command, Options, Replay, read_words};
 use replay_threads::{Gate, run_threads};
 use replay_turns::run_turns;
-use run_report::{Report, answer, write_report};
+use run_report::{Report, Unreported, answer, write_record, write_report};
 use std::alloc::{AllocError, Global};
 use std::collections::hash_map::RandomState;
 use std::sync::Wait;
@@ -30,9 +32,46 @@ use std::thread::Threads;
 use zr_io::{Failed, Shelf, Sink, Source};
 use zr_kinds::Fault;
 
-/// Writes the report of a replay: the answer.
-fn tell<O: Sink>(alloc: Global, outcome: &Outcome, out: &mut O) -> u8
-    ensures { Tells (O.sent out.old) (O.sent out.new) (O.faults out.old) (O.faults out.new) (told_of outcome.now) result }
+/// Writes the record of the run, where it is asked for.
+fn write_events<O: Sink>(plan: &Plan, card: &Card, out: &mut O) -> Result<(), Failed>
+    requires plan { IsPlan plan.now }
+    ensures bytes { AddsPiece (O.sent out.old) (O.sent out.new) result (record_in plan.now card.now) }
+    ensures cause { HasCause (O.faults out.old) (O.faults out.new) result }
+{
+    match card {
+        Card::Plain(board) if plan.events => {
+            write_record(&plan.areas, plan.ports.len() as u32, board.log(), out)
+        }
+        _ => Ok(()),
+    }
+}
+
+/// Writes the report of a replay, and behind it the record of the run where it is asked for.
+fn write_told<O: Sink>(
+    alloc: Global,
+    report: &Report<'_>,
+    plan: &Plan,
+    card: &Card,
+    out: &mut O,
+) -> Result<(), Unreported>
+    requires plan { IsPlan plan.now }
+    ensures gained { let r = report.now in
+        let text = report_of r.tally.now r.apps.now r.flows.now r.refused.now r.pool.now r.status in
+        Reports (O.sent out.old) (O.sent out.new) (O.faults out.old) (O.faults out.new) (text ++ record_in plan.now card.now) result }
+    ensures still { OnOk result (O.faults out.new ≡ O.faults out.old) }
+{
+    write_report(alloc, report, out)?;
+    match write_events(plan, card, out) {
+        Ok(()) => Ok(()),
+        Err(Failed) => Err(Unreported::Write),
+    }
+}
+
+/// Writes what a replay tells: the answer.
+fn tell<O: Sink>(alloc: Global, outcome: &Outcome, plan: &Plan, card: &Card, out: &mut O) -> u8
+    requires plan { IsPlan plan.now }
+    ensures { Tells (O.sent out.old) (O.sent out.new) (O.faults out.old) (O.faults out.new) (told_of outcome.now)
+        (record_in plan.now card.now) result }
 {
     let status = status_of(outcome);
     let report = Report {
@@ -43,7 +82,7 @@ fn tell<O: Sink>(alloc: Global, outcome: &Outcome, out: &mut O) -> u8
         pool: &outcome.pool,
         status,
     };
-    answer(status, write_report(alloc, &report, out))
+    answer(status, write_told(alloc, &report, plan, card, out))
 }
 
 fn plan_of(command: Asked) -> Plan
@@ -62,6 +101,7 @@ fn plan_of(command: Asked) -> Plan
             how,
             polled,
             forward,
+            events,
         },
     } = command;
     Plan {
@@ -72,6 +112,7 @@ fn plan_of(command: Asked) -> Plan
         how,
         polled,
         forward,
+        events,
     }
 }
 
@@ -92,6 +133,7 @@ fn play_turns<S: Source, T: Shelf>(
     ensures many { vec_len shelves.new ≡ vec_len shelves.old }
     ensures ran { IfOk result (λ outcome. RanWith S.left S.faults T.kept T.faults source.old source.new shelves.old.items shelves.new.items card.new
         (Some turns.now) plan.now (told_of outcome)) }
+    ensures recorded { IfOk result (λ outcome. HasRecord plan.now (told_of outcome) card.new) }
     ensures lacks { OnErr result (LacksMemoryBy S.left S.faults T.kept T.faults source.old source.new shelves.old.items shelves.new.items
         (Some turns.now) plan.now × (card.new ≡ card.old)) }
 {
@@ -116,6 +158,7 @@ fn play_beside<S: Source + Send, T: Shelf + Send, G: Gate + Sync, R: Threads + W
     ensures many { vec_len shelves.new ≡ vec_len shelves.old }
     ensures ran { IfOk result (λ outcome. RanWith S.left S.faults T.kept T.faults source.old source.new shelves.old.items shelves.new.items card.new
         None plan.now (told_of outcome)) }
+    ensures recorded { IfOk result (λ outcome. HasRecord plan.now (told_of outcome) card.new) }
     ensures lacks { OnErr result (LacksMemoryBy S.left S.faults T.kept T.faults source.old source.new shelves.old.items shelves.new.items
         None plan.now × (card.new ≡ card.old)) }
 {
@@ -132,7 +175,7 @@ struct Asked {
     options: Options,
 }
 
-/// Replays a capture by a text of turns, and writes the report.
+/// Replays a capture by a text of turns, and writes the report, and the record where it is asked for.
 fn replay_alone<S: Source, T: Shelf, O: Sink>(
     alloc: Global,
     random: RandomState,
@@ -155,7 +198,7 @@ fn replay_alone<S: Source, T: Shelf, O: Sink>(
 {
     let plan = plan_of(command);
     match play_turns(alloc, random, source, shelves, &plan, turns, card) {
-        Ok(outcome) => tell(alloc, &outcome, out),
+        Ok(outcome) => tell(alloc, &outcome, &plan, card, out),
         Err(_) => Fault::Memory.number(),
     }
 }
@@ -182,7 +225,7 @@ fn replay<S: Source + Send, T: Shelf + Send, O: Sink, G: Gate + Sync, R: Threads
 {
     let plan = plan_of(command);
     match play_beside(rt, alloc, random, source, shelves, &plan, gate, card) {
-        Ok(outcome) => tell(alloc, &outcome, out),
+        Ok(outcome) => tell(alloc, &outcome, &plan, card, out),
         Err(_) => Fault::Memory.number(),
     }
 }

@@ -6,6 +6,7 @@ use super::frames::{PSH_ACK, SYN, capture, frame, record_of, to_9000, to_9001};
 use super::limits::{check_report_behind, report_of_syns, syns};
 use super::plain::{WORDS, check_whole};
 use super::runs::{Given, Row, Stream, check, faultless, first};
+use super::threads::APART;
 use replay_threads::{Gate, NoGate};
 use std::alloc::Global;
 use std::ops::Range;
@@ -193,6 +194,10 @@ impl Gate for Ahead<'_> {
             }
             yield_now();
         }
+    }
+
+    fn processors(&self) -> Option<usize> {
+        APART
     }
 }
 

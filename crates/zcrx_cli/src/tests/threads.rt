@@ -18,6 +18,12 @@ const LOOKS: u32 = 100_000_000;
 /// How often a run is held up in another way.
 pub const RUNS: u32 = 200;
 
+/// As many processors as each role has a thread of its own for.
+pub const APART: Option<usize> = Some(10);
+
+/// One, for which all go round in one thread.
+pub const TOGETHER: Option<usize> = Some(1);
+
 /// Holds each of two applications at its first turn until the other has come there too.
 #[derive(Drop)]
 struct Meeting {
@@ -48,6 +54,10 @@ impl Gate for Meeting {
             _ => {}
         }
     }
+
+    fn processors(&self) -> Option<usize> {
+        APART
+    }
 }
 
 /// Each of two applications comes to its first turn while the other waits at its own.
@@ -63,7 +73,7 @@ fn applications_have_threads_of_their_own(rt: HostRuntime) -> Result<(), Fail> {
     Ok(())
 }
 
-/// Holds one role up before turns that are drawn.
+/// Holds one role up before turns that are drawn. In every fourth run all go round in one thread.
 #[derive(Drop)]
 pub struct Delay {
     who: u32,
@@ -91,6 +101,14 @@ impl Gate for Delay {
             for _ in 0..u32::from(drawn) * 64 {
                 spin_loop();
             }
+        }
+    }
+
+    fn processors(&self) -> Option<usize> {
+        if self.seed.is_multiple_of(4) {
+            TOGETHER
+        } else {
+            APART
         }
     }
 }

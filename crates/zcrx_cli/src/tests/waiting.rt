@@ -6,6 +6,7 @@ use super::limits::check_report_behind;
 use super::making::{LONG, made_by, make};
 use super::pools::bytes_from;
 use super::runs::{Given, Left, Stream, check_free, check_shelves, faultless, run_behind};
+use super::threads::{APART, TOGETHER};
 use replay_threads::Gate;
 use std::alloc::Global;
 use std::hint::spin_loop;
@@ -175,7 +176,9 @@ fn words_for<'a>(alloc: Global, text: &'a str) -> Result<Vec<&'a str>, Fail> {
 
 /// Holds the applications up before each turn, so that the card runs ahead of them.
 #[derive(Drop)]
-struct Slow;
+struct Slow {
+    processors: Option<usize>,
+}
 
 impl Gate for Slow {
     fn at(&self, who: u32, _turn: u64) {
@@ -184,6 +187,10 @@ impl Gate for Slow {
                 spin_loop();
             }
         }
+    }
+
+    fn processors(&self) -> Option<usize> {
+        self.processors
     }
 }
 
@@ -233,10 +240,23 @@ fn check_case<G: Gate + Sync>(
 /// Even where the applications are slow.
 #[test]
 fn no_frame_is_refused_while_buffers_come_back(rt: HostRuntime) -> Result<(), Fail> {
+    let gate = Slow { processors: APART };
     for case in &CASES {
         for _ in 0..RUNS {
-            check_case(&rt, case, &Slow)?;
+            check_case(&rt, case, &gate)?;
         }
+    }
+    Ok(())
+}
+
+/// Nor where all go round in one thread.
+#[test]
+fn no_frame_is_refused_in_one_thread(rt: HostRuntime) -> Result<(), Fail> {
+    let gate = Slow {
+        processors: TOGETHER,
+    };
+    for case in &CASES {
+        check_case(&rt, case, &gate)?;
     }
     Ok(())
 }
@@ -285,6 +305,10 @@ impl Gate for Meeting {
         } else if who == 1 && turn == self.app_turn {
             self.meet(&self.app, &self.card);
         }
+    }
+
+    fn processors(&self) -> Option<usize> {
+        APART
     }
 }
 
@@ -358,6 +382,10 @@ impl Gate for Begins<'_> {
         if who == 0 {
             self.begun.store(1, Ordering::SeqCst);
         }
+    }
+
+    fn processors(&self) -> Option<usize> {
+        APART
     }
 }
 

@@ -8,7 +8,7 @@ pub returns-in-Ok : goal.returns-in-Ok
 returns-in-Ok g c = record {
   replays = inl (replays g.O.Sink.sent g.O.Sink.faults c.args.out.now c.tell.new.out
       (asked_by c.args.command.ports.items c.args.command.areas.items c.args.command.options None) _ c.requires.options
-      (c.plan_of-plan.ensures.told _) c.in-Ok.ensures.ran c.tell.ensures);
+      (c.plan_of-plan.ensures.told _) c.in-Ok.ensures.ran c.in-Ok.ensures.recorded c.tell.ensures);
 }
 
 pub returns : goal.returns
