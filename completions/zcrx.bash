@@ -17,7 +17,7 @@ _zcrx() {
     --turns) COMPREPLY=($(compgen -W "n n0" -- "$word")) ;;
     --forward) COMPREPLY=($(compgen -W "0 8 63" -- "$word")) ;;
     --hold | --leak | --stray | --quit) ;;
-    *) COMPREPLY=($(compgen -W "--buffers --size --areas --ring --split --hold --leak --stray --quit --turns --polled --forward" -- "$word")) ;;
+    *) COMPREPLY=($(compgen -W "--buffers --size --areas --ring --split --hold --leak --stray --quit --turns --events --polled --forward" -- "$word")) ;;
     esac
 }
 

@@ -142,7 +142,7 @@ def check_options(page):
     offered = {
         "completions/zcrx.bash": r'(?<=[" ])--([a-z]+)(?=[ "])',
         "completions/_zcrx": r"'--([a-z]+)\[",
-        "crates/command_words/src/wrong.rt": r"  --([a-z]+) ",
+        "crates/command_words/src/wrong.rt": r"--([a-z]+) ",
     }
     for place, form in offered.items():
         text = read(place)

@@ -141,6 +141,8 @@ WORDS = [
     (["replay", "--polled", "--polled", "9000"], "--polled stands twice"),
     (["replay", "--forward", "64", "9000"], "--forward takes a number from 0 to 63, not '64'"),
     (["replay", "--polled", "--hold", "0", "9000"], "--polled stands without --hold"),
+    (["replay", "--events", "9000"], "--events stands only with --turns"),
+    (["replay", "--events=1", "--turns=n", "9000"], "--events takes no value"),
     (["make", "7"], "make wants two numbers"),
     (["make", "7", "1000001"], "make takes 0 to 1000000 frames, not '1000001'"),
     (["check", "it"], "check takes no word more, as 'it'"),
