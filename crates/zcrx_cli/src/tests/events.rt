@@ -1,6 +1,6 @@
 //! Records of runs: what `--events` writes, and what `check` says of it.
 use super::frames::{PSH_ACK, capture_of, to_9000, to_9001};
-use super::rows::HELLO;
+use super::rows::{GREETED, HELLO, greeting};
 use super::runs::{Given, faultless, run};
 use std::process::Abort;
 use std::random::RandomSource;
@@ -10,6 +10,20 @@ use std::thread::Threads;
 
 /// More bytes than a record of a small capture has.
 const RECORD_ROOM: usize = 100_000;
+
+/// The record of a flow of 5 bytes from SYN to FIN, over one buffer.
+const RECORD: &str = "\
+run 1:1024 1
+take 0 1
+place 0 0 5 2
+sent 0 0 0 5
+held 0 0 0 5
+lend 0 0 0 5 2 1
+back 0 0 0 5 1
+shut 0 1
+honour 0 0 0 0
+end
+";
 
 /// What the sink got, from the record's first line on.
 fn record_of(sent: &[u8]) -> Result<&str, Fail> {
@@ -34,6 +48,7 @@ fn checked(
 /// The record stands behind the report, and is the one of a legal run.
 #[test]
 fn one_segment_with_five_bytes(rt: HostRuntime) -> Result<(), Fail> {
+    let capture = greeting(rt.alloc())?;
     let words = [
         "replay",
         "--buffers",
@@ -48,28 +63,12 @@ fn one_segment_with_five_bytes(rt: HostRuntime) -> Result<(), Fail> {
     let given = Given {
         words: &words,
         buffers: 1,
-        ..faultless(&HELLO)
+        ..faultless(&capture)
     };
     let left = run(&rt, &given)?;
     assert_eq!(&rt; left.status, 0);
-    let text = "\
-capture records 1 tcp 1 steered 1 other 0 fragment 0 cut 0 bad 0
-app 0 port 9000 written 5 loans 1 copied 0 stopped no
-flow 0 port 9000 base 1001 bytes 5 fin no end open
-pool fast 0 refill 0 slow 1 empty 0 strays 0
-status 0
-run 1:1024 1
-take 0 1
-place 0 0 5 2
-sent 0 0 0 5
-held 0 0 0 5
-lend 0 0 0 5 2 1
-back 0 0 0 5 1
-shut 0 1
-honour 0 0 0 0
-end
-";
-    assert_eq!(&rt; str::from_utf8(&left.sent)?, text);
+    let wanted = format!(in rt.alloc(); "{GREETED}status 0\n{RECORD}")?;
+    assert_eq!(&rt; str::from_utf8(&left.sent)?, wanted.as_str());
     assert_eq!(&rt; checked(&rt, record_of(&left.sent)?)?, 0);
     Ok(())
 }
