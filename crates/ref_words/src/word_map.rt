@@ -1,5 +1,5 @@
 ghost use Rattle.std.specs.Prelude.{◌≡◌, ◌+◌, ◌<◌, ◌≤◌};
-ghost use Rattle.area_layout.specs.Layout.{IsLayout, total, area_words, size_of};
+ghost use Rattle.area_layout.specs.Layout.{IsLayout, total, area_words, size_of, first_word};
 ghost use Rattle.board_face.specs.NicCalls.{apps_of, free_words_of};
 ghost use Rattle.ref_words.specs.Words.{roles_of, table_words, role_at, phase_at, pool_at, user_at, free_at, area_at};
 ghost use Rattle.ref_words.specs.Words.{note_at, refill_at};
@@ -145,14 +145,16 @@ impl WordMap {
         self.area + word as usize
     }
 
-    /// The word of the area that has a buffer's byte `further` bytes behind an offset.
-    pub fn text(&self, buffer: u32, offset: u32, further: u32) -> usize
+    /// The word of the area that has a buffer's byte `further` bytes behind an offset; `first` is the buffer's first word.
+    pub fn text(&self, buffer: u32, first: u64, offset: u32, further: u32) -> usize
         requires buffer { buffer < total self.now.layout }
+        requires first { first ≡ first_word self.now.layout buffer }
         requires offset { offset + further < size_of self.now.layout buffer }
         ensures value { result ≡ area_at self.now (area_word self.now.layout buffer (offset + further)) }
         ensures within { result < table_words self.now }
     {
-        self.area(self.layout.first_word(buffer) + u64::from(offset + further) / 8)
+        let _ = buffer;
+        self.area + (first + u64::from(offset + further) / 8) as usize
     }
 
     /// A word of a note slot of an application; word 0 is the flag.

@@ -23,21 +23,9 @@ word-is (suc n) (suc k) bytes less =
     let place : 8 + 8 * k ≡ 8 * suc k = omega arith in
     word-is n k (drop 8 bytes) (omega arith) ∙ ap (little_number 8) (drop-drop (8 * k) 8 bytes ∙ ap (λ j. drop j bytes) place)
 
--- eight bytes, or fewer with zeros behind them, are one word
-pub padded-number : (bytes : List ℕ)
-    → little_number 8 (take (min (length bytes) 8) bytes ++ drop (min (length bytes) 8) (replicate 8 0)) ≡ little_number 8 bytes
-padded-number bytes =
-    let number : ℕ → ℕ = λ m. little_number 8 (take m bytes ++ drop m (replicate 8 0)) in
-    ⊎_elim
-    (λ (less : length bytes < 8).
-    let many : min (length bytes) 8 ≡ length bytes = omega arith in
-    ap number many
-    ∙ (ap (λ text. little_number 8 (text ++ drop (length bytes) (replicate 8 0))) (take-length bytes)
-    ∙ same_number 0 8 _ bytes (same_padded bytes (drop (length bytes) (replicate 8 0)) (zero_behind (length bytes) 8))))
-    (λ enough.
-    let many : min (length bytes) 8 ≡ 8 = omega arith in
-    ap number many ∙ (ap (little_number 8) (append-nil (take 8 bytes)) ∙ little_from-take 0 8 8 bytes (omega arith)))
-    (cases_lt (length bytes) 8)
+-- fewer than eight bytes with zeros behind them are one word
+pub padded-number : (bytes : List ℕ) → little_number 8 (bytes ++ drop (length bytes) (replicate 8 0)) ≡ little_number 8 bytes
+padded-number bytes = same_number 0 8 _ bytes (same_padded bytes (drop (length bytes) (replicate 8 0)) (zero_behind (length bytes) 8))
 
 -- a word has eight bytes
 pub length-word_bytes : (word : ℕ) → length (word_bytes word) ≡ 8

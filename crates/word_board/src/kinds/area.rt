@@ -1,5 +1,5 @@
 ghost use Rattle.std.specs.Prelude.{◌≡◌, ◌+◌, ◌*◌, ◌<◌, ◌≤◌, [], length};
-ghost use Rattle.area_layout.specs.Layout.{LiesIn};
+ghost use Rattle.area_layout.specs.Layout.{LiesIn, first_word};
 ghost use Rattle.board_face.specs.AppCalls.{HasSpare};
 ghost use Rattle.board_face.specs.AppEvents.{begin_place};
 ghost use Rattle.board_face.specs.NicCalls.{HasOwn};
@@ -17,10 +17,18 @@ use std::marker::Brand;
 use zr_kinds::Place;
 
 /// The card stores the word `k` of the piece that it began, the next one. It isn't the last.
-pub(crate) fn store_piece(words: &SharedWords, seat: &mut WordSeat, place: Place, k: u32, n: u64)
+pub(crate) fn store_piece(
+    words: &SharedWords,
+    seat: &mut WordSeat,
+    place: Place,
+    first: u64,
+    k: u32,
+    n: u64,
+)
     requires table { seat.old.table_id ≡ words.now.table.shared.table_id }
     requires card { seat.old.me ≡ (card_view (card_of seat.old.me.0), []) }
     requires lies { LiesIn words.now.map.layout place }
+    requires first { first ≡ first_word words.now.map.layout place.buffer }
     requires making { IsMadeAt (card_of seat.old.me.0).inside.making place }
     requires so_far { k ≡ length (made_words (card_of seat.old.me.0).inside.making) }
     requires more { 8 * (k + 1) < place.len }
@@ -28,7 +36,7 @@ pub(crate) fn store_piece(words: &SharedWords, seat: &mut WordSeat, place: Place
     ensures event { seat.new.me ≡ (card_view (side_piece_stored (card_of seat.old.me.0) place n), []) }
 {
     laws::k11();
-    let word = words.map.text(place.buffer, place.offset, 8 * k);
+    let word = words.map.text(place.buffer, first, place.offset, 8 * k);
     let table = &words.table;
     swap_as::<Brand, (Place, u64)>(table, seat, word, n, (place, n));
 }
@@ -38,6 +46,7 @@ pub(crate) fn place_piece(
     words: &SharedWords,
     seat: &mut WordSeat,
     own: Filling,
+    first: u64,
     bytes: &[u8],
     k: u32,
     n: u64,
@@ -46,6 +55,7 @@ pub(crate) fn place_piece(
     requires card { seat.old.me ≡ (card_view (card_of seat.old.me.0), []) }
     requires out { HasOwn (card_of seat.old.me.0).view (filled_by own (length bytes.now)) }
     requires lies { LiesIn words.now.map.layout (next_place own (length bytes.now)) }
+    requires first { first ≡ first_word words.now.map.layout own.buffer }
     requires making { IsMadeAt (card_of seat.old.me.0).inside.making (next_place own (length bytes.now)) }
     requires so_far { k ≡ length (made_words (card_of seat.old.me.0).inside.making) }
     requires fits { own.start + length bytes.now ≤ own.size }
@@ -55,7 +65,7 @@ pub(crate) fn place_piece(
     ensures event { seat.new.me ≡ (card_view (side_piece_placed (card_of seat.old.me.0) own bytes.now), []) }
 {
     laws::k11();
-    let word = words.map.text(own.buffer, own.start, 8 * k);
+    let word = words.map.text(own.buffer, first, own.start, 8 * k);
     let table = &words.table;
     swap_as::<Brand, (Filling, &[u8])>(table, seat, word, n, (own, bytes));
 }
@@ -65,6 +75,7 @@ pub(crate) fn store_spare(
     words: &SharedWords,
     seat: &mut WordSeat,
     own: Filling,
+    first: u64,
     len: u32,
     k: u32,
     n: u64,
@@ -75,6 +86,7 @@ pub(crate) fn store_spare(
     requires empty { own.start ≡ 0 }
     requires few { len ≤ 256 }
     requires lies { LiesIn words.now.map.layout (begin_place own.buffer len) }
+    requires first { first ≡ first_word words.now.map.layout own.buffer }
     requires making { IsMadeThere (app_of seat.old.me.0).inside.making (begin_place own.buffer len) }
     requires so_far { k ≡ length (made_words (app_of seat.old.me.0).inside.making) }
     requires more { 8 * (k + 1) < len }
@@ -82,7 +94,7 @@ pub(crate) fn store_spare(
     ensures event { seat.new.me ≡ (app_view (side_spare_stored (app_of seat.old.me.0) (begin_place own.buffer len) n), []) }
 {
     laws::k11();
-    let word = words.map.text(own.buffer, 0, 8 * k);
+    let word = words.map.text(own.buffer, first, 0, 8 * k);
     let table = &words.table;
     swap_as::<Brand, (Filling, u32, u64)>(table, seat, word, n, (own, len, n));
 }
@@ -92,6 +104,7 @@ pub(crate) fn fill_spare(
     words: &SharedWords,
     seat: &mut WordSeat,
     own: Filling,
+    first: u64,
     bytes: &[u8],
     k: u32,
     n: u64,
@@ -103,6 +116,7 @@ pub(crate) fn fill_spare(
     requires some { 0 < length bytes.now }
     requires few { length bytes.now ≤ 256 }
     requires lies { LiesIn words.now.map.layout (begin_place own.buffer (length bytes.now)) }
+    requires first { first ≡ first_word words.now.map.layout own.buffer }
     requires making { IsMadeThere (app_of seat.old.me.0).inside.making (begin_place own.buffer (length bytes.now)) }
     requires so_far { k ≡ length (made_words (app_of seat.old.me.0).inside.making) }
     requires inside { 8 * k < length bytes.now }
@@ -111,7 +125,7 @@ pub(crate) fn fill_spare(
     ensures event { seat.new.me ≡ (app_view (side_spare_filled (app_of seat.old.me.0) own bytes.now), []) }
 {
     laws::k11();
-    let word = words.map.text(own.buffer, 0, 8 * k);
+    let word = words.map.text(own.buffer, first, 0, 8 * k);
     let table = &words.table;
     swap_as::<Brand, (Filling, &[u8])>(table, seat, word, n, (own, bytes));
 }

@@ -1,5 +1,5 @@
 ghost use Rattle.std.specs.Prelude.{◌≡◌, ◌+◌, ◌%◌, ◌<◌, ◌≤◌, [], ◌++◌, length};
-ghost use Rattle.area_layout.specs.Layout.{LiesIn};
+ghost use Rattle.area_layout.specs.Layout.{LiesIn, first_word};
 ghost use Rattle.board_face.specs.AppCalls.{HasLoan, ShowsCopy};
 ghost use Rattle.board_face.specs.AppEvents.{loan_origin, has_read};
 ghost use Rattle.board_face.specs.Sides.{app_at};
@@ -22,6 +22,7 @@ pub(crate) fn load_word(
     words: &SharedWords,
     seat: &mut WordSeat,
     loan: Place,
+    first: u64,
     from: u32,
     so_far: &[u8],
     more: u32,
@@ -30,6 +31,7 @@ pub(crate) fn load_word(
     requires app { seat.old.me ≡ (app_view (app_of seat.old.me.0), []) }
     requires out { HasLoan (app_of seat.old.me.0).view loan }
     requires lies { LiesIn words.now.map.layout loan }
+    requires first { first ≡ first_word words.now.map.layout loan.buffer }
     requires reads { HasReadSoFar (app_of seat.old.me.0).view loan from so_far.now }
     requires some { 0 < more }
     requires within { from + length so_far.now + more ≤ loan.len }
@@ -44,9 +46,8 @@ pub(crate) fn load_word(
         (so_far.now ++ part_of result ((loan.offset + (from + length so_far.now)) % 8) more) }
 {
     laws::k12();
-    let word = words
-        .map
-        .text(loan.buffer, loan.offset, from + so_far.len() as u32);
+    let further = from + so_far.len() as u32;
+    let word = words.map.text(loan.buffer, first, loan.offset, further);
     let table = &words.table;
     load_as::<Brand, (Place, u32, &[u8], u32)>(table, seat, word, (loan, from, so_far, more))
 }
@@ -68,12 +69,25 @@ pub(crate) fn read_text(
     ensures event { seat.new.me ≡ (app_view (app_at (app_of seat.old.me.0) (has_read (app_of seat.old.me.0).view loan from into.new)), []) }
     ensures copied { ShowsCopy (loan_origin (app_of seat.old.me.0).view loan) from into.new }
 {
+    let first_word = words.map.layout().first_word(loan.buffer);
     let mut done = 0;
     while done < into.len() {
         let first = (loan.offset as usize + from as usize + done) % 8;
         let more = (8 - first).min(into.len() - done);
-        let word = load_word(words, seat, loan, from, &into[..done], more as u32);
-        into[done..done + more].copy_from_slice(&bytes_of_word(word)[first..first + more]);
+        let word = load_word(words, seat, loan, first_word, from, &into[..done], more as u32);
+        copy_part(word, first, &mut into[done..done + more]);
         done += more;
+    }
+}
+
+/// The bytes of a word from this one on, as many as there is room for.
+fn copy_part(word: u64, first: usize, into: &mut [u8])
+    requires { first + length into.old ≤ 8 }
+    ensures { into.new ≡ part_of word first (length into.old) }
+{
+    let bytes = bytes_of_word(word);
+    match into.first_chunk_mut::<8>() {
+        Some(whole) => *whole = bytes,
+        None => into.copy_from_slice(&bytes[first..first + into.len()]),
     }
 }

@@ -35,12 +35,13 @@ pub(crate) fn place_text(words: &SharedWords, seat: &mut WordSeat, own: Filling,
         len,
     };
     begin_piece(words, seat, own, len);
+    let first = words.map.layout().first_word(own.buffer);
     let last = (len - 1) / 8;
     for k in 0..last {
-        store_piece(words, seat, place, k, text_word(bytes, k as usize));
+        store_piece(words, seat, place, first, k, text_word(bytes, k as usize));
     }
     let n = text_word(bytes, last as usize);
-    place_piece(words, seat, own, bytes, last, n);
+    place_piece(words, seat, own, first, bytes, last, n);
 }
 
 /// An application fills a spare: it stores the text word by word.
@@ -57,10 +58,11 @@ pub(crate) fn fill_text(words: &SharedWords, seat: &mut WordSeat, own: Filling, 
     ensures event { seat.new.me ≡ (app_view (app_at (app_of seat.old.me.0) (filled (app_of seat.old.me.0).view own bytes.now)), []) }
 {
     let len = bytes.len() as u32;
+    let first = words.map.layout().first_word(own.buffer);
     let last = (len - 1) / 8;
     for k in 0..last {
-        store_spare(words, seat, own, len, k, text_word(bytes, k as usize));
+        store_spare(words, seat, own, first, len, k, text_word(bytes, k as usize));
     }
     let n = text_word(bytes, last as usize);
-    fill_spare(words, seat, own, bytes, last, n);
+    fill_spare(words, seat, own, first, bytes, last, n);
 }

@@ -1,24 +1,27 @@
-use Rattle.std.proofs.Common.{◌+◌, ◌<◌, ◌/◌, ap, sym, subst, arith}
-use Rattle.area_layout.specs.Layout.{total, size_of, area_words}
+use Rattle.std.proofs.Common.{◌+◌, ◌<◌, ◌/◌, ap, subst, arith}
+use Rattle.area_layout.specs.Layout.{area_words}
 use Rattle.board_face.specs.declared.views.parts.Setting.{Setting}
-use Rattle.area_layout.proofs.Words.{begin-few}
-use Rattle.ref_words.specs.Area.{area_word}
+use Rattle.ref_words.specs.Words.{IsMap}
 use Rattle.ref_words.proofs.AreaWords.{within-area}
 use Rattle.ref_words.proofs.word_map.WordMap.text.Goals as goal
 
-pub area-requires : goal.area-requires
-area-requires c =
-    let layout = c.self.inside.layout in
-    let few = subst (λ (s : Setting). c.args.buffer < total s.layout) (sym c.self.view_is) c.requires.buffer in
-    let inside = subst (λ (s : Setting). c.args.offset + c.args.further < size_of s.layout c.args.buffer) (sym c.self.view_is) c.requires.offset in
-    let there : area_word layout c.args.buffer (c.args.offset + c.args.further) < area_words layout =
-    within-area layout c.self.invariant.layout c.args.buffer (c.args.offset + c.args.further) few inside in
-    subst (λ (s : Setting). c.first_word.result + c.from.result / 8 < area_words s.layout) c.self.view_is
-    (omega (arith, there, c.first_word.ensures, ap (λ n. n / 8) c.from.ensures))
+module _ (c : goal.After-from) where
+  -- the map keeps where the groups of its setting begin
+  map : IsMap c.args.self.now c.self.inside.users c.self.inside.free c.self.inside.area c.self.inside.notes c.self.inside.refills c.self.inside.end
+  map = subst (λ (s : Setting). IsMap s c.self.inside.users c.self.inside.free c.self.inside.area c.self.inside.notes c.self.inside.refills c.self.inside.end)
+      c.self.view_is c.self.invariant
 
-pub overflow_add-first_word : goal.overflow_add-first_word
-overflow_add-first_word c =
-    let layout = c.self.inside.layout in
-    let few = subst (λ (s : Setting). c.args.buffer < total s.layout) (sym c.self.view_is) c.requires.buffer in
-    let begin = begin-few layout c.args.buffer c.self.invariant.layout (omega arith) in
-    omega (arith, begin, c.first_word.ensures, ap (λ n. n / 8) c.from.ensures, c.ranges.offset.fits, c.ranges.further.fits)
+  -- and the word lies in the area
+  there : c.args.first + c.from.result / 8 < area_words c.args.self.now.layout
+  there =
+      let word = within-area c.args.self.now.layout map.layout c.args.buffer (c.args.offset + c.args.further) c.requires.buffer c.requires.offset in
+      omega (arith, word, c.requires.first, ap (λ n. n / 8) c.from.ensures)
+
+pub overflow_add-result : goal.overflow_add-result
+overflow_add-result c = let few = (map c).few in omega (arith, there c, few, (map c).end_at)
+
+pub overflow_add-result-2 : goal.overflow_add-result-2
+overflow_add-result-2 c = let few = (map c).few in omega (arith, there c, few, (map c).end_at, (map c).area_at)
+
+pub returns-clause-within : goal.returns-clause-within
+returns-clause-within c = omega (arith, there c, (map c).area_at)

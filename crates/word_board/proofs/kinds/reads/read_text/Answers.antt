@@ -22,12 +22,6 @@ load_word-word-requires-clause-reads c =
     subst (λ me. HasReadSoFar (app_of me.0).view c.args.loan c.args.from so_far) (sym c.loop-done.invariant.1)
     (record { before = mine.view.reads; is = refl })
 
--- the bytes that are copied are the part of the word that the read wants
-part-same : (ys xs : List ℕ) (word first at more : ℕ) → ys ≡ take (first + more - first) (drop first xs) → xs ≡ word_bytes word → first ≡ at
-    → ys ≡ part_of word at more
-part-same ys xs word first at more is bytes same =
-    is ∙ (ap (λ n. take n (drop first xs)) (omega arith) ∙ (ap (λ x. take more (drop first x)) bytes ∙ ap (λ i. part_of word i more) same))
-
 -- a slice of which a part is written is as long
 length-put_mid : (a k : ℕ) (xs ys : List ℕ) → length ys ≡ k → a + k ≤ length xs → length (put_mid a k xs ys) ≡ length xs
 length-put_mid a k xs ys long fits =
@@ -55,14 +49,15 @@ loop-done-preserved c =
     let fits : done + more ≤ length c.loop-done.into = omega (arith, c.min-more.ensures, c.loop-done.invariant.3) in
     let first : ℕ = (loan.offset + from + done) % 8 in
     let there : first ≡ (loan.offset + (from + length so_far)) % 8 = omega (arith, long) in
-    let same : c.copy_from_slice.new.self ≡ part =
-    part-same _ _ c.load_word-word.result first _ more c.copy_from_slice.ensures.after c.bytes_of_word.ensures there in
-    let many : length c.copy_from_slice.new.self ≡ more = c.copy_from_slice.ensures.len
-    ∙ (length-take-le (done + more - done) (drop done c.loop-done.into) (omega (arith, fits, length-drop done c.loop-done.into)) ∙ omega arith) in
-    let whole : length (put_mid done (done + more - done) c.loop-done.into c.copy_from_slice.new.self) ≡ length c.loop-done.into =
-    length-put_mid done (done + more - done) c.loop-done.into c.copy_from_slice.new.self (omega (arith, many)) (omega (arith, fits)) in
-    let bytes : so_far ++ part ≡ take (done + more) (put_mid done (done + more - done) c.loop-done.into c.copy_from_slice.new.self) =
-    sym (take-put_mid done (done + more - done) c.loop-done.into c.copy_from_slice.new.self (done + more) (omega (arith, many))
+    let size : length (take (done + more - done) (drop done c.loop-done.into)) ≡ more =
+    length-take-le (done + more - done) (drop done c.loop-done.into) (omega (arith, fits, length-drop done c.loop-done.into)) ∙ omega arith in
+    let same : c.copy_part.new.into ≡ part = c.copy_part.ensures
+    ∙ (ap (part_of c.load_word-word.result first) size ∙ ap (λ i. part_of c.load_word-word.result i more) there) in
+    let many : length c.copy_part.new.into ≡ more = c.copy_part.auto.into ∙ size in
+    let whole : length (put_mid done (done + more - done) c.loop-done.into c.copy_part.new.into) ≡ length c.loop-done.into =
+    length-put_mid done (done + more - done) c.loop-done.into c.copy_part.new.into (omega (arith, many)) (omega (arith, fits)) in
+    let bytes : so_far ++ part ≡ take (done + more) (put_mid done (done + more - done) c.loop-done.into c.copy_part.new.into) =
+    sym (take-put_mid done (done + more - done) c.loop-done.into c.copy_part.new.into (done + more) (omega (arith, many))
     c.loop-done.invariant.3 ∙ ap (λ xs. so_far ++ xs) same) in (
       c.load_word-word.ensures.table ∙ c.loop-done.invariant.0,
       c.load_word-word.ensures.event
