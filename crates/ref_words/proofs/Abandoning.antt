@@ -1,13 +1,11 @@
 -- An application abandons a loan: it is out no more, and owed for good, so no count of holders or users changes.
-use Rattle.std.proofs.Common.{◌≡◌, ℕ, List, [], set, refl, ◌∙◌, arith, inr}
-use Rattle.std.specs.Prelude.{All}
+use Rattle.std.proofs.Common.{◌≡◌, ℕ, List, [], set, refl, ◌∙◌, arith, ◌<◌, ◌≤◌, length}
 use Rattle.zr_kinds.specs.declared.place.Place.{Place}
 use Rattle.board_face.specs.AppEvents.{reserve_of}
 use Rattle.board_face.specs.AppCalls.{HasLoan}
 use Rattle.board_face.specs.Counts.{pool_count, user_count, EndedWereReturned}
 use Rattle.board_face.specs.Returns.{AreReturns, loans_out}
 use Rattle.board_face.specs.Sides.{IsApp}
-use Rattle.board_face.specs.Used.{HasFewPicks}
 use Rattle.board_face.specs.declared.views.parts.Setting.{Setting}
 use Rattle.board_face.specs.declared.views.nic.NicSide.{NicSide}
 use Rattle.board_face.specs.declared.views.app.AppSide.{AppSide}
@@ -20,7 +18,6 @@ use Rattle.board_face.proofs.OwnBufferLemmas.{AppLiesInOwn-abandoned}
 use Rattle.board_face.proofs.PlacesByEvent.{app_places-abandoned}
 use Rattle.board_face.proofs.WrittenLemmas.{loans-fewer, returned-more, owed-more, IsClear-fewer}
 use Rattle.ref_words.specs.Words.{Words, listed_in}
-use Rattle.ref_words.specs.Rings.{EntryFits}
 use Rattle.ref_words.specs.Rule.{RefRule}
 use Rattle.ref_words.specs.PhaseRule.{PhaseRule}
 use Rattle.ref_words.specs.PhaseSteps.{side_abandoned}
@@ -28,8 +25,9 @@ use Rattle.ref_words.proofs.Frees.{AreKept-app, free_places-hands}
 use Rattle.ref_words.proofs.Phases.{phases-mine, phases-here}
 use Rattle.ref_words.proofs.PhasesByApp.{loan-here}
 use Rattle.ref_words.proofs.RingSteps.{rings-app}
-use Rattle.ref_words.proofs.SideSteps.{mine, SidesRule-app}
+use Rattle.ref_words.proofs.SideSteps.{mine, SidesRule-app, own-was}
 use Rattle.ref_words.proofs.SlotSteps.{no-word, RefRule-slot}
+use Rattle.board_face.specs.Holders.{owed_in, returned_in}
 
 module _ (setting : Setting) (words : Words) (nic : NicSide) (apps : List AppSide) (app : AppSide) (place : Place)
     (rule : RefRule setting words nic apps) (here : IsApp apps app.view.app app) (out : HasLoan app.view place) where
@@ -73,10 +71,6 @@ module _ (setting : Setting) (words : Words) (nic : NicSide) (apps : List AppSid
   RefRule-abandoned =
       RefRule-slot setting words words nic nic apps apps' rule (no-word setting words rule.sizes) (record {
         sides = SidesRule-app setting nic apps a app rule.sides here now (record {
-          setting = refl;
-          number = refl;
-          took = refl;
-          owes = refl;
           placed = λ b. ArePlaced-abandoned b nic apps a app place here out (ended b) (rule.sides.placed b);
           by_one = λ b. IsFilledByOne-abandoned b nic apps a app place here out (ended b) (rule.sides.by_one b);
           fit = FillingsFit-same nic apps a app now here refl rule.sides.fit;
@@ -85,25 +79,13 @@ module _ (setting : Setting) (words : Words) (nic : NicSide) (apps : List AppSid
           returned = λ b. EndedWereReturned-abandoned b nic app place (ended b);
           reserve = record { unheld = λ free. pools (reserve_of app.view) ∙ (rule.sides.reserves a app here).unheld free };
           unheld = λ b past ne none. pools b ∙ none;
-          few = let f = mine setting nic apps a app rule.sides here HasFewPicks rule.sides.few in record { picks = f.picks; spares = f.spares };
-          entries = mine setting nic apps a app rule.sides here (λ x. All EntryFits x.view.written) rule.sides.entries;
-          taken = record { order = (rule.sides.taken a app here).order };
-          dealt = record { order = (rule.sides.dealt a app here).order };
-          returns = returns;
-          scrub = let s = rule.sides.scrub a app here in record {
-            within = s.within;
-            done = s.done;
-            whole = s.whole;
-            taken = λ b less. absurd (some-loan (s.loans (omega arith)));
-            untaken = s.untaken;
-            quiet = s.quiet;
-            loans = λ some. absurd (some-loan (s.loans some));
-          };
           scrubbed = λ done. absurd (some-loan (rule.sides.scrubbed a app here done).loans);
-          first = λ entry f. f;
-          raw = λ f. f;
-          came_back = λ b. omega (arith, returned-more b app place);
-          ended = inr (λ b. refl);
+          own = let was = own-was setting nic apps a app rule.sides here in
+              let taken : (b : ℕ) → b < app.inside.scrub_mark → length (owed_in b nic now) ≡ 0 = λ b less.
+              absurd (some-loan (was.scrub.loans (omega arith))) in
+              let loans : 0 < app.inside.scrub_mark → now.view.loans ≡ [] = λ some. absurd (some-loan (was.scrub.loans some)) in
+              let more : (b : ℕ) → length (returned_in b app) ≤ length (returned_in b now) = λ b. omega (arith, returned-more b app place) in
+              assumption (was, returns, taken, loans, more);
         });
         pool = pools;
         users = users;

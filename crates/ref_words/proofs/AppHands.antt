@@ -1,6 +1,5 @@
 -- What an application has in hand, what it picked and which words of the free list it looked at are all that changes.
-use Rattle.std.proofs.Common.{◌≡◌, ℕ, List, set, refl, arith, inr}
-use Rattle.std.specs.Prelude.{All}
+use Rattle.std.proofs.Common.{◌≡◌, ℕ, List, set, refl, arith}
 use Rattle.board_face.specs.Sides.{IsApp}
 use Rattle.board_face.specs.AppEvents.{reserve_of}
 use Rattle.board_face.specs.Counts.{pool_count, user_count, EndedWereReturned}
@@ -14,11 +13,10 @@ use Rattle.board_face.proofs.MadeLastLemmas.{IsMadeLast-app}
 use Rattle.board_face.proofs.IsFilledByOneLemmas.{IsFilledByOne-app}
 use Rattle.board_face.proofs.FillingsFitLemmas.{FillingsFit-same}
 use Rattle.ref_words.specs.Words.{Words}
-use Rattle.ref_words.specs.Rings.{EntryFits}
 use Rattle.ref_words.specs.Rule.{RefRule}
 use Rattle.ref_words.specs.Sides.{SidesRule}
 use Rattle.ref_words.proofs.RingSteps.{AllRings, rings-app}
-use Rattle.ref_words.proofs.SideSteps.{SidesRule-app, mine}
+use Rattle.ref_words.proofs.SideSteps.{own-was, SidesRule-app, mine}
 
 module _ (setting : Setting) (words : Words) (nic : NicSide) (apps : List AppSide) (a : ℕ) (app : AppSide) (rule : RefRule setting words nic apps)
     (here : IsApp apps a app) (picked hands without : List ℕ) where
@@ -42,45 +40,13 @@ module _ (setting : Setting) (words : Words) (nic : NicSide) (apps : List AppSid
 
   pub sides : HasFewPicks now → SidesRule setting nic apps'
   sides few = SidesRule-app setting nic apps a app rule.sides here now (record {
-    setting = refl;
-    number = refl;
-    took = refl;
-    owes = refl;
     placed = λ b. ArePlaced-app b nic apps a app now here (λ test. omega arith) (rule.sides.placed b);
     by_one = λ b. IsFilledByOne-app b nic apps a app now here (omega arith) (omega arith) (rule.sides.by_one b);
     fit = FillingsFit-same nic apps a app now here refl rule.sides.fit;
     made = IsMadeLast-app nic apps a app now here (λ b test. omega arith) rule.sides.made;
-    returned = λ b. let r = mine setting nic apps a app rule.sides here (EndedWereReturned b nic) (rule.sides.returned b) in
-        record { ended = r.ended; returning = r.returning };
+    returned = λ b. assumption (mine setting nic apps a app rule.sides here (EndedWereReturned b nic) (rule.sides.returned b));
     reserve = record { unheld = λ free. omega (arith, pools (reserve_of app.view), (rule.sides.reserves a app here).unheld free) };
     unheld = λ b past ne none. omega (arith, pools b, none);
-    few = few;
-    entries = mine setting nic apps a app rule.sides here (λ x. All EntryFits x.view.written) rule.sides.entries;
-    taken = record { order = (rule.sides.taken a app here).order };
-    dealt = record { order = (rule.sides.dealt a app here).order };
-    returns = let r = rule.sides.returns a app here in record {
-      written = r.written;
-      owed = r.owed;
-      no_more = r.no_more;
-      clear = r.clear;
-      named = r.named;
-      settled = r.settled;
-      quiet = r.quiet;
-      scrubbed = r.scrubbed;
-      strays = r.strays;
-    };
-    scrub = let s = rule.sides.scrub a app here in record {
-      within = s.within;
-      done = s.done;
-      whole = s.whole;
-      taken = s.taken;
-      untaken = s.untaken;
-      quiet = s.quiet;
-      loans = s.loans;
-    };
-    scrubbed = λ done. let none = rule.sides.scrubbed a app here done in record { loans = none.loans; owed = none.owed };
-    first = λ entry f. f;
-    raw = λ f. f;
-    came_back = λ b. omega arith;
-    ended = inr (λ b. refl);
+    scrubbed = λ done. assumption (rule.sides.scrubbed a app here done);
+    own = assumption (own-was setting nic apps a app rule.sides here, few);
   })

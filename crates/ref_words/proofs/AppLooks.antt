@@ -1,11 +1,10 @@
 -- What an application has seen, what it knows of its slots and its reserve, and whether it was told the end or left, are all that changes.
-use Rattle.std.proofs.Common.{◌≡◌, ℕ, true, List, [], set, refl, sym, arith, subst, inr}
+use Rattle.std.proofs.Common.{◌≡◌, ℕ, true, List, [], set, refl, sym, arith, subst, ◌<◌}
 use Rattle.std.specs.Prelude.{All}
 use Rattle.board_face.specs.Sides.{IsApp}
 use Rattle.board_face.specs.AppEvents.{reserve_of}
 use Rattle.board_face.specs.Returns.{IsOfLoan, entries_on_way}
 use Rattle.board_face.specs.Counts.{pool_count, EndedWereReturned}
-use Rattle.board_face.specs.Used.{HasFewPicks}
 use Rattle.board_face.specs.declared.views.parts.Setting.{Setting}
 use Rattle.board_face.specs.declared.views.nic.NicSide.{NicSide}
 use Rattle.board_face.specs.declared.views.app.AppSide.{AppSide}
@@ -15,12 +14,11 @@ use Rattle.board_face.proofs.MadeLastLemmas.{IsMadeLast-app}
 use Rattle.board_face.proofs.IsFilledByOneLemmas.{IsFilledByOne-app}
 use Rattle.board_face.proofs.FillingsFitLemmas.{FillingsFit-same}
 use Rattle.ref_words.specs.Words.{Words, listed_in}
-use Rattle.ref_words.specs.Rings.{EntryFits}
 use Rattle.ref_words.specs.Rule.{RefRule}
 use Rattle.ref_words.proofs.RingSteps.{AllRings}
 use Rattle.ref_words.proofs.SlotSteps.{DifferInSlots, RefRule-slot}
 use Rattle.ref_words.proofs.Frees.{AreKept-app, free_places-hands}
-use Rattle.ref_words.proofs.SideSteps.{SidesRule-app, mine}
+use Rattle.ref_words.proofs.SideSteps.{own-was, SidesRule-app, mine}
 
 -- the application's side with no other change
 abbrev pub like-of : AppSide → AppSide → AppSide
@@ -63,47 +61,17 @@ module _ (setting : Setting) (words : Words) (nic : NicSide) (apps : List AppSid
       subst (λ x. RefRule setting words' nic (set apps a x)) (sym same)
       (RefRule-slot setting words words' nic nic apps apps' rule differ (record {
         sides = SidesRule-app setting nic apps a app rule.sides here like (record {
-          setting = refl;
-          number = refl;
-          took = refl;
-          owes = refl;
           placed = λ b. ArePlaced-app b nic apps a app like here (λ test. omega arith) (rule.sides.placed b);
           by_one = λ b. IsFilledByOne-app b nic apps a app like here (omega arith) (omega arith) (rule.sides.by_one b);
           fit = FillingsFit-same nic apps a app like here refl rule.sides.fit;
           made = IsMadeLast-app nic apps a app like here (λ b test. omega arith) rule.sides.made;
-          returned = λ b. let r = mine setting nic apps a app rule.sides here (EndedWereReturned b nic) (rule.sides.returned b) in
-              record { ended = r.ended; returning = r.returning };
+          returned = λ b. assumption (mine setting nic apps a app rule.sides here (EndedWereReturned b nic) (rule.sides.returned b));
           reserve = record { unheld = λ free. omega (arith, pools (reserve_of app.view), unheld free) };
           unheld = λ b past ne none. omega (arith, pools b, none);
-          few = let f = mine setting nic apps a app rule.sides here HasFewPicks rule.sides.few in record { picks = f.picks; spares = f.spares };
-          entries = mine setting nic apps a app rule.sides here (λ x. All EntryFits x.view.written) rule.sides.entries;
-          taken = record { order = (rule.sides.taken a app here).order };
-          dealt = record { order = (rule.sides.dealt a app here).order };
-          returns = let r = rule.sides.returns a app here in record {
-            written = r.written;
-            owed = r.owed;
-            no_more = r.no_more;
-            clear = r.clear;
-            named = r.named;
-            settled = settled;
-            quiet = quiet;
-            scrubbed = r.scrubbed;
-            strays = r.strays;
-          };
-          scrub = let s = rule.sides.scrub a app here in record {
-            within = s.within;
-            done = s.done;
-            whole = s.whole;
-            taken = s.taken;
-            untaken = s.untaken;
-            quiet = λ some. unscrubbed (s.quiet some);
-            loans = s.loans;
-          };
-          scrubbed = λ done. let none = rule.sides.scrubbed a app here done in record { loans = none.loans; owed = none.owed };
-          first = λ entry f. f;
-          raw = λ f. f;
-          came_back = λ b. omega arith;
-          ended = inr (λ b. refl);
+          scrubbed = λ done. assumption (rule.sides.scrubbed a app here done);
+          own = let was = own-was setting nic apps a app rule.sides here in
+              let still : 0 < app.inside.scrub_mark → like.view.quiet ≡ true = λ some. unscrubbed (was.scrub.quiet some) in
+              assumption (was, settled, quiet, still);
         });
         pool = pools;
         users = λ x b. omega (arith, user_count-app x b nic apps a app like here);

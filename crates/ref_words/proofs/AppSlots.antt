@@ -17,7 +17,7 @@ use Rattle.ref_words.specs.Rings.{IsFreeSlot, AreRings, writes_entry_at, takes_n
 use Rattle.ref_words.specs.Rule.{RefRule}
 use Rattle.ref_words.proofs.Ringing as ringing
 use Rattle.ref_words.proofs.RingSteps.{rings-others, rings-app}
-use Rattle.ref_words.proofs.SlotWords.{ring-here, ring-other, sizes-refill}
+use Rattle.ref_words.proofs.SlotWords.{ring-here, ring-other, differ-refill}
 use Rattle.ref_words.proofs.SlotSteps.{no-word, DifferInSlots}
 use Rattle.ref_words.proofs.AppLooks.{RefRule-app}
 
@@ -68,12 +68,8 @@ module _ (setting : Setting) (words : Words) (nic : NicSide) (apps : List AppSid
       let i = 1 + length app.inside.refill_slot.words in
       let s = writes_entry_at setting app in
       let there : a < length words.refills = let small = is-app in omega (arith, rule.sizes.refills) in
-      let differ : DifferInSlots setting words (with_refill words a s i n) = record {
-        sizes = sizes-refill setting words rule.sizes a s i n is-app (mod-lt (length app.view.written) r.ring.some);
-        pool = refl;
-        users = refl;
-        free = refl;
-      } in
+      let differ : DifferInSlots setting words (with_refill words a s i n) =
+      differ-refill setting words rule.sizes a s i n is-app (mod-lt (length app.view.written) r.ring.some) in
       RefRule-app setting words nic apps a app rule here (side_refill_stored app n) refl (rule.sides.returns a app here).settled
       (rule.sides.returns a app here).quiet (λ e. e) (with_refill words a s i n) differ
       (rings-others setting (with_refill words a s i n) nic apps a app (side_refill_stored app n) here

@@ -1,6 +1,6 @@
 -- An application stores a word of a spare, or loads one for a read: counts, the free list and the slots have nothing to do with it.
-use Rattle.std.proofs.Common.{◌≡◌, ℕ, ◌<◌, ◌≤◌, List, length, set, refl, sym, subst, arith, inr}
-use Rattle.std.specs.Prelude.{All, Option, None}
+use Rattle.std.proofs.Common.{◌≡◌, ℕ, ◌<◌, ◌≤◌, List, length, set, refl, sym, subst, arith}
+use Rattle.std.specs.Prelude.{Option, None}
 use Rattle.std.proofs.lemmas.List.{set-set, get_or-set_same, length-set}
 use Rattle.board_face.specs.AppCalls.{HasSpare}
 use Rattle.board_face.specs.AppEvents.{filled, reserve_of}
@@ -8,7 +8,6 @@ use Rattle.board_face.specs.Counts.{pool_count, EndedWereReturned}
 use Rattle.board_face.specs.Fillings.{IsFilledByOne, FillingsFit}
 use Rattle.board_face.specs.Places.{ArePlaced, IsMadeLast}
 use Rattle.board_face.specs.Sides.{IsApp, app_at}
-use Rattle.board_face.specs.Used.{HasFewPicks}
 use Rattle.board_face.specs.declared.views.parts.Setting.{Setting}
 use Rattle.board_face.specs.declared.views.parts.Filling.{Filling}
 use Rattle.board_face.specs.declared.views.parts.Making.{Making}
@@ -23,12 +22,11 @@ use Rattle.board_face.proofs.IsFilledByOneLemmas.{IsFilledByOne-app, IsFilledByO
 use Rattle.board_face.proofs.MadeLastLemmas.{IsMadeLast-app, IsMadeLast-filled}
 use Rattle.area_layout.specs.Layout.{IsLayout}
 use Rattle.ref_words.specs.AreaSteps.{side_spare_filled}
-use Rattle.ref_words.specs.Rings.{EntryFits}
 use Rattle.ref_words.specs.Rule.{RefRule}
 use Rattle.ref_words.specs.Words.{Words, listed_in}
 use Rattle.ref_words.proofs.Frees.{AreKept-app, free_places-hands}
 use Rattle.ref_words.proofs.RingSteps.{rings-app, rings-words}
-use Rattle.ref_words.proofs.SideSteps.{SidesRule-app, mine}
+use Rattle.ref_words.proofs.SideSteps.{own-was, SidesRule-app, mine}
 use Rattle.ref_words.proofs.SlotSteps.{DifferInSlots, RefRule-slot, no-word}
 
 module _ (setting : Setting) (words words' : Words) (nic : NicSide) (apps : List AppSide) (a : ℕ) (app : AppSide) (rule : RefRule setting words nic apps)
@@ -67,47 +65,15 @@ module _ (setting : Setting) (words words' : Words) (nic : NicSide) (apps : List
         subst (λ x. RefRule setting words' nic (set apps a x)) (sym step.same)
         (RefRule-slot setting words words' nic nic apps apps' rule differ (record {
           sides = SidesRule-app setting nic apps a app rule.sides here like (record {
-            setting = refl;
-            number = refl;
-            took = refl;
-            owes = refl;
             placed = is.placed;
             by_one = is.by_one;
             fit = is.fit;
             made = is.made;
-            returned = λ b. let r = mine setting nic apps a app rule.sides here (EndedWereReturned b nic) (rule.sides.returned b) in
-                record { ended = r.ended; returning = r.returning };
+            returned = λ b. assumption (mine setting nic apps a app rule.sides here (EndedWereReturned b nic) (rule.sides.returned b));
             reserve = record { unheld = λ free. omega (arith, pools (reserve_of app.view), (rule.sides.reserves a app here).unheld free) };
             unheld = λ b past ne none. omega (arith, pools b, none);
-            few = let f = mine setting nic apps a app rule.sides here HasFewPicks rule.sides.few in record { picks = f.picks; spares = f.spares };
-            entries = mine setting nic apps a app rule.sides here (λ x. All EntryFits x.view.written) rule.sides.entries;
-            taken = record { order = (rule.sides.taken a app here).order };
-            dealt = record { order = (rule.sides.dealt a app here).order };
-            returns = let r = rule.sides.returns a app here in record {
-              written = r.written;
-              owed = r.owed;
-              no_more = r.no_more;
-              clear = r.clear;
-              named = r.named;
-              settled = r.settled;
-              quiet = r.quiet;
-              scrubbed = r.scrubbed;
-              strays = r.strays;
-            };
-            scrub = let s = rule.sides.scrub a app here in record {
-              within = s.within;
-              done = s.done;
-              whole = s.whole;
-              taken = s.taken;
-              untaken = s.untaken;
-              quiet = s.quiet;
-              loans = s.loans;
-            };
-            scrubbed = λ done. let none = rule.sides.scrubbed a app here done in record { loans = none.loans; owed = none.owed };
-            first = λ entry f. f;
-            raw = λ f. f;
-            came_back = λ b. omega arith;
-            ended = inr (λ b. refl);
+            scrubbed = λ done. assumption (rule.sides.scrubbed a app here done);
+            own = assumption (own-was setting nic apps a app rule.sides here);
           });
           pool = pools;
           users = λ x b. omega (arith, user_count-app x b nic apps a app like here);

@@ -32,24 +32,7 @@ use Rattle.ref_words.proofs.SlotSteps.{DifferInSlots, RefRule-slot}
 
 -- the words with another word of the area
 pub differ-area : (setting : Setting) (words : Words) (x n : ℕ) → HasSizes setting words → DifferInSlots setting words (with_area words x n)
-differ-area setting words x n s = record {
-  sizes = record {
-    roles = s.roles;
-    phases = s.phases;
-    pool = s.pool;
-    users = s.users;
-    rows = s.rows;
-    free = s.free;
-    area = length-set words.area x n ∙ s.area;
-    notes = s.notes;
-    note_slots = s.note_slots;
-    refills = s.refills;
-    refill_slots = s.refill_slots;
-  };
-  pool = refl;
-  users = refl;
-  free = refl;
-}
+differ-area setting words x n s = assumption (length-set words.area x n ∙ s.area, s)
 
 module _ (setting : Setting) (words : Words) (nic : NicSide) (apps : List AppSide) (rule : RefRule setting words nic apps) (x n : ℕ) (making : Making)
     (busy : nic.inside.making ≡ Some making) where
@@ -65,19 +48,13 @@ module _ (setting : Setting) (words : Words) (nic : NicSide) (apps : List AppSid
       subst (λ y. RefRule setting (with_area words x n) (making_at nic y made) apps) (sym same)
       (RefRule-slot setting words (with_area words x n) nic like apps apps rule (differ-area setting words x n rule.sizes) (record {
         sides = SidesRule-card setting nic like apps rule.sides (record {
-          setting = refl;
           placed = λ b. subst (λ y. ArePlaced b (making_at nic y made) apps) same (placed b);
           by_one = λ b. subst (λ y. IsFilledByOne b (making_at nic y made) apps) same (by_one b);
           fit = FillingsFit-making nic u made apps refl refl rule.sides.fit;
           made = subst (λ y. IsMadeLast (making_at nic y made) apps) same last;
-          dealt = refl;
-          entry = refl;
-          notes = rule.sides.notes;
-          taken = λ k y here. record { order = (rule.sides.taken k y here).order };
-          proper = rule.sides.proper;
-          note_slots = refl;
-          refill_slots = refl;
+          taken = λ k y here. assumption (rule.sides.taken k y here);
           unheld = λ b past none. subst (λ y. pool_count b (making_at nic y made) apps ≡ pool_count b nic apps) same (pools b) ∙ none;
+          own = assumption rule.sides;
         });
         pool = λ b. subst (λ y. pool_count b (making_at nic y made) apps ≡ pool_count b nic apps) same (pools b);
         users = λ a b.

@@ -87,7 +87,7 @@ module _ (setting : Setting) (words : Words) (nic : NicSide) (apps : List AppSid
         shown = AreShown-text_done (byte_in layout area) nic apps own bytes it at refl (whole-shown it bytes n (is p n at) refl last small) was.shown;
         making = tt;
         others = All-weaker (HasTexts layout area nic) (HasTexts layout area now)
-            (λ app has. record { making = has.making; unfilled = has.unfilled; reads = has.reads }) apps was.others;
+            (λ app has. assumption has) apps was.others;
       }
 
   -- ---- an application

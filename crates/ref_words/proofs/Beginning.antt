@@ -73,19 +73,13 @@ module _ (setting : Setting) (words : Words) (nic : NicSide) (apps : List AppSid
   step = record {
     there = there;
     sides = SidesRule-card setting nic now apps rule.sides (record {
-      setting = refl;
       placed = λ b. ArePlaced-begun b nic apps own n [] out some_bytes within idle rule.sides.fit (rule.sides.by_one b) (rule.sides.placed b);
       by_one = λ b. IsFilledByOne-begun b nic apps own n [] out idle (rule.sides.by_one b);
       fit = FillingsFit-begun nic apps own n (Some (record { place = next_place own n; words = [] })) out within rule.sides.fit;
       made = IsMadeLast-begun nic apps own n [] out idle (rule.sides.placed own.buffer);
-      dealt = refl;
-      entry = refl;
-      notes = rule.sides.notes;
-      taken = λ k x here. record { order = (rule.sides.taken k x here).order };
-      proper = rule.sides.proper;
-      note_slots = refl;
-      refill_slots = refl;
+      taken = λ k x here. assumption (rule.sides.taken k x here);
       unheld = λ b past none. omega (arith, more b, none, held b);
+      own = assumption rule.sides;
     });
     here = omega (arith, rule.pool own.buffer there, more own.buffer, weight-same own.buffer);
     others = λ b other. omega (arith, more b, weight-other own.buffer b (λ e. other (sym e)));

@@ -4,7 +4,7 @@ use Rattle.std.proofs.Common.{◌≡◌, ℕ, ◌+◌, ◌-◌, ◌≤◌, List,
 use Rattle.std.specs.Prelude.{◌==◌, if◌then◌else◌, Some, Contains, All}
 use Rattle.std.proofs.lemmas.List.Elements.{All-contains}
 use Rattle.board_face.specs.AppEvents.{reserve_of}
-use Rattle.board_face.specs.Holders.{ended_in, returning_count, returned_in}
+use Rattle.board_face.specs.Holders.{ended_in, returning_count, returned_in, owed_in}
 use Rattle.board_face.specs.Counts.{pool_count, user_count, EndedWereReturned}
 use Rattle.board_face.specs.Judged.{IsHonouredAsNamed}
 use Rattle.board_face.specs.Returns.{AreReturns}
@@ -21,6 +21,7 @@ use Rattle.board_face.proofs.IsFilledByOneLemmas.{IsFilledByOne-fewer}
 use Rattle.ref_words.specs.Words.{Words, listed_in}
 use Rattle.ref_words.specs.Sides.{SidesRule, IsInHand, IsDealtInOrder}
 use Rattle.ref_words.specs.Rule.{RefRule}
+use Rattle.ref_words.proofs.CardSteps.{IsScrubbedSoFar-owed, HasNoneOwed-owed}
 use Rattle.ref_words.proofs.RingSteps.{AllRings}
 use Rattle.ref_words.proofs.SlotSteps.{DifferInSlots, RefRule-slot}
 use Rattle.ref_words.proofs.Frees.{AreKept-card}
@@ -55,6 +56,9 @@ module _ (setting : Setting) (words : Words) (nic : NicSide) (apps : List AppSid
       ap (λ h. if y.view.app == x then loans_in c y + (came_back_in c y - h) else 0) (ends c y) in
       omega (arith, user_count-parts x c like apps, user_count-parts x c nic apps, total-agree (user_part x c like) (user_part x c nic) each apps)
 
+  owed : (x : AppSide) (c : ℕ) → length (owed_in c like x) ≤ length (owed_in c nic x)
+  owed x c = omega (arith, ap (λ h. length (drop h (returned_in c x))) (ends c x))
+
   small : (c : ℕ) (x : AppSide) → Contains apps x → returning_count c nic x ≤ ended_in c nic x
   small c x has = (All-contains (EndedWereReturned c nic) apps x (rule.sides.returned c) has).returning
 
@@ -68,11 +72,11 @@ module _ (setting : Setting) (words : Words) (nic : NicSide) (apps : List AppSid
       → All (IsHonouredAsNamed setting.layout) now.view.dealt
       → ((it : EntryInHand) → now.inside.entry ≡ Some it → IsInHand like apps it) → SidesRule setting like apps
   sides-like returning order honoured hand = record {
-    set = record { card = rule.sides.set.card; many = rule.sides.set.many; numbers = rule.sides.set.numbers; others = rule.sides.set.others };
+    set = assumption rule.sides.set;
     lists = rule.sides.lists;
     placed = λ c. ArePlaced-stretch c nic like apps refl refl refl refl refl (small c) (small-now c) (later c) (rule.sides.placed c);
     by_one = λ c. IsFilledByOne-fewer c nic like apps apps refl (omega arith) (omega arith) (omega (arith, pools c)) (rule.sides.by_one c);
-    fit = record { of_pool = rule.sides.fit.of_pool; card = rule.sides.fit.card; sides = rule.sides.fit.sides };
+    fit = assumption rule.sides.fit;
     made = IsMadeLast-stretch nic like apps refl refl refl small small-now later rule.sides.made;
     returned = λ c k d less. let r = rule.sides.returned c k d less in let x = get_or apps k d in
         record { ended = omega (arith, ends c x, r.ended); returning = omega (arith, ends c x, returns-same c x, r.returning) };
@@ -84,20 +88,11 @@ module _ (setting : Setting) (words : Words) (nic : NicSide) (apps : List AppSid
     slots = record { notes = omega (arith, notes, rule.sides.slots.notes); refills = omega (arith, refills, rule.sides.slots.refills) };
     entries = rule.sides.entries;
     notes = rule.sides.notes;
-    taken = λ k x here. record { order = (rule.sides.taken k x here).order };
+    taken = λ k x here. assumption (rule.sides.taken k x here);
     proper = rule.sides.proper;
     hand = hand;
-    scrub = λ k x here. let s = rule.sides.scrub k x here in record {
-      within = s.within;
-      done = s.done;
-      whole = s.whole;
-      taken = λ c less. omega (arith, s.taken c less, ap (λ h. length (drop h (returned_in c x))) (ends c x));
-      untaken = s.untaken;
-      quiet = s.quiet;
-      loans = s.loans;
-    };
-    scrubbed = λ k x here done. let none = rule.sides.scrubbed k x here done in
-        record { loans = none.loans; owed = λ c. omega (arith, none.owed c, ap (λ h. length (drop h (returned_in c x))) (ends c x)) };
+    scrub = λ k x here. IsScrubbedSoFar-owed nic like x (owed x) (rule.sides.scrub k x here);
+    scrubbed = λ k x here done. HasNoneOwed-owed nic like x (owed x) (rule.sides.scrubbed k x here done);
   }
 
   pub RefRule-ended : (words' : Words) → DifferInSlots setting words words'

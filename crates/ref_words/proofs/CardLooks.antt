@@ -11,6 +11,7 @@ use Rattle.board_face.specs.declared.views.app.AppSide.{AppSide}
 use Rattle.ref_words.specs.Words.{Words}
 use Rattle.ref_words.specs.Sides.{IsInHand}
 use Rattle.ref_words.specs.Rule.{RefRule}
+use Rattle.ref_words.proofs.CardSteps.{AreReturns-owed}
 use Rattle.ref_words.proofs.RingSteps.{AllRings, rings-card, rings-words}
 use Rattle.ref_words.proofs.SlotSteps.{DifferInSlots}
 use Rattle.ref_words.proofs.CardEnds.{RefRule-ended}
@@ -46,20 +47,10 @@ module _ (setting : Setting) (words : Words) (nic : NicSide) (apps : List AppSid
   RefRule-card words' differ hand rings =
       subst (λ x. RefRule setting words' x apps) (sym same)
       (RefRule-ended setting words nic apps rule like refl notes refills ends returns-same words' differ
-      (λ k x here. let r = rule.sides.returns k x here in
+      (λ k x here.
       let owed : (c : ℕ) → length (owed_in c like x) ≡ length (owed_in c nic x) = λ c. ap (λ h. length (drop h (returned_in c x))) (ends c x) in
-      record {
-        written = r.written;
-        owed = λ c. omega (arith, r.owed c, lowered x.view.app c, owed c);
-        no_more = λ c. omega (arith, r.no_more c, lowered x.view.app c, owed c);
-        clear = r.clear;
-        named = r.named;
-        settled = r.settled;
-        quiet = r.quiet;
-        scrubbed = r.scrubbed;
-        strays = r.strays;
-      })
-      (λ k x here. record { order = (rule.sides.dealt k x here).order }) rule.sides.honoured hand rings)
+      AreReturns-owed nic like x refl (λ c. omega (arith, lowered x.view.app c, owed c)) (rule.sides.returns k x here))
+      (λ k x here. assumption (rule.sides.dealt k x here)) rule.sides.honoured hand rings)
 
 -- Neither the entry in hand nor a slot changes.
 module _ (setting : Setting) (words : Words) (nic : NicSide) (apps : List AppSide) (rule : RefRule setting words nic apps) where
@@ -69,12 +60,5 @@ module _ (setting : Setting) (words : Words) (nic : NicSide) (apps : List AppSid
   RefRule-told over left saw words' differ refills notes =
       let now : NicSide = record nic { view = record nic.view { ended = over; gone = left; looks = saw } } in
       RefRule-card setting words nic apps rule now refl refl refl (λ x c. refl) (λ x c. refl) words' differ
-      (λ it is. let h = rule.sides.hand it is in record {
-        app = h.app;
-        first = h.first;
-        named = h.named;
-        owed = h.owed;
-        lowered = h.lowered;
-        stray = h.stray;
-      })
+      (λ it is. assumption (rule.sides.hand it is))
       (rings-words setting words words' now apps refills notes (rings-card setting words nic now apps refl refl refl refl rule.rings))

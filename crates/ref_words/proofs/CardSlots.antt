@@ -1,5 +1,5 @@
 -- The card looks at its next slots, loads words of entries and stores words of notes.
-use Rattle.std.proofs.Common.{◌≡◌, ℕ, ◌+◌, ◌<◌, Bool, true, false, zero, suc, ◌^◌, List}
+use Rattle.std.proofs.Common.{◌≡◌, ℕ, ◌+◌, ◌<◌, Bool, true, false, suc, ◌^◌, List, drop-cons}
 use Rattle.std.proofs.Common.{[], ◌∷◌, ◌++◌, length, drop, get_or, set, refl, ap, sym, ◌∙◌, arith}
 use Rattle.std.proofs.Common.{subst}
 use Rattle.std.proofs.Common.{mod-lt}
@@ -33,14 +33,9 @@ use Rattle.ref_words.proofs.Ringing as ringing
 use Rattle.ref_words.proofs.LeftWords as left-words
 use Rattle.ref_words.proofs.RingSteps.{AllRings, rings-card}
 use Rattle.ref_words.proofs.RingMoves.{slot-here, slot-other, rings-parts}
-use Rattle.ref_words.proofs.SlotWords.{ring-here, ring-other, sizes-note}
+use Rattle.ref_words.proofs.SlotWords.{ring-here, ring-other, differ-note}
 use Rattle.ref_words.proofs.SlotSteps.{no-word, DifferInSlots}
 use Rattle.ref_words.proofs.CardLooks.{RefRule-card}
-
-pub drop-at : {A : Type 0} (xs : List A) (k : ℕ) (d : A) → k < length xs → drop k xs ≡ get_or xs k d ∷ drop (suc k) xs
-drop-at [] k d less = absurd (omega arith)
-drop-at (x ∷ xs) zero d less = refl
-drop-at (x ∷ xs) (suc k) d less = drop-at xs k d (omega arith)
 
 -- the entry of a slot is the one whose words it has
 entry-back : (e : Rqe) → e.len < 2 ^ 32 → e.pad < 2 ^ 32 → entry_of (1 ∷ entry_body e) ≡ e
@@ -82,27 +77,13 @@ module _ (setting : Setting) (words : Words) (nic : NicSide) (apps : List AppSid
   look-entry true flag =
       RefRule-card setting words nic apps rule (side_entry_looked nic a true) refl refl
       (length-set nic.inside.refill_slots a (seen_with [])) (λ x c. refl) (λ x c. refl) words (no-word setting words rule.sizes)
-      (λ it is. let h = rule.sides.hand it is in record {
-        app = h.app;
-        first = h.first;
-        named = h.named;
-        owed = h.owed;
-        lowered = h.lowered;
-        stray = h.stray;
-      })
+      (λ it is. assumption (rule.sides.hand it is))
       (refill-moves (side_entry_looked nic a true) (seen_with []) refl refl refl refl
       (λ x is. ringing.sees-full _ _ _ _ _ _ _ _ (rw is.number at (rule.rings a x is).refills.ring) (flag refl)))
   look-entry false flag =
       RefRule-card setting words nic apps rule (side_entry_looked nic a false) refl refl refl (λ x c. refl) (λ x c. refl) words
       (no-word setting words rule.sizes)
-      (λ it is. let h = rule.sides.hand it is in record {
-        app = h.app;
-        first = h.first;
-        named = h.named;
-        owed = h.owed;
-        lowered = h.lowered;
-        stray = h.stray;
-      })
+      (λ it is. assumption (rule.sides.hand it is))
       (rings-card setting words nic (side_entry_looked nic a false) apps refl refl refl refl rule.rings)
 
   pub looked-entry : RefRule setting words (side_entry_looked nic a (slot_word words.refills a (takes_entry_at setting nic a) 0 == 1)) apps
@@ -123,14 +104,7 @@ module _ (setting : Setting) (words : Words) (nic : NicSide) (apps : List AppSid
       RefRule-card setting words nic apps rule now refl refl
       (length-set nic.inside.refill_slots a (one_more (next_slot nic.inside.refill_slots a) n)) (λ x c. refl) (λ x c. refl) words
       (no-word setting words rule.sizes)
-      (λ it is. let h = rule.sides.hand it is in record {
-        app = h.app;
-        first = h.first;
-        named = h.named;
-        owed = h.owed;
-        lowered = h.lowered;
-        stray = h.stray;
-      })
+      (λ it is. assumption (rule.sides.hand it is))
       (refill-moves now (one_more (next_slot nic.inside.refill_slots a) n) refl refl refl refl (ring-loaded saw more))
 
   -- ---- note rings
@@ -161,14 +135,7 @@ module _ (setting : Setting) (words : Words) (nic : NicSide) (apps : List AppSid
   look-note none true flag =
       RefRule-card setting words nic apps rule (side_note_looked nic a true) refl
       (length-set nic.inside.note_slots a (seen_with [])) refl (λ x c. refl) (λ x c. refl) words (no-word setting words rule.sizes)
-      (λ it is. let h = rule.sides.hand it is in record {
-        app = h.app;
-        first = h.first;
-        named = h.named;
-        owed = h.owed;
-        lowered = h.lowered;
-        stray = h.stray;
-      })
+      (λ it is. assumption (rule.sides.hand it is))
       (note-moves words (side_note_looked nic a true) (seen_with []) refl refl refl refl refl (λ k ne. refl)
       (λ x is. let all = rule.rings a x is in let ring = rw is.number at all.notes in (
         ringing.sees-free _ _ _ _ _ _ _ _ ring (flag refl),
@@ -177,14 +144,7 @@ module _ (setting : Setting) (words : Words) (nic : NicSide) (apps : List AppSid
   look-note none false flag =
       RefRule-card setting words nic apps rule (side_note_looked nic a false) refl refl refl (λ x c. refl) (λ x c. refl) words
       (no-word setting words rule.sizes)
-      (λ it is. let h = rule.sides.hand it is in record {
-        app = h.app;
-        first = h.first;
-        named = h.named;
-        owed = h.owed;
-        lowered = h.lowered;
-        stray = h.stray;
-      })
+      (λ it is. assumption (rule.sides.hand it is))
       (rings-card setting words nic (side_note_looked nic a false) apps refl refl refl refl rule.rings)
 
   pub looked-note : (next_slot nic.inside.note_slots a).words ≡ [] → RefRule setting words (side_note_looked nic a (slot_word words.notes a (writes_note_at setting nic a) 0 == 0)) apps
@@ -197,23 +157,12 @@ module _ (setting : Setting) (words : Words) (nic : NicSide) (apps : List AppSid
       let s = writes_note_at setting nic a in
       let now = side_note_stored nic a n in
       let there : a < length words.notes = omega (arith, is_app, rule.sizes.notes) in
-      let differ : DifferInSlots setting words (with_note words a s i n) = record {
-        sizes = sizes-note setting words rule.sizes a s i n is_app (mod-lt (length (sent_to a nic)) places_some);
-        pool = refl;
-        users = refl;
-        free = refl;
-      } in
+      let differ : DifferInSlots setting words (with_note words a s i n) =
+      differ-note setting words rule.sizes a s i n is_app (mod-lt (length (sent_to a nic)) places_some) in
       RefRule-card setting words nic apps rule now refl
       (length-set nic.inside.note_slots a (one_more (next_slot nic.inside.note_slots a) n)) refl (λ x c. refl) (λ x c. refl)
       (with_note words a s i n) differ
-      (λ it is. let h = rule.sides.hand it is in record {
-        app = h.app;
-        first = h.first;
-        named = h.named;
-        owed = h.owed;
-        lowered = h.lowered;
-        stray = h.stray;
-      })
+      (λ it is. assumption (rule.sides.hand it is))
       (note-moves (with_note words a s i n) now (one_more (next_slot nic.inside.note_slots a) n) refl refl refl refl refl
       (λ k ne. ring-other words.notes a s i n k ne)
       (λ x is. let all = rule.rings a x is in let ring = rw is.number at all.notes in (
@@ -268,6 +217,6 @@ module _ (setting : Setting) (words : Words) (nic : NicSide) (apps : List AppSid
           record {
             first = w;
             others = drop (suc k) x.view.written;
-            is = rw here.number (drop-at x.view.written k d less);
+            is = rw here.number (drop-cons x.view.written k d less);
             same = sym (ap (λ ws. entry_of (1 ∷ ws)) words_are ∙ entry-back w.entry fit.len fit.pad);
           }

@@ -1,5 +1,5 @@
 -- An application cuts a held piece in two.
-use Rattle.std.proofs.Common.{◌≡◌, ⊎_elim, ℕ, ◌+◌, ◌<◌, ◌≤◌, List, set, refl, ap, sym, arith, inr}
+use Rattle.std.proofs.Common.{◌≡◌, ⊎_elim, ℕ, ◌+◌, ◌<◌, ◌≤◌, List, set, refl, ap, sym, arith}
 use Rattle.std.specs.Prelude.{◌==◌}
 use Rattle.std.proofs.lemmas.Bool.{cases_lt}
 use Rattle.zr_kinds.specs.declared.place.Place.{Place}
@@ -7,7 +7,6 @@ use Rattle.area_layout.specs.Layout.{total}
 use Rattle.board_face.specs.AppEvents.{reserve_of}
 use Rattle.board_face.specs.Sides.{IsApp}
 use Rattle.board_face.specs.Counts.{pool_count, EndedWereReturned}
-use Rattle.board_face.specs.Used.{HasFewPicks}
 use Rattle.board_face.specs.declared.views.parts.Setting.{Setting}
 use Rattle.board_face.specs.declared.views.nic.NicSide.{NicSide}
 use Rattle.board_face.specs.declared.views.app.AppSide.{AppSide}
@@ -21,13 +20,11 @@ use Rattle.board_face.proofs.IsFilledByOneLemmas.{IsFilledByOne-cut}
 use Rattle.board_face.proofs.FillingsFitLemmas.{FillingsFit-same}
 use Rattle.board_face.proofs.Tallies.{weight}
 use Rattle.ref_words.specs.Words.{Words, pool_of, listed_in}
-use Rattle.std.specs.Prelude.{All}
-use Rattle.ref_words.specs.Rings.{EntryFits}
 use Rattle.ref_words.specs.Rule.{RefRule}
 use Rattle.ref_words.proofs.RingSteps.{rings-app}
 use Rattle.ref_words.proofs.Counting.{weight-same, weight-other}
 use Rattle.ref_words.proofs.Frees.{AreFreeOnce-more, AreKept-app, free_places-hands}
-use Rattle.ref_words.proofs.SideSteps.{mine, SidesRule-app}
+use Rattle.ref_words.proofs.SideSteps.{own-was, mine, SidesRule-app}
 use Rattle.ref_words.proofs.PoolSteps.{IsPoolStep}
 
 module _ (setting : Setting) (words : Words) (nic : NicSide) (apps : List AppSide) (a : ℕ) (app : AppSide) (place : Place) (at : ℕ)
@@ -61,49 +58,17 @@ module _ (setting : Setting) (words : Words) (nic : NicSide) (apps : List AppSid
   step = record {
     there = there;
     sides = SidesRule-app setting nic apps a app rule.sides here now (record {
-      setting = refl;
-      number = refl;
-      took = refl;
-      owes = refl;
       placed = λ b. ArePlaced-cut b nic apps a app place at here out front rest (rule.sides.placed b);
       by_one = λ b. IsFilledByOne-cut b nic apps a app place at here out (rule.sides.by_one b);
       fit = FillingsFit-same nic apps a app now here refl rule.sides.fit;
       made = IsMadeLast-cut nic apps a app place at here out rest rule.sides.made;
-      returned = λ b. let r = mine setting nic apps a app rule.sides here (EndedWereReturned b nic) (rule.sides.returned b) in
-          record { ended = r.ended; returning = r.returning };
+      returned = λ b. assumption (mine setting nic apps a app rule.sides here (EndedWereReturned b nic) (rule.sides.returned b));
       reserve = record {
         unheld = λ free. omega (arith, more (reserve_of app.view), held (reserve_of app.view), (rule.sides.reserves a app here).unheld free);
       };
       unheld = λ b past ne none. omega (arith, more b, held b, none);
-      few = let f = mine setting nic apps a app rule.sides here HasFewPicks rule.sides.few in record { picks = f.picks; spares = f.spares };
-      entries = mine setting nic apps a app rule.sides here (λ x. All EntryFits x.view.written) rule.sides.entries;
-      taken = record { order = (rule.sides.taken a app here).order };
-      dealt = record { order = (rule.sides.dealt a app here).order };
-      returns = let r = rule.sides.returns a app here in record {
-        written = r.written;
-        owed = r.owed;
-        no_more = r.no_more;
-        clear = r.clear;
-        named = r.named;
-        settled = r.settled;
-        quiet = r.quiet;
-        scrubbed = r.scrubbed;
-        strays = r.strays;
-      };
-      scrub = let s = rule.sides.scrub a app here in record {
-        within = s.within;
-        done = s.done;
-        whole = s.whole;
-        taken = s.taken;
-        untaken = s.untaken;
-        quiet = s.quiet;
-        loans = s.loans;
-      };
-      scrubbed = λ done. let none = rule.sides.scrubbed a app here done in record { loans = none.loans; owed = none.owed };
-      first = λ entry f. f;
-      raw = λ f. f;
-      came_back = λ b. omega arith;
-      ended = inr (λ b. refl);
+      scrubbed = λ done. assumption (rule.sides.scrubbed a app here done);
+      own = assumption (own-was setting nic apps a app rule.sides here);
     });
     here = omega (arith, rule.pool place.buffer there, more place.buffer, weight-same place.buffer);
     others = λ b other. omega (arith, more b, weight-other place.buffer b (λ e. other (sym e)));

@@ -1,11 +1,11 @@
 -- The card hands a refill slot over: the entry in hand was dealt with.
-use Rattle.std.proofs.Common.{◌≡◌, ⊎_elim, ℕ, zero, suc, ◌+◌, ◌<◌, ◌≤◌, true}
+use Rattle.std.proofs.Common.{◌≡◌, ⊎_elim, ℕ, zero, suc, ◌+◌, ◌<◌, ◌≤◌, true, add-one}
 use Rattle.std.proofs.Common.{List, [], ◌∷◌, ◌++◌, length, map, take, drop}
 use Rattle.std.proofs.Common.{get_or, refl, ap, sym, ◌∙◌, arith, subst, mod-lt}
 use Rattle.std.specs.Prelude.{◌≢◌, ◌==◌, if◌then◌else◌, filter, count_by}
 use Rattle.std.specs.List.{zip}
 use Rattle.std.proofs.lemmas.Bool.Decides.{eqb_tells}
-use Rattle.std.proofs.lemmas.List.{length-set, length_push}
+use Rattle.std.proofs.lemmas.List.{length-set, length_push, map-append}
 use Rattle.std.proofs.lemmas.List.Elements.{All-push, All-tail, All-weaker}
 use Rattle.zr_kinds.specs.declared.ring.Rqe.{Rqe}
 use Rattle.area_layout.specs.Layout.{Shape}
@@ -35,16 +35,9 @@ use Rattle.ref_words.specs.Rule.{RefRule}
 use Rattle.ref_words.proofs.Ringing as ringing
 use Rattle.ref_words.proofs.RingSteps.{AllRings}
 use Rattle.ref_words.proofs.RingMoves.{slot-here, slot-other, rings-parts}
-use Rattle.ref_words.proofs.SlotWords.{ring-here, ring-other, sizes-refill}
+use Rattle.ref_words.proofs.SlotWords.{ring-here, ring-other, differ-refill}
 use Rattle.ref_words.proofs.SlotSteps.{DifferInSlots}
 use Rattle.ref_words.proofs.CardEnds.{RefRule-ended}
-
-add-one : (n : ℕ) → n + 1 ≡ suc n
-add-one n = omega arith
-
-pub map-push : {A B : Type 0} (f : A → B) (xs : List A) (x : A) → map f (xs ++ x ∷ []) ≡ map f xs ++ f x ∷ []
-map-push f [] x = refl
-map-push f (y ∷ xs) x = ap (λ ys. f y ∷ ys) (map-push f xs x)
 
 pub take-next : {A B : Type 0} (f : A → B) (n : ℕ) (xs : List A) (x : A) (rest : List A) → drop n xs ≡ x ∷ rest
     → take (suc n) (map f xs) ≡ take n (map f xs) ++ f x ∷ []
@@ -106,7 +99,7 @@ module _ (setting : Setting) (words : Words) (nic : NicSide) (apps : List AppSid
 
     one-more-dealt : dealt_entries a now ≡ dealt_entries a nic ++ entry ∷ []
     one-more-dealt = ap (map (λ (y : Dealt). y.entry)) (dealt-more nic now.view a d refl refl)
-        ∙ map-push (λ (y : Dealt). y.entry) (filter (λ (y : Dealt). y.app == a) nic.view.dealt) d
+        ∙ map-append (λ (y : Dealt). y.entry) (filter (λ (y : Dealt). y.app == a) nic.view.dealt) (d ∷ [])
 
     dealt-here : dealt_entries x.view.app now ≡ dealt_entries x.view.app nic ++ entry ∷ []
     dealt-here = subst (λ k. dealt_entries k now ≡ dealt_entries k nic ++ entry ∷ []) (sym here.number) one-more-dealt
@@ -218,12 +211,8 @@ module _ (setting : Setting) (words : Words) (nic : NicSide) (apps : List AppSid
 
   pub RefRule-dealt : RefRule setting words' now apps
   RefRule-dealt =
-      let differ : DifferInSlots setting words words' = record {
-        sizes = sizes-refill setting words rule.sizes a s 0 0 is_app (mod-lt (length (dealt_entries a nic)) places_some);
-        pool = refl;
-        users = refl;
-        free = refl;
-      } in
+      let differ : DifferInSlots setting words words' =
+      differ-refill setting words rule.sizes a s 0 0 is_app (mod-lt (length (dealt_entries a nic)) places_some) in
       RefRule-ended setting words nic apps rule now refl refl (length-set nic.inside.refill_slots a unseen) ends returns-same words' differ
       (λ k x here. ⊎_elim (λ t. let e : k ≡ a = t.1 in returns-mine x (subst (λ n. IsApp apps n x) e here))
       (λ t. let ne : k ≢ a = t.1 in returns-other k x here ne) (eqb_tells k a))

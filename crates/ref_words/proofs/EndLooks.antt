@@ -118,7 +118,7 @@ module _ (setting : Setting) (words : Words) (nic : NicSide) (apps : List AppSid
             record { scrubbed = can.scrubbed; ended = refl; helds = can.helds; loans = can.loans; spares = can.spares };
         seen = mine.seen;
         told = λ e. (mine.seen saw, none-way empty);
-        lies = let l = mine.lies in record { helds = l.helds; spares = l.spares; loans = l.loans; returned = l.returned };
+        lies = assumption mine.lies;
       })
   none-phases empty false true saw =
       phases-kept words.phases nic apps was a app here (found-none false true) refl refl refl refl refl refl refl refl refl refl refl

@@ -35,10 +35,10 @@ module _ (setting : Setting) (words : Words) (nic : NicSide) (apps : List AppSid
   pub over-phases : HasNoToken nic.view → nic.inside.making ≡ None → PhaseRule setting (with_phase words 0) (side_ended nic) apps
   over-phases none idle = record {
     word = get_or-set_same words.phases 0 1 0 (omega (arith, many));
-    ended = λ e. record { none = record { owns = none.owns; pieces = none.pieces }; idle = idle };
+    ended = λ e. record { none = assumption none; idle = idle };
     gone = All-weaker (λ a. get_or words.phases (1 + a) 0 ≡ 1) (λ a. get_or (set words.phases 0 1) (1 + a) 0 ≡ 1) (λ a is. other a ∙ is)
         nic.view.gone was.gone;
-    lies = record { pieces = was.lies.pieces; sent = was.lies.sent };
+    lies = assumption was.lies;
     made = was.made;
     sides = All-weaker (IsAppPhased words.phases nic) (IsAppPhased (set words.phases 0 1) (side_ended nic))
         (λ app p. record {
@@ -87,10 +87,10 @@ module _ (setting : Setting) (words : Words) (nic : NicSide) (apps : List AppSid
         ∙ get_or-set_same apps a (side_left app) d here.there in
         subst (IsAppPhased phases' nic) (sym is) (record {
           word = get_or-set_same words.phases (1 + a) 1 0 there;
-          left = λ _. record { scrubbed = can.scrubbed; ended = can.ended; helds = can.helds; loans = can.loans; spares = can.spares };
+          left = λ _. assumption can;
           seen = mine.seen;
           told = mine.told;
-          lies = let l = mine.lies in record { helds = l.helds; spares = l.spares; loans = l.loans; returned = l.returned };
+          lies = assumption mine.lies;
         }))
         (λ t. let ne : k ≢ a = t.1 in
         let p = was.sides k d less in

@@ -156,19 +156,7 @@ pub RefRule-free : (setting : Setting) (words : Words) (nic now : NicSide) (apps
     → IsFreeStep setting words nic now apps apps' j n → RefRule setting (with_free words j n) now apps'
 RefRule-free setting words nic now apps apps' j n rule step = record {
   layout = rule.layout;
-  sizes = let s = rule.sizes in record {
-    roles = s.roles;
-    phases = s.phases;
-    pool = s.pool;
-    users = s.users;
-    rows = s.rows;
-    free = length-set words.free j n ∙ s.free;
-    area = s.area;
-    notes = s.notes;
-    note_slots = s.note_slots;
-    refills = s.refills;
-    refill_slots = s.refill_slots;
-  };
+  sizes = assumption (length-set words.free j n ∙ rule.sizes.free, rule.sizes);
   sides = step.sides;
   pool = λ b small. rule.pool b small ∙ sym (step.pool b);
   users = λ a b app small. rule.users a b app small ∙ sym (step.users a b);

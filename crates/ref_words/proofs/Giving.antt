@@ -64,19 +64,9 @@ module _ (setting : Setting) (words : Words) (nic : NicSide) (apps : List AppSid
         places = λ b test. omega (arith, app_places-gave b test nic app place out (sound b));
         counts = λ b. app_count-gave b nic app place out (sound b);
         users = λ x b. user_part-gave x b nic app place out (sound b);
-        returned = λ b. let e = EndedWereReturned-abandoned b nic app place (sound b) in record { ended = e.ended; returning = e.returning };
+        returned = λ b. assumption (EndedWereReturned-abandoned b nic app place (sound b));
         came_back = λ b. omega (arith, returned-more b app place);
-        returns = record {
-          written = r.written;
-          owed = r.owed;
-          no_more = r.no_more;
-          clear = r.clear;
-          named = r.named;
-          settled = r.settled;
-          quiet = r.quiet;
-          scrubbed = r.scrubbed;
-          strays = r.strays;
-        };
+        returns = assumption r;
         unbegun = mark-none (λ some. unlent ((rule.sides.scrub a app here).loans some));
         unscrubbed = unscrubbed;
         raw_slot = λ s e. last-raw-stays setting.places s app.view.written w refl (was.refills.raw_slot s e);
@@ -103,19 +93,9 @@ module _ (setting : Setting) (words : Words) (nic : NicSide) (apps : List AppSid
         places = λ b test. omega arith;
         counts = λ b. refl;
         users = λ x b. refl;
-        returned = λ b. let e = sound b in record { ended = e.ended; returning = e.returning };
+        returned = λ b. assumption (sound b);
         came_back = λ b. omega arith;
-        returns = record {
-          written = r.written;
-          owed = r.owed;
-          no_more = r.no_more;
-          clear = r.clear;
-          named = r.named;
-          settled = r.settled;
-          quiet = r.quiet;
-          scrubbed = r.scrubbed;
-          strays = r.strays;
-        };
+        returns = assumption r;
         unbegun = unbegun;
         unscrubbed = unscrubbed;
         raw_slot = λ s e. record {

@@ -23,12 +23,12 @@ module _ (setting : Setting) (words : Words) (nic : NicSide) (apps : List AppSid
   look-phases : (left : Bool) → (left ≡ true → get_or words.phases (1 + a) 0 ≡ 1) → PhaseRule setting words (side_leave_looked nic a left) apps
   look-phases true over = record {
     word = was.word;
-    ended = λ e. let s = was.ended e in record { none = record { owns = s.none.owns; pieces = s.none.pieces }; idle = s.idle };
+    ended = λ e. let s = was.ended e in assumption (s.none, s);
     gone = All-push (λ k. get_or words.phases (1 + k) 0 ≡ 1) nic.view.gone a was.gone (over refl);
-    lies = record { pieces = was.lies.pieces; sent = was.lies.sent };
+    lies = assumption was.lies;
     made = was.made;
     sides = All-weaker (IsAppPhased words.phases nic) (IsAppPhased words.phases (side_leave_looked nic a true))
-        (λ app p. record { word = p.word; left = p.left; seen = p.seen; told = p.told; lies = p.lies }) apps was.sides;
+        (λ app p. assumption p) apps was.sides;
   }
   look-phases false over = phases-still words.phases nic apps was (side_leave_looked nic a false) refl refl refl refl refl refl refl
 

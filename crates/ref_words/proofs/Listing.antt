@@ -46,25 +46,18 @@ module _ (setting : Setting) (words : Words) (nic : NicSide) (apps : List AppSid
     pub by-card : RefRule setting (with_listed words b) now apps
     by-card = RefRule-free setting words nic now apps apps _ _ rule (record {
       sides = SidesRule-card setting nic now apps rule.sides (record {
-        setting = refl;
-        placed = λ x. let p = rule.sides.placed x in record { some_bytes = p.some_bytes; within = p.within; apart = p.apart; behind = p.behind };
-        by_one = λ x. let o = rule.sides.by_one x in record { one = o.one; alone = o.alone; inside = o.inside };
-        fit = let f = rule.sides.fit in record { of_pool = f.of_pool; card = f.card; sides = f.sides };
+        placed = λ x. assumption (rule.sides.placed x);
+        by_one = λ x. assumption (rule.sides.by_one x);
+        fit = assumption rule.sides.fit;
         made = record { last = rule.sides.made.last };
-        dealt = refl;
-        entry = refl;
-        notes = rule.sides.notes;
-        taken = λ k x here. record { order = (rule.sides.taken k x here).order };
-        proper = rule.sides.proper;
-        note_slots = refl;
-        refill_slots = refl;
+        taken = λ k x here. assumption (rule.sides.taken k x here);
         unheld = λ x past none. none;
+        own = assumption rule.sides;
       });
       pool = λ x. refl;
       users = λ x y. refl;
       free = λ x. omega (arith, more x, count-taken b nic.inside.hands has x);
-      kept = let k = AreKept-listed (listed_in words) (listed_in (with_listed words b)) nic apps (λ x. omega (arith, more x)) rule.kept in
-          record { kept = k.kept; swept = k.swept };
+      kept = assumption (AreKept-listed (listed_in words) (listed_in (with_listed words b)) nic apps (λ x. omega (arith, more x)) rule.kept);
       rings = rings-card setting words nic now apps refl refl refl refl rule.rings;
     })
 
@@ -95,7 +88,7 @@ module _ (setting : Setting) (words : Words) (nic : NicSide) (apps : List AppSid
     pub by-app : RefRule setting (with_listed words b) nic (set apps a side)
     by-app = RefRule-free setting words nic nic apps (set apps a side) _ _ rule (record {
       sides = hands.sides setting words nic apps a app rule here app.view.picked side.inside.hands app.inside.words_without
-          (let f = mine setting nic apps a app rule.sides here HasFewPicks rule.sides.few in record { picks = f.picks; spares = f.spares });
+          (assumption (mine setting nic apps a app rule.sides here HasFewPicks rule.sides.few));
       pool = hands.pools setting words nic apps a app rule here app.view.picked side.inside.hands app.inside.words_without;
       users = hands.users setting words nic apps a app rule here app.view.picked side.inside.hands app.inside.words_without;
       free = λ x. omega (

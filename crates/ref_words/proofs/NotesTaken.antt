@@ -1,9 +1,9 @@
 -- An application hands a note slot over: a note is taken.
-use Rattle.std.proofs.Common.{◌≡◌, ℕ, zero, suc, ◌+◌, ◌<◌, ◌≤◌, Bool, true, false, List}
+use Rattle.std.proofs.Common.{◌≡◌, ℕ, zero, suc, ◌+◌, ◌<◌, ◌≤◌, Bool, true, false, List, drop-cons, add-one}
 use Rattle.std.proofs.Common.{[], ◌∷◌, ◌++◌, length, map, take, drop}
-use Rattle.std.proofs.Common.{set, get_or, refl, ap, sym, ◌∙◌, arith, subst, inr, mod-lt}
+use Rattle.std.proofs.Common.{set, get_or, refl, ap, sym, ◌∙◌, arith, subst, mod-lt}
 use Rattle.std.specs.Prelude.{◌==◌, ◌*◌, All, filter, if◌then◌else◌, min}
-use Rattle.std.proofs.lemmas.List.{length_push, take-append-drop}
+use Rattle.std.proofs.lemmas.List.{length_push, take-append-drop, map-append}
 use Rattle.std.proofs.lemmas.List.Elements.{All-nil, All-cons, All-head, All-tail}
 use Rattle.std.proofs.lemmas.List.Sums.{sum_by-cons}
 use Rattle.board_face.specs.Texts.{unsplit_bytes, IsSplitNote, IsLinearNote}
@@ -36,18 +36,18 @@ use Rattle.word_rings.specs.Texts.{text_count}
 use Rattle.word_rings.proofs.NoteSlots.{note_back, note-front, bytes-front}
 use Rattle.word_rings.proofs.Words.{padded_words, text_back}
 use Rattle.ref_words.specs.Words.{Words, listed_in, with_note}
-use Rattle.ref_words.specs.Rings.{AreRings, EntryFits, NoteFits, area_of_note, words_of_note, linear_bytes, takes_note_at}
+use Rattle.ref_words.specs.Rings.{AreRings, NoteFits, area_of_note, words_of_note, linear_bytes, takes_note_at}
 use Rattle.ref_words.specs.SlotLaws.{loaded_note, loaded_bytes, note_loads}
 use Rattle.ref_words.specs.Rule.{RefRule}
 use Rattle.ref_words.proofs.Ringing as ringing
 use Rattle.ref_words.proofs.LeftWords as left-words
 use Rattle.ref_words.proofs.RingSteps.{AllRings, rings-others}
-use Rattle.ref_words.proofs.SlotWords.{ring-here, ring-other, sizes-note}
+use Rattle.ref_words.proofs.SlotWords.{ring-here, ring-other, differ-note}
 use Rattle.ref_words.proofs.SlotSteps.{DifferInSlots, RefRule-slot}
-use Rattle.ref_words.proofs.SideSteps.{SidesRule-app, mine}
+use Rattle.ref_words.proofs.SideSteps.{own-was, SidesRule-app, mine}
 use Rattle.ref_words.proofs.Frees.{AreKept-app, free_places-hands}
-use Rattle.ref_words.proofs.CardSlots.{drop-at}
-use Rattle.ref_words.proofs.Dealing.{take-next, map-push}
+use Rattle.ref_words.proofs.Dealing.{take-next}
+use Rattle.ref_words.specs.Sides.{IsTakenInOrder}
 
 -- ---- what the words of a slot tell
 
@@ -144,7 +144,7 @@ module _ (setting : Setting) (words : Words) (nic : NicSide) (apps : List AppSid
   there = rings.notes.reader_seen saw
 
   way : on_way nic app ≡ next ∷ drop (suc k) (sent_to a nic)
-  way = drop-at (sent_to a nic) k none_sent there
+  way = drop-cons (sent_to a nic) k none_sent there
 
   module _ (now : AppSide) (t : TakenNote) (taking : IsTaking nic app now t) (is_next : as_taken next ≡ t) where
     abbrev like : AppSide
@@ -170,9 +170,6 @@ module _ (setting : Setting) (words : Words) (nic : NicSide) (apps : List AppSid
 
     many : length (app.view.taken ++ t ∷ []) ≡ suc k
     many = length_push app.view.taken t ∙ add-one k
-      where
-        add-one : (n : ℕ) → n + 1 ≡ suc n
-        add-one n = omega arith
 
     rings-then : AllRings setting words' nic apps'
     rings-then =
@@ -192,65 +189,31 @@ module _ (setting : Setting) (words : Words) (nic : NicSide) (apps : List AppSid
     -- it has more bytes in unsplit notes than before, if any
     few-still : HasFewPicks app → HasFewPicks like
     few-still f = let more = bytes-more (map (λ (y : TakenNote). y.note) app.view.taken) t.note in record {
-      picks = omega (arith, f.picks, ap unsplit_bytes (map-push (λ (y : TakenNote). y.note) app.view.taken t), more);
-      spares = omega (arith, f.spares, ap unsplit_bytes (map-push (λ (y : TakenNote). y.note) app.view.taken t), more);
+      picks = omega (arith, f.picks, ap unsplit_bytes (map-append (λ (y : TakenNote). y.note) app.view.taken (t ∷ [])), more);
+      spares = omega (arith, f.spares, ap unsplit_bytes (map-append (λ (y : TakenNote). y.note) app.view.taken (t ∷ [])), more);
     }
 
     pub RefRule-taken : RefRule setting words' nic (set apps a now)
     RefRule-taken =
-        let differ : DifferInSlots setting words words' = record {
-          sizes = sizes-note setting words rule.sizes a s 0 0 is-app (mod-lt k rings.notes.some);
-          pool = refl;
-          users = refl;
-          free = refl;
-        } in
+        let differ : DifferInSlots setting words words' = differ-note setting words rule.sizes a s 0 0 is-app (mod-lt k rings.notes.some) in
         subst (λ x. RefRule setting words' nic (set apps a x)) (sym taking.same)
         (RefRule-slot setting words words' nic nic apps apps' rule differ (record {
           sides = SidesRule-app setting nic apps a app rule.sides here like (record {
-            setting = refl;
-            number = refl;
-            took = refl;
-            owes = refl;
             placed = λ b. ArePlaced-app b nic apps a app like here (is.places b) (rule.sides.placed b);
             by_one = λ b. IsFilledByOne-app b nic apps a app like here (omega arith) (omega (arith, is.counts b)) (rule.sides.by_one b);
             fit = FillingsFit-same nic apps a app like here refl rule.sides.fit;
             made = IsMadeLast-app nic apps a app like here is.places rule.sides.made;
-            returned = λ b. let r = mine setting nic apps a app rule.sides here (EndedWereReturned b nic) (rule.sides.returned b) in
-                record { ended = r.ended; returning = r.returning };
+            returned = λ b. assumption (mine setting nic apps a app rule.sides here (EndedWereReturned b nic) (rule.sides.returned b));
             reserve = record { unheld = λ free. omega (arith, pools (reserve_of app.view), (rule.sides.reserves a app here).unheld free) };
             unheld = λ b past ne none. omega (arith, pools b, none);
-            few = few-still (mine setting nic apps a app rule.sides here HasFewPicks rule.sides.few);
-            entries = mine setting nic apps a app rule.sides here (λ x. All EntryFits x.view.written) rule.sides.entries;
-            taken = record {
-              order = rw many (take-next as_taken k (sent_to a nic) next (drop (suc k) (sent_to a nic)) way
-                  ∙ (ap (λ ts. ts ++ as_taken next ∷ []) (rule.sides.taken a app here).order ∙ ap (λ y. app.view.taken ++ y ∷ []) is_next));
-            };
-            dealt = record { order = (rule.sides.dealt a app here).order };
-            returns = let r = rule.sides.returns a app here in record {
-              written = r.written;
-              owed = r.owed;
-              no_more = r.no_more;
-              clear = r.clear;
-              named = r.named;
-              settled = r.settled;
-              quiet = r.quiet;
-              scrubbed = r.scrubbed;
-              strays = r.strays;
-            };
-            scrub = let sc = rule.sides.scrub a app here in record {
-              within = sc.within;
-              done = sc.done;
-              whole = sc.whole;
-              taken = sc.taken;
-              untaken = sc.untaken;
-              quiet = sc.quiet;
-              loans = sc.loans;
-            };
-            scrubbed = λ done. let none = rule.sides.scrubbed a app here done in record { loans = none.loans; owed = none.owed };
-            first = λ entry f. f;
-            raw = λ f. f;
-            came_back = λ b. omega arith;
-            ended = inr (λ b. refl);
+            scrubbed = λ done. assumption (rule.sides.scrubbed a app here done);
+            own = let was = own-was setting nic apps a app rule.sides here in
+                let few : HasFewPicks like = few-still was.few in
+                let taken : IsTakenInOrder nic like = record {
+                  order = rw many (take-next as_taken k (sent_to a nic) next (drop (suc k) (sent_to a nic)) way
+                      ∙ (ap (λ ts. ts ++ as_taken next ∷ []) (rule.sides.taken a app here).order ∙ ap (λ y. app.view.taken ++ y ∷ []) is_next));
+                } in
+                assumption (was, few, taken);
           });
           pool = pools;
           users = λ x b. omega (arith, user_count-app x b nic apps a app like here);

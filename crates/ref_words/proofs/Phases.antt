@@ -3,12 +3,10 @@ use Rattle.std.proofs.Common.{◌≡◌, ℕ, true, false, List, set, sym, ◌�
 use Rattle.std.proofs.lemmas.Bool.{false≢true}
 use Rattle.std.proofs.lemmas.List.Elements.{All-set, All-weaker}
 use Rattle.board_face.specs.OwnBuffers.{CardLiesInPool, AppLiesInOwn, LieInOwn}
-use Rattle.board_face.specs.Phases.{ArePhased}
 use Rattle.board_face.specs.Sides.{IsApp}
 use Rattle.board_face.specs.declared.views.parts.Setting.{Setting}
 use Rattle.board_face.specs.declared.views.nic.NicSide.{NicSide}
 use Rattle.board_face.specs.declared.views.app.AppSide.{AppSide}
-use Rattle.board_face.proofs.SideLemmas.{IsApp-at}
 use Rattle.ref_words.specs.Words.{Words}
 use Rattle.ref_words.specs.Rule.{RefRule}
 use Rattle.ref_words.specs.PhaseRule.{IsAppPhased, HasPhases, HasStopped, IsMadeInPool, PhaseRule}
@@ -131,18 +129,6 @@ module _ (phases : List ℕ) (nic : NicSide) (apps : List AppSide) (was : HasPha
 
 module _ (setting : Setting) (words : Words) (nic : NicSide) (apps : List AppSide) (rule : RefRule setting words nic apps)
     (was : PhaseRule setting words nic apps) where
-  pub ArePhased-by : ArePhased nic apps
-  ArePhased-by = record {
-    card = λ e. (was.ended e).none;
-    sides = λ k d less.
-        let p = was.sides k d less in
-        record {
-          ended = p.told;
-          scrubbed = λ e. let none = rule.sides.scrubbed k _ (IsApp-at apps k d rule.sides.set.numbers less) e in (none.loans, none.owed);
-          left = p.left;
-        };
-  }
-
   pub LieInOwn-by : LieInOwn nic apps
   LieInOwn-by = record {
     card = was.lies;

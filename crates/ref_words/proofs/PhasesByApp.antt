@@ -47,7 +47,7 @@ module _ (setting : Setting) (words : Words) (nic : NicSide) (apps : List AppSid
   begun-phases b stays own =
       let lies = AppLiesInOwn-got_spare app.view b own mine.lies in
       phases-here words.phases nic apps was a app here (side_spare_begun app b) refl refl refl refl refl stays
-      (record { helds = lies.helds; spares = lies.spares; loans = lies.loans; returned = lies.returned })
+      (assumption lies)
 
   pub picked-phases : (b : ℕ) → IsHere app.view → Contains app.inside.hands b → MaySpare app.view
       → PhaseRule setting words nic (set apps a (side_spare_begun app b))
@@ -90,4 +90,4 @@ module _ (setting : Setting) (words : Words) (nic : NicSide) (apps : List AppSid
       let lies = mine.lies in
       phases-here words.phases nic apps was a app here (side_user_taken app b n) refl refl refl refl refl
       (⊎_elim (λ over. absurd (false≢true (sym counted ∙ (mine.left over).scrubbed))) (λ stays. stays) (cases_Bool app.view.left))
-      (record { helds = lies.helds; spares = lies.spares; loans = lies.loans; returned = lies.returned })
+      (assumption lies)

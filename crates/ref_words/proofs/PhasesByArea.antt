@@ -38,7 +38,7 @@ module _ (setting : Setting) (words : Words) (nic : NicSide) (apps : List AppSid
       → PhaseRule setting words (side_piece_stored nic place n) apps
   piece_stored-phases making is place n there =
       phases-open words.phases nic apps was (side_piece_stored nic place n) refl refl (making-open making is)
-      (record { pieces = was.lies.pieces; sent = was.lies.sent })
+      (assumption was.lies)
       (subst (λ (p : Place). p.buffer < pool_buffers nic.view.setting.layout) there
       (subst (λ m. IfSome m (λ (made : Making). made.place.buffer < pool_buffers nic.view.setting.layout)) is was.made))
 

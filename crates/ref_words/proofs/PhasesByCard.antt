@@ -39,18 +39,18 @@ module _ (setting : Setting) (words : Words) (nic : NicSide) (apps : List AppSid
   pub took-phases : (b : ℕ) → IsOpen nic.view → PhaseRule setting words (nic_at nic (took nic.view b)) apps
   took-phases b going =
       phases-open words.phases nic apps was (nic_at nic (took nic.view b)) refl refl going
-      (record { pieces = was.lies.pieces; sent = was.lies.sent }) was.made
+      (assumption was.lies) was.made
 
   pub begun-phases : (own : Filling) (n : ℕ) → HasOwn nic.view own → PhaseRule setting words (side_begun nic own n) apps
   begun-phases own n out =
       phases-open words.phases nic apps was (side_begun nic own n) refl refl (own-open own out)
-      (record { pieces = was.lies.pieces; sent = was.lies.sent })
+      (assumption was.lies)
       (All-contains (λ (o : Filling). o.buffer < pool_buffers nic.view.setting.layout) nic.view.owns _ rule.sides.fit.of_pool out)
 
   pub shut-phases : (own : Filling) (last : Bool) → HasOwn nic.view own → PhaseRule setting words (side_shut nic own last) apps
   shut-phases own last out =
       phases-open words.phases nic apps was (side_shut nic own last) refl refl (own-open own out)
-      (record { pieces = was.lies.pieces; sent = was.lies.sent }) was.made
+      (assumption was.lies) was.made
 
   pub both_lowered-phases : (a : ℕ) (entry : Rqe) (b : ℕ) (last : Bool) → PhaseRule setting words (side_both_lowered nic a entry b last) apps
   both_lowered-phases a entry b last =
@@ -101,11 +101,11 @@ module _ (setting : Setting) (words : Words) (nic : NicSide) (apps : List AppSid
       (λ over. absurd (none-in _ note.place out (ap (map (λ p. p.place)) (was.ended over).none.pieces)))
       (λ going. going)
       (cases_Bool nic.view.ended))
-      (record { pieces = own.card.pieces; sent = own.card.sent }) was.made
+      (assumption own.card) was.made
 
   pub sent_linear-phases : (a : ℕ) (note : Note) (bytes : List ℕ) → IsOpen nic.view → note.split ≡ false
       → PhaseRule setting words (side_sent_linear nic a note bytes) apps
   sent_linear-phases a note bytes going unsplit =
       let own = LieInOwn-sent_linear nic apps a note bytes unsplit lies in
       phases-open words.phases nic apps was (side_sent_linear nic a note bytes) refl refl going
-      (record { pieces = own.card.pieces; sent = own.card.sent }) was.made
+      (assumption own.card) was.made

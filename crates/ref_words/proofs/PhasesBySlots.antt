@@ -44,7 +44,7 @@ module _ (setting : Setting) (words : Words) (nic : NicSide) (apps : List AppSid
       let lies = AppLiesInOwn-abandoned app.view place out mine.lies in
       phases-here words.phases nic apps was a app here (side_gave app place) refl refl refl refl refl
       (loan-here setting words nic apps rule was a app here place out)
-      (record { helds = lies.helds; spares = lies.spares; loans = lies.loans; returned = lies.returned })
+      (assumption lies)
 
   pub pushed-phases : (entry : Rqe) → PhaseRule setting words nic (set apps a (side_pushed app entry))
   pushed-phases entry =
@@ -107,5 +107,5 @@ module _ (setting : Setting) (words : Words) (nic : NicSide) (apps : List AppSid
           left = λ over. absurd (unleft over);
           seen = mine.seen;
           told = λ told. absurd (untold told);
-          lies = record { helds = lies.helds; spares = lies.spares; loans = lies.loans; returned = lies.returned };
+          lies = assumption lies;
         })

@@ -103,7 +103,7 @@ module _ (setting : Setting) (words : Words) (nic : NicSide) (apps : List AppSid
     pub lost : RefRule setting (with_unlisted words b) nic (set apps a side)
     lost = RefRule-free setting words nic nic apps (set apps a side) _ _ rule (record {
       sides = hands.sides setting words nic apps a app rule here app.view.picked app.inside.hands side.inside.words_without
-          (let f = was-few in record { picks = f.picks; spares = f.spares });
+          (assumption was-few);
       pool = hands.pools setting words nic apps a app rule here app.view.picked app.inside.hands side.inside.words_without;
       users = hands.users setting words nic apps a app rule here app.view.picked app.inside.hands side.inside.words_without;
       free = λ x. omega (arith, ap weight (same x), free_places-hands (listed_in words) x nic apps a app side here);

@@ -30,19 +30,7 @@ pub RefRule-pool : (setting : Setting) (words : Words) (nic now : NicSide) (apps
     → IsPoolStep setting words nic now apps apps' i n → RefRule setting (with_pool words i n) now apps'
 RefRule-pool setting words nic now apps apps' i n rule step = record {
   layout = rule.layout;
-  sizes = let s = rule.sizes in record {
-    roles = s.roles;
-    phases = s.phases;
-    pool = length-set words.pool i n ∙ s.pool;
-    users = s.users;
-    rows = s.rows;
-    free = s.free;
-    area = s.area;
-    notes = s.notes;
-    note_slots = s.note_slots;
-    refills = s.refills;
-    refill_slots = s.refill_slots;
-  };
+  sizes = assumption (length-set words.pool i n ∙ rule.sizes.pool, rule.sizes);
   sides = step.sides;
   pool = counts-set (total setting.layout) words.pool (λ x. pool_count x nic apps) (λ x. pool_count x now apps') i n (omega (
     arith,
@@ -51,7 +39,7 @@ RefRule-pool setting words nic now apps apps' i n rule step = record {
   ))
       rule.pool step.here step.others;
   users = λ a b app small. rule.users a b app small ∙ sym (step.users a b);
-  free = record { pool = step.free.pool; reserves = step.free.reserves };
-  kept = record { kept = step.kept.kept; swept = step.kept.swept };
+  free = assumption step.free;
+  kept = assumption step.kept;
   rings = rings-words setting words (with_pool words i n) now apps' refl refl step.rings;
 }

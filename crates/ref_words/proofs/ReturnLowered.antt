@@ -9,7 +9,7 @@ use Rattle.area_layout.specs.Layout.{total, pool_buffers}
 use Rattle.board_face.specs.AppEvents.{reserve_of}
 use Rattle.board_face.specs.Sides.{IsApp}
 use Rattle.board_face.specs.Opened.{new_app}
-use Rattle.board_face.specs.Holders.{lowered_in_hand, returning_in_hand, ended_in, returning_count, returned_in}
+use Rattle.board_face.specs.Holders.{lowered_in_hand, returning_in_hand, ended_in, returning_count, returned_in, owed_in}
 use Rattle.board_face.specs.Counts.{pool_count, user_count, EndedWereReturned}
 use Rattle.board_face.specs.Steps.{side_both_lowered}
 use Rattle.board_face.specs.declared.views.parts.Setting.{Setting}
@@ -26,6 +26,7 @@ use Rattle.board_face.proofs.SideLemmas.{IsApp-at}
 use Rattle.ref_words.specs.Words.{Words, pool_of, listed_in}
 use Rattle.ref_words.specs.Sides.{IsInHand}
 use Rattle.ref_words.specs.Rule.{RefRule}
+use Rattle.ref_words.proofs.CardSteps.{AreReturns-owed, IsScrubbedSoFar-owed, HasNoneOwed-owed}
 use Rattle.ref_words.proofs.RingSteps.{rings-card}
 use Rattle.ref_words.proofs.Counting.{weight-same, weight-other, if_so-weight, and-true, and-false}
 use Rattle.ref_words.proofs.Frees.{AreFreeOnce-fewer, AreKept-card, cache-grows}
@@ -94,6 +95,9 @@ module _ (setting : Setting) (words : Words) (nic : NicSide) (apps : List AppSid
       ap (λ h. if y.view.app == x then loans_in c y + (came_back_in c y - h) else 0) (ends c y) in
       omega (arith, user_count-parts x c now apps, user_count-parts x c nic apps, total-agree (user_part x c now) (user_part x c nic) each apps)
 
+  owed : (c : ℕ) (x : AppSide) → length (owed_in c now x) ≡ length (owed_in c nic x)
+  owed c x = ap (λ h. length (drop h (returned_in c x))) (ends c x)
+
   there : b < total setting.layout
   there = omega (arith, known.lowered b refl, ap (λ s. total s.layout) rule.sides.set.card)
 
@@ -116,41 +120,26 @@ module _ (setting : Setting) (words : Words) (nic : NicSide) (apps : List AppSid
   step = record {
     there = there;
     sides = record {
-      set = record { card = rule.sides.set.card; many = rule.sides.set.many; numbers = rule.sides.set.numbers; others = rule.sides.set.others };
+      set = assumption rule.sides.set;
       lists = rule.sides.lists;
       placed = λ c. ArePlaced-stretch c nic now apps refl refl refl refl refl (small-before c) (small-now c) (later c) (rule.sides.placed c);
       by_one = λ c. IsFilledByOne-fewer c nic now apps apps refl (omega arith) (omega arith) (omega (arith, less c)) (rule.sides.by_one c);
-      fit = record { of_pool = rule.sides.fit.of_pool; card = rule.sides.fit.card; sides = rule.sides.fit.sides };
+      fit = assumption rule.sides.fit;
       made = IsMadeLast-stretch nic now apps refl refl refl small-before small-now later rule.sides.made;
       returned = λ c k d small. sound-now c k d small;
       reserves = λ k x here. record { unheld = λ free. omega (arith, less (reserve_of x.view), (rule.sides.reserves k x here).unheld free) };
       few = rule.sides.few;
-      dealt = λ k x here. record { order = (rule.sides.dealt k x here).order };
+      dealt = λ k x here. assumption (rule.sides.dealt k x here);
       honoured = rule.sides.honoured;
-      slots = record { notes = rule.sides.slots.notes; refills = rule.sides.slots.refills };
+      slots = assumption rule.sides.slots;
       entries = rule.sides.entries;
       notes = rule.sides.notes;
-      taken = λ k x here. record { order = (rule.sides.taken k x here).order };
+      taken = λ k x here. assumption (rule.sides.taken k x here);
       proper = rule.sides.proper;
       returns = λ k x here.
-          let r = rule.sides.returns k x here in
-          let was : lowered_in_hand x.view.app b nic.inside.entry ≡ lowered_in_hand x.view.app b (in_hand a entry (UserLowered b)) = ap
-          (lowered_in_hand x.view.app b) at in
           let low : (c : ℕ) → lowered_in_hand x.view.app c nic.inside.entry ≡ lowered_in_hand x.view.app c now.inside.entry = λ c. ap
           (lowered_in_hand x.view.app c) at in
-          let owed : (c : ℕ) → length (drop (ended_in c now x) (returned_in c x)) ≡ length (drop (ended_in c nic x) (returned_in c x)) = λ c.
-          ap (λ h. length (drop h (returned_in c x))) (ends c x) in
-          record {
-            written = r.written;
-            owed = λ c. omega (arith, r.owed c, low c, owed c);
-            no_more = λ c. omega (arith, r.no_more c, low c, owed c);
-            clear = r.clear;
-            named = r.named;
-            settled = r.settled;
-            quiet = r.quiet;
-            scrubbed = r.scrubbed;
-            strays = r.strays;
-          };
+          AreReturns-owed nic now x refl (λ c. omega (arith, low c, owed c x)) (rule.sides.returns k x here);
       hand = λ it is.
           subst
           (IsInHand now apps)
@@ -163,17 +152,8 @@ module _ (setting : Setting) (words : Words) (nic : NicSide) (apps : List AppSid
             lowered = λ c e. absurd (let none : ⊥ = cc in none);
             stray = λ e. absurd (let none : ⊥ = cc in none);
           });
-      scrub = λ k x here. let s = rule.sides.scrub k x here in record {
-        within = s.within;
-        done = s.done;
-        whole = s.whole;
-        taken = λ c less. omega (arith, s.taken c less, ap (λ h. length (drop h (returned_in c x))) (ends c x));
-        untaken = s.untaken;
-        quiet = s.quiet;
-        loans = s.loans;
-      };
-      scrubbed = λ k x here done. let none = rule.sides.scrubbed k x here done in
-          record { loans = none.loans; owed = λ c. omega (arith, none.owed c, ap (λ h. length (drop h (returned_in c x))) (ends c x)) };
+      scrub = λ k x here. IsScrubbedSoFar-owed nic now x (λ c. omega (arith, owed c x)) (rule.sides.scrub k x here);
+      scrubbed = λ k x here done. HasNoneOwed-owed nic now x (λ c. omega (arith, owed c x)) (rule.sides.scrubbed k x here done);
     };
     here = let c = counted in omega arith;
     others = λ c other. omega (arith, less c, weight-other b c (λ e. other (sym e)));

@@ -87,28 +87,18 @@ module _ {X : Type 0} (width : ℕ) (words_of : X → List ℕ) (places : ℕ) (
 
   -- it sees the flag 0
   pub sees-free : get_or (slot_of places slots (length written)) 0 0 ≡ 0 → Ring slots written taken (seen_with []) reader
-  sees-free flag = record {
-    some = ring.some;
-    many = ring.many;
-    wide = ring.wide;
-    order = ring.order;
-    room = ring.room;
-    full = ring.full;
-    free = ring.free;
-    writer_seen = λ _.
-        ⊎_elim
-        (λ less. less)
-        (λ past.
-        let at : length written ≡ taken + places = omega (arith, ring.room) in
-        let turn : length written % places ≡ taken % places = ap (λ n. n % places) at ∙ add-mod_right taken places in
-        let one = flag-full taken (omega arith) (omega (arith, ring.some)) in
-        let none : get_or (slot_of places slots taken) 0 0 ≡ 0 = ap (λ i. get_or (get_or slots i []) 0 0) (sym turn) ∙ flag in
-        absurd (omega arith))
-        (cases_lt (length written) (taken + places));
-    writer_words = λ _. refl;
-    reader_seen = ring.reader_seen;
-    reader_words = ring.reader_words;
-  }
+  sees-free flag =
+      let room : length written < taken + places =
+      ⊎_elim
+      (λ less. less)
+      (λ past.
+      let at : length written ≡ taken + places = omega (arith, ring.room) in
+      let turn : length written % places ≡ taken % places = ap (λ n. n % places) at ∙ add-mod_right taken places in
+      let one = flag-full taken (omega arith) (omega (arith, ring.some)) in
+      let none : get_or (slot_of places slots taken) 0 0 ≡ 0 = ap (λ i. get_or (get_or slots i []) 0 0) (sym turn) ∙ flag in
+      absurd (omega arith))
+      (cases_lt (length written) (taken + places)) in
+      assumption (ring, room)
 
   -- it stores the next word
   pub stores : (n : ℕ) → writer.seen ≡ true → 1 + length writer.words < width
@@ -188,40 +178,23 @@ module _ {X : Type 0} (width : ℕ) (words_of : X → List ℕ) (places : ℕ) (
 
   -- it sees the flag 1
   pub sees-full : get_or (slot_of places slots taken) 0 0 ≡ 1 → Ring slots written taken writer (seen_with [])
-  sees-full flag = record {
-    some = ring.some;
-    many = ring.many;
-    wide = ring.wide;
-    order = ring.order;
-    room = ring.room;
-    full = ring.full;
-    free = ring.free;
-    writer_seen = ring.writer_seen;
-    writer_words = ring.writer_words;
-    reader_seen = λ _.
-        ⊎_elim
-        (λ less. less)
-        (λ past. absurd (omega (arith, ring.free taken past (omega (arith, ring.some)), flag)))
-        (cases_lt taken (length written));
-    reader_words = λ _. refl;
-  }
+  sees-full flag =
+      let some : taken < length written =
+      ⊎_elim
+      (λ less. less)
+      (λ past. absurd (omega (arith, ring.free taken past (omega (arith, ring.some)), flag)))
+      (cases_lt taken (length written)) in
+      assumption (ring, some)
 
   -- it loads the next word
   pub loads : reader.seen ≡ true → 1 + length reader.words < width → Ring slots written taken writer (one_more reader (get_or
       (slot_of places slots taken) (1 + length reader.words) 0))
-  loads saw more = record {
-    some = ring.some;
-    many = ring.many;
-    wide = ring.wide;
-    order = ring.order;
-    room = ring.room;
-    full = ring.full;
-    free = ring.free;
-    writer_seen = ring.writer_seen;
-    writer_words = ring.writer_words;
-    reader_seen = λ _. ring.reader_seen saw;
-    reader_words = λ _. loaded (slot_of places slots taken) reader.words (omega (arith, ring.wide taken)) (ring.reader_words saw);
-  }
+  loads saw more =
+      assumption (
+        ring,
+        ring.reader_seen saw,
+        loaded (slot_of places slots taken) reader.words (omega (arith, ring.wide taken)) (ring.reader_words saw),
+      )
 
   -- what it has loaded are the first words of what was written next
   pub has-front : (d : X) → reader.seen ≡ true → take (length reader.words) (words_of (get_or written taken d)) ≡ reader.words

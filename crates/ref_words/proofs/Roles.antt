@@ -102,23 +102,11 @@ pub role-taken : (setting : Setting) (words : Words) (nic : NicSide) (apps : Lis
     → RefRule setting (with_role words r) nic apps
 role-taken setting words nic apps r rule = record {
   layout = rule.layout;
-  sizes = let s = rule.sizes in record {
-    roles = length-set words.roles r 1 ∙ s.roles;
-    phases = s.phases;
-    pool = s.pool;
-    users = s.users;
-    rows = s.rows;
-    free = s.free;
-    area = s.area;
-    notes = s.notes;
-    note_slots = s.note_slots;
-    refills = s.refills;
-    refill_slots = s.refill_slots;
-  };
+  sizes = assumption (length-set words.roles r 1 ∙ rule.sizes.roles, rule.sizes);
   sides = rule.sides;
   pool = rule.pool;
   users = rule.users;
-  free = record { pool = rule.free.pool; reserves = rule.free.reserves };
-  kept = record { kept = rule.kept.kept; swept = rule.kept.swept };
+  free = assumption rule.free;
+  kept = assumption rule.kept;
   rings = rings-words setting words (with_role words r) nic apps refl refl rule.rings;
 }

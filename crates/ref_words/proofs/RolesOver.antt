@@ -3,7 +3,7 @@ use Rattle.std.proofs.Common.{◌≡◌, ℕ, ◌+◌, ◌<◌, ◌≤◌, true,
 use Rattle.std.proofs.Common.{get_or, refl, ap, sym, ◌∙◌, arith, subst, ⊎_elim, length-drop}
 use Rattle.std.specs.Prelude.{◌==◌, All, nat_eq, count_by, if◌then◌else◌, Option, Some, None}
 use Rattle.std.specs.List.{flat_map}
-use Rattle.std.proofs.lemmas.List.{take_all, length-map}
+use Rattle.std.proofs.lemmas.List.{take_all, length-map, nil_from_length}
 use Rattle.std.proofs.lemmas.List.Elements.{All-head, All-tail}
 use Rattle.std.proofs.lemmas.Bool.Decides.{eqb_tells}
 use Rattle.area_layout.specs.Layout.{pool_buffers}
@@ -28,10 +28,6 @@ use Rattle.ref_words.specs.Over.{CardIsOver, AppIsOver}
 use Rattle.ref_words.specs.PhaseRule.{IsAppPhased}
 use Rattle.ref_words.specs.TextRule.{HasTexts}
 use Rattle.ref_words.specs.Rule.{BoardRule}
-
-none-long : {A : Type 0} (xs : List A) → length xs ≡ 0 → xs ≡ []
-none-long [] e = refl
-none-long (x ∷ xs) e = absurd (omega (arith, e))
 
 -- what nothing is left of behind its first n was taken whole
 all-taken : {A B : Type 0} (f : A → B) (n : ℕ) (xs : List A) → drop n xs ≡ [] → take n (map f xs) ≡ map f xs
@@ -92,7 +88,7 @@ module _ (setting : Setting) (words : Words) (nic : NicSide) (apps : List AppSid
           omega (arith, sent, helds, spares, loans, owes, returning)
 
       pub app-none : app_holders b nic app ≡ []
-      app-none = none-long (app_holders b nic app) (length-app_holders b nic app ∙ none-in)
+      app-none = nil_from_length (app_holders b nic app) (length-app_holders b nic app ∙ none-in)
 
   -- ---- the card
 
@@ -103,7 +99,7 @@ module _ (setting : Setting) (words : Words) (nic : NicSide) (apps : List AppSid
         rw (stopped.none.owns, stopped.none.pieces, stopped.idle) refl
 
     pub card-none : (b : ℕ) → nic_holders b nic ≡ []
-    card-none b = none-long (nic_holders b nic) (length-nic_holders b nic ∙ none-there b)
+    card-none b = nil_from_length (nic_holders b nic) (length-nic_holders b nic ∙ none-there b)
 
     -- ---- all
 

@@ -245,11 +245,9 @@ module _ (laws : AreLaws) (setting : Setting) where
     rule = keeps.rule;
   }
   step-keeps s (Runs.becomes_card id) keeps may =
-      let taken = laws.k3.card setting s.words s.views s.nic s.apps id keeps.seated keeps.rule may in
-      record { seated = taken.seated; rule = taken.rule }
+      assumption (laws.k3.card setting s.words s.views s.nic s.apps id keeps.seated keeps.rule may)
   step-keeps s (Runs.becomes_app id a) keeps may =
-      let taken = laws.k3.app setting s.words s.views s.nic s.apps id a keeps.seated keeps.rule may.0 may.1 in
-      record { seated = taken.seated; rule = taken.rule }
+      assumption (laws.k3.app setting s.words s.views s.nic s.apps id a keeps.seated keeps.rule may.0 may.1)
   step-keeps s (Runs.by_card id step) keeps may =
       let now = card_after setting s.words s.nic step in
       record {
@@ -293,5 +291,5 @@ module _ (laws : AreLaws) (setting : Setting) where
       → Keeps setting (run_of setting (opened_state setting) steps) × Holds setting (run_of setting (opened_state setting) steps)
   runs steps layout places may =
       let first = laws.opened setting layout places in
-      let kept = steps-keep steps (opened_state setting) (record { seated = first.seated; rule = first.rule }) may in
+      let kept = steps-keep steps (opened_state setting) (assumption first) may in
       (kept, holds (run_of setting (opened_state setting) steps) kept)

@@ -106,7 +106,7 @@ module _ (setting : Setting) (words : Words) (nic : NicSide) (apps : List AppSid
       omega (
         arith,
         pool_count-app c nic apps a app now here,
-        app_count-stretch c 0 nic nic app now.inside refl (sound c) (record { ended = (sound-now c).ended; returning = (sound-now c).returning })
+        app_count-stretch c 0 nic nic app now.inside refl (sound c) (assumption (sound-now c))
             (omega (arith, took c, owes c)),
       )
 
@@ -205,10 +205,6 @@ module _ (setting : Setting) (words : Words) (nic : NicSide) (apps : List AppSid
     app = is-app;
     there = there;
     sides = SidesRule-app setting nic apps a app rule.sides here now (record {
-      setting = refl;
-      number = refl;
-      took = length-set app.inside.scrub_took b _;
-      owes = length-set app.inside.scrub_owes b _;
       placed = λ c. ArePlaced-app c nic apps a app now here
           (λ test. app_places-stretch c test nic nic app now.inside refl (sound c).returning (sound-now c).returning (places-less c))
           (rule.sides.placed c);
@@ -221,49 +217,56 @@ module _ (setting : Setting) (words : Words) (nic : NicSide) (apps : List AppSid
       returned = sound-now;
       reserve = record { unheld = λ free. same_pool (reserve_of app.view) ∙ (rule.sides.reserves a app here).unheld free };
       unheld = λ c past ne none. same_pool c ∙ none;
-      few = let f = mine setting nic apps a app rule.sides here HasFewPicks rule.sides.few in record { picks = f.picks; spares = f.spares };
-      entries = mine setting nic apps a app rule.sides here (λ x. All EntryFits x.view.written) rule.sides.entries;
-      taken = record { order = (rule.sides.taken a app here).order };
-      dealt = record { order = (rule.sides.dealt a app here).order };
-      returns = let r = rule.sides.returns a app here in
-          let way : entries_on_way nic app ≡ [] = r.quiet quiet in
-          record {
-            written = r.written;
-            owed = λ c. rw way (omega arith);
-            no_more = λ c. omega (
-              arith,
-              r.no_more c,
-              length-drop (ended_in c nic app) (returned_in c app),
-              length-drop (ended_in c nic now) (returned_in c app),
-              took c,
-            );
-            clear = r.clear;
-            named = r.named;
-            settled = r.settled;
-            quiet = r.quiet;
-            scrubbed = λ done. way;
-            strays = r.strays;
-          };
-      scrub = record {
-        within = omega (arith, there, layouts);
-        done = λ e. ⊎_elim
-            (λ t. t.1)
-            (λ t. absurd (false≢true (sym t.0 ∙ e)))
-            (eqb_tells (b + 1) (total app.view.setting.layout));
-        whole = λ e. subst (λ m. (b + 1 == m) ≡ true) e (eqb_same (b + 1));
-        taken = λ c less. omega (arith, owed-count c nic now, none-below c less);
-        untaken = λ c past. omega (arith, took c, (rule.sides.scrub a app here).untaken c (omega (arith, next, past)), if-other c (omega (arith, past)));
-        quiet = λ some. quiet;
-        loans = λ some. lent;
-      };
       scrubbed = λ done. record {
         loans = lent;
         owed = λ c. omega (arith, owed-count c nic now, none-anywhere c (all-below done));
       };
-      first = λ entry f. f;
-      raw = λ f. f;
-      came_back = λ c. omega arith;
-      ended = inl ((rule.sides.returns a app here).quiet quiet);
+      own = record {
+        setting = refl;
+        number = refl;
+        took = length-set app.inside.scrub_took b _;
+        owes = length-set app.inside.scrub_owes b _;
+        few = assumption (mine setting nic apps a app rule.sides here HasFewPicks rule.sides.few);
+        dealt = assumption (rule.sides.dealt a app here);
+        entries = mine setting nic apps a app rule.sides here (λ x. All EntryFits x.view.written) rule.sides.entries;
+        taken = assumption (rule.sides.taken a app here);
+        returns = let r = rule.sides.returns a app here in
+            let way : entries_on_way nic app ≡ [] = r.quiet quiet in
+            record {
+              written = r.written;
+              owed = λ c. rw way (omega arith);
+              no_more = λ c. omega (
+                arith,
+                r.no_more c,
+                length-drop (ended_in c nic app) (returned_in c app),
+                length-drop (ended_in c nic now) (returned_in c app),
+                took c,
+              );
+              clear = r.clear;
+              named = r.named;
+              settled = r.settled;
+              quiet = r.quiet;
+              scrubbed = λ done. way;
+              strays = r.strays;
+            };
+        scrub = record {
+          within = omega (arith, there, layouts);
+          done = λ e. ⊎_elim
+              (λ t. t.1)
+              (λ t. absurd (false≢true (sym t.0 ∙ e)))
+              (eqb_tells (b + 1) (total app.view.setting.layout));
+          whole = λ e. subst (λ m. (b + 1 == m) ≡ true) e (eqb_same (b + 1));
+          taken = λ c less. omega (arith, owed-count c nic now, none-below c less);
+          untaken = λ c past.
+              omega (arith, took c, (rule.sides.scrub a app here).untaken c (omega (arith, next, past)), if-other c (omega (arith, past)));
+          quiet = λ some. quiet;
+          loans = λ some. lent;
+        };
+        first = λ entry f. f;
+        raw = λ f. f;
+        came_back = λ c. omega arith;
+        ended = inl ((rule.sides.returns a app here).quiet quiet);
+      };
     });
     here = sym none-now;
     others = others-same;

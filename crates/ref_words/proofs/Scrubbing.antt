@@ -1,6 +1,6 @@
 -- What a scrub took of a buffer's user count is taken from its pool count.
 use Rattle.std.proofs.Common.{◌≡◌, ⊎_elim, ℕ, ◌+◌, ◌-◌, ◌<◌, ◌≤◌, Bool, List, length, set, get_or, refl, ap, sym}
-use Rattle.std.proofs.Common.{◌∙◌, arith, inr}
+use Rattle.std.proofs.Common.{◌∙◌, arith}
 use Rattle.std.specs.Prelude.{◌≢◌, ◌==◌, ◌&&◌, nat_lt, slice_index}
 use Rattle.std.proofs.lemmas.Bool.{lt-ltb, le-ltb, cases_lt}
 use Rattle.std.proofs.lemmas.Bool.Decides.{eqb_tells}
@@ -9,7 +9,6 @@ use Rattle.area_layout.specs.Layout.{total, pool_buffers}
 use Rattle.board_face.specs.AppEvents.{reserve_of}
 use Rattle.board_face.specs.Sides.{IsApp}
 use Rattle.board_face.specs.Counts.{pool_count, EndedWereReturned}
-use Rattle.board_face.specs.Used.{HasFewPicks}
 use Rattle.board_face.specs.declared.views.parts.Setting.{Setting}
 use Rattle.board_face.specs.declared.views.nic.NicSide.{NicSide}
 use Rattle.board_face.specs.declared.views.app.AppSide.{AppSide}
@@ -22,13 +21,11 @@ use Rattle.board_face.proofs.MadeLastLemmas.{IsMadeLast-app}
 use Rattle.board_face.proofs.IsFilledByOneLemmas.{IsFilledByOne-app}
 use Rattle.board_face.proofs.FillingsFitLemmas.{FillingsFit-same}
 use Rattle.ref_words.specs.Words.{Words, pool_of, listed_in}
-use Rattle.std.specs.Prelude.{All}
-use Rattle.ref_words.specs.Rings.{EntryFits}
 use Rattle.ref_words.specs.Rule.{RefRule}
 use Rattle.ref_words.proofs.RingSteps.{rings-app}
 use Rattle.ref_words.proofs.Counting.{if_so, and-true, and-false}
 use Rattle.ref_words.proofs.Frees.{AreFreeOnce-fewer, AreKept-app, free_places-hands}
-use Rattle.ref_words.proofs.SideSteps.{mine, own-setting, SidesRule-app}
+use Rattle.ref_words.proofs.SideSteps.{own-was, mine, own-setting, SidesRule-app}
 use Rattle.ref_words.proofs.PoolSteps.{IsPoolStep}
 use Rattle.ref_words.proofs.Shutting.{last-is}
 use Rattle.ref_words.proofs.Releasing.{hands-case}
@@ -104,10 +101,6 @@ module _ (setting : Setting) (words : Words) (nic : NicSide) (apps : List AppSid
   step = record {
     there = there;
     sides = SidesRule-app setting nic apps a app rule.sides here now (record {
-      setting = refl;
-      number = refl;
-      took = refl;
-      owes = length-set app.inside.scrub_owes b 0;
       placed = λ c. ArePlaced-app c nic apps a app now here
           (λ test. app_places-stretch c test nic nic app now.inside refl (sound c).returning (sound-now c).returning (omega (arith, owes-now c)))
           (rule.sides.placed c);
@@ -120,35 +113,8 @@ module _ (setting : Setting) (words : Words) (nic : NicSide) (apps : List AppSid
       returned = sound-now;
       reserve = record { unheld = λ free. omega (arith, less (reserve_of app.view), (rule.sides.reserves a app here).unheld free) };
       unheld = λ c past ne none. omega (arith, less c, none);
-      few = let f = mine setting nic apps a app rule.sides here HasFewPicks rule.sides.few in record { picks = f.picks; spares = f.spares };
-      entries = mine setting nic apps a app rule.sides here (λ x. All EntryFits x.view.written) rule.sides.entries;
-      taken = record { order = (rule.sides.taken a app here).order };
-      dealt = record { order = (rule.sides.dealt a app here).order };
-      returns = let r = rule.sides.returns a app here in record {
-        written = r.written;
-        owed = r.owed;
-        no_more = r.no_more;
-        clear = r.clear;
-        named = r.named;
-        settled = r.settled;
-        quiet = r.quiet;
-        scrubbed = r.scrubbed;
-        strays = r.strays;
-      };
-      scrub = let s = rule.sides.scrub a app here in record {
-        within = s.within;
-        done = s.done;
-        whole = s.whole;
-        taken = s.taken;
-        untaken = s.untaken;
-        quiet = s.quiet;
-        loans = s.loans;
-      };
-      scrubbed = λ done. let none = rule.sides.scrubbed a app here done in record { loans = none.loans; owed = none.owed };
-      first = λ entry f. f;
-      raw = λ f. f;
-      came_back = λ b. omega arith;
-      ended = inr (λ b. refl);
+      scrubbed = λ done. assumption (rule.sides.scrubbed a app here done);
+      own = assumption (own-was setting nic apps a app rule.sides here, length-set app.inside.scrub_owes b 0);
     });
     here = let c = counted in omega arith;
     others = λ c other. omega (arith, less c, none-other c other);

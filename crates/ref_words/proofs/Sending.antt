@@ -38,7 +38,7 @@ use Rattle.ref_words.proofs.Ringing as ringing
 use Rattle.ref_words.proofs.LeftWords as left-words
 use Rattle.ref_words.proofs.RingSteps.{AllRings}
 use Rattle.ref_words.proofs.RingMoves.{slot-here, slot-other, rings-parts}
-use Rattle.ref_words.proofs.SlotWords.{ring-here, ring-other, sizes-note}
+use Rattle.ref_words.proofs.SlotWords.{ring-here, ring-other, differ-note}
 use Rattle.ref_words.proofs.SlotSteps.{DifferInSlots, RefRule-slot}
 use Rattle.ref_words.proofs.CardSteps.{SidesRule-card}
 use Rattle.ref_words.proofs.Frees.{AreKept-card}
@@ -133,29 +133,27 @@ module _ (setting : Setting) (words : Words) (nic : NicSide) (apps : List AppSid
 
     pub RefRule-sent : RefRule setting words' (record { view = v; inside = record nic.inside { note_slots = set nic.inside.note_slots a unseen } }) apps
     RefRule-sent =
-        let differ : DifferInSlots setting words words' = record {
-          sizes = sizes-note setting words rule.sizes a mark 0 1 is_app (mod-lt (length (sent_to a nic)) (rule.rings a app here).notes.some);
-          pool = refl;
-          users = refl;
-          free = refl;
-        } in
+        let differ : DifferInSlots setting words words' =
+        differ-note setting words rule.sizes a mark 0 1 is_app (mod-lt (length (sent_to a nic)) (rule.rings a app here).notes.some) in
         subst (λ x. RefRule setting words' (record { view = x; inside = record nic.inside { note_slots = set nic.inside.note_slots a unseen } }) apps)
         (sym sending.same)
         (RefRule-slot setting words words' nic like apps apps rule differ (record {
           sides = SidesRule-card setting nic like apps rule.sides (record {
-            setting = refl;
-            placed = λ b. let p = is.placed b in record { some_bytes = p.some_bytes; within = p.within; apart = p.apart; behind = p.behind };
-            by_one = λ b. let o = is.by_one b in record { one = o.one; alone = o.alone; inside = o.inside };
-            fit = record { of_pool = rule.sides.fit.of_pool; card = rule.sides.fit.card; sides = rule.sides.fit.sides };
+            placed = λ b. assumption (is.placed b);
+            by_one = λ b. assumption (is.by_one b);
+            fit = assumption rule.sides.fit;
             made = record { last = is.made.last };
-            dealt = refl;
-            entry = refl;
-            notes = All-push NoteFits nic.view.sent s rule.sides.notes is.fits;
             taken = taken-still;
-            proper = All-push IsProper nic.view.sent s rule.sides.proper is.proper;
-            note_slots = length-set nic.inside.note_slots a unseen;
-            refill_slots = refl;
             unheld = λ b past none. is.pools b ∙ none;
+            own = record {
+              setting = refl;
+              dealt = refl;
+              entry = refl;
+              notes = All-push NoteFits nic.view.sent s rule.sides.notes is.fits;
+              proper = All-push IsProper nic.view.sent s rule.sides.proper is.proper;
+              note_slots = length-set nic.inside.note_slots a unseen;
+              refill_slots = refl;
+            };
           });
           pool = is.pools;
           users = λ x b. user_count-nic x b nic (record nic.view { pieces = v.pieces; sent = nic.view.sent ++ s ∷ [] }) apps refl;

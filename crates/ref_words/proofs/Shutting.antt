@@ -75,20 +75,13 @@ module _ (setting : Setting) (words : Words) (nic : NicSide) (apps : List AppSid
   step = record {
     there = there;
     sides = SidesRule-card setting nic now apps rule.sides (record {
-      setting = refl;
-      placed = λ b. let p = ArePlaced-shut b nic apps own last (rule.sides.placed b) in
-          record { some_bytes = p.some_bytes; within = p.within; apart = p.apart; behind = p.behind };
-      by_one = λ b. let o = IsFilledByOne-shut b nic apps own last out (rule.sides.by_one b) in record { one = o.one; alone = o.alone; inside = o.inside };
-      fit = let f = FillingsFit-shut nic apps own last rule.sides.fit in record { of_pool = f.of_pool; card = f.card; sides = f.sides };
+      placed = λ b. assumption (ArePlaced-shut b nic apps own last (rule.sides.placed b));
+      by_one = λ b. assumption (IsFilledByOne-shut b nic apps own last out (rule.sides.by_one b));
+      fit = assumption (FillingsFit-shut nic apps own last rule.sides.fit);
       made = let m = IsMadeLast-nic nic (shut nic.view own last) apps refl refl refl rule.sides.made in record { last = m.last };
-      dealt = refl;
-      entry = refl;
-      notes = rule.sides.notes;
-      taken = λ k x here. record { order = (rule.sides.taken k x here).order };
-      proper = rule.sides.proper;
-      note_slots = refl;
-      refill_slots = refl;
+      taken = λ k x here. assumption (rule.sides.taken k x here);
       unheld = λ b past none. omega (arith, less b, none);
+      own = assumption rule.sides;
     });
     here = let c = counted in omega arith;
     others = λ b other. omega (arith, less b, weight-other own.buffer b (λ e. other (sym e)));

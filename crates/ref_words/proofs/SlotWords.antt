@@ -6,6 +6,7 @@ use Rattle.std.proofs.lemmas.List.Elements.{All-set}
 use Rattle.board_face.specs.NicCalls.{apps_of}
 use Rattle.board_face.specs.declared.views.parts.Setting.{Setting}
 use Rattle.word_rings.specs.Slots.{note_width, refill_width}
+use Rattle.ref_words.proofs.SlotSteps.{DifferInSlots}
 use Rattle.ref_words.specs.Words.{Words, HasSizes, AreSlots, with_word, with_slot_word, with_refill, with_note}
 
 module _ (rings : List (List (List ℕ))) (a s i n : ℕ) where
@@ -29,32 +30,19 @@ module _ (rings : List (List (List ℕ))) (a s i n : ℕ) where
       }) all
 
 module _ (setting : Setting) (w : Words) (sizes : HasSizes setting w) (a s i n : ℕ) (app : a < apps_of setting) (small : s < setting.places) where
-  pub sizes-refill : HasSizes setting (with_refill w a s i n)
-  sizes-refill = record {
-    roles = sizes.roles;
-    phases = sizes.phases;
-    pool = sizes.pool;
-    users = sizes.users;
-    rows = sizes.rows;
-    free = sizes.free;
-    area = sizes.area;
-    notes = sizes.notes;
-    note_slots = sizes.note_slots;
-    refills = length-set w.refills a (with_word (get_or w.refills a []) s i n) ∙ sizes.refills;
-    refill_slots = rings-sized w.refills a s i n setting.places refill_width (omega (arith, app, sizes.refills)) small sizes.refill_slots;
-  }
+  -- no other word changes
+  pub differ-refill : DifferInSlots setting w (with_refill w a s i n)
+  differ-refill =
+      assumption (
+        length-set w.refills a (with_word (get_or w.refills a []) s i n) ∙ sizes.refills,
+        rings-sized w.refills a s i n setting.places refill_width (omega (arith, app, sizes.refills)) small sizes.refill_slots,
+        sizes,
+      )
 
-  pub sizes-note : HasSizes setting (with_note w a s i n)
-  sizes-note = record {
-    roles = sizes.roles;
-    phases = sizes.phases;
-    pool = sizes.pool;
-    users = sizes.users;
-    rows = sizes.rows;
-    free = sizes.free;
-    area = sizes.area;
-    notes = length-set w.notes a (with_word (get_or w.notes a []) s i n) ∙ sizes.notes;
-    note_slots = rings-sized w.notes a s i n setting.places note_width (omega (arith, app, sizes.notes)) small sizes.note_slots;
-    refills = sizes.refills;
-    refill_slots = sizes.refill_slots;
-  }
+  pub differ-note : DifferInSlots setting w (with_note w a s i n)
+  differ-note =
+      assumption (
+        length-set w.notes a (with_word (get_or w.notes a []) s i n) ∙ sizes.notes,
+        rings-sized w.notes a s i n setting.places note_width (omega (arith, app, sizes.notes)) small sizes.note_slots,
+        sizes,
+      )

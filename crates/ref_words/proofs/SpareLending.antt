@@ -1,5 +1,5 @@
 -- An application lends a spare that it filled.
-use Rattle.std.proofs.Common.{◌≡◌, ⊎_elim, ℕ, ◌+◌, ◌^◌, ◌<◌, List, set, refl, ap, sym, ◌∙◌, arith, inr}
+use Rattle.std.proofs.Common.{◌≡◌, ⊎_elim, ℕ, ◌+◌, ◌^◌, ◌<◌, List, set, refl, ap, sym, ◌∙◌, arith, []}
 use Rattle.std.specs.Prelude.{true, false, ◌==◌, ◌&&◌}
 use Rattle.std.proofs.lemmas.Bool.{cases_lt}
 use Rattle.area_layout.specs.Layout.{total}
@@ -7,7 +7,6 @@ use Rattle.board_face.specs.AppEvents.{reserve_of}
 use Rattle.board_face.specs.NicCalls.{apps_of}
 use Rattle.board_face.specs.Sides.{IsApp}
 use Rattle.board_face.specs.Counts.{pool_count, user_count, EndedWereReturned}
-use Rattle.board_face.specs.Used.{HasFewPicks}
 use Rattle.board_face.specs.declared.views.parts.Setting.{Setting}
 use Rattle.board_face.specs.declared.views.nic.NicSide.{NicSide}
 use Rattle.board_face.specs.declared.views.app.AppSide.{AppSide}
@@ -20,19 +19,17 @@ use Rattle.board_face.proofs.IsFilledByOneLemmas.{IsFilledByOne-lent_own}
 use Rattle.board_face.proofs.FillingsFitLemmas.{FillingsFit-lent_own}
 use Rattle.board_face.specs.AppEvents.{lent_own}
 use Rattle.board_face.specs.Sides.{app_at}
-use Rattle.board_face.specs.Returns.{loans_out, entries_on_way}
+use Rattle.board_face.specs.Returns.{loans_out, entries_on_way, IsClear}
 use Rattle.board_face.proofs.FreeLemmas.{user_count-le}
 use Rattle.board_face.proofs.ReturnLemmas.{IsClear-of_loans}
 use Rattle.board_face.proofs.Tallies.{weight}
 use Rattle.ref_words.specs.Words.{Words, user_of, listed_in}
-use Rattle.std.specs.Prelude.{All}
-use Rattle.ref_words.specs.Rings.{EntryFits}
 use Rattle.ref_words.specs.Rule.{RefRule}
 use Rattle.ref_words.proofs.RingSteps.{rings-app}
 use Rattle.ref_words.proofs.Counting.{weight-same}
 use Rattle.ref_words.proofs.Frees.{AreKept-app, free_places-hands}
 use Rattle.ref_words.proofs.InHand.{same-if, other-pair}
-use Rattle.ref_words.proofs.SideSteps.{mine, SidesRule-app}
+use Rattle.ref_words.proofs.SideSteps.{own-was, mine, SidesRule-app}
 use Rattle.ref_words.proofs.UserSteps.{IsUserStep}
 use Rattle.ref_words.proofs.Beginning.{few-holders}
 
@@ -91,47 +88,19 @@ module _ (setting : Setting) (words : Words) (nic : NicSide) (apps : List AppSid
     app = is-app;
     there = there;
     sides = SidesRule-app setting nic apps a app rule.sides here now (record {
-      setting = refl;
-      number = refl;
-      took = refl;
-      owes = refl;
       placed = λ b. ArePlaced-lent_own b nic apps a app own here some (rule.sides.placed b);
       by_one = λ b. IsFilledByOne-lent_own b nic apps a app own here out (rule.sides.by_one b);
       fit = FillingsFit-lent_own nic apps a app own here rule.sides.fit;
       made = IsMadeLast-lent_own nic apps a app own here some rule.sides.made;
-      returned = λ b. let r = mine setting nic apps a app rule.sides here (EndedWereReturned b nic) (rule.sides.returned b) in
-          record { ended = r.ended; returning = r.returning };
+      returned = λ b. assumption (mine setting nic apps a app rule.sides here (EndedWereReturned b nic) (rule.sides.returned b));
       reserve = record { unheld = λ free. same_pool (reserve_of app.view) ∙ (rule.sides.reserves a app here).unheld free };
       unheld = λ b past ne none. same_pool b ∙ none;
-      few = let f = mine setting nic apps a app rule.sides here HasFewPicks rule.sides.few in record { picks = f.picks; spares = f.spares };
-      entries = mine setting nic apps a app rule.sides here (λ x. All EntryFits x.view.written) rule.sides.entries;
-      taken = record { order = (rule.sides.taken a app here).order };
-      dealt = record { order = (rule.sides.dealt a app here).order };
-      returns = let r = rule.sides.returns a app here in record {
-        written = r.written;
-        owed = r.owed;
-        no_more = r.no_more;
-        clear = λ b. IsClear-of_loans app.view.setting.layout b (loans_out b now) (entries_on_way nic now) (r.settled can.settled);
-        named = r.named;
-        settled = r.settled;
-        quiet = r.quiet;
-        scrubbed = r.scrubbed;
-        strays = r.strays;
-      };
-      scrub = let s = rule.sides.scrub a app here in record {
-        within = s.within;
-        done = s.done;
-        whole = s.whole;
-        taken = s.taken;
-        untaken = s.untaken;
-        quiet = s.quiet;
-        loans = λ some. absurd (omega (arith, unbegun, some));
-      };
       scrubbed = λ done. absurd (let wrong : true ≡ false = sym done ∙ can.counted in let no : ⊥ = cc in no);
-      first = λ entry f. f;
-      raw = λ f. f;
-      came_back = λ b. omega arith;
-      ended = inr (λ b. refl);
+      own = let was = own-was setting nic apps a app rule.sides here in
+          let clear : (b : ℕ) → IsClear app.view.setting.layout b (loans_out b now) (entries_on_way nic now) = λ b.
+          IsClear-of_loans app.view.setting.layout b (loans_out b now) (entries_on_way nic now) (was.returns.settled can.settled) in
+          let loans : 0 < app.inside.scrub_mark → now.view.loans ≡ [] = λ some. absurd (omega (arith, unbegun, some)) in
+          assumption (was, clear, loans);
     });
     here = omega (arith, rule.users a own.buffer is-app there, more-users a own.buffer, one);
     others = λ x c other. omega (arith, more-users x c, other-pair app.view.app x own.buffer c (λ e f. other (sym e ∙ here.number, sym f)));

@@ -28,13 +28,11 @@ use Rattle.board_face.proofs.FillingsFitLemmas.{IsFit, FillingsFit-app, Fillings
 use Rattle.board_face.proofs.TokenLemmas.{FitsBuffer-fresh}
 use Rattle.board_face.proofs.Tallies.{weight}
 use Rattle.ref_words.specs.Words.{Words, pool_of, listed_in}
-use Rattle.std.specs.Prelude.{All}
-use Rattle.ref_words.specs.Rings.{EntryFits}
 use Rattle.ref_words.specs.Rule.{RefRule}
 use Rattle.ref_words.proofs.RingSteps.{rings-app}
 use Rattle.ref_words.proofs.Counting.{weight-same, weight-other}
 use Rattle.ref_words.proofs.Frees.{AreFreeOnce-taken, AreFreeOnce-reserve, AreKept-app, free_places-hands, in-hands, count-taken, without-none}
-use Rattle.ref_words.proofs.SideSteps.{mine, own-setting, SidesRule-app}
+use Rattle.ref_words.proofs.SideSteps.{own-was, mine, own-setting, SidesRule-app}
 use Rattle.ref_words.proofs.PoolSteps.{IsPoolStep}
 use Rattle.ref_words.proofs.Taking.{All-none}
 
@@ -76,18 +74,13 @@ module _ (setting : Setting) (words : Words) (nic : NicSide) (apps : List AppSid
       record {
         there = there;
         sides = SidesRule-app setting nic apps a app rule.sides here now (record {
-          setting = refl;
-          number = refl;
-          took = refl;
-          owes = refl;
           placed = λ c. ArePlaced-app c nic apps a app now here (λ test. omega (arith, app_places-spare_begun c test nic app b)) (rule.sides.placed c);
           by_one = λ c. one-spare c b nic apps a app now here (spares_in-got_spare c app b) (app_count-got_spare c nic app b)
               (omega (arith, there, ap (λ s. total s.layout) rule.sides.set.card)) unheld (rule.sides.by_one c);
           fit = FillingsFit-app nic apps a now
               (All-push (λ (s : SpareOwn). IsFit nic s.own) app.view.owns one (FillingsFit-spares nic apps a app here rule.sides.fit) is) rule.sides.fit;
           made = IsMadeLast-app nic apps a app now here (λ c test. omega (arith, app_places-spare_begun c test nic app b)) rule.sides.made;
-          returned = λ c. let r = mine setting nic apps a app rule.sides here (EndedWereReturned c nic) (rule.sides.returned c) in
-              record { ended = r.ended; returning = r.returning };
+          returned = λ c. assumption (mine setting nic apps a app rule.sides here (EndedWereReturned c nic) (rule.sides.returned c));
           reserve = record { unheld = λ e. absurd (false≢true e) };
           unheld = λ c past ne none.
               omega (
@@ -96,35 +89,10 @@ module _ (setting : Setting) (words : Words) (nic : NicSide) (apps : List AppSid
                 none,
                 weight-other b c (λ e. ⊎_elim (λ small. let no : ⊥ = omega (arith, e) in no) (λ mine. ne (sym e ∙ mine)) own),
               );
-          few = let f = mine setting nic apps a app rule.sides here HasFewPicks rule.sides.few in record { picks = f.picks; spares = omega (arith, due) };
-          entries = mine setting nic apps a app rule.sides here (λ x. All EntryFits x.view.written) rule.sides.entries;
-          taken = record { order = (rule.sides.taken a app here).order };
-          dealt = record { order = (rule.sides.dealt a app here).order };
-          returns = let r = rule.sides.returns a app here in record {
-            written = r.written;
-            owed = r.owed;
-            no_more = r.no_more;
-            clear = r.clear;
-            named = r.named;
-            settled = r.settled;
-            quiet = r.quiet;
-            scrubbed = r.scrubbed;
-            strays = r.strays;
-          };
-          scrub = let s = rule.sides.scrub a app here in record {
-            within = s.within;
-            done = s.done;
-            whole = s.whole;
-            taken = s.taken;
-            untaken = s.untaken;
-            quiet = s.quiet;
-            loans = s.loans;
-          };
-          scrubbed = λ done. let none = rule.sides.scrubbed a app here done in record { loans = none.loans; owed = none.owed };
-          first = λ entry f. f;
-          raw = λ f. f;
-          came_back = λ b. omega arith;
-          ended = inr (λ b. refl);
+          scrubbed = λ done. assumption (rule.sides.scrubbed a app here done);
+          own = let was = own-was setting nic apps a app rule.sides here in
+              let few : HasFewPicks now = record { picks = was.few.picks; spares = omega (arith, due) } in
+              assumption (was, few);
         });
         here = omega (arith, rule.pool b there, more b, weight-same b);
         others = λ c other. omega (arith, more c, weight-other b c (λ e. other (sym e)));

@@ -84,19 +84,13 @@ module _ (setting : Setting) (words : Words) (nic : NicSide) (apps : List AppSid
   pub sweeps : RefRule setting (with_free words j 0) now apps
   sweeps = RefRule-free setting words nic now apps apps j 0 rule (record {
     sides = SidesRule-card setting nic now apps rule.sides (record {
-      setting = refl;
       placed = λ b. ArePlaced-swept b nic apps j found (rule.sides.placed b);
       by_one = λ b. IsFilledByOne-swept b nic apps j found (rule.sides.by_one b);
       fit = FillingsFit-nic nic v apps refl refl rule.sides.fit;
       made = IsMadeLast-nic nic v apps refl refl refl rule.sides.made;
-      dealt = refl;
-      entry = refl;
-      notes = rule.sides.notes;
-      taken = λ k x here. record { order = (rule.sides.taken k x here).order };
-      proper = rule.sides.proper;
-      note_slots = refl;
-      refill_slots = refl;
+      taken = λ k x here. assumption (rule.sides.taken k x here);
       unheld = λ b past none. omega (arith, pool_count-swept b nic apps j found, none);
+      own = assumption rule.sides;
     });
     pool = λ b. pool_count-swept b nic apps j found;
     users = λ a b. user_count-nic a b nic v apps refl;
@@ -130,4 +124,4 @@ module _ (setting : Setting) (words : Words) (nic : NicSide) (apps : List AppSid
 
   pub bound : lost_of now.view ≤ sent_unsplit_bytes nic.view
   bound = lost-bound (listed_in (with_free words j 0)) now apps kept rule.sides.set.numbers rule.sides.few
-      (λ k x here. record { order = (rule.sides.taken k x here).order })
+      (λ k x here. assumption (rule.sides.taken k x here))

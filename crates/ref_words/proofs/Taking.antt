@@ -86,19 +86,13 @@ module _ (setting : Setting) (words : Words) (nic : NicSide) (apps : List AppSid
   step = record {
     there = there;
     sides = SidesRule-card setting nic now apps rule.sides (record {
-      setting = refl;
       placed = λ x. ArePlaced-took x nic apps b unheld (rule.sides.placed x);
       by_one = λ x. IsFilledByOne-took x nic apps b (let s = small in omega arith) unheld (rule.sides.by_one x);
       fit = FillingsFit-took nic apps b (rw rule.sides.set.card rule.layout) small rule.sides.fit;
       made = IsMadeLast-nic nic (took nic.view b) apps refl refl refl rule.sides.made;
-      dealt = refl;
-      entry = refl;
-      notes = rule.sides.notes;
-      taken = λ k x here. record { order = (rule.sides.taken k x here).order };
-      proper = rule.sides.proper;
-      note_slots = refl;
-      refill_slots = refl;
+      taken = λ k x here. assumption (rule.sides.taken k x here);
       unheld = λ x past none. omega (arith, more x, none, weight-other b x (λ e. absurd (let s = small in omega (arith, e))));
+      own = assumption rule.sides;
     });
     here = omega (arith, more b, none, unheld, weight-same b);
     others = λ x other. omega (arith, more x, weight-other b x (λ e. other (sym e)));

@@ -4,6 +4,7 @@ use Rattle.std.proofs.Common.{[], ◌∷◌, length, map, set, refl, ap, sym, �
 use Rattle.std.specs.Prelude.{◌≢◌, All, Contains}
 use Rattle.std.proofs.lemmas.Option.{IfSome_then}
 use Rattle.std.proofs.lemmas.List.Elements.{All-set, All-push, All-head, All-tail, Contains-append_left}
+use Rattle.std.proofs.lemmas.List.{map-append}
 use Rattle.zr_kinds.specs.declared.place.Place.{Place}
 use Rattle.area_layout.specs.Layout.{Shape}
 use Rattle.board_face.specs.NicEvents.{fresh}
@@ -27,7 +28,6 @@ use Rattle.board_face.proofs.AreShownLemmas.{AppIsShown-spare_begun}
 use Rattle.ref_words.specs.Area.{byte_in}
 use Rattle.ref_words.specs.Sides.{SidesRule}
 use Rattle.ref_words.specs.TextRule.{HasTexts, AreTexts}
-use Rattle.ref_words.proofs.Dealing.{map-push}
 use Rattle.ref_words.proofs.ScrubTaking.{raised-at}
 
 -- What an application fills, and what it read, stay.
@@ -174,7 +174,7 @@ module _ (setting : Setting) (area : List ℕ) (nic : NicSide) (apps : List AppS
       (λ shown. AppIsShown-inside bytes nic (app_at app (spare_begun app.view b)) now.inside (λ c. omega arith)
       (AppIsShown-spare_begun bytes nic app b shown))
       (λ has. HasTexts-app setting.layout area nic app now refl refl
-      (λ own begin out. subst (λ owns. Contains owns own) (sym (map-push (λ (s : SpareOwn). s.own) app.view.owns one))
+      (λ own begin out. subst (λ owns. Contains owns own) (sym (map-append (λ (s : SpareOwn). s.own) app.view.owns (one ∷ [])))
       (Contains-append_left (map (λ (s : SpareOwn). s.own) app.view.owns) (one.own ∷ []) own out))
       (All-push (λ (s : SpareOwn). s.own.start ≡ 0 → s.bytes ≡ []) app.view.owns one has.unfilled (λ e. refl)) refl has)
       texts

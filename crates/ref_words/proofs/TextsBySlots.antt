@@ -19,7 +19,7 @@ use Rattle.board_face.specs.Opened.{new_app}
 use Rattle.board_face.specs.Relay.{as_taken, dealt_entries, IsAsSent, Relayed}
 use Rattle.board_face.specs.Shown.{AppIsShown, AreShown}
 use Rattle.board_face.specs.Sides.{IsApp, nic_at, app_at}
-use Rattle.board_face.specs.SlotSteps.{side_refill_looked, side_slot_free, side_fell_quiet, side_refill_stored, side_gave, side_pushed}
+use Rattle.board_face.specs.SlotSteps.{side_refill_looked, side_refill_stored, side_gave, side_pushed}
 use Rattle.board_face.specs.SlotSteps.{side_entry_looked, side_entry_loaded, side_in_hand, side_dealt, side_note_looked, side_note_stored}
 use Rattle.board_face.specs.SlotSteps.{side_sent, side_sent_linear, side_slot_looked, side_slot_loaded, side_took_note, side_took_linear}
 use Rattle.board_face.specs.declared.views.parts.Setting.{Setting}
@@ -79,14 +79,6 @@ module _ (setting : Setting) (area : List ℕ) (nic : NicSide) (apps : List AppS
       → AreTexts setting.layout area nic (set apps a (side_refill_looked app free))
   texts-refill_looked true sides = seen (side_refill_looked app true) refl sides
   texts-refill_looked false sides = seen (side_refill_looked app false) refl sides
-
-  pub texts-slot_free : (s : ℕ) → SidesRule setting nic (set apps a (side_slot_free app s))
-      → AreTexts setting.layout area nic (set apps a (side_slot_free app s))
-  texts-slot_free s sides = seen (side_slot_free app s) refl sides
-
-  pub texts-fell_quiet : (s : ℕ) → SidesRule setting nic (set apps a (side_fell_quiet app s))
-      → AreTexts setting.layout area nic (set apps a (side_fell_quiet app s))
-  texts-fell_quiet s sides = seen (side_fell_quiet app s) refl sides
 
   pub texts-refill_stored : (n : ℕ) → SidesRule setting nic (set apps a (side_refill_stored app n))
       → AreTexts setting.layout area nic (set apps a (side_refill_stored app n))

@@ -27,6 +27,7 @@ use Rattle.board_face.proofs.SideLemmas.{IsApp-at}
 use Rattle.ref_words.specs.Words.{Words, user_of, listed_in}
 use Rattle.ref_words.specs.Sides.{IsInHand}
 use Rattle.ref_words.specs.Rule.{RefRule}
+use Rattle.ref_words.proofs.CardSteps.{AreReturns-owed, IsScrubbedSoFar-owed, HasNoneOwed-owed}
 use Rattle.ref_words.proofs.RingSteps.{rings-card}
 use Rattle.ref_words.proofs.Counting.{weight-same}
 use Rattle.ref_words.proofs.Frees.{AreKept-card}
@@ -133,48 +134,43 @@ module _ (setting : Setting) (words : Words) (nic : NicSide) (apps : List AppSid
   later : (c : ℕ) (x : AppSide) → Contains apps x → ended_in c nic x + returning_count c now x ≤ ended_in c now x + returning_count c nic x
   later c x has = omega (arith, ends c x, returns c x)
 
+  -- one loan of the buffer is owed no more
+  fewer : (c k : ℕ) (x : AppSide) → IsApp apps k x
+      → length (owed_in c now x) + weight ((a == x.view.app) && (b == c)) ≡ length (owed_in c nic x)
+  fewer c k x here =
+      omega (
+        arith,
+        ends c x,
+        length-drop (ended_in c nic x) (returned_in c x),
+        length-drop (ended_in c now x) (returned_in c x),
+        owes c k x here,
+      )
+
   pub step : IsUserStep setting words nic now apps apps a b (user_of words a b - 1)
   step = record {
     app = is-app;
     there = there;
     sides = record {
-      set = record { card = rule.sides.set.card; many = rule.sides.set.many; numbers = rule.sides.set.numbers; others = rule.sides.set.others };
+      set = assumption rule.sides.set;
       lists = rule.sides.lists;
       placed = λ c. ArePlaced-stretch c nic now apps refl refl refl refl refl (small-before c) (small-now c) (later c) (rule.sides.placed c);
       by_one = λ c. IsFilledByOne-fewer c nic now apps apps refl (omega arith) (omega arith) (omega (arith, same_pool c)) (rule.sides.by_one c);
-      fit = record { of_pool = rule.sides.fit.of_pool; card = rule.sides.fit.card; sides = rule.sides.fit.sides };
+      fit = assumption rule.sides.fit;
       made = IsMadeLast-stretch nic now apps refl refl refl small-before small-now later rule.sides.made;
       returned = λ c k d small. sound-now c k (get_or apps k d) (IsApp-at apps k d rule.sides.set.numbers small);
       reserves = λ k x here. record { unheld = λ free. same_pool (reserve_of x.view) ∙ (rule.sides.reserves k x here).unheld free };
       few = rule.sides.few;
-      dealt = λ k x here. record { order = (rule.sides.dealt k x here).order };
+      dealt = λ k x here. assumption (rule.sides.dealt k x here);
       honoured = rule.sides.honoured;
-      slots = record { notes = rule.sides.slots.notes; refills = rule.sides.slots.refills };
+      slots = assumption rule.sides.slots;
       entries = rule.sides.entries;
       notes = rule.sides.notes;
-      taken = λ k x here. record { order = (rule.sides.taken k x here).order };
+      taken = λ k x here. assumption (rule.sides.taken k x here);
       proper = rule.sides.proper;
       returns = λ k x here.
-          let r = rule.sides.returns k x here in
-          let less : (c : ℕ) → length (owed_in c now x) + weight ((a == x.view.app) && (b == c)) ≡ length (owed_in c nic x) = λ c.
-          omega (
-            arith,
-            ends c x,
-            length-drop (ended_in c nic x) (returned_in c x),
-            length-drop (ended_in c now x) (returned_in c x),
-            owes c k x here,
-          ) in
-          record {
-            written = r.written;
-            owed = λ c. omega (arith, r.owed c, not-lowered x.view.app c, less c, if-weight (a == x.view.app) (b == c));
-            no_more = λ c. omega (arith, r.no_more c, not-lowered x.view.app c, less c, if-weight (a == x.view.app) (b == c));
-            clear = r.clear;
-            named = r.named;
-            settled = r.settled;
-            quiet = r.quiet;
-            scrubbed = r.scrubbed;
-            strays = r.strays;
-          };
+          AreReturns-owed nic now x refl
+          (λ c. omega (arith, not-lowered x.view.app c, fewer c k x here, if-weight (a == x.view.app) (b == c)))
+          (rule.sides.returns k x here);
       hand = λ it is.
           subst
           (IsInHand now apps)
@@ -187,32 +183,8 @@ module _ (setting : Setting) (words : Words) (nic : NicSide) (apps : List AppSid
             lowered = λ c e. let same : b ≡ c = cc in subst (λ n. n < total nic.view.setting.layout) same (known.owed b refl).0;
             stray = λ e. absurd (let none : ⊥ = cc in none);
           });
-      scrub = λ k x here. let s = rule.sides.scrub k x here in record {
-        within = s.within;
-        done = s.done;
-        whole = s.whole;
-        taken = λ c less. omega (
-          arith,
-          s.taken c less,
-          ends c x,
-          length-drop (ended_in c nic x) (returned_in c x),
-          length-drop (ended_in c now x) (returned_in c x),
-        );
-        untaken = s.untaken;
-        quiet = s.quiet;
-        loans = s.loans;
-      };
-      scrubbed = λ k x here done. let none = rule.sides.scrubbed k x here done in
-          record {
-            loans = none.loans;
-            owed = λ c. omega (
-              arith,
-              none.owed c,
-              ends c x,
-              length-drop (ended_in c nic x) (returned_in c x),
-              length-drop (ended_in c now x) (returned_in c x),
-            );
-          };
+      scrub = λ k x here. IsScrubbedSoFar-owed nic now x (λ c. omega (arith, fewer c k x here)) (rule.sides.scrub k x here);
+      scrubbed = λ k x here done. HasNoneOwed-owed nic now x (λ c. omega (arith, fewer c k x here)) (rule.sides.scrubbed k x here done);
     };
     here = omega (arith, rule.users a b is-app there, fewer_users a b, and-one);
     others = λ x c other. omega (arith, fewer_users x c, other-pair a x b c (λ e f. other (sym e, sym f)));

@@ -75,24 +75,15 @@ module _ (setting : Setting) (words : Words) (nic now : NicSide) (apps apps' : L
   pub RefRule-user : RefRule setting (with_user words a b n) now apps'
   RefRule-user = record {
     layout = rule.layout;
-    sizes = let s = rule.sizes in record {
-      roles = s.roles;
-      phases = s.phases;
-      pool = s.pool;
-      users = length-set words.users a (set row b n) ∙ s.users;
-      rows = All-set (λ r. length r ≡ total setting.layout) words.users a (set row b n) (length-set row b n ∙ row-length) s.rows;
-      free = s.free;
-      area = s.area;
-      notes = s.notes;
-      note_slots = s.note_slots;
-      refills = s.refills;
-      refill_slots = s.refill_slots;
-    };
+    sizes = assumption (
+      length-set words.users a (set row b n) ∙ rule.sizes.users,
+      All-set (λ r. length r ≡ total setting.layout) words.users a (set row b n) (length-set row b n ∙ row-length) rule.sizes.rows,
+      rule.sizes,
+    );
     sides = step.sides;
     pool = λ c small. rule.pool c small ∙ sym (step.pool c);
     users = users-set;
-    free = let f = AreFreeOnce-same words nic now apps apps' (step.sides.set.card ∙ sym rule.sides.set.card) step.pool step.free rule.free in
-        record { pool = f.pool; reserves = f.reserves };
-    kept = record { kept = step.kept.kept; swept = step.kept.swept };
+    free = assumption (AreFreeOnce-same words nic now apps apps' (step.sides.set.card ∙ sym rule.sides.set.card) step.pool step.free rule.free);
+    kept = assumption step.kept;
     rings = rings-words setting words (with_user words a b n) now apps' refl refl step.rings;
   }

@@ -23,7 +23,7 @@ module _ (setting : Setting) (words : Words) (nic : NicSide) (apps : List AppSid
   pub without : RefRule setting words nic (set apps a now)
   without = RefRule-slot setting words words nic nic apps (set apps a now) rule (no-word setting words rule.sizes) (record {
     sides = hands.sides setting words nic apps a app rule here app.view.picked app.inside.hands (j ∷ app.inside.words_without)
-        (let f = mine setting nic apps a app rule.sides here HasFewPicks rule.sides.few in record { picks = f.picks; spares = f.spares });
+        (assumption (mine setting nic apps a app rule.sides here HasFewPicks rule.sides.few));
     pool = hands.pools setting words nic apps a app rule here app.view.picked app.inside.hands (j ∷ app.inside.words_without);
     users = hands.users setting words nic apps a app rule here app.view.picked app.inside.hands (j ∷ app.inside.words_without);
     free = λ b. omega (arith, free_places-hands (listed_in words) b nic apps a app now here);

@@ -1,7 +1,7 @@
 -- An application hands a refill slot over: an entry is on its way.
 use Rattle.std.proofs.Common.{◌≡◌, ℕ, zero, suc, ◌<◌, ◌≤◌, Bool, true, false, List}
 use Rattle.std.proofs.Common.{[], ◌∷◌, ◌++◌, length, map, take, set}
-use Rattle.std.proofs.Common.{refl, ap, sym, ◌∙◌, arith, subst, inr, Some, None, mod-lt}
+use Rattle.std.proofs.Common.{refl, ap, sym, ◌∙◌, arith, subst, Some, None, mod-lt}
 use Rattle.std.specs.Prelude.{All}
 use Rattle.std.proofs.lemmas.List.{append_assoc}
 use Rattle.std.proofs.lemmas.List.Elements.{All-push, All-nil}
@@ -9,12 +9,11 @@ use Rattle.zr_kinds.specs.declared.place.Place.{Place}
 use Rattle.board_face.specs.NicCalls.{apps_of}
 use Rattle.board_face.specs.AppEvents.{reserve_of}
 use Rattle.board_face.specs.Opened.{unseen}
-use Rattle.board_face.specs.Holders.{returned_in}
+use Rattle.board_face.specs.Holders.{returned_in, owed_in}
 use Rattle.board_face.specs.Counts.{pool_count, EndedWereReturned}
 use Rattle.board_face.specs.Relay.{dealt_entries}
 use Rattle.board_face.specs.Returns.{AreReturns, IsOfLoan, entries_on_way}
 use Rattle.board_face.specs.Sides.{IsApp}
-use Rattle.board_face.specs.Used.{HasFewPicks}
 use Rattle.board_face.specs.declared.views.parts.Setting.{Setting}
 use Rattle.board_face.specs.declared.views.nic.NicSide.{NicSide}
 use Rattle.board_face.specs.declared.views.app.WrittenEntry.{WrittenEntry}
@@ -29,14 +28,15 @@ use Rattle.board_face.proofs.PlaceTallies.{app_places}
 use Rattle.board_face.proofs.WrittenLemmas.{way-written}
 use Rattle.ref_words.specs.Words.{Words, listed_in, with_refill}
 use Rattle.ref_words.specs.Rings.{AreRings, EntryFits, IsLastRaw, words_of_entry, writes_entry_at}
-use Rattle.ref_words.specs.Sides.{IsFirst, IsFirstRaw}
+use Rattle.ref_words.specs.Sides.{IsFirst, IsFirstRaw, IsDealtInOrder}
 use Rattle.ref_words.specs.Rule.{RefRule}
 use Rattle.ref_words.proofs.Ringing as ringing
 use Rattle.ref_words.proofs.RingSteps.{AllRings, rings-others}
-use Rattle.ref_words.proofs.SlotWords.{ring-here, ring-other, sizes-refill}
+use Rattle.ref_words.proofs.SlotWords.{ring-here, ring-other, differ-refill}
 use Rattle.ref_words.proofs.SlotSteps.{DifferInSlots, RefRule-slot}
-use Rattle.ref_words.proofs.SideSteps.{SidesRule-app, mine}
+use Rattle.ref_words.proofs.SideSteps.{SidesRule-app, own-was}
 use Rattle.ref_words.proofs.Frees.{AreKept-app, free_places-hands}
+use Rattle.zr_kinds.specs.declared.ring.Rqe.{Rqe}
 
 pub take-mapped : {A B : Type 0} (f : A → B) (n : ℕ) (xs : List A) (x : A) → n ≤ length xs → take n (map f (xs ++ x ∷ [])) ≡ take n (map f xs)
 take-mapped f zero xs x few = refl
@@ -156,22 +156,13 @@ module _ (setting : Setting) (words : Words) (nic : NicSide) (apps : List AppSid
         })
 
     differ : DifferInSlots setting words words'
-    differ = record {
-      sizes = sizes-refill setting words rule.sizes a s 0 1 is-app (mod-lt (length app.view.written) rings.refills.ring.some);
-      pool = refl;
-      users = refl;
-      free = refl;
-    }
+    differ = differ-refill setting words rule.sizes a s 0 1 is-app (mod-lt (length app.view.written) rings.refills.ring.some)
 
     pub RefRule-written : RefRule setting words' nic (set apps a now)
     RefRule-written =
         subst (λ x. RefRule setting words' nic (set apps a x)) (sym writing.same)
         (RefRule-slot setting words words' nic nic apps apps' rule differ (record {
           sides = SidesRule-app setting nic apps a app rule.sides here like (record {
-            setting = refl;
-            number = refl;
-            took = refl;
-            owes = refl;
             placed = λ b. ArePlaced-app b nic apps a app like here (is.places b) (rule.sides.placed b);
             by_one = λ b. IsFilledByOne-app b nic apps a app like here (omega arith) (omega (arith, is.counts b)) (rule.sides.by_one b);
             fit = FillingsFit-same nic apps a app like here refl rule.sides.fit;
@@ -179,29 +170,20 @@ module _ (setting : Setting) (words : Words) (nic : NicSide) (apps : List AppSid
             returned = is.returned;
             reserve = record { unheld = λ free. omega (arith, pools (reserve_of app.view), (rule.sides.reserves a app here).unheld free) };
             unheld = λ b past ne none. omega (arith, pools b, none);
-            few = let f = mine setting nic apps a app rule.sides here HasFewPicks rule.sides.few in record { picks = f.picks; spares = f.spares };
-            entries = All-push EntryFits app.view.written w
-                (mine setting nic apps a app rule.sides here (λ x. All EntryFits x.view.written) rule.sides.entries) is.fits;
-            taken = record { order = (rule.sides.taken a app here).order };
-            dealt = record {
-              order = take-mapped (λ (x : WrittenEntry). x.entry) (length (dealt_entries a nic)) app.view.written w few
-                  ∙ (rule.sides.dealt a app here).order;
-            };
-            returns = is.returns;
-            scrub = let sc = rule.sides.scrub a app here in record {
-              within = sc.within;
-              done = sc.done;
-              whole = sc.whole;
-              taken = λ b less. absurd (omega (arith, is.unbegun, less));
-              untaken = sc.untaken;
-              quiet = λ some. absurd (omega (arith, is.unbegun, some));
-              loans = λ some. absurd (omega (arith, is.unbegun, some));
-            };
             scrubbed = λ done. absurd (let wrong : false ≡ true = sym is.unscrubbed ∙ done in let none : ⊥ = cc in none);
-            first = λ entry f. rw way (first-stays w f);
-            raw = λ f. rw way (raw-stays w f);
-            came_back = is.came_back;
-            ended = inr (λ b. refl);
+            own = let was = own-was setting nic apps a app rule.sides here in
+                let dealt : IsDealtInOrder nic like = record {
+                  order = take-mapped (λ (x : WrittenEntry). x.entry) (length (dealt_entries a nic)) app.view.written w few ∙ was.dealt.order;
+                } in
+                let entries : All EntryFits like.view.written = All-push EntryFits app.view.written w was.entries is.fits in
+                let taken : (b : ℕ) → b < app.inside.scrub_mark → length (owed_in b nic like) ≡ 0 =
+                λ b less. absurd (omega (arith, is.unbegun, less)) in
+                let quiet : 0 < app.inside.scrub_mark → like.view.quiet ≡ true = λ some. absurd (omega (arith, is.unbegun, some)) in
+                let loans : 0 < app.inside.scrub_mark → like.view.loans ≡ [] = λ some. absurd (omega (arith, is.unbegun, some)) in
+                let first : (entry : Rqe) → IsFirst entry (entries_on_way nic app) → IsFirst entry (entries_on_way nic like) =
+                λ entry f. rw way (first-stays w f) in
+                let raw : IsFirstRaw (entries_on_way nic app) → IsFirstRaw (entries_on_way nic like) = λ f. rw way (raw-stays w f) in
+                assumption (was, is, dealt, entries, taken, quiet, loans, first, raw);
           });
           pool = pools;
           users = λ x b. omega (arith, user_count-app x b nic apps a app like here, is.users x b);
