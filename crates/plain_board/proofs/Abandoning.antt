@@ -66,32 +66,16 @@ module _ (board : Stand) (a : ℕ) (x : AppSide) (place : Place) (sound : IsSoun
       let phase = was-phased board a x now sound here in
       let ended = was-returned board a x now sound here in
       record {
-        sizes = record {
-          layout = sound.sizes.layout;
-          places = sound.sizes.places;
-          area = sound.sizes.area;
-          pool = sound.sizes.pool;
-          users = sound.sizes.users;
-          listed = sound.sizes.listed;
-          cache = sound.sizes.cache;
-          notes = sound.sizes.notes;
-          refills = sound.sizes.refills;
-          loans = length-set board.arrays.loans user n ∙ sound.sizes.loans;
-          filled = sound.sizes.filled;
-          raw = sound.sizes.raw;
-          left = sound.sizes.left;
-        };
+        sizes = assumption (length-set board.arrays.loans user n ∙ sound.sizes.loans, sound.sizes);
         cached = sound.cached;
-        set = IsSet-app board a x now sound here refl refl
-            (let r = was-at_rest board a x now sound here in record { hands = r.hands; owes = r.owes; unscrubbed = r.unscrubbed });
+        set = IsSet-app board a x now sound here refl refl (assumption (was-at_rest board a x now sound here));
         counted = AreCounted-app board a x now sound here arr refl refl
             (λ b inside. omega (arith, app_count-abandoned b board.nic x place out (ended b)))
             (λ b inside. omega (arith, user_part-abandoned a b board.nic x place out (ended b)))
             (λ k b ne app inside. refl)
             (λ b past. omega (arith, app_count-abandoned b board.nic x place out (ended b)))
             (λ b. EndedWereReturned-abandoned b board.nic x place (ended b));
-        free = AreFreeOnce-app board a x now sound here _
-            (let r = was-at_rest board a x now sound here in record { hands = r.hands; owes = r.owes; unscrubbed = r.unscrubbed })
+        free = AreFreeOnce-app board a x now sound here _ (assumption (was-at_rest board a x now sound here))
             (λ b. app_count-abandoned b board.nic x place out (ended b)) sound.free;
         relayed = AreRelayed-kept board a x now sound here arr refl refl refl
             (Relayed-app board.nic x (abandoned x.view place) _ _ refl refl refl refl (was-relayed board a x now sound here));

@@ -277,6 +277,18 @@ module _ (board : Stand) (a : ℕ) (x now : AppSide) (sound : IsSound board) (he
   pub was-booked_raw : get_or board.arrays.raw a 0 ≡ reach_of (entries_on_way board.nic x)
   was-booked_raw = sound.booked.raw a x here
 
+  -- where they keep what they kept
+  pub AreBooked-kept : (arr : Arrays) → arr.layout ≡ board.arrays.layout → arr.loans ≡ board.arrays.loans → arr.filled ≡ board.arrays.filled
+      → arr.raw ≡ board.arrays.raw → now.view.loans ≡ x.view.loans → now.view.owns ≡ x.view.owns
+      → entries_on_way board.nic now ≡ entries_on_way board.nic x → AreBooked arr board.nic (set board.apps a now)
+  AreBooked-kept arr layout loans filled raw lent owns way =
+      AreBooked-app arr layout (record {
+        loans = λ b within. rw (loans, lent) (was-booked_loans b within);
+        filled = rw (filled, owns) was-booked_filled;
+        raw = rw (raw, way) was-booked_raw;
+      })
+      (λ k b ne app within. rw loans refl) (λ k y ne it. rw filled (sound.booked.filled k y it)) (λ k ne. rw raw refl)
+
   -- where its holdings lay before
   pub was-own : AppLiesInOwn x.view
   was-own = LieInOwn-side board.nic board.apps a x here sound.own_buffers

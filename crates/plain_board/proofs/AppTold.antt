@@ -16,8 +16,8 @@ use Rattle.plain_board.specs.Stand.{Stand, byte_of}
 use Rattle.plain_board.specs.Returns.{entries_on_way, IsOfLoan}
 use Rattle.plain_board.specs.Sound.{IsSound}
 use Rattle.plain_board.proofs.AppFrames.{IsSet-app, was-at_rest, AreCounted-app, was-returned, AreRelayed-kept, was-relayed, returns-app, was-returns}
-use Rattle.plain_board.proofs.AppFrames.{AreFlags-kept, AreFreeOnce-app, AreKept-app, AreDue-app, was-given, was-due, AreBooked-app, was-booked_loans}
-use Rattle.plain_board.proofs.AppFrames.{was-booked_filled, was-booked_raw, ArePhased-app, was-phased, OwnBuffers-kept}
+use Rattle.plain_board.proofs.AppFrames.{AreFlags-kept, AreFreeOnce-app, AreKept-app, AreDue-app, was-given, was-due, AreBooked-kept}
+use Rattle.plain_board.proofs.AppFrames.{ArePhased-app, was-phased, OwnBuffers-kept}
 
 -- no more changed than what it knows of its slots and of the card's end, and what it saw
 abbrev pub told_of : AppView → Bool → Bool → Bool → List AppLook → AppView
@@ -40,30 +40,18 @@ module _ (board : Stand) (a : ℕ) (x : AppSide) (sound : IsSound board) (here :
       record {
         sizes = sound.sizes;
         cached = sound.cached;
-        set = IsSet-app board a x learnt sound here refl refl
-            (let rest = was-at_rest board a x learnt sound here in record { hands = rest.hands; owes = rest.owes; unscrubbed = rest.unscrubbed });
+        set = IsSet-app board a x learnt sound here refl refl (assumption (was-at_rest board a x learnt sound here));
         counted = AreCounted-app board a x learnt sound here board.arrays refl refl
             (λ b within. omega (arith, app_count-same b board.nic x (told_of x.view settled quiet ended looks) same))
             (λ b within. omega (arith, user_part-same a b board.nic x (told_of x.view settled quiet ended looks) same))
             (λ k b ne app within. refl)
             (λ b past. omega (arith, app_count-same b board.nic x (told_of x.view settled quiet ended looks) same))
-            (λ b. let e = was-returned board a x learnt sound here b in record { ended = e.ended; returning = e.returning });
-        free = AreFreeOnce-app board a x learnt sound here _
-            (let rest = was-at_rest board a x learnt sound here in record { hands = rest.hands; owes = rest.owes; unscrubbed = rest.unscrubbed })
+            (λ b. assumption (was-returned board a x learnt sound here b));
+        free = AreFreeOnce-app board a x learnt sound here _ (assumption (was-at_rest board a x learnt sound here))
             (λ b. app_count-same b board.nic x (told_of x.view settled quiet ended looks) same) sound.free;
         relayed = AreRelayed-kept board a x learnt sound here board.arrays refl refl refl
             (Relayed-app board.nic x (told_of x.view settled quiet ended looks) _ _ refl refl refl refl (was-relayed board a x learnt sound here));
-        returns = returns-app board a x learnt sound here (record {
-          written = was.written;
-          owed = was.owed;
-          no_more = was.no_more;
-          clear = was.clear;
-          named = was.named;
-          settled = rests;
-          quiet = falls_quiet;
-          scrubbed = was.scrubbed;
-          strays = was.strays;
-        });
+        returns = returns-app board a x learnt sound here (assumption (was, rests, falls_quiet));
         flags = AreFlags-kept board a x learnt sound here board.arrays refl refl refl;
         kept = AreKept-app board a x learnt sound here _ _ refl (λ b. omega arith) sound.kept;
         due = AreDue-app board a x learnt sound here (was-given board a x learnt sound here) (was-due board a x learnt sound here);
@@ -73,25 +61,11 @@ module _ (board : Stand) (a : ℕ) (x : AppSide) (sound : IsSound board) (here :
         notes = sound.notes;
         own_buffers = OwnBuffers-kept board a x learnt sound here refl refl refl refl refl refl;
         judged = sound.judged;
-        booked = AreBooked-app board a x learnt sound here board.arrays refl
-            (record {
-              loans = was-booked_loans board a x learnt sound here;
-              filled = was-booked_filled board a x learnt sound here;
-              raw = was-booked_raw board a x learnt sound here;
-            })
-            (λ k b ne app within. refl)
-            (λ k y ne it. sound.booked.filled k y it)
-            (λ k ne. refl);
+        booked = AreBooked-kept board a x learnt sound here board.arrays refl refl refl refl refl refl refl;
         phased = ArePhased-app board a x learnt sound here (record {
           ended = ends;
           scrubbed = phase.scrubbed;
-          left = λ e. let can = phase.left e in record {
-            scrubbed = can.scrubbed;
-            ended = stays can.ended;
-            helds = can.helds;
-            loans = can.loans;
-            spares = can.spares;
-          };
+          left = λ e. assumption (phase.left e, stays (phase.left e).ended);
         });
       }
   -- and it stays soundly what it was, where it learnt nothing of its slots and of the end

@@ -1,6 +1,6 @@
 -- What the arrays count of a buffer is few, and nothing behind the area.
 use Rattle.std.proofs.Common.{◌≡◌, ℕ, ◌<◌, ◌≤◌, length, get_or, ap, sym, ◌∙◌, arith}
-use Rattle.area_layout.specs.Layout.{total as all_buffers, size_of}
+use Rattle.area_layout.specs.Layout.{size_of}
 use Rattle.area_layout.proofs.Words.{words_apart}
 use Rattle.board_face.specs.Counts.{pool_count, user_count}
 use Rattle.board_face.proofs.FewLemmas.{pool_count-few}
@@ -22,9 +22,3 @@ module _ (board : Stand) (sound : IsSound board) where
   -- the count of a buffer, as the array has it
   pub counted : (b n : ℕ) → b < length board.arrays.pool → get_or board.arrays.pool b 0 ≡ n → n ≡ pool_count b board.nic board.apps
   counted b n there is = sym is ∙ sound.counted.pool b (let all = sound.sizes.pool in omega arith)
-
-  pub uncounted : (b : ℕ) → length board.arrays.pool ≤ b → 0 ≡ pool_count b board.nic board.apps
-  uncounted b past = sym (sound.counted.beyond b (let all = sound.sizes.pool in omega arith))
-
-  pub no-users : (a b : ℕ) → all_buffers board.arrays.layout ≤ b → 0 ≡ user_count a b board.nic board.apps
-  no-users a b past = omega (arith, user_count-le a b board.nic board.apps, sound.counted.beyond b past)

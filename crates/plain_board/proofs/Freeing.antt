@@ -83,9 +83,6 @@ length-listed_after false cache listed i = refl
 
 -- ---- free once
 
-pub zero-test : (n : ℕ) → ((n == 0) ≡ true) → n ≡ 0
-zero-test n e = ⊎_elim (λ t. t.1) (λ t. absurd (let both : true ≡ false = sym e ∙ t.0 in let none : ⊥ = cc in none)) (eqb_tells n 0)
-
 -- A buffer has a holder less at i. It is free there where none is left.
 pub once-freed : (last : Bool) (p p' f f' w n : ℕ) → f ≡ (if p == 0 then 1 else 0) → p' + w ≡ p → last ≡ (n == 0)
     → f' ≡ f + (if last then w else 0) → (w ≡ 0) ⊎ ((w ≡ 1) × (p' ≡ n)) → f' ≡ (if p' == 0 then 1 else 0)

@@ -106,30 +106,20 @@ module _ (board : Stand) (a : ℕ) (x : AppSide) (place : Place) (sound : IsSoun
       let ended = was-returned board a x now sound here in
       let at_rest = was-at_rest board a x now sound here in
       record {
-        sizes = record {
-          layout = sound.sizes.layout;
-          places = sound.sizes.places;
-          area = sound.sizes.area;
-          pool = sound.sizes.pool;
-          users = sound.sizes.users;
-          listed = sound.sizes.listed;
-          cache = sound.sizes.cache;
-          notes = sound.sizes.notes;
-          refills = length-set board.arrays.refills a (pushed (ring_in board.arrays.refills a) e) ∙ sound.sizes.refills;
-          loans = length-set board.arrays.loans user n ∙ sound.sizes.loans;
-          filled = sound.sizes.filled;
-          raw = sound.sizes.raw;
-          left = sound.sizes.left;
-        };
+        sizes = assumption (
+          length-set board.arrays.refills a (pushed (ring_in board.arrays.refills a) e) ∙ sound.sizes.refills,
+          length-set board.arrays.loans user n ∙ sound.sizes.loans,
+          sound.sizes,
+        );
         cached = sound.cached;
-        set = IsSet-app board a x now sound here refl refl (record { hands = at_rest.hands; owes = at_rest.owes; unscrubbed = at_rest.unscrubbed });
+        set = IsSet-app board a x now sound here refl refl (assumption at_rest);
         counted = AreCounted-app board a x now sound here arr refl refl
             (λ b inside. omega (arith, app_count-gave b board.nic x place out (ended b)))
             (λ b inside. omega (arith, user_part-gave a b board.nic x place out (ended b)))
             (λ k b ne app inside. refl)
             (λ b past. omega (arith, app_count-gave b board.nic x place out (ended b)))
-            (λ b. let e = EndedWereReturned-abandoned b board.nic x place (ended b) in record { ended = e.ended; returning = e.returning });
-        free = AreFreeOnce-app board a x now sound here _ (record { hands = at_rest.hands; owes = at_rest.owes; unscrubbed = at_rest.unscrubbed })
+            (λ b. assumption (EndedWereReturned-abandoned b board.nic x place (ended b)));
+        free = AreFreeOnce-app board a x now sound here _ (assumption at_rest)
             (λ b. app_count-gave b board.nic x place out (ended b)) sound.free;
         relayed = AreRelayed-app board a x now sound here arr refl
             (subst (Relayed board.nic now (map taken_of (notes_of board.arrays a)))
@@ -148,8 +138,7 @@ module _ (board : Stand) (a : ℕ) (x : AppSide) (place : Place) (sound : IsSoun
         shown = AreShown-gave (byte_of board.arrays) board.nic board.apps a x place here out ended sound.shown;
         notes = sound.notes;
         own_buffers = OwnBuffers-app board a x now sound here
-            (let own = AppLiesInOwn-abandoned x.view place out
-            (was-own board a x now sound here) in record { helds = own.helds; spares = own.spares; loans = own.loans; returned = own.returned });
+            (assumption (AppLiesInOwn-abandoned x.view place out (was-own board a x now sound here)));
         judged = sound.judged;
         booked = AreBooked-app board a x now sound here arr refl
             (record {

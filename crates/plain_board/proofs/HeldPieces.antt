@@ -30,8 +30,8 @@ use Rattle.plain_board.specs.Sound.{IsSound, IsAtRest}
 use Rattle.board_face.proofs.LiesLemmas.{total-at}
 use Rattle.plain_board.proofs.FirstNote.{in-own}
 use Rattle.plain_board.proofs.AppFrames.{IsSet-app, was-at_rest, AreCounted-app, was-returned, AreRelayed-kept, was-relayed, returns-app, was-returns}
-use Rattle.plain_board.proofs.AppFrames.{AreFlags-kept, AreKept-app, AreDue-app, was-given, was-due, AreBooked-app, was-booked_loans, was-booked_filled}
-use Rattle.plain_board.proofs.AppFrames.{was-booked_raw, ArePhased-app, was-phased, OwnBuffers-app}
+use Rattle.plain_board.proofs.AppFrames.{AreFlags-kept, AreKept-app, AreDue-app, was-given, was-due, AreBooked-kept}
+use Rattle.plain_board.proofs.AppFrames.{ArePhased-app, was-phased, OwnBuffers-app}
 
 -- ---- a held piece
 
@@ -121,28 +121,14 @@ module _ (board : Stand) (a : ℕ) (x : AppSide) (helds : List HeldPiece) (pool 
     pub own_buffers : AppLiesInOwn side_then.view
 
   pub at-rest : IsAtRest side_then
-  at-rest = let rest = was-at_rest board a x side_then sound here in record { hands = rest.hands; owes = rest.owes; unscrubbed = rest.unscrubbed }
+  at-rest = assumption (was-at_rest board a x side_then sound here)
 
   pub IsSound-helds : IsMove → IsSound (record { arrays = arrays_then; nic = board.nic; apps = set board.apps a side_then })
   IsSound-helds move =
       let was = was-returns board a x side_then sound here in
       let phase = was-phased board a x side_then sound here in
       record {
-        sizes = record {
-          layout = sound.sizes.layout;
-          places = sound.sizes.places;
-          area = sound.sizes.area;
-          pool = move.pool_len ∙ sound.sizes.pool;
-          users = sound.sizes.users;
-          listed = move.listed_len ∙ sound.sizes.listed;
-          cache = sound.sizes.cache;
-          notes = sound.sizes.notes;
-          refills = sound.sizes.refills;
-          loans = sound.sizes.loans;
-          filled = sound.sizes.filled;
-          raw = sound.sizes.raw;
-          left = sound.sizes.left;
-        };
+        sizes = assumption (move.pool_len ∙ sound.sizes.pool, move.listed_len ∙ sound.sizes.listed, sound.sizes);
         cached = sound.cached;
         set = IsSet-app board a x side_then sound here refl refl at-rest;
         counted = AreCounted-app board a x side_then sound here arrays_then refl refl
@@ -150,22 +136,12 @@ module _ (board : Stand) (a : ℕ) (x : AppSide) (helds : List HeldPiece) (pool 
             (λ b within. refl)
             (λ k b ne app within. refl)
             move.few
-            (λ b. let e = was-returned board a x side_then sound here b in record { ended = e.ended; returning = e.returning });
+            (λ b. assumption (was-returned board a x side_then sound here b));
         free = move.free;
         relayed = AreRelayed-kept board a x side_then sound here arrays_then refl refl refl
             (Relayed-app board.nic x side_then.view _ _ refl refl refl refl (was-relayed board a x side_then sound here));
         returns = returns-app board a x side_then sound here
-            (record {
-              written = was.written;
-              owed = was.owed;
-              no_more = was.no_more;
-              clear = was.clear;
-              named = was.named;
-              settled = was.settled;
-              quiet = was.quiet;
-              scrubbed = was.scrubbed;
-              strays = was.strays;
-            });
+            (assumption was);
         flags = AreFlags-kept board a x side_then sound here arrays_then refl refl refl;
         kept = AreKept-app board a x side_then sound here _ _ refl move.more sound.kept;
         due = AreDue-app board a x side_then sound here (was-given board a x side_then sound here) (was-due board a x side_then sound here);
@@ -175,15 +151,7 @@ module _ (board : Stand) (a : ℕ) (x : AppSide) (helds : List HeldPiece) (pool 
         notes = sound.notes;
         own_buffers = OwnBuffers-app board a x side_then sound here move.own_buffers;
         judged = sound.judged;
-        booked = AreBooked-app board a x side_then sound here arrays_then refl
-            (record {
-              loans = was-booked_loans board a x side_then sound here;
-              filled = was-booked_filled board a x side_then sound here;
-              raw = was-booked_raw board a x side_then sound here;
-            })
-            (λ k b ne app within. refl)
-            (λ k y ne it. sound.booked.filled k y it)
-            (λ k ne. refl);
+        booked = AreBooked-kept board a x side_then sound here arrays_then refl refl refl refl refl refl refl;
         phased = ArePhased-app board a x side_then sound here
             (record { ended = phase.ended; scrubbed = phase.scrubbed; left = λ gone. absurd (let none : ⊥ = cc in none) });
       }

@@ -37,11 +37,11 @@ use Rattle.board_parts.specs.Counts.{user_at}
 use Rattle.plain_board.specs.Stand.{Stand, byte_of}
 use Rattle.plain_board.specs.Returns.{AreReturns, is_some_of, returns, names, abandoned_in}
 use Rattle.plain_board.specs.Sound.{IsSound, refills_of}
-use Rattle.plain_board.proofs.Lists.{counts-set, weight-same, weight-other, same-or-other, same-user}
+use Rattle.plain_board.proofs.Lists.{counts-set, weight-same, weight-other, same-or-other, same-user, weight-none}
 use Rattle.plain_board.proofs.Card.{IsSet-nic, none-lowered}
 use Rattle.plain_board.proofs.Freeing.{All-at, and-true, and-right, cache_after, listed_after, places-after, cache-grows, cache-short, length-listed_after}
 use Rattle.plain_board.proofs.Freeing.{once-freed}
-use Rattle.plain_board.proofs.Shutting.{used-nowhere, none-listed}
+use Rattle.plain_board.proofs.Shutting.{used-nowhere}
 use Rattle.board_face.proofs.SideLemmas.{IsApp-at}
 use Rattle.plain_board.proofs.Popping.{same-app, other-number, ring_then, AreRelayed-popped, AreBooked-popped}
 use Rattle.plain_board.proofs.Dealing.{HasFront, HasFront-relayed, AreReturns-dealt, AreReturns-other, ArePhased-dealt, count-first, length-owed_in}
@@ -152,7 +152,7 @@ module _ (board : Stand) (a i : ℕ) (x : AppSide) (e : Rqe) (es : List Rqe) (so
   unlisted of_pool =
       let nowhere = used-nowhere (pool_count i board.nic board.apps) _ (sound.free.pool i (rw pools of_pool))
       (omega (arith, is_held, sound.counted.pool i inside)) in
-      none-listed (listed_in board.arrays.listed i) (omega (arith, nowhere))
+      weight-none (listed_in board.arrays.listed i) (omega (arith, nowhere))
 
   -- whether the buffer came to be free
   abbrev pub came : Bool → Bool
@@ -346,21 +346,15 @@ module _ (board : Stand) (a i : ℕ) (x : AppSide) (e : Rqe) (es : List Rqe) (so
   IsSound-honoured last n m many some_users is of_pool =
       let now : n ≡ pool_count i (nic_then last) board.apps = omega (arith, less last i, weight-same i, sound.counted.pool i inside) in
       record {
-        sizes = record {
-          layout = sound.sizes.layout;
-          places = sound.sizes.places;
-          area = sound.sizes.area;
-          pool = length-set board.arrays.pool i n ∙ sound.sizes.pool;
-          users = length-set board.arrays.users (user_at board.arrays.layout a i) m ∙ sound.sizes.users;
-          listed = length-listed_after (came last) board.arrays.cache board.arrays.listed i ∙ sound.sizes.listed;
-          cache = cache-short (came last) board.arrays.cache i sound.sizes.cache;
-          notes = sound.sizes.notes;
-          refills = length-set board.arrays.refills a (ring_then board a) ∙ sound.sizes.refills;
-          loans = sound.sizes.loans;
-          filled = sound.sizes.filled;
-          raw = length-set board.arrays.raw a (get_or board.arrays.raw a 0 - 1) ∙ sound.sizes.raw;
-          left = sound.sizes.left;
-        };
+        sizes = assumption (
+          length-set board.arrays.pool i n ∙ sound.sizes.pool,
+          length-set board.arrays.users (user_at board.arrays.layout a i) m ∙ sound.sizes.users,
+          length-listed_after (came last) board.arrays.cache board.arrays.listed i ∙ sound.sizes.listed,
+          cache-short (came last) board.arrays.cache i sound.sizes.cache,
+          length-set board.arrays.refills a (ring_then board a) ∙ sound.sizes.refills,
+          length-set board.arrays.raw a (get_or board.arrays.raw a 0 - 1) ∙ sound.sizes.raw,
+          sound.sizes,
+        );
         cached = ap (λ cache. cache_after (came last) cache i) sound.cached;
         set = IsSet-nic _ board.nic (honoured_if board.nic.view a e i last) board.apps refl sound.set;
         counted = record {
@@ -378,7 +372,7 @@ module _ (board : Stand) (a i : ℕ) (x : AppSide) (e : Rqe) (es : List Rqe) (so
         };
         relayed = AreRelayed-popped board a x e es sound here found (honoured_if board.nic.view a e i last) the_dealt refl refl refl refl _ refl refl refl;
         returns = returns_then last;
-        flags = record { ended = sound.flags.ended; left = sound.flags.left };
+        flags = assumption sound.flags;
         kept = record {
           kept = λ b within. omega (
             arith,

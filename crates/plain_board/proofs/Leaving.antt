@@ -13,8 +13,8 @@ use Rattle.board_face.proofs.AreShownLemmas.{AreShown-same}
 use Rattle.plain_board.specs.Stand.{Stand, byte_of}
 use Rattle.plain_board.specs.Sound.{IsSound}
 use Rattle.plain_board.proofs.AppFrames.{IsSet-app, was-at_rest, AreCounted-app, was-returned, AreRelayed-kept, was-relayed, returns-app, was-returns}
-use Rattle.plain_board.proofs.AppFrames.{AreFlags-app, AreFreeOnce-app, AreKept-app, AreDue-app, was-given, was-due, AreBooked-app, was-booked_loans}
-use Rattle.plain_board.proofs.AppFrames.{was-booked_filled, was-booked_raw, ArePhased-app, was-phased, OwnBuffers-kept}
+use Rattle.plain_board.proofs.AppFrames.{AreFlags-app, AreFreeOnce-app, AreKept-app, AreDue-app, was-given, was-due, AreBooked-kept}
+use Rattle.plain_board.proofs.AppFrames.{ArePhased-app, was-phased, OwnBuffers-kept}
 
 module _ (board : Stand) (a : ℕ) (x : AppSide) (sound : IsSound board) (here : IsApp board.apps a x) where
   abbrev pub gone : AppSide
@@ -34,44 +34,20 @@ module _ (board : Stand) (a : ℕ) (x : AppSide) (sound : IsSound board) (here :
       let phase = was-phased board a x gone sound here in
       let was = was-returns board a x gone sound here in
       record {
-        sizes = record {
-          layout = sound.sizes.layout;
-          places = sound.sizes.places;
-          area = sound.sizes.area;
-          pool = sound.sizes.pool;
-          users = sound.sizes.users;
-          listed = sound.sizes.listed;
-          cache = sound.sizes.cache;
-          notes = sound.sizes.notes;
-          refills = sound.sizes.refills;
-          loans = sound.sizes.loans;
-          filled = sound.sizes.filled;
-          raw = sound.sizes.raw;
-          left = length-set board.arrays.left a true ∙ sound.sizes.left;
-        };
+        sizes = assumption (length-set board.arrays.left a true ∙ sound.sizes.left, sound.sizes);
         cached = sound.cached;
-        set = IsSet-app board a x gone sound here refl refl (record { hands = rest.hands; owes = rest.owes; unscrubbed = rest.unscrubbed });
+        set = IsSet-app board a x gone sound here refl refl (assumption rest);
         counted = AreCounted-app board a x gone sound here _ refl refl
             (λ b within. omega (arith, app_count-same b board.nic x v same))
             (λ b within. omega (arith, user_part-same a b board.nic x v same))
             (λ k b ne app within. refl)
             (λ b past. omega (arith, app_count-same b board.nic x v same))
-            (λ b. let e = was-returned board a x gone sound here b in record { ended = e.ended; returning = e.returning });
-        free = AreFreeOnce-app board a x gone sound here _ (record { hands = rest.hands; owes = rest.owes; unscrubbed = rest.unscrubbed })
+            (λ b. assumption (was-returned board a x gone sound here b));
+        free = AreFreeOnce-app board a x gone sound here _ (assumption rest)
             (λ b. app_count-same b board.nic x v same) sound.free;
         relayed = AreRelayed-kept board a x gone sound here _ refl refl refl
             (Relayed-app board.nic x v _ _ refl refl refl refl (was-relayed board a x gone sound here));
-        returns = returns-app board a x gone sound here (record {
-          written = was.written;
-          owed = was.owed;
-          no_more = was.no_more;
-          clear = was.clear;
-          named = was.named;
-          settled = was.settled;
-          quiet = was.quiet;
-          scrubbed = was.scrubbed;
-          strays = was.strays;
-        });
+        returns = returns-app board a x gone sound here (assumption was);
         flags = AreFlags-app board a x gone sound here _ refl refl;
         kept = AreKept-app board a x gone sound here _ _ refl (λ b. omega arith) sound.kept;
         due = AreDue-app board a x gone sound here (was-given board a x gone sound here) (was-due board a x gone sound here);
@@ -81,18 +57,10 @@ module _ (board : Stand) (a : ℕ) (x : AppSide) (sound : IsSound board) (here :
         notes = sound.notes;
         own_buffers = OwnBuffers-kept board a x gone sound here refl refl refl refl refl refl;
         judged = sound.judged;
-        booked = AreBooked-app board a x gone sound here _ refl
-            (record {
-              loans = was-booked_loans board a x gone sound here;
-              filled = was-booked_filled board a x gone sound here;
-              raw = was-booked_raw board a x gone sound here;
-            })
-            (λ k b ne app within. refl)
-            (λ k y ne it. sound.booked.filled k y it)
-            (λ k ne. refl);
+        booked = AreBooked-kept board a x gone sound here _ refl refl refl refl refl refl refl;
         phased = ArePhased-app board a x gone sound here (record {
           ended = phase.ended;
           scrubbed = phase.scrubbed;
-          left = λ e. record { scrubbed = can.scrubbed; ended = can.ended; helds = can.helds; loans = can.loans; spares = can.spares };
+          left = λ e. assumption can;
         });
       }

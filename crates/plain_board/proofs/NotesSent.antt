@@ -91,21 +91,7 @@ module _ (board : Stand) (a : ℕ) (x : AppSide) (v : NicView) (s : SentNote) (s
       → AreShown (byte_of board.arrays) (nic_at board.nic v) board.apps → LieInOwn (nic_at board.nic v) board.apps
       → IsSound (record { arrays = record board.arrays { notes = set board.arrays.notes a notes_then }; nic = nic_at board.nic v; apps = board.apps })
   IsSound-posted running proper by_one shown own_buffers = record {
-    sizes = record {
-      layout = sound.sizes.layout;
-      places = sound.sizes.places;
-      area = sound.sizes.area;
-      pool = sound.sizes.pool;
-      users = sound.sizes.users;
-      listed = sound.sizes.listed;
-      cache = sound.sizes.cache;
-      notes = length-set board.arrays.notes a notes_then ∙ sound.sizes.notes;
-      refills = sound.sizes.refills;
-      loans = sound.sizes.loans;
-      filled = sound.sizes.filled;
-      raw = sound.sizes.raw;
-      left = sound.sizes.left;
-    };
+    sizes = assumption (length-set board.arrays.notes a notes_then ∙ sound.sizes.notes, sound.sizes);
     cached = sound.cached ∙ sym posted.cache;
     set = IsSet-nic _ board.nic v board.apps posted.setting sound.set;
     counted = AreCounted-same board.arrays _ board.nic v board.apps posted.dealt refl refl refl same sound.counted;

@@ -19,7 +19,7 @@ use Rattle.board_face.proofs.FreeLemmas.{user_count-le}
 use Rattle.board_face.proofs.RelayLemmas.{Relayed-app}
 use Rattle.board_parts.specs.Counts.{user_at}
 use Rattle.plain_board.specs.Stand.{Arrays, Stand, byte_of}
-use Rattle.plain_board.specs.Returns.{loans_out}
+use Rattle.plain_board.specs.Returns.{loans_out, IsClear, entries_on_way}
 use Rattle.plain_board.specs.Sound.{IsSound}
 use Rattle.plain_board.proofs.AppFrames.{IsSet-app, was-at_rest, AreCounted-app, was-returned, AreRelayed-kept, was-relayed, returns-app, was-returns}
 use Rattle.plain_board.proofs.AppFrames.{AreFlags-kept, AreFreeOnce-app, AreKept-app, AreDue-app, was-given, was-due, AreBooked-app, was-booked_loans}
@@ -80,44 +80,25 @@ module _ (board : Stand) (a : ℕ) (x : AppSide) (buffer : ℕ) (sound : IsSound
         let not_yet : x.view.scrubbed ≡ true → ⊥ = λ e. let wrong : true ≡ false = sym e ∙ can.counted in cc in
         let at_rest = was-at_rest board a x loaned sound here in
         record {
-          sizes = record {
-            layout = sound.sizes.layout;
-            places = sound.sizes.places;
-            area = sound.sizes.area;
-            pool = sound.sizes.pool;
-            users = length-set board.arrays.users user n ∙ sound.sizes.users;
-            listed = sound.sizes.listed;
-            cache = sound.sizes.cache;
-            notes = sound.sizes.notes;
-            refills = sound.sizes.refills;
-            loans = length-set board.arrays.loans user m ∙ sound.sizes.loans;
-            filled = sound.sizes.filled;
-            raw = sound.sizes.raw;
-            left = sound.sizes.left;
-          };
+          sizes = assumption (
+            length-set board.arrays.users user n ∙ sound.sizes.users,
+            length-set board.arrays.loans user m ∙ sound.sizes.loans,
+            sound.sizes,
+          );
           cached = sound.cached;
-          set = IsSet-app board a x loaned sound here refl refl (record { hands = at_rest.hands; owes = at_rest.owes; unscrubbed = at_rest.unscrubbed });
+          set = IsSet-app board a x loaned sound here refl refl (assumption at_rest);
           counted = AreCounted-app board a x loaned sound here arr refl refl
               (λ b inside. omega (arith, holders b))
               (λ b inside. omega (arith, users b, user-raised (total board.arrays.layout) board.arrays.users a buffer n within user-there user_more b inside))
               (λ k b ne app inside. user-other (total board.arrays.layout) board.arrays.users a buffer n within k b inside (inl ne))
               (λ b past. omega (arith, holders b))
-              (λ b. let e = was-returned board a x loaned sound here b in record { ended = e.ended; returning = e.returning });
-          free = AreFreeOnce-app board a x loaned sound here _
-              (record { hands = at_rest.hands; owes = at_rest.owes; unscrubbed = at_rest.unscrubbed }) holders sound.free;
+              (λ b. assumption (was-returned board a x loaned sound here b));
+          free = AreFreeOnce-app board a x loaned sound here _ (assumption at_rest) holders sound.free;
           relayed = AreRelayed-kept board a x loaned sound here arr refl refl refl
               (Relayed-app board.nic x loaned.view _ _ refl refl refl refl (was-relayed board a x loaned sound here));
-          returns = returns-app board a x loaned sound here (record {
-            written = was.written;
-            owed = was.owed;
-            no_more = was.no_more;
-            clear = λ b. IsClear-of_loans _ b (loans_out b loaned) _ (was.settled can.settled);
-            named = was.named;
-            settled = was.settled;
-            quiet = was.quiet;
-            scrubbed = was.scrubbed;
-            strays = was.strays;
-          });
+          returns = let clear : (b : ℕ) → IsClear x.view.setting.layout b (loans_out b loaned) (entries_on_way board.nic x) = λ b.
+              IsClear-of_loans _ b (loans_out b loaned) _ (was.settled can.settled) in
+              returns-app board a x loaned sound here (assumption (was, clear));
           flags = AreFlags-kept board a x loaned sound here arr refl refl refl;
           kept = AreKept-app board a x loaned sound here _ _ refl (λ b. omega arith) sound.kept;
           due = AreDue-app board a x loaned sound here (was-given board a x loaned sound here) (was-due board a x loaned sound here);

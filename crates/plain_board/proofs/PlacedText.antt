@@ -76,21 +76,11 @@ module _ (board : Stand) (own : Filling) (bytes : List ℕ) (sound : IsSound boa
       let v = placed board.nic.view own bytes in
       let layout = ap (λ s. s.layout) sound.set.card in
       record {
-        sizes = record {
-          layout = sound.sizes.layout;
-          places = sound.sizes.places;
-          area = length-stored board.arrays.area bytes (begin_of board.arrays.layout own.buffer + own.start) in_area ∙ sound.sizes.area;
-          pool = length-set board.arrays.pool own.buffer (get_or board.arrays.pool own.buffer 0 + 1) ∙ sound.sizes.pool;
-          users = sound.sizes.users;
-          listed = sound.sizes.listed;
-          cache = sound.sizes.cache;
-          notes = sound.sizes.notes;
-          refills = sound.sizes.refills;
-          loans = sound.sizes.loans;
-          filled = sound.sizes.filled;
-          raw = sound.sizes.raw;
-          left = sound.sizes.left;
-        };
+        sizes = assumption (
+          length-stored board.arrays.area bytes (begin_of board.arrays.layout own.buffer + own.start) in_area ∙ sound.sizes.area,
+          length-set board.arrays.pool own.buffer (get_or board.arrays.pool own.buffer 0 + 1) ∙ sound.sizes.pool,
+          sound.sizes,
+        );
         cached = sound.cached;
         set = IsSet-nic _ board.nic v board.apps refl sound.set;
         counted = AreCounted-nic board.arrays _ board.nic v board.apps own.buffer
@@ -108,8 +98,8 @@ module _ (board : Stand) (own : Filling) (bytes : List ℕ) (sound : IsSound boa
         };
         relayed = AreRelayed-nic board.arrays _ board.nic v board.apps refl refl refl refl refl sound.relayed;
         returns = λ a app here. AreReturns-nic board.nic v app refl (sound.returns a app here);
-        flags = record { ended = sound.flags.ended; left = sound.flags.left };
-        kept = record { kept = sound.kept.kept; swept = sound.kept.swept };
+        flags = assumption sound.flags;
+        kept = assumption sound.kept;
         due = sound.due;
         filled = FillingsFit-placed board.nic board.apps own bytes out fits sound.filled;
         by_one = λ b. IsFilledByOne-placed b board.nic board.apps own bytes out (sound.by_one b);

@@ -35,8 +35,8 @@ use Rattle.plain_board.specs.Seen.{IsSeenBy}
 use Rattle.plain_board.proofs.RingSlots.{IsRing-popped}
 use Rattle.plain_board.specs.Sound.{IsRing, IsSound, IsAtRest, notes_of, refills_of, taken_of}
 use Rattle.plain_board.proofs.AppFrames.{IsSet-app, was-at_rest, AreCounted-app, was-returned, AreRelayed-app, returns-app, was-returns, AreFlags-kept}
-use Rattle.plain_board.proofs.AppFrames.{AreFreeOnce-app, AreKept-app, AreDue-app, was-given, was-due, AreBooked-app, was-booked_loans, was-booked_filled}
-use Rattle.plain_board.proofs.AppFrames.{was-booked_raw, ArePhased-app, was-phased, was-own, OwnBuffers-app}
+use Rattle.plain_board.proofs.AppFrames.{AreFreeOnce-app, AreKept-app, AreDue-app, was-given, was-due, AreBooked-kept}
+use Rattle.plain_board.proofs.AppFrames.{ArePhased-app, was-phased, was-own, OwnBuffers-app}
 use Rattle.plain_board.proofs.FirstNote.{split-next, linear-next, some-next, lies-next, pool-next, new-next}
 use Rattle.plain_board.proofs.AppTold.{IsSound-told, IsSound-looked}
 
@@ -110,25 +110,11 @@ module _ (board : Stand) (a : ℕ) (x : AppSide) (slot : NoteSlot) (rest : List 
   IsSound-took t helds is same by_one shown own =
       let now = took helds t in
       let rest_before = was-at_rest board a x now sound here in
-      let at_rest : IsAtRest now = record { hands = rest_before.hands; owes = rest_before.owes; unscrubbed = rest_before.unscrubbed } in
+      let at_rest : IsAtRest now = assumption rest_before in
       let phase = was-phased board a x now sound here in
       let back = was-returns board a x now sound here in
       record {
-        sizes = record {
-          layout = sound.sizes.layout;
-          places = sound.sizes.places;
-          area = sound.sizes.area;
-          pool = sound.sizes.pool;
-          users = sound.sizes.users;
-          listed = sound.sizes.listed;
-          cache = sound.sizes.cache;
-          notes = length-set board.arrays.notes a ring_then ∙ sound.sizes.notes;
-          refills = sound.sizes.refills;
-          loans = sound.sizes.loans;
-          filled = sound.sizes.filled;
-          raw = sound.sizes.raw;
-          left = sound.sizes.left;
-        };
+        sizes = assumption (length-set board.arrays.notes a ring_then ∙ sound.sizes.notes, sound.sizes);
         cached = sound.cached;
         set = IsSet-app board a x now sound here refl refl at_rest;
         counted = AreCounted-app board a x now sound here arrays_then refl refl
@@ -136,7 +122,7 @@ module _ (board : Stand) (a : ℕ) (x : AppSide) (slot : NoteSlot) (rest : List 
             (λ b within. refl)
             (λ k b ne app within. refl)
             (λ b past. omega (arith, same b))
-            (λ b. let e = was-returned board a x now sound here b in record { ended = e.ended; returning = e.returning });
+            (λ b. assumption (was-returned board a x now sound here b));
         free = AreFreeOnce-app board a x now sound here _ at_rest same sound.free;
         relayed = AreRelayed-app board a x now sound here arrays_then refl
             (rw rest-then (Relayed-took board.nic x now.view t _ _ refl refl refl refl (rw is at was)))
@@ -145,17 +131,7 @@ module _ (board : Stand) (a : ℕ) (x : AppSide) (slot : NoteSlot) (rest : List 
             (All-set (IsRing board.arrays.places) board.arrays.notes a ring_then
             (IsRing-popped board.arrays.places (get_or board.arrays.notes a (buffer [] 0)) (sound.relayed.notes a (buffer [] 0) there)) sound.relayed.notes)
             sound.relayed.refills;
-        returns = returns-app board a x now sound here (record {
-          written = back.written;
-          owed = back.owed;
-          no_more = back.no_more;
-          clear = back.clear;
-          named = back.named;
-          settled = back.settled;
-          quiet = back.quiet;
-          scrubbed = back.scrubbed;
-          strays = back.strays;
-        });
+        returns = returns-app board a x now sound here (assumption back);
         flags = AreFlags-kept board a x now sound here arrays_then refl refl refl;
         kept = AreKept-app board a x now sound here _ _ refl (λ b. omega arith) sound.kept;
         due = AreDue-app board a x now sound here (was-given board a x now sound here)
@@ -166,15 +142,7 @@ module _ (board : Stand) (a : ℕ) (x : AppSide) (slot : NoteSlot) (rest : List 
         notes = sound.notes;
         own_buffers = OwnBuffers-app board a x now sound here own;
         judged = sound.judged;
-        booked = AreBooked-app board a x now sound here arrays_then refl
-            (record {
-              loans = was-booked_loans board a x now sound here;
-              filled = was-booked_filled board a x now sound here;
-              raw = was-booked_raw board a x now sound here;
-            })
-            (λ k b ne app within. refl)
-            (λ k y ne it. sound.booked.filled k y it)
-            (λ k ne. refl);
+        booked = AreBooked-kept board a x now sound here arrays_then refl refl refl refl refl refl refl;
         phased = ArePhased-app board a x now sound here (record {
           ended = λ told. absurd (no-end told);
           scrubbed = phase.scrubbed;
@@ -201,7 +169,7 @@ module _ (board : Stand) (a : ℕ) (x : AppSide) (slot : NoteSlot) (rest : List 
       (λ b. app_count-took_linear b board.nic x slot.note bytes is-next unsplit)
       (λ b. IsFilledByOne-took_linear b board.nic board.apps a x slot.note bytes here is-next unsplit (sound.by_one b))
       (AreShown-took_linear (byte_of board.arrays) board.nic board.apps a x slot.note bytes here is-next unsplit sound.shown)
-      (let own = was-own board a x x sound here in record { helds = own.helds; spares = own.spares; loans = own.loans; returned = own.returned })
+      (assumption (was-own board a x x sound here))
 
   pub TookNote-took : slot.note.split ≡ true → TookNote x.view (took_note x.view slot.note) slot.note slot.note.place
   TookNote-took split = record {

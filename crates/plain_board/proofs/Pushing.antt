@@ -127,30 +127,20 @@ module _ (board : Stand) (a : ℕ) (x : AppSide) (entry : Rqe) (sound : IsSound 
       let phase = was-phased board a x raw_then sound here in
       let raw_there : a < length board.arrays.raw = let h = here.there in let many = sound.set.many in let size = sound.sizes.raw in omega arith in
       record {
-        sizes = record {
-          layout = sound.sizes.layout;
-          places = sound.sizes.places;
-          area = sound.sizes.area;
-          pool = sound.sizes.pool;
-          users = sound.sizes.users;
-          listed = sound.sizes.listed;
-          cache = sound.sizes.cache;
-          notes = sound.sizes.notes;
-          refills = length-set board.arrays.refills a ring_then ∙ sound.sizes.refills;
-          loans = sound.sizes.loans;
-          filled = sound.sizes.filled;
-          raw = length-set board.arrays.raw a n ∙ sound.sizes.raw;
-          left = sound.sizes.left;
-        };
+        sizes = assumption (
+          length-set board.arrays.refills a ring_then ∙ sound.sizes.refills,
+          length-set board.arrays.raw a n ∙ sound.sizes.raw,
+          sound.sizes,
+        );
         cached = sound.cached;
-        set = IsSet-app board a x raw_then sound here refl refl (record { hands = rest.hands; owes = rest.owes; unscrubbed = rest.unscrubbed });
+        set = IsSet-app board a x raw_then sound here refl refl (assumption rest);
         counted = AreCounted-app board a x raw_then sound here _ refl refl
             (λ b within. omega (arith, app_count-same b board.nic x v same))
             (λ b within. omega (arith, user_part-same a b board.nic x v same))
             (λ k b ne app within. refl)
             (λ b past. omega (arith, app_count-same b board.nic x v same))
-            (λ b. let e = was-returned board a x raw_then sound here b in record { ended = e.ended; returning = e.returning });
-        free = AreFreeOnce-app board a x raw_then sound here _ (record { hands = rest.hands; owes = rest.owes; unscrubbed = rest.unscrubbed })
+            (λ b. assumption (was-returned board a x raw_then sound here b));
+        free = AreFreeOnce-app board a x raw_then sound here _ (assumption rest)
             (λ b. app_count-same b board.nic x v same) sound.free;
         relayed = AreRelayed-app board a x raw_then sound here _ refl
             (rw refills-mine (Relayed-wrote board.nic x v one _ _ refl refl refl refl (was-relayed board a x raw_then sound here)))
@@ -180,13 +170,7 @@ module _ (board : Stand) (a : ℕ) (x : AppSide) (entry : Rqe) (sound : IsSound 
         phased = ArePhased-app board a x raw_then sound here (record {
           ended = phase.ended;
           scrubbed = phase.scrubbed;
-          left = λ e. let can = phase.left e in record {
-            scrubbed = can.scrubbed;
-            ended = can.ended;
-            helds = can.helds;
-            loans = can.loans;
-            spares = can.spares;
-          };
+          left = λ e. assumption (phase.left e);
         });
       }
 

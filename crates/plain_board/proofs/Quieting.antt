@@ -19,7 +19,8 @@ use Rattle.plain_board.specs.Seen.{IsSeenBy}
 use Rattle.plain_board.specs.Sound.{IsSound, refills_of}
 use Rattle.plain_board.proofs.AppFrames.{was-phased}
 use Rattle.plain_board.proofs.AppTold.{IsSound-told, IsSound-looked}
-use Rattle.plain_board.proofs.Settling.{is-zero, is-some}
+use Rattle.plain_board.proofs.Settling.{is-some}
+use Rattle.std.proofs.lemmas.Bool.{eqb-true}
 
 -- as many entries lie in the slots as are on their way
 pub entries-many : (nic : NicSide) (app : AppSide) (ns : List TakenNote) (es : List Rqe) → Relayed nic app ns es
@@ -38,7 +39,7 @@ module _ (board : Stand) (a : ℕ) (x : AppSide) (sound : IsSound board) (here :
   pub IsSound-quiet : (quiet : Bool) → quiet ≡ (length (refills_of board.arrays a) == 0)
       → IsSound (record { arrays = board.arrays; nic = board.nic; apps = set board.apps a (app_at x (quiet_if x.view quiet)) })
   IsSound-quiet true is =
-      let none = nil_from_length (entries_on_way board.nic x) (many ∙ is-zero (length (refills_of board.arrays a)) (sym is)) in
+      let none = nil_from_length (entries_on_way board.nic x) (many ∙ eqb-true (length (refills_of board.arrays a)) 0 (sym is)) in
       IsSound-told board a x sound here x.view.settled true x.view.ended x.view.looks (sound.returns a x here).settled (λ e. none)
       (was-phased board a x x sound here).ended (λ e. e)
   IsSound-quiet false is = IsSound-looked board a x NotQuiet sound here

@@ -29,8 +29,8 @@ use Rattle.board_parts.specs.Area.{loaded}
 use Rattle.plain_board.specs.Stand.{Stand, byte_of}
 use Rattle.plain_board.specs.Sound.{IsSound, taken_of, notes_of, refills_of}
 use Rattle.plain_board.proofs.AppFrames.{IsSet-app, was-at_rest, AreCounted-app, was-returned, AreRelayed-kept, was-relayed, returns-app, was-returns}
-use Rattle.plain_board.proofs.AppFrames.{AreFlags-kept, AreFreeOnce-app, AreKept-app, AreDue-app, was-given, was-due, AreBooked-app, was-booked_loans}
-use Rattle.plain_board.proofs.AppFrames.{was-booked_filled, was-booked_raw, ArePhased-app, was-phased, OwnBuffers-kept}
+use Rattle.plain_board.proofs.AppFrames.{AreFlags-kept, AreFreeOnce-app, AreKept-app, AreDue-app, was-given, was-due, AreBooked-kept}
+use Rattle.plain_board.proofs.AppFrames.{ArePhased-app, was-phased, OwnBuffers-kept}
 use Rattle.plain_board.proofs.TokensLie.{loan-lies}
 
 -- ---- the bytes that are read
@@ -133,27 +133,17 @@ module _ (board : Stand) (a : ℕ) (x : AppSide) (place : Place) (sound : IsSoun
         record {
           sizes = sound.sizes;
           cached = sound.cached;
-          set = IsSet-app board a x now sound here refl refl (record { hands = at_rest.hands; owes = at_rest.owes; unscrubbed = at_rest.unscrubbed });
+          set = IsSet-app board a x now sound here refl refl (assumption at_rest);
           counted = AreCounted-app board a x now sound here board.arrays refl refl
               (λ b inside. omega (arith, app_count-same b board.nic x v same))
               (λ b inside. omega (arith, user_part-same a b board.nic x v same))
               (λ k b ne app inside. refl)
               (λ b past. omega (arith, app_count-same b board.nic x v same))
-              (λ b. let e = was-returned board a x now sound here b in record { ended = e.ended; returning = e.returning });
-          free = AreFreeOnce-app board a x now sound here _ (record { hands = at_rest.hands; owes = at_rest.owes; unscrubbed = at_rest.unscrubbed })
+              (λ b. assumption (was-returned board a x now sound here b));
+          free = AreFreeOnce-app board a x now sound here _ (assumption at_rest)
               (λ b. app_count-same b board.nic x v same) sound.free;
           relayed = AreRelayed-kept board a x now sound here board.arrays refl refl refl kept;
-          returns = returns-app board a x now sound here (record {
-            written = was.written;
-            owed = was.owed;
-            no_more = was.no_more;
-            clear = was.clear;
-            named = was.named;
-            settled = was.settled;
-            quiet = was.quiet;
-            scrubbed = was.scrubbed;
-            strays = was.strays;
-          });
+          returns = returns-app board a x now sound here (assumption was);
           flags = AreFlags-kept board a x now sound here board.arrays refl refl refl;
           kept = AreKept-app board a x now sound here _ _ refl (λ b. omega arith) sound.kept;
           due = AreDue-app board a x now sound here (was-given board a x now sound here) (was-due board a x now sound here);
@@ -163,24 +153,10 @@ module _ (board : Stand) (a : ℕ) (x : AppSide) (place : Place) (sound : IsSoun
           notes = sound.notes;
           own_buffers = OwnBuffers-kept board a x now sound here refl refl refl refl refl refl;
           judged = sound.judged;
-          booked = AreBooked-app board a x now sound here board.arrays refl
-              (record {
-                loans = was-booked_loans board a x now sound here;
-                filled = was-booked_filled board a x now sound here;
-                raw = was-booked_raw board a x now sound here;
-              })
-              (λ k b ne app inside. refl)
-              (λ k y ne it. sound.booked.filled k y it)
-              (λ k ne. refl);
+          booked = AreBooked-kept board a x now sound here board.arrays refl refl refl refl refl refl refl;
           phased = ArePhased-app board a x now sound here (record {
             ended = phase.ended;
             scrubbed = phase.scrubbed;
-            left = λ e. let can = phase.left e in record {
-              scrubbed = can.scrubbed;
-              ended = can.ended;
-              helds = can.helds;
-              loans = can.loans;
-              spares = can.spares;
-            };
+            left = λ e. assumption (phase.left e);
           });
         }

@@ -25,8 +25,8 @@ use Rattle.board_parts.specs.Free.{listed_in}
 use Rattle.plain_board.specs.Stand.{Stand, byte_of}
 use Rattle.plain_board.specs.Sound.{IsSound, IsAtRest}
 use Rattle.plain_board.proofs.AppFrames.{has-setting, IsSet-app, was-at_rest, AreCounted-app, was-returned, AreRelayed-kept, was-relayed, returns-app}
-use Rattle.plain_board.proofs.AppFrames.{was-returns, AreFlags-kept, free_places-side, AreKept-app, AreDue-app, was-given, was-due, AreBooked-app}
-use Rattle.plain_board.proofs.AppFrames.{was-booked_loans, was-booked_filled, was-booked_raw, ArePhased-app, was-phased, OwnBuffers-kept}
+use Rattle.plain_board.proofs.AppFrames.{was-returns, AreFlags-kept, free_places-side, AreKept-app, AreDue-app, was-given, was-due, AreBooked-kept}
+use Rattle.plain_board.proofs.AppFrames.{ArePhased-app, was-phased, OwnBuffers-kept}
 use Rattle.plain_board.proofs.Card.{none-lowered}
 use Rattle.board_face.proofs.LiesLemmas.{total-of}
 
@@ -194,21 +194,12 @@ module _ (board : Stand) (a : ℕ) (x : AppSide) (sound : IsSound board) (here :
           let was = was-returns board a x scrubbed_then sound here in
           let sent = was-relayed board a x scrubbed_then sound here in
           record {
-            sizes = record {
-              layout = sound.sizes.layout;
-              places = sound.sizes.places;
-              area = sound.sizes.area;
-              pool = back.pool_len ∙ sound.sizes.pool;
-              users = back.users_len ∙ sound.sizes.users;
-              listed = back.listed_len ∙ sound.sizes.listed;
-              cache = sound.sizes.cache;
-              notes = sound.sizes.notes;
-              refills = sound.sizes.refills;
-              loans = sound.sizes.loans;
-              filled = sound.sizes.filled;
-              raw = sound.sizes.raw;
-              left = sound.sizes.left;
-            };
+            sizes = assumption (
+              back.pool_len ∙ sound.sizes.pool,
+              back.users_len ∙ sound.sizes.users,
+              back.listed_len ∙ sound.sizes.listed,
+              sound.sizes,
+            );
             cached = sound.cached;
             set = IsSet-app board a x scrubbed_then sound here refl refl at-rest;
             counted = AreCounted-app board a x scrubbed_then sound here _ refl refl
@@ -218,8 +209,7 @@ module _ (board : Stand) (a : ℕ) (x : AppSide) (sound : IsSound board) (here :
                 (λ b past. omega (arith, fewer b))
                 (λ b. EndedWereReturned-scrubbed b board.nic x took (takes b) (was-returned board a x scrubbed_then sound here b));
             free = free-then;
-            relayed = AreRelayed-kept board a x scrubbed_then sound here _ refl refl refl
-                (record { notes = sent.notes; reads = sent.reads; entries = sent.entries });
+            relayed = AreRelayed-kept board a x scrubbed_then sound here _ refl refl refl (assumption sent);
             returns = returns-app board a x scrubbed_then sound here (record {
               written = was.written;
               owed = λ b. rw (was.quiet can.quiet) (omega arith);
@@ -242,15 +232,7 @@ module _ (board : Stand) (a : ℕ) (x : AppSide) (sound : IsSound board) (here :
             notes = sound.notes;
             own_buffers = OwnBuffers-kept board a x scrubbed_then sound here refl refl refl refl refl refl;
             judged = sound.judged;
-            booked = AreBooked-app board a x scrubbed_then sound here _ refl
-                (record {
-                  loans = was-booked_loans board a x scrubbed_then sound here;
-                  filled = was-booked_filled board a x scrubbed_then sound here;
-                  raw = was-booked_raw board a x scrubbed_then sound here;
-                })
-                (λ k b ne app within. refl)
-                (λ k y ne it. sound.booked.filled k y it)
-                (λ k ne. refl);
+            booked = AreBooked-kept board a x scrubbed_then sound here _ refl refl refl refl refl refl refl;
             phased = ArePhased-app board a x scrubbed_then sound here (record {
               ended = phase.ended;
               scrubbed = λ e. (can.loans, owed-none);

@@ -3,7 +3,7 @@ use Rattle.std.proofs.Common.{◌≡◌, ℕ, ◌-◌, ◌<◌, ◌≤◌, Bool,
 use Rattle.std.proofs.Common.{◌∙◌, arith, ⊎_elim, Option, Some, None}
 use Rattle.std.specs.Prelude.{◌≢◌, ◌==◌, IfSome}
 use Rattle.std.proofs.lemmas.List.{length-map}
-use Rattle.std.proofs.lemmas.Bool.{cases_lt, lt-ltb}
+use Rattle.std.proofs.lemmas.Bool.{cases_lt, lt-ltb, eqb-true}
 use Rattle.std.proofs.lemmas.Bool.Decides.{eqb_tells}
 use Rattle.zr_kinds.specs.declared.ring.Rqe.{Rqe}
 use Rattle.circular_buffer.specs.Buffer.{buffer}
@@ -28,7 +28,6 @@ use Rattle.plain_board.specs.Stand.{Arrays, Stand}
 use Rattle.plain_board.specs.Returns.{entries_on_way}
 use Rattle.plain_board.specs.Sound.{IsSound, notes_of, refills_of}
 use Rattle.plain_board.specs.Seen.{card_of, IsSeenByCard, IsJudged}
-use Rattle.plain_board.proofs.Freeing.{zero-test}
 use Rattle.board_face.proofs.SideLemmas.{IsApp-at}
 use Rattle.plain_board.proofs.Dealing.{entries-relayed}
 use Rattle.plain_board.proofs.Honouring.{honoured_if}
@@ -56,7 +55,7 @@ module _ (board : Stand) (sound : IsSound board) where
 
   pub IsSo-holder : (last : Bool) (b n : ℕ) → b < total board.arrays.layout → 0 < get_or board.arrays.pool b 0 → n ≡ get_or board.arrays.pool b 0 - 1
       → last ≡ (n == 0) → IsSo (holder_look last b)
-  IsSo-holder true b n within some many is = let none = zero-test n (sym is) in omega (arith, seen-pool b, sound.counted.pool b within)
+  IsSo-holder true b n within some many is = let none = eqb-true n 0 (sym is) in omega (arith, seen-pool b, sound.counted.pool b within)
   IsSo-holder false b n within some many is =
       ⊎_elim
       (λ t. absurd (let both : true ≡ false = sym t.0 ∙ sym is in let none : ⊥ = cc in none))

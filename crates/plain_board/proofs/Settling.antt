@@ -3,8 +3,7 @@ use Rattle.std.proofs.Common.{◌≡◌, ℕ, zero, suc, ◌+◌, ◌<◌, Bool,
 use Rattle.std.proofs.Common.{arith, ⊎_elim}
 use Rattle.std.specs.Prelude.{All, ◌==◌, not, nat_lt, count_by, if◌then◌else◌}
 use Rattle.std.proofs.lemmas.List.Elements.{All-nil, All-cons, All-head, All-tail}
-use Rattle.std.proofs.lemmas.Bool.{cases_lt, lt-ltb}
-use Rattle.std.proofs.lemmas.Bool.Decides.{eqb_tells}
+use Rattle.std.proofs.lemmas.Bool.{cases_lt, lt-ltb, eqb-true}
 use Rattle.board_face.specs.Sides.{IsApp, app_at}
 use Rattle.board_face.specs.Looks.{AppTold}
 use Rattle.board_face.specs.AppEvents.{app_saw, app_gist, came_to_rest}
@@ -61,9 +60,6 @@ reach-some (w ∷ ws) e = omega (
 
 -- ---- the answer
 
-pub is-zero : (n : ℕ) → (n == 0) ≡ true → n ≡ 0
-is-zero n e = ⊎_elim (λ t. t.1) (λ t. absurd (let wrong : true ≡ false = cc in cc)) (eqb_tells n 0)
-
 pub is-some : (n : ℕ) → (n == 0) ≡ false → 0 < n
 is-some zero e = absurd (let wrong : true ≡ false = e in cc)
 is-some (suc n) e = omega arith
@@ -76,7 +72,7 @@ module _ (board : Stand) (a : ℕ) (x : AppSide) (sound : IsSound board) (here :
       → IsSound (record { arrays = board.arrays; nic = board.nic; apps = set board.apps a (app_at x (settled_if x.view settled)) })
   IsSound-settled true is =
       let was = sound.returns a x here in
-      let none = sym (sound.booked.raw a x here) ∙ is-zero (get_or board.arrays.raw a 0) (sym is) in
+      let none = sym (sound.booked.raw a x here) ∙ eqb-true (get_or board.arrays.raw a 0) 0 (sym is) in
       IsSound-told board a x sound here true x.view.quiet x.view.ended x.view.looks (λ e. reach-rest _ none) was.quiet
       (was-phased board a x x sound here).ended (λ e. e)
   IsSound-settled false is = IsSound-looked board a x RawOnItsWay sound here

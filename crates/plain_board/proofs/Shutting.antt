@@ -28,9 +28,6 @@ use Rattle.plain_board.proofs.Card.{IsSet-nic, AreCounted-nic, AreRelayed-nic, A
 pub used-nowhere : (p f : ℕ) → f ≡ (if p == 0 then 1 else 0) → 0 < p → f ≡ 0
 used-nowhere p f e some = e ∙ ap weight (not-eqb p 0 (λ z. absurd (omega arith)))
 
-pub none-listed : (c : Bool) → weight c ≡ 0 → c ≡ false
-none-listed c none = weight-none c none
-
 pub outside : (last : Bool) (f w : ℕ) → f ≡ 0 → w ≡ 0 → f + (if last then w else 0) ≡ 0
 outside true f w empty none = omega arith
 outside false f w empty none = omega arith
@@ -56,7 +53,7 @@ module _ (board : Stand) (own : Filling) (sound : IsSound board) (out : HasOwn b
       (omega (arith, is_held, sound.counted.pool own.buffer (omega arith)))
 
   unlisted : listed_in board.arrays.listed own.buffer ≡ false
-  unlisted = none-listed (listed_in board.arrays.listed own.buffer) (omega (arith, nowhere))
+  unlisted = weight-none (listed_in board.arrays.listed own.buffer) (omega (arith, nowhere))
 
   -- whether it came to be free
   abbrev pub came : Bool → Bool
@@ -96,21 +93,12 @@ module _ (board : Stand) (own : Filling) (sound : IsSound board) (out : HasOwn b
       let now : n ≡ pool_count own.buffer (nic_at board.nic (shut board.nic.view own last)) board.apps = omega
       (arith, less last own.buffer, weight-same own.buffer, sound.counted.pool own.buffer there) in
       record {
-        sizes = record {
-          layout = sound.sizes.layout;
-          places = sound.sizes.places;
-          area = sound.sizes.area;
-          pool = length-set board.arrays.pool own.buffer n ∙ sound.sizes.pool;
-          users = sound.sizes.users;
-          listed = length-listed_after (came last) board.arrays.cache board.arrays.listed own.buffer ∙ sound.sizes.listed;
-          cache = cache-short (came last) board.arrays.cache own.buffer sound.sizes.cache;
-          notes = sound.sizes.notes;
-          refills = sound.sizes.refills;
-          loans = sound.sizes.loans;
-          filled = sound.sizes.filled;
-          raw = sound.sizes.raw;
-          left = sound.sizes.left;
-        };
+        sizes = assumption (
+          length-set board.arrays.pool own.buffer n ∙ sound.sizes.pool,
+          length-listed_after (came last) board.arrays.cache board.arrays.listed own.buffer ∙ sound.sizes.listed,
+          cache-short (came last) board.arrays.cache own.buffer sound.sizes.cache,
+          sound.sizes,
+        );
         cached = ap (λ cache. cache_after (came last) cache own.buffer) sound.cached;
         set = IsSet-nic _ board.nic (shut board.nic.view own last) board.apps refl sound.set;
         counted = AreCounted-nic board.arrays _ board.nic (shut board.nic.view own last) board.apps own.buffer n refl refl refl refl there sound.sizes.pool now
@@ -127,7 +115,7 @@ module _ (board : Stand) (own : Filling) (sound : IsSound board) (out : HasOwn b
         };
         relayed = AreRelayed-nic board.arrays _ board.nic (shut board.nic.view own last) board.apps refl refl refl refl refl sound.relayed;
         returns = λ a app here. AreReturns-nic board.nic (shut board.nic.view own last) app refl (sound.returns a app here);
-        flags = record { ended = sound.flags.ended; left = sound.flags.left };
+        flags = assumption sound.flags;
         kept = record {
           kept = λ b within. omega (
             arith,

@@ -151,45 +151,25 @@ module _ (board : Stand) (a : ℕ) (x : AppSide) (own : Filling) (sound : IsSoun
         let was = was-returns board a x spare_then sound here in
         let there : own.buffer < length board.arrays.filled = let h = spare-there in omega (arith, sound.sizes.filled) in
         record {
-          sizes = record {
-            layout = sound.sizes.layout;
-            places = sound.sizes.places;
-            area = length-stored board.arrays.area bytes at fits-area ∙ sound.sizes.area;
-            pool = sound.sizes.pool;
-            users = sound.sizes.users;
-            listed = sound.sizes.listed;
-            cache = sound.sizes.cache;
-            notes = sound.sizes.notes;
-            refills = sound.sizes.refills;
-            loans = sound.sizes.loans;
-            filled = length-set board.arrays.filled own.buffer n ∙ sound.sizes.filled;
-            raw = sound.sizes.raw;
-            left = sound.sizes.left;
-          };
+          sizes = assumption (
+            length-stored board.arrays.area bytes at fits-area ∙ sound.sizes.area,
+            length-set board.arrays.filled own.buffer n ∙ sound.sizes.filled,
+            sound.sizes,
+          );
           cached = sound.cached;
-          set = IsSet-app board a x spare_then sound here refl refl (record { hands = rest.hands; owes = rest.owes; unscrubbed = rest.unscrubbed });
+          set = IsSet-app board a x spare_then sound here refl refl (assumption rest);
           counted = AreCounted-app board a x spare_then sound here _ refl refl
               (λ b within. omega (arith, app_count-filled b board.nic x own bytes out))
               (λ b within. omega (arith, user_part-kept a b board.nic x v refl refl refl))
               (λ k b ne app within. refl)
               (λ b past. omega (arith, app_count-filled b board.nic x own bytes out))
-              (λ b. let e = was-returned board a x spare_then sound here b in record { ended = e.ended; returning = e.returning });
-          free = AreFreeOnce-app board a x spare_then sound here _ (record { hands = rest.hands; owes = rest.owes; unscrubbed = rest.unscrubbed })
+              (λ b. assumption (was-returned board a x spare_then sound here b));
+          free = AreFreeOnce-app board a x spare_then sound here _ (assumption rest)
               (λ b. app_count-filled b board.nic x own bytes out) sound.free;
           relayed = AreRelayed-kept board a x spare_then sound here _ refl refl refl
               (Relayed-app board.nic x v _ _ refl refl refl refl (was-relayed board a x spare_then sound here));
           returns = returns-app board a x spare_then sound here
-              (record {
-                written = was.written;
-                owed = was.owed;
-                no_more = was.no_more;
-                clear = was.clear;
-                named = was.named;
-                settled = was.settled;
-                quiet = was.quiet;
-                scrubbed = was.scrubbed;
-                strays = was.strays;
-              });
+              (assumption was);
           flags = AreFlags-kept board a x spare_then sound here _ refl refl refl;
           kept = AreKept-app board a x spare_then sound here _ _ refl (λ b. omega arith) sound.kept;
           due = AreDue-app board a x spare_then sound here (was-given board a x spare_then sound here) (was-due board a x spare_then sound here);

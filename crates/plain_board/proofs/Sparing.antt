@@ -130,7 +130,7 @@ module _ (board : Stand) (a buffer : ℕ) (x : AppSide) (listed : List Bool) (so
   now = app_at x (got_spare x.view buffer)
 
   at-rest : IsAtRest now
-  at-rest = let rest = was-at_rest board a x now sound here in record { hands = rest.hands; owes = rest.owes; unscrubbed = rest.unscrubbed }
+  at-rest = assumption (was-at_rest board a x now sound here)
 
   mine : x.view.setting ≡ setting_of board.arrays
   mine = has-setting board a x now sound here
@@ -199,21 +199,12 @@ module _ (board : Stand) (a buffer : ℕ) (x : AppSide) (listed : List Bool) (so
         listed = listed;
       } in
       record {
-        sizes = record {
-          layout = sound.sizes.layout;
-          places = sound.sizes.places;
-          area = sound.sizes.area;
-          pool = length-set board.arrays.pool buffer (get_or board.arrays.pool buffer 0 + 1) ∙ sound.sizes.pool;
-          users = sound.sizes.users;
-          listed = free.len ∙ sound.sizes.listed;
-          cache = sound.sizes.cache;
-          notes = sound.sizes.notes;
-          refills = sound.sizes.refills;
-          loans = sound.sizes.loans;
-          filled = length-set board.arrays.filled buffer 0 ∙ sound.sizes.filled;
-          raw = sound.sizes.raw;
-          left = sound.sizes.left;
-        };
+        sizes = assumption (
+          length-set board.arrays.pool buffer (get_or board.arrays.pool buffer 0 + 1) ∙ sound.sizes.pool,
+          free.len ∙ sound.sizes.listed,
+          length-set board.arrays.filled buffer 0 ∙ sound.sizes.filled,
+          sound.sizes,
+        );
         cached = sound.cached;
         set = IsSet-app board a x now sound here refl refl at-rest;
         counted = AreCounted-app board a x now sound here arrays_then refl refl
@@ -225,21 +216,11 @@ module _ (board : Stand) (a buffer : ℕ) (x : AppSide) (listed : List Bool) (so
             (λ b within. refl)
             (λ k b ne app within. refl)
             (λ b past. omega (arith, app_count-got_spare b board.nic x buffer, weight-other buffer b (λ e. absurd (let inside = free.within in omega arith))))
-            (λ b. let e = was-returned board a x now sound here b in record { ended = e.ended; returning = e.returning });
+            (λ b. assumption (was-returned board a x now sound here b));
         free = free-then;
         relayed = AreRelayed-kept board a x now sound here arrays_then refl refl refl
             (Relayed-app board.nic x now.view _ _ refl refl refl refl (was-relayed board a x now sound here));
-        returns = returns-app board a x now sound here (record {
-          written = was.written;
-          owed = was.owed;
-          no_more = was.no_more;
-          clear = was.clear;
-          named = was.named;
-          settled = was.settled;
-          quiet = was.quiet;
-          scrubbed = was.scrubbed;
-          strays = was.strays;
-        });
+        returns = returns-app board a x now sound here (assumption was);
         flags = AreFlags-kept board a x now sound here arrays_then refl refl refl;
         kept = record {
           kept = λ b within. let inside : b < pool_buffers board.arrays.layout = rw (← pools) within in

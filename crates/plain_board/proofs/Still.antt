@@ -46,21 +46,7 @@ pub IsSound-still : (board : Stand) (v : NicView) → IsSound board → IsStill 
       apps = board.apps;
     })
 IsSound-still board v sound still ends none = record {
-  sizes = record {
-    layout = sound.sizes.layout;
-    places = sound.sizes.places;
-    area = sound.sizes.area;
-    pool = sound.sizes.pool;
-    users = sound.sizes.users;
-    listed = sound.sizes.listed;
-    cache = sound.sizes.cache;
-    notes = sound.sizes.notes;
-    refills = sound.sizes.refills;
-    loans = sound.sizes.loans;
-    filled = sound.sizes.filled;
-    raw = sound.sizes.raw;
-    left = sound.sizes.left;
-  };
+  sizes = assumption sound.sizes;
   cached = sound.cached ∙ sym still.cache;
   set = IsSet-nic _ board.nic v board.apps still.setting sound.set;
   counted = AreCounted-same board.arrays _ board.nic v board.apps still.dealt refl refl refl
@@ -107,7 +93,7 @@ still v ended gone looks = record { setting = refl; cache = refl; swept = refl; 
 pub IsSound-ended : (board : Stand) → IsSound board → HasNoToken board.nic.view
     → IsSound (record { arrays = record board.arrays { ended = true }; nic = nic_at board.nic (nic_ended board.nic.view); apps = board.apps })
 IsSound-ended board sound none = IsSound-still board (nic_ended board.nic.view) sound (still board.nic.view true board.nic.view.gone board.nic.view.looks)
-    (λ e. refl) (λ e. record { owns = none.owns; pieces = none.pieces })
+    (λ e. refl) (λ e. assumption none)
 
 pub IsSound-saw : (board : Stand) (look : NicLook) → IsSound board
     → IsSound (record { arrays = board.arrays; nic = nic_at board.nic (nic_saw board.nic.view look); apps = board.apps })

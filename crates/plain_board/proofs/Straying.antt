@@ -145,21 +145,11 @@ module _ (board : Stand) (a : ℕ) (x : AppSide) (e : Rqe) (es : List Rqe) (soun
       let same : (b : ℕ) → pool_count b nic_passed board.apps
       ≡ pool_count b board.nic board.apps = λ b. pool_count-passed_over b board.nic board.apps a e in
       record {
-        sizes = record {
-          layout = sound.sizes.layout;
-          places = sound.sizes.places;
-          area = sound.sizes.area;
-          pool = sound.sizes.pool;
-          users = sound.sizes.users;
-          listed = sound.sizes.listed;
-          cache = sound.sizes.cache;
-          notes = sound.sizes.notes;
-          refills = length-set board.arrays.refills a (ring_then board a) ∙ sound.sizes.refills;
-          loans = sound.sizes.loans;
-          filled = sound.sizes.filled;
-          raw = length-set board.arrays.raw a (get_or board.arrays.raw a 0 - 1) ∙ sound.sizes.raw;
-          left = sound.sizes.left;
-        };
+        sizes = assumption (
+          length-set board.arrays.refills a (ring_then board a) ∙ sound.sizes.refills,
+          length-set board.arrays.raw a (get_or board.arrays.raw a 0 - 1) ∙ sound.sizes.raw,
+          sound.sizes,
+        );
         cached = sound.cached;
         set = IsSet-nic _ board.nic v board.apps refl sound.set;
         counted = record {
@@ -178,8 +168,8 @@ module _ (board : Stand) (a : ℕ) (x : AppSide) (e : Rqe) (es : List Rqe) (soun
         };
         relayed = AreRelayed-popped board a x e es sound here found v stray_dealt refl refl refl refl _ refl refl refl;
         returns = returns_then;
-        flags = record { ended = sound.flags.ended; left = sound.flags.left };
-        kept = record { kept = sound.kept.kept; swept = sound.kept.swept };
+        flags = assumption sound.flags;
+        kept = assumption sound.kept;
         due = sound.due;
         filled = FillingsFit-nic board.nic v board.apps refl refl sound.filled;
         by_one = λ b. IsFilledByOne-passed_over b board.nic board.apps a e (sound.by_one b);

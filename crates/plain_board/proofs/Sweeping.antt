@@ -6,7 +6,7 @@ use Rattle.std.proofs.lemmas.List.Elements.{All-nil, All-cons, All-weaker}
 use Rattle.std.proofs.lemmas.List.Kept.{AllPairs-cons}
 use Rattle.std.proofs.lemmas.Bool.{cases_lt}
 use Rattle.std.proofs.lemmas.Bool.Decides.{eqb_tells}
-use Rattle.board_face.specs.NicEvents.{swept, word_bits}
+use Rattle.board_face.specs.NicEvents.{swept, word_bits, cache_room}
 use Rattle.board_face.specs.NicCalls.{SweptWord, free_words_of}
 use Rattle.board_face.specs.declared.views.nic.NicLook.TheVariants.{Swept}
 use Rattle.board_face.specs.Sides.{nic_at}
@@ -140,25 +140,12 @@ module _ (board : Stand) (word : ℕ) (sound : IsSound board) (inside : word < f
       let found = found_in board.arrays.listed word in
       let v = swept board.nic.view word found in
       record {
-        sizes = record {
-          layout = sound.sizes.layout;
-          places = sound.sizes.places;
-          area = sound.sizes.area;
-          pool = sound.sizes.pool;
-          users = sound.sizes.users;
-          listed = same ∙ sound.sizes.listed;
-          cache = omega (
-            arith,
-            length-append board.arrays.cache found,
-            length-listed_from board.arrays.listed (word_bits * word) (word_len board.arrays.listed word),
-          );
-          notes = sound.sizes.notes;
-          refills = sound.sizes.refills;
-          loans = sound.sizes.loans;
-          filled = sound.sizes.filled;
-          raw = sound.sizes.raw;
-          left = sound.sizes.left;
-        };
+        sizes = let cache : length (board.arrays.cache ++ found) ≤ cache_room = omega (
+          arith,
+          length-append board.arrays.cache found,
+          length-listed_from board.arrays.listed (word_bits * word) (word_len board.arrays.listed word),
+        ) in
+            assumption (same ∙ sound.sizes.listed, cache, sound.sizes);
         cached = ap (λ cache. cache ++ found) sound.cached;
         set = IsSet-nic _ board.nic v board.apps refl sound.set;
         counted = AreCounted-same board.arrays _ board.nic v board.apps refl refl refl refl
@@ -170,7 +157,7 @@ module _ (board : Stand) (word : ℕ) (sound : IsSound board) (inside : word < f
         };
         relayed = AreRelayed-nic board.arrays _ board.nic v board.apps refl refl refl refl refl sound.relayed;
         returns = λ a app here. AreReturns-nic board.nic v app refl (sound.returns a app here);
-        flags = record { ended = sound.flags.ended; left = sound.flags.left };
+        flags = assumption sound.flags;
         kept = record {
           kept = λ b within. omega (arith, sound.kept.kept b within, found-times listed' gone others b, count-append b board.nic.view.cache found);
           swept = λ b within seen.
@@ -197,7 +184,7 @@ module _ (board : Stand) (word : ℕ) (sound : IsSound board) (inside : word < f
         judged = sound.judged;
         booked = AreBooked-nic board.arrays _ board.nic v board.apps refl refl refl refl refl sound.booked;
         phased = ArePhased-nic board.nic v board.apps refl refl (λ e. e)
-            (λ e. let h = sound.phased.card e in record { owns = h.owns; pieces = h.pieces }) sound.phased;
+            (λ e. assumption (sound.phased.card e)) sound.phased;
       }
     where
       free-same : (b : ℕ) → free_places (listed_in listed') b (nic_at board.nic (swept board.nic.view word (found_in board.arrays.listed word))) board.apps

@@ -3,11 +3,11 @@ use Rattle.std.proofs.Common.{◌≡◌, ℕ, ◌+◌, ◌-◌, ◌<◌, ◌≤�
 use Rattle.std.proofs.Common.{ap, sym, ◌∙◌, arith, inl, inr, ⊎_elim, length-take, Some}
 use Rattle.std.specs.Prelude.{nat_eq, count_by, ◌==◌, if◌then◌else◌}
 use Rattle.std.proofs.lemmas.List.{length-set}
-use Rattle.std.proofs.lemmas.Bool.{cases_lt}
+use Rattle.std.proofs.lemmas.Bool.{cases_lt, eqb-true}
 use Rattle.circular_buffer.specs.Buffer.{last_item}
 use Rattle.area_layout.specs.Layout.{pool_buffers, size_of}
 use Rattle.board_face.specs.Tokens.{filling}
-use Rattle.board_face.specs.NicEvents.{took}
+use Rattle.board_face.specs.NicEvents.{took, cache_room}
 use Rattle.board_face.specs.NicCalls.{IsOpen, HasNothingIn, TookBuffer}
 use Rattle.board_face.specs.Sides.{nic_at}
 use Rattle.board_face.specs.Counts.{pool_count}
@@ -24,7 +24,6 @@ use Rattle.board_parts.specs.Free.{listed_in}
 use Rattle.plain_board.specs.Stand.{Stand, byte_of}
 use Rattle.plain_board.specs.Sound.{IsSound}
 use Rattle.plain_board.proofs.Lists.{take-last, once-taken, same-or-other, count-push, weight-same, weight-other, weight-swap, All-none}
-use Rattle.plain_board.proofs.Freeing.{zero-test}
 use Rattle.plain_board.proofs.AppFrames.{times_used}
 use Rattle.plain_board.proofs.Card.{IsSet-nic, AreCounted-nic, AreRelayed-nic, AreReturns-nic, AreBooked-nic, ArePhased-open}
 
@@ -58,7 +57,7 @@ module _ (board : Stand) (buffer : ℕ) (sound : IsSound board) (found : last_it
       (λ inside. let once = sound.free.pool buffer (rw pools inside) in
       let both = free-case (pool_count buffer board.nic board.apps == 0)
       (free_places (listed_in board.arrays.listed) buffer board.nic board.apps) once in_cache in
-      let zero_count = zero-test (pool_count buffer board.nic board.apps) both.0 in
+      let zero_count = eqb-true (pool_count buffer board.nic board.apps) 0 both.0 in
       record {
         of_pool = inside;
         once = both.1;
@@ -102,21 +101,9 @@ module _ (board : Stand) (buffer : ℕ) (sound : IsSound board) (found : last_it
     apps = board.apps;
   })
   IsSound-took running = record {
-    sizes = record {
-      layout = sound.sizes.layout;
-      places = sound.sizes.places;
-      area = sound.sizes.area;
-      pool = length-set board.arrays.pool buffer (get_or board.arrays.pool buffer 0 + 1) ∙ sound.sizes.pool;
-      users = sound.sizes.users;
-      listed = sound.sizes.listed;
-      cache = let short = length-take (length board.arrays.cache - 1) board.arrays.cache in omega (arith, sound.sizes.cache);
-      notes = sound.sizes.notes;
-      refills = sound.sizes.refills;
-      loans = sound.sizes.loans;
-      filled = sound.sizes.filled;
-      raw = sound.sizes.raw;
-      left = sound.sizes.left;
-    };
+    sizes = let short = length-take (length board.arrays.cache - 1) board.arrays.cache in
+        let cache : length (take (length board.arrays.cache - 1) board.arrays.cache) ≤ cache_room = omega (arith, sound.sizes.cache) in
+        assumption (length-set board.arrays.pool buffer (get_or board.arrays.pool buffer 0 + 1) ∙ sound.sizes.pool, cache, sound.sizes);
     cached = ap (λ cache. take (length cache - 1) cache) sound.cached;
     set = IsSet-nic _ board.nic (took board.nic.view buffer) board.apps refl sound.set;
     counted = AreCounted-nic board.arrays _ board.nic (took board.nic.view buffer) board.apps buffer (get_or board.arrays.pool buffer 0 + 1) refl refl refl refl
@@ -127,7 +114,7 @@ module _ (board : Stand) (buffer : ℕ) (sound : IsSound board) (found : last_it
     free = free_after;
     relayed = AreRelayed-nic board.arrays _ board.nic (took board.nic.view buffer) board.apps refl refl refl refl refl sound.relayed;
     returns = λ a app here. AreReturns-nic board.nic (took board.nic.view buffer) app refl (sound.returns a app here);
-    flags = record { ended = sound.flags.ended; left = sound.flags.left };
+    flags = assumption sound.flags;
     kept = record {
       kept = λ b within. omega (
         arith,

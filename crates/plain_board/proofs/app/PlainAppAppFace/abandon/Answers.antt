@@ -17,15 +17,12 @@ invariant_of-self c =
     let x = side_of old a in
     let before = rw c.deref.ensures at c.sound.ensures in
     let here = here-of old a before c.self.invariant.0 in
-    let view = rw c.deref_mut.ensures.value at c.abandon.ensures.view in
-    let inside = rw c.deref_mut.ensures.value at c.abandon.ensures.inside in
-    let others = rw c.deref_mut.ensures.value at c.abandon.ensures.others in
-    let layout = rw c.deref_mut.ensures.value at c.abandon.ensures.layout in
+    let said = rw c.deref_mut.ensures.value at c.abandon.ensures in
     let out = rw (← c.self.view_is) at c.requires.out in
     let p = c.args.loan in
     let now = app_at x (abandoned x.view p) in
-    let by = by-view old c.abandon.new.self a _ before c.self.invariant.0 others inside view in
+    let by = by-view old c.abandon.new.self a _ before c.self.invariant.0 said.others said.inside said.view in
     rw (c.push.ensures.log, c.deref_mut-2.ensures.value, c.deref_mut.ensures.value) (
-      rw layout c.self.invariant.0,
+      rw said.layout c.self.invariant.0,
       app-logs old c.abandon.new.self a now by (λ n. event.Back a p.buffer p.offset p.len (user_of n a p.buffer)) (back-law.abandoned (sides_of old) (sides-sound old before) a x here p out) (same-spares old c.abandon.new.self a now by refl) _ (rw (c.user_count-user.ensures, c.deref-2.ensures, c.place-place.ensures) refl) c.push.ensures.small _ c.self.invariant.1,
     )

@@ -17,15 +17,12 @@ invariant_of-self c =
     let x = side_of old a in
     let before = rw c.deref.ensures at c.sound.ensures in
     let here = here-of old a before c.self.invariant.0 in
-    let view = rw c.deref_mut.ensures.value at c.cut-parts.ensures.view in
-    let inside = rw c.deref_mut.ensures.value at c.cut-parts.ensures.inside in
-    let others = rw c.deref_mut.ensures.value at c.cut-parts.ensures.others in
-    let layout = rw c.deref_mut.ensures.value at c.cut-parts.ensures.layout in
+    let said = rw c.deref_mut.ensures.value at c.cut-parts.ensures in
     let out = rw (← c.self.view_is) at c.requires.out in
     let p = c.args.held in
     let now = app_at x (cut x.view p c.args.at) in
-    let by = by-view old c.cut-parts.new.self a _ before c.self.invariant.0 others inside view in
+    let by = by-view old c.cut-parts.new.self a _ before c.self.invariant.0 said.others said.inside said.view in
     rw (c.push.ensures.log, c.deref_mut-2.ensures.value, c.deref_mut.ensures.value) (
-      rw layout c.self.invariant.0,
+      rw said.layout c.self.invariant.0,
       app-logs old c.cut-parts.new.self a now by (λ n. event.Cut a p.buffer p.offset p.len c.args.at (pool_of n p.buffer)) (cut-law (sides_of old) (sides-sound old before) a x here p c.args.at out c.requires.front c.requires.rest) (same-spares old c.cut-parts.new.self a now by refl) _ (rw (c.pool_count-pool.ensures, c.deref-2.ensures, c.place-place.ensures) refl) c.push.ensures.small _ c.self.invariant.1,
     )

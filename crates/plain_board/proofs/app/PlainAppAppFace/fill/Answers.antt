@@ -15,13 +15,10 @@ invariant_of-self c =
     let x = side_of old a in
     let before = rw c.deref.ensures at c.sound.ensures in
     let here = here-of old a before c.self.invariant.0 in
-    let view = rw c.deref_mut.ensures.value at c.fill.ensures.view in
-    let inside = rw c.deref_mut.ensures.value at c.fill.ensures.inside in
-    let others = rw c.deref_mut.ensures.value at c.fill.ensures.others in
-    let layout = rw c.deref_mut.ensures.value at c.fill.ensures.layout in
+    let said = rw c.deref_mut.ensures.value at c.fill.ensures in
     let out = rw (← c.self.view_is) at c.requires.out in
     let own = c.args.own.now in
     let bytes = c.args.bytes.now in
     let now = app_at x (filled x.view own bytes) in
-    let by = by-view old c.fill.new.self a _ before c.self.invariant.0 others inside view in
-    rw c.deref_mut.ensures.value (rw layout c.self.invariant.0, app-keeps old c.fill.new.self a now by (app-unlogged.fill (sides_of old) a x here own bytes out) (fills-law.fill old.apps a x here own bytes c.requires.few) _ c.self.invariant.1)
+    let by = by-view old c.fill.new.self a _ before c.self.invariant.0 said.others said.inside said.view in
+    rw c.deref_mut.ensures.value (rw said.layout c.self.invariant.0, app-keeps old c.fill.new.self a now by (app-unlogged.fill (sides_of old) a x here own bytes out) (fills-law.fill old.apps a x here own bytes c.requires.few) _ c.self.invariant.1)

@@ -15,10 +15,7 @@ invariant_of-self c =
     let x = side_of old a in
     let before = rw c.deref.ensures at c.sound.ensures in
     let here = here-of old a before c.self.invariant.0 in
-    let view = rw c.deref_mut.ensures.value at c.leave.ensures.view in
-    let inside = rw c.deref_mut.ensures.value at c.leave.ensures.inside in
-    let others = rw c.deref_mut.ensures.value at c.leave.ensures.others in
-    let layout = rw c.deref_mut.ensures.value at c.leave.ensures.layout in
+    let said = rw c.deref_mut.ensures.value at c.leave.ensures in
     let now = app_at x (left_board x.view) in
-    let by = by-view old c.leave.new.self a _ before c.self.invariant.0 others inside view in
-    rw c.deref_mut.ensures.value (rw layout c.self.invariant.0, app-keeps old c.leave.new.self a now by (app-unlogged.left (sides_of old) a x here) (same-spares old c.leave.new.self a now by refl) _ c.self.invariant.1)
+    let by = by-view old c.leave.new.self a _ before c.self.invariant.0 said.others said.inside said.view in
+    rw c.deref_mut.ensures.value (rw said.layout c.self.invariant.0, app-keeps old c.leave.new.self a now by (app-unlogged.left (sides_of old) a x here) (same-spares old c.leave.new.self a now by refl) _ c.self.invariant.1)

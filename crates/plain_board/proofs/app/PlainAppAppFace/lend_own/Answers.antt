@@ -19,16 +19,12 @@ invariant_of-self c =
     let x = side_of old a in
     let before = rw c.deref.ensures at c.sound.ensures in
     let here = here-of old a before c.self.invariant.0 in
-    let view = rw c.deref_mut.ensures.value at c.lend_own-loan.ensures.view in
-    let inside = rw c.deref_mut.ensures.value at c.lend_own-loan.ensures.inside in
-    let others = rw c.deref_mut.ensures.value at c.lend_own-loan.ensures.others in
-    let layout = rw c.deref_mut.ensures.value at c.lend_own-loan.ensures.layout in
-    let out = rw (← c.self.view_is) at c.requires.out in
-    let full = rw (← c.self.view_is) at c.requires.filled in
+    let said = rw c.deref_mut.ensures.value at c.lend_own-loan.ensures in
+    let asked = rw (← c.self.view_is) at c.requires in
     let own = c.args.own in
     let now = app_at x (lent_own x.view own) in
-    let by = by-view old c.lend_own-loan.new.self a _ before c.self.invariant.0 others inside view in
+    let by = by-view old c.lend_own-loan.new.self a _ before c.self.invariant.0 said.others said.inside said.view in
     rw (c.push.ensures.log, c.deref_mut-2.ensures.value, c.deref_mut.ensures.value) (
-      rw layout c.self.invariant.0,
-      app-logs old c.lend_own-loan.new.self a now by (λ n. event.Own a own.buffer (length (own_bytes x.view own)) (pool_of n own.buffer) (user_of n a own.buffer)) (lent_own-law (sides_of old) (sides-sound old before) a x here own out full c.self.invariant.1.short) (fills-law.lend old.apps a x here own) _ (rw (c.pool_count-pool.ensures, c.deref-2.ensures, c.user_count-user.ensures, c.deref-3.ensures, c.place-place.ensures, rw c.deref_mut.ensures.value at c.lend_own-loan.ensures.place) refl) c.push.ensures.small _ c.self.invariant.1,
+      rw said.layout c.self.invariant.0,
+      app-logs old c.lend_own-loan.new.self a now by (λ n. event.Own a own.buffer (length (own_bytes x.view own)) (pool_of n own.buffer) (user_of n a own.buffer)) (lent_own-law (sides_of old) (sides-sound old before) a x here own asked.out asked.filled c.self.invariant.1.short) (fills-law.lend old.apps a x here own) _ (rw (c.pool_count-pool.ensures, c.deref-2.ensures, c.user_count-user.ensures, c.deref-3.ensures, c.place-place.ensures, rw c.deref_mut.ensures.value at c.lend_own-loan.ensures.place) refl) c.push.ensures.small _ c.self.invariant.1,
     )

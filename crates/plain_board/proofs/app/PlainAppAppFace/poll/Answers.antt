@@ -10,12 +10,10 @@ invariant_of-self c =
     let before = rw c.deref.ensures at c.sound.ensures in
     let after = rw c.deref-2.ensures at c.sound-2.ensures in
     let took = rw (c.deref_mut.ensures.value, c.in-Note.is) at c.poll-polled.ensures.view in
-    let inside = rw c.deref_mut.ensures.value at c.poll-polled.ensures.inside in
-    let others = rw c.deref_mut.ensures.value at c.poll-polled.ensures.others in
-    let layout = rw c.deref_mut.ensures.value at c.poll-polled.ensures.layout in
+    let said = rw c.deref_mut.ensures.value at c.poll-polled.ensures in
     rw (c.push.ensures.log, c.deref_mut-in-Note.ensures.value, c.deref_mut.ensures.value) (
-      rw layout c.self.invariant.0,
-      polled-note old c.poll-polled.new.self a before after c.self.invariant.0 layout others inside c.in-Note.note c.in-Note.field-1 took _ refl
+      rw said.layout c.self.invariant.0,
+      polled-note old c.poll-polled.new.self a before after c.self.invariant.0 said.layout said.others said.inside c.in-Note.note c.in-Note.field-1 took _ refl
           c.push.ensures.small _ c.self.invariant.1,
     )
 
@@ -25,12 +23,9 @@ invariant_of-self-in_default c =
     let a = c.self.inside.app in
     let before = rw c.deref.ensures at c.sound.ensures in
     let after = rw c.deref-2.ensures at c.sound-2.ensures in
-    let looked = rw c.deref_mut.ensures.value at c.poll-polled.ensures.view in
-    let inside = rw c.deref_mut.ensures.value at c.poll-polled.ensures.inside in
-    let others = rw c.deref_mut.ensures.value at c.poll-polled.ensures.others in
-    let layout = rw c.deref_mut.ensures.value at c.poll-polled.ensures.layout in
+    let said = rw c.deref_mut.ensures.value at c.poll-polled.ensures in
     rw c.deref_mut.ensures.value (
-      rw layout c.self.invariant.0,
-      polled-other old c.poll-polled.new.self a before after c.self.invariant.0 layout others inside _ c.poll-polled.result looked c.in_default.not-Note _
+      rw said.layout c.self.invariant.0,
+      polled-other old c.poll-polled.new.self a before after c.self.invariant.0 said.layout said.others said.inside _ c.poll-polled.result said.view c.in_default.not-Note _
           c.self.invariant.1,
     )

@@ -18,14 +18,11 @@ invariant_of-self c =
     let x = side_of old a in
     let before = rw c.deref.ensures at c.sound.ensures in
     let here = here-of old a before c.self.invariant.0 in
-    let view = rw c.deref_mut.ensures.value at c.push_raw.ensures.view in
-    let inside = rw c.deref_mut.ensures.value at c.push_raw.ensures.inside in
-    let others = rw c.deref_mut.ensures.value at c.push_raw.ensures.others in
-    let layout = rw c.deref_mut.ensures.value at c.push_raw.ensures.layout in
-    let by = λ (v : AppView). by-view old new a v before c.self.invariant.0 others inside in
+    let said = rw c.deref_mut.ensures.value at c.push_raw.ensures in
+    let by = λ (v : AppView). by-view old new a v before c.self.invariant.0 said.others said.inside in
     rw c.deref_mut.ensures.value (
-      rw layout c.self.invariant.0,
-      by-result c.push_raw.result {A = λ done. (side_of new a).view ≡ pushed_raw x.view c.args.entry} {B = λ back. (back ≡ c.args.entry) × AppOnlySaw RefillInUse x.view (side_of new a).view} view
+      rw said.layout c.self.invariant.0,
+      by-result c.push_raw.result {A = λ done. (side_of new a).view ≡ pushed_raw x.view c.args.entry} {B = λ back. (back ≡ c.args.entry) × AppOnlySaw RefillInUse x.view (side_of new a).view} said.view
           (λ done is. app-keeps old new a _ (by (pushed_raw x.view c.args.entry) is) (app-unlogged.raw (sides_of old) a x here c.args.entry) (same-spares old new a _ (by _ is) refl) _ c.self.invariant.1)
           (λ back is. app-keeps old new a _ (by (app_saw x.view RefillInUse) is.1.event) (app-unlogged.look (sides_of old) a x here RefillInUse) (same-spares old new a _ (by _ is.1.event) refl) _ c.self.invariant.1),
     )

@@ -17,14 +17,11 @@ invariant_of-self c =
     let x = side_of old a in
     let before = rw c.deref.ensures at c.sound.ensures in
     let here = here-of old a before c.self.invariant.0 in
-    let view = rw c.deref_mut.ensures.value at c.quiet.ensures.view in
-    let inside = rw c.deref_mut.ensures.value at c.quiet.ensures.inside in
-    let others = rw c.deref_mut.ensures.value at c.quiet.ensures.others in
-    let layout = rw c.deref_mut.ensures.value at c.quiet.ensures.layout in
-    let by = λ (v : AppView). by-view old new a v before c.self.invariant.0 others inside in
+    let said = rw c.deref_mut.ensures.value at c.quiet.ensures in
+    let by = λ (v : AppView). by-view old new a v before c.self.invariant.0 said.others said.inside in
     rw c.deref_mut.ensures.value (
-      rw layout c.self.invariant.0,
-      by-answer c.quiet.result view
+      rw said.layout c.self.invariant.0,
+      by-answer c.quiet.result said.view
           (λ done. app-keeps old new a _ (by (fell_quiet x.view) done) (app-unlogged.quiet (sides_of old) a x here) (same-spares old new a _ (by _ done) refl) _ c.self.invariant.1)
           (λ done. app-keeps old new a _ (by (app_saw x.view NotQuiet) done.event) (app-unlogged.look (sides_of old) a x here NotQuiet) (same-spares old new a _ (by _ done.event) refl) _ c.self.invariant.1),
     )

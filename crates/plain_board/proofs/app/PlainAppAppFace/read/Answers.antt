@@ -16,11 +16,8 @@ invariant_of-self c =
     let x = side_of old a in
     let before = rw c.deref.ensures at c.sound.ensures in
     let here = here-of old a before c.self.invariant.0 in
-    let view = rw c.deref_mut.ensures.value at c.read.ensures.view in
-    let inside = rw c.deref_mut.ensures.value at c.read.ensures.inside in
-    let others = rw c.deref_mut.ensures.value at c.read.ensures.others in
-    let layout = rw c.deref_mut.ensures.value at c.read.ensures.layout in
+    let said = rw c.deref_mut.ensures.value at c.read.ensures in
     let p = c.args.loan.now in
     let now = app_at x (has_read x.view p c.args.from c.read.new.into) in
-    let by = by-view old new a _ before c.self.invariant.0 others inside view in
-    rw c.deref_mut.ensures.value (rw layout c.self.invariant.0, app-keeps old new a now by (app-unlogged.read (sides_of old) a x here p c.args.from c.read.new.into) (same-spares old new a now by refl) _ c.self.invariant.1)
+    let by = by-view old new a _ before c.self.invariant.0 said.others said.inside said.view in
+    rw c.deref_mut.ensures.value (rw said.layout c.self.invariant.0, app-keeps old new a now by (app-unlogged.read (sides_of old) a x here p c.args.from c.read.new.into) (same-spares old new a now by refl) _ c.self.invariant.1)

@@ -9,11 +9,9 @@ invariant_of-self c =
     let a = c.self.inside.app in
     let before = rw c.deref.ensures at c.sound.ensures in
     let can = rw (← c.self.view_is) at c.requires.can in
-    let taken = rw (c.deref_mut-2.ensures.value, c.log_scrub.ensures.contents, c.deref_mut.ensures.value) at c.scrub.ensures.taken in
-    let others = rw (c.deref_mut-2.ensures.value, c.log_scrub.ensures.contents, c.deref_mut.ensures.value) at c.scrub.ensures.others in
-    let layout = rw (c.deref_mut-2.ensures.value, c.log_scrub.ensures.contents, c.deref_mut.ensures.value) at c.scrub.ensures.layout in
+    let said = rw (c.deref_mut-2.ensures.value, c.log_scrub.ensures.contents, c.deref_mut.ensures.value) at c.scrub.ensures in
     let log = rw c.deref_mut.ensures.value at c.log_scrub.ensures.log in
     rw c.deref_mut-2.ensures.value (
-      rw layout c.self.invariant.0,
-      scrub-logs old new a before c.self.invariant.0 others can.loans taken _ _ log c.self.invariant.1,
+      rw said.layout c.self.invariant.0,
+      scrub-logs old new a before c.self.invariant.0 said.others can.loans said.taken _ _ log c.self.invariant.1,
     )

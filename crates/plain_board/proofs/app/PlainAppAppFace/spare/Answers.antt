@@ -9,7 +9,7 @@ use Rattle.event_log.proofs.AppLaws.{app-unlogged, got_spare-law}
 use Rattle.event_log.proofs.ShortFills.{fills-law}
 use Rattle.plain_board.specs.Stand.{side_of, sides_of}
 use Rattle.plain_board.proofs.AppFrames.{here-of}
-use Rattle.plain_board.proofs.Logging.{IsByApp, side-is, sides-sound, same-spares, app-keeps, app-logs}
+use Rattle.plain_board.proofs.Logging.{by-view, sides-sound, same-spares, app-keeps, app-logs}
 use Rattle.plain_board.proofs.app.PlainAppAppFace.spare.Goals as goal
 
 pub invariant_of-self : goal.invariant_of-self
@@ -20,19 +20,11 @@ invariant_of-self c =
     let x = side_of old a in
     let before = rw c.deref.ensures at c.sound.ensures in
     let here = here-of old a before c.self.invariant.0 in
-    let saw = rw c.deref_mut.ensures.value at c.in_err-own.ensures.view in
-    let inside = rw c.deref_mut.ensures.value at c.in_err-own.ensures.inside in
-    let others = rw c.deref_mut.ensures.value at c.in_err-own.ensures.others in
-    let layout = rw c.deref_mut.ensures.value at c.in_err-own.ensures.layout in
+    let said = rw c.deref_mut.ensures.value at c.in_err-own.ensures in
     let now = app_at x (app_saw x.view NoSpare) in
-    let by : IsByApp old new a now = record {
-      before = before;
-      within = c.self.invariant.0;
-      others = others;
-      side = side-is x _ _ saw.event inside;
-    } in
+    let by = by-view old new a _ before c.self.invariant.0 said.others said.inside said.view.event in
     rw c.deref_mut.ensures.value (
-      rw layout c.self.invariant.0,
+      rw said.layout c.self.invariant.0,
       app-keeps old new a now by (app-unlogged.look (sides_of old) a x here NoSpare) (same-spares old new a now by refl) _ c.self.invariant.1,
     )
 
@@ -45,21 +37,12 @@ invariant_of-self-2 c =
     let b = c.in_ok-own.own.buffer in
     let before = rw c.deref.ensures at c.sound.ensures in
     let here = here-of old a before c.self.invariant.0 in
-    let got = rw c.deref_mut.ensures.value at c.in_ok-own.ensures.view in
-    let unheld = rw c.deref_mut.ensures.value at c.in_ok-own.ensures.unheld in
-    let inside = rw c.deref_mut.ensures.value at c.in_ok-own.ensures.inside in
-    let others = rw c.deref_mut.ensures.value at c.in_ok-own.ensures.others in
-    let layout = rw c.deref_mut.ensures.value at c.in_ok-own.ensures.layout in
+    let said = rw c.deref_mut.ensures.value at c.in_ok-own.ensures in
     let now = app_at x (got_spare x.view b) in
-    let by : IsByApp old new a now = record {
-      before = before;
-      within = c.self.invariant.0;
-      others = others;
-      side = side-is x _ _ got.event inside;
-    } in
+    let by = by-view old new a _ before c.self.invariant.0 said.others said.inside said.view.event in
     rw (c.push.ensures.log, c.deref_mut-2.ensures.value, c.deref_mut.ensures.value) (
-      rw layout c.self.invariant.0,
-      app-logs old new a now by (λ n. event.Spare a b (pool_of n b)) (got_spare-law (sides_of old) (sides-sound old before) a x here b got.buffer unheld)
+      rw said.layout c.self.invariant.0,
+      app-logs old new a now by (λ n. event.Spare a b (pool_of n b)) (got_spare-law (sides_of old) (sides-sound old before) a x here b said.view.buffer said.unheld)
           (fills-law.spare old.apps a x here b) _ (rw (c.pool_count-pool.ensures, c.deref-2.ensures, c.buffer-buffer.ensures) refl) c.push.ensures.small _
           c.self.invariant.1,
     )

@@ -6,25 +6,22 @@ use Rattle.plain_board.proofs.contents.Contents.abandon.Goals as goal
 
 pub lower-requires-clause-there : goal.lower-requires-clause-there
 lower-requires-clause-there c =
-    let within = rw (← c.self.view_is) at c.requires.app in
-    let out = rw (← c.self.view_is) at c.requires.out in
-    let here = here-of _ c.args.app c.self.invariant.0 within in
-    rw (c.user_index-user.ensures, c.place-place.ensures) (loan-there _ c.args.app _ c.args.loan c.self.invariant.0 here out)
+    let asked = rw (← c.self.view_is) at c.requires in
+    let here = here-of _ c.args.app c.self.invariant.0 asked.app in
+    rw (c.user_index-user.ensures, c.place-place.ensures) (loan-there _ c.args.app _ c.args.loan c.self.invariant.0 here asked.out)
 
 pub lower-requires-clause-some : goal.lower-requires-clause-some
 lower-requires-clause-some c =
-    let within = rw (← c.self.view_is) at c.requires.app in
-    let out = rw (← c.self.view_is) at c.requires.out in
-    let here = here-of _ c.args.app c.self.invariant.0 within in
-    rw (c.user_index-user.ensures, c.place-place.ensures) (loan-counted _ c.args.app _ c.args.loan c.self.invariant.0 here out)
+    let asked = rw (← c.self.view_is) at c.requires in
+    let here = here-of _ c.args.app c.self.invariant.0 asked.app in
+    rw (c.user_index-user.ensures, c.place-place.ensures) (loan-counted _ c.args.app _ c.args.loan c.self.invariant.0 here asked.out)
 
 pub invariant_of-self : goal.invariant_of-self
 invariant_of-self c =
-    let within = rw (← c.self.view_is) at c.requires.app in
-    let out = rw (← c.self.view_is) at c.requires.out in
-    let here = here-of _ c.args.app c.self.invariant.0 within in
+    let asked = rw (← c.self.view_is) at c.requires in
+    let here = here-of _ c.args.app c.self.invariant.0 asked.app in
     rw (c.note_at.ensures, c.lower.ensures.counts, c.user_index-user.ensures, c.place-place.ensures)
-    (IsSound-abandoned _ c.args.app _ c.args.loan c.self.invariant.0 here out _ refl, c.self.invariant.1)
+    (IsSound-abandoned _ c.args.app _ c.args.loan c.self.invariant.0 here asked.out _ refl, c.self.invariant.1)
 
 pub returns-clause-others : goal.returns-clause-others
 returns-clause-others c = rw (← c.self.view_is, c.note_at.ensures) (others-then c.self.inside.nic c.self.inside.apps.items c.args.app _)

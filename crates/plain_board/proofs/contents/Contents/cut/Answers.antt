@@ -7,38 +7,32 @@ use Rattle.plain_board.proofs.contents.Contents.cut.Goals as goal
 
 pub raise-requires-clause-there : goal.raise-requires-clause-there
 raise-requires-clause-there c =
-    let within = rw (← c.self.view_is) at c.requires.app in
-    let here = here-of _ c.args.app c.self.invariant.0 within in
-    let out = rw (← c.self.view_is) at c.requires.out in
-    rw c.place-place.ensures (there-pool _ c.args.app _ c.args.held c.self.invariant.0 here out)
+    let asked = rw (← c.self.view_is) at c.requires in
+    let here = here-of _ c.args.app c.self.invariant.0 asked.app in
+    rw c.place-place.ensures (there-pool _ c.args.app _ c.args.held c.self.invariant.0 here asked.out)
 
 pub raise-requires-clause-fits : goal.raise-requires-clause-fits
 raise-requires-clause-fits c =
-    let within = rw (← c.self.view_is) at c.requires.app in
-    let here = here-of _ c.args.app c.self.invariant.0 within in
-    let out = rw (← c.self.view_is) at c.requires.out in
-    rw c.place-place.ensures (omega (arith, held-few _ c.args.app _ c.args.held c.self.invariant.0 here out))
+    let asked = rw (← c.self.view_is) at c.requires in
+    let here = here-of _ c.args.app c.self.invariant.0 asked.app in
+    rw c.place-place.ensures (omega (arith, held-few _ c.args.app _ c.args.held c.self.invariant.0 here asked.out))
 
 pub overflow_add-rest : goal.overflow_add-rest
 overflow_add-rest c =
-    let within = rw (← c.self.view_is) at c.requires.app in
-    let here = here-of _ c.args.app c.self.invariant.0 within in
-    let out = rw (← c.self.view_is) at c.requires.out in
-    rw c.place-place.ensures (omega (arith, held-ends _ c.args.app _ c.args.held c.self.invariant.0 here out))
+    let asked = rw (← c.self.view_is) at c.requires in
+    let here = here-of _ c.args.app c.self.invariant.0 asked.app in
+    rw c.place-place.ensures (omega (arith, held-ends _ c.args.app _ c.args.held c.self.invariant.0 here asked.out))
 
 pub invariant_of-self : goal.invariant_of-self
 invariant_of-self c =
-    let within = rw (← c.self.view_is) at c.requires.app in
-    let here = here-of _ c.args.app c.self.invariant.0 within in
-    let stays = rw (← c.self.view_is) at c.requires.here in
-    let out = rw (← c.self.view_is) at c.requires.out in
+    let asked = rw (← c.self.view_is) at c.requires in
+    let here = here-of _ c.args.app c.self.invariant.0 asked.app in
     rw (c.note_at.ensures, c.raise.ensures, c.place-place.ensures)
-    (IsSound-cut _ c.args.app _ c.args.held c.args.at c.self.invariant.0 here stays out c.requires.front c.requires.rest, c.self.invariant.1)
+    (IsSound-cut _ c.args.app _ c.args.held c.args.at c.self.invariant.0 here asked.here asked.out c.requires.front c.requires.rest, c.self.invariant.1)
 
 pub returns-clause-view : goal.returns-clause-view
 returns-clause-view c =
-    let within = rw (← c.self.view_is) at c.requires.app in
-    let here = here-of _ c.args.app c.self.invariant.0 within in
+    let here = here-of _ c.args.app c.self.invariant.0 (rw (← c.self.view_is) at c.requires.app) in
     rw (← c.self.view_is, c.note_at.ensures, side-then c.self.inside.apps.items c.args.app _ _ here, c.place-place.ensures)
 
 pub returns-clause-others : goal.returns-clause-others

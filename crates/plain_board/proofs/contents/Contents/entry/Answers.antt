@@ -3,14 +3,13 @@ use Rattle.std.proofs.Common.{◌≡◌, ℕ, ◌<◌, refl, ap, sym, ◌∙◌,
 use Rattle.board_face.proofs.LookLemmas.{NicRose-nic_saw}
 use Rattle.board_face.specs.declared.views.nic.NicLook.TheVariants.{RingEmpty}
 use Rattle.area_layout.specs.Layout.{judged, pool_buffers}
-use Rattle.board_face.specs.Blank.{blank_app}
 use Rattle.std.specs.Prelude.{◌==◌, ◌&&◌, nat_lt, Bool, true, false}
 use Rattle.std.proofs.Common.{◌≤◌, ⊎_elim}
 use Rattle.std.proofs.lemmas.Bool.{ltb-true, lt-ltb, cases_lt}
+use Rattle.plain_board.proofs.AppFrames.{here-of}
 use Rattle.plain_board.proofs.Card.{within-setting}
 use Rattle.plain_board.proofs.Freeing.{and-right}
 use Rattle.plain_board.proofs.Still.{IsSound-saw}
-use Rattle.board_face.proofs.SideLemmas.{IsApp-at}
 use Rattle.plain_board.proofs.Popping.{front-some, front-none, rings-same}
 use Rattle.plain_board.proofs.Straying.{IsSound-passed_over, PassedOver-passed_over}
 use Rattle.plain_board.proofs.Honouring.{is_held, owes_one, IsSound-honoured, came-zero, came-pool, came-code, FreedEntry-honoured, HonouredEntry-honoured}
@@ -52,8 +51,7 @@ returns-in_default-clause-told c =
 pub invariant_of-self-in_default-owed_buffer : goal.invariant_of-self-in_default-owed_buffer
 invariant_of-self-in_default-owed_buffer c =
     let sound = c.self.invariant.0 in
-    let few = within-setting _ _ c.self.invariant.0 (rw (← c.self.view_is) at c.requires) in
-    let here = IsApp-at c.self.inside.apps.items c.args.app blank_app sound.set.numbers (let many = sound.set.many in omega arith) in
+    let here = here-of _ c.args.app sound (within-setting _ _ c.self.invariant.0 (rw (← c.self.view_is) at c.requires)) in
     let found = front-some _ c.in-Some.entry (sym c.take_front.ensures.front ∙ c.in-Some.is) in
     let none = rw c.as_slice.ensures.value at c.in_default-owed_buffer.ensures in
     rw (c.note-in_default-owed_buffer.ensures, c.take_front.ensures.rings, c.lower_if_some.ensures)
@@ -82,8 +80,7 @@ returns-in_default-owed_buffer-clause-judged c = λ some.
 pub lower-left-requires-clause-some : goal.lower-left-requires-clause-some
 lower-left-requires-clause-some c =
     let sound = c.self.invariant.0 in
-    let few = within-setting _ _ c.self.invariant.0 (rw (← c.self.view_is) at c.requires) in
-    let here = IsApp-at c.self.inside.apps.items c.args.app blank_app sound.set.numbers (let many = sound.set.many in omega arith) in
+    let here = here-of _ c.args.app sound (within-setting _ _ c.self.invariant.0 (rw (← c.self.view_is) at c.requires)) in
     let found = front-some _ c.in-Some.entry (sym c.take_front.ensures.front ∙ c.in-Some.is) in
     let owed = rw c.as_slice.ensures.value at c.in-Some-owed_buffer.ensures in
     is_held _ c.args.app c.in-Some-owed_buffer.buffer _ c.in-Some.entry _ sound here found owed.0 owed.1 owed.2
@@ -91,8 +88,7 @@ lower-left-requires-clause-some c =
 pub invariant_of-self-2 : goal.invariant_of-self-2
 invariant_of-self-2 c =
     let sound = c.self.invariant.0 in
-    let few = within-setting _ _ c.self.invariant.0 (rw (← c.self.view_is) at c.requires) in
-    let here = IsApp-at c.self.inside.apps.items c.args.app blank_app sound.set.numbers (let many = sound.set.many in omega arith) in
+    let here = here-of _ c.args.app sound (within-setting _ _ c.self.invariant.0 (rw (← c.self.view_is) at c.requires)) in
     let found = front-some _ c.in-Some.entry (sym c.take_front.ensures.front ∙ c.in-Some.is) in
     let owed = rw c.as_slice.ensures.value at c.in-Some-owed_buffer.ensures in
     let b = c.in-Some-owed_buffer.buffer in
@@ -136,14 +132,13 @@ returns-clause-view c =
 pub returns-clause-told : goal.returns-clause-told
 returns-clause-told c =
     let sound = c.self.invariant.0 in
-    let few = within-setting _ _ c.self.invariant.0 (rw (← c.self.view_is) at c.requires) in
-    let here = IsApp-at c.self.inside.apps.items c.args.app blank_app sound.set.numbers (let many = sound.set.many in omega arith) in
+    let here = here-of _ c.args.app sound (within-setting _ _ c.self.invariant.0 (rw (← c.self.view_is) at c.requires)) in
     let found = front-some _ c.in-Some.entry (sym c.take_front.ensures.front ∙ c.in-Some.is) in
     let owed = rw c.as_slice.ensures.value at c.in-Some-owed_buffer.ensures in
     let i = c.in-Some-owed_buffer.buffer in
     let held = is_held _ c.args.app i _ c.in-Some.entry _ sound here found owed.0 owed.1 owed.2 in
     rw (← c.self.view_is, c.note-2.ensures) (NicTold-honoured _ sound c.args.app i c.lower-left.result c.in-Some.entry
-    (let many = sound.set.many in omega arith) owed.1 owed.2 held c.lower-left.ensures.left)
+    here.there owed.1 owed.2 held c.lower-left.ensures.left)
 
 pub returns-clause-judged : goal.returns-clause-judged
 returns-clause-judged c = λ some.
@@ -156,8 +151,7 @@ returns-clause-judged c = λ some.
 pub returns-clause-returned : goal.returns-clause-returned
 returns-clause-returned c =
     let sound = c.self.invariant.0 in
-    let few = within-setting _ _ c.self.invariant.0 (rw (← c.self.view_is) at c.requires) in
-    let here = IsApp-at c.self.inside.apps.items c.args.app blank_app sound.set.numbers (let many = sound.set.many in omega arith) in
+    let here = here-of _ c.args.app sound (within-setting _ _ c.self.invariant.0 (rw (← c.self.view_is) at c.requires)) in
     let found = front-some _ c.in-Some.entry (sym c.take_front.ensures.front ∙ c.in-Some.is) in
     let owed = rw c.as_slice.ensures.value at c.in-Some-owed_buffer.ensures in
     let one = owes_one _ c.args.app c.in-Some-owed_buffer.buffer _ c.in-Some.entry _ sound here found owed.0 owed.1 owed.2 in

@@ -32,10 +32,9 @@ filled_up-requires c =
 pub invariant_of-self : goal.invariant_of-self
 invariant_of-self c =
     let here = here-of _ c.args.app c.self.invariant.0 (rw (← c.self.view_is) at c.requires.app) in
-    let out = rw (← c.self.view_is) at c.requires.out in
-    let stays = rw (← c.self.view_is) at c.requires.here in
+    let asked = rw (← c.self.view_is) at c.requires in
     rw (c.note_at.ensures, c.put.ensures, c.store.ensures, c.byte_of-at.ensures.value, c.filling_of-filling.ensures) (
-      IsSound-filled _ c.args.app _ c.args.own.now c.self.invariant.0 here out c.args.bytes.now c.requires.empty c.requires.few stays c.requires.some,
+      IsSound-filled _ c.args.app _ c.args.own.now c.self.invariant.0 here asked.out c.args.bytes.now c.requires.empty c.requires.few asked.here c.requires.some,
       c.self.invariant.1,
     )
 

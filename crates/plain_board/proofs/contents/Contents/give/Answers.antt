@@ -11,35 +11,30 @@ use Rattle.plain_board.proofs.contents.Contents.give.Goals as goal
 
 pub off_of-requires : goal.off_of-requires
 off_of-requires c =
-    let within = rw (← c.self.view_is) at c.requires.app in
-    let out = rw (← c.self.view_is) at c.requires.out in
-    let here = here-of _ c.args.app c.self.invariant.0 within in
-    rw c.place-place.ensures (lies _ c.args.app _ c.args.loan c.self.invariant.0 here out)
+    let asked = rw (← c.self.view_is) at c.requires in
+    let here = here-of _ c.args.app c.self.invariant.0 asked.app in
+    rw c.place-place.ensures (lies _ c.args.app _ c.args.loan c.self.invariant.0 here asked.out)
 
 pub lower-requires-clause-there : goal.lower-requires-clause-there
 lower-requires-clause-there c =
-    let within = rw (← c.self.view_is) at c.requires.app in
-    let out = rw (← c.self.view_is) at c.requires.out in
-    let here = here-of _ c.args.app c.self.invariant.0 within in
-    rw (c.user_index-user.ensures, c.place-place.ensures) (loan-there _ c.args.app _ c.args.loan c.self.invariant.0 here out)
+    let asked = rw (← c.self.view_is) at c.requires in
+    let here = here-of _ c.args.app c.self.invariant.0 asked.app in
+    rw (c.user_index-user.ensures, c.place-place.ensures) (loan-there _ c.args.app _ c.args.loan c.self.invariant.0 here asked.out)
 
 pub lower-requires-clause-some : goal.lower-requires-clause-some
 lower-requires-clause-some c =
-    let within = rw (← c.self.view_is) at c.requires.app in
-    let out = rw (← c.self.view_is) at c.requires.out in
-    let here = here-of _ c.args.app c.self.invariant.0 within in
-    rw (c.user_index-user.ensures, c.place-place.ensures) (loan-counted _ c.args.app _ c.args.loan c.self.invariant.0 here out)
+    let asked = rw (← c.self.view_is) at c.requires in
+    let here = here-of _ c.args.app c.self.invariant.0 asked.app in
+    rw (c.user_index-user.ensures, c.place-place.ensures) (loan-counted _ c.args.app _ c.args.loan c.self.invariant.0 here asked.out)
 
 pub invariant_of-self : goal.invariant_of-self
 invariant_of-self c =
-    let within = rw (← c.self.view_is) at c.requires.app in
-    let here = here-of _ c.args.app c.self.invariant.0 within in
+    let here = here-of _ c.args.app c.self.invariant.0 (rw (← c.self.view_is) at c.requires.app) in
     rw (c.note_at.ensures, c.if-not-put_back.ensures.slots.0) (IsSound-looked _ c.args.app _ RefillInUse c.self.invariant.0 here, c.self.invariant.1)
 
 pub returns-then-not-put_back-clause-told : goal.returns-then-not-put_back-clause-told
 returns-then-not-put_back-clause-told c =
-    let within = rw (← c.self.view_is) at c.requires.app in
-    let here = here-of _ c.args.app c.self.invariant.0 within in
+    let here = here-of _ c.args.app c.self.invariant.0 (rw (← c.self.view_is) at c.requires.app) in
     rw (← c.self.view_is, c.note_at.ensures, side-then c.self.inside.apps.items c.args.app _ _ here)
     (told-in_use _ c.args.app _ c.self.invariant.0 here c.if-not-put_back.ensures.slots.1)
 
@@ -48,9 +43,8 @@ returns-then-not-put_back-clause-others c = rw (← c.self.view_is, c.note_at.en
 
 pub invariant_of-self-2 : goal.invariant_of-self-2
 invariant_of-self-2 c =
-    let within = rw (← c.self.view_is) at c.requires.app in
-    let out = rw (← c.self.view_is) at c.requires.out in
-    let here = here-of _ c.args.app c.self.invariant.0 within in
+    let asked = rw (← c.self.view_is) at c.requires in
+    let here = here-of _ c.args.app c.self.invariant.0 asked.app in
     rw (
       c.note_at-2.ensures,
       c.lower.ensures.counts,
@@ -59,7 +53,7 @@ invariant_of-self-2 c =
       c.off_of.ensures.value,
       c.place-place.ensures,
     ) (
-      IsSound-gave _ c.args.app _ c.args.loan c.self.invariant.0 here out _ _ (same-entry _ c.args.app _ c.args.loan c.self.invariant.0 here out) refl
+      IsSound-gave _ c.args.app _ c.args.loan c.self.invariant.0 here asked.out _ _ (same-entry _ c.args.app _ c.args.loan c.self.invariant.0 here asked.out) refl
           (c.if-not-put_back.ensures.room refl),
       c.self.invariant.1,
     )

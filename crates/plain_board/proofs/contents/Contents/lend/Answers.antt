@@ -7,44 +7,38 @@ use Rattle.plain_board.proofs.contents.Contents.lend.Goals as goal
 
 pub raise-requires-clause-there : goal.raise-requires-clause-there
 raise-requires-clause-there c =
-    let within = rw (← c.self.view_is) at c.requires.app in
-    let out = rw (← c.self.view_is) at c.requires.out in
-    let here = here-of _ c.args.app c.self.invariant.0 within in
+    let asked = rw (← c.self.view_is) at c.requires in
+    let here = here-of _ c.args.app c.self.invariant.0 asked.app in
     rw (c.user_index-user.ensures, c.place-place.ensures) (user-there _ c.args.app _ c.args.held.buffer c.self.invariant.0 here
-    (held-within _ c.args.app _ c.args.held c.self.invariant.0 here out))
+    (held-within _ c.args.app _ c.args.held c.self.invariant.0 here asked.out))
 
 pub raise-requires-clause-fits : goal.raise-requires-clause-fits
 raise-requires-clause-fits c =
-    let within = rw (← c.self.view_is) at c.requires.app in
-    let out = rw (← c.self.view_is) at c.requires.out in
-    let here = here-of _ c.args.app c.self.invariant.0 within in
+    let asked = rw (← c.self.view_is) at c.requires in
+    let here = here-of _ c.args.app c.self.invariant.0 asked.app in
     rw (c.user_index-user.ensures, c.place-place.ensures) (user-few _ c.args.app _ c.args.held.buffer c.self.invariant.0 here
-    (held-within _ c.args.app _ c.args.held c.self.invariant.0 here out))
+    (held-within _ c.args.app _ c.args.held c.self.invariant.0 here asked.out))
 
 pub raise-requires-2-clause-there : goal.raise-requires-2-clause-there
 raise-requires-2-clause-there c =
-    let within = rw (← c.self.view_is) at c.requires.app in
-    let out = rw (← c.self.view_is) at c.requires.out in
-    let here = here-of _ c.args.app c.self.invariant.0 within in
+    let asked = rw (← c.self.view_is) at c.requires in
+    let here = here-of _ c.args.app c.self.invariant.0 asked.app in
     rw (c.user_index-user.ensures, c.place-place.ensures) (loan-there _ c.args.app _ c.args.held.buffer c.self.invariant.0 here
-    (held-within _ c.args.app _ c.args.held c.self.invariant.0 here out))
+    (held-within _ c.args.app _ c.args.held c.self.invariant.0 here asked.out))
 
 pub raise-requires-2-clause-fits : goal.raise-requires-2-clause-fits
 raise-requires-2-clause-fits c =
-    let within = rw (← c.self.view_is) at c.requires.app in
-    let out = rw (← c.self.view_is) at c.requires.out in
-    let here = here-of _ c.args.app c.self.invariant.0 within in
+    let asked = rw (← c.self.view_is) at c.requires in
+    let here = here-of _ c.args.app c.self.invariant.0 asked.app in
     rw (c.user_index-user.ensures, c.place-place.ensures) (loan-few _ c.args.app _ c.args.held.buffer c.self.invariant.0 here
-    (held-within _ c.args.app _ c.args.held c.self.invariant.0 here out))
+    (held-within _ c.args.app _ c.args.held c.self.invariant.0 here asked.out))
 
 pub invariant_of-self : goal.invariant_of-self
 invariant_of-self c =
-    let within = rw (← c.self.view_is) at c.requires.app in
-    let out = rw (← c.self.view_is) at c.requires.out in
-    let can = rw (← c.self.view_is) at c.requires.can in
-    let here = here-of _ c.args.app c.self.invariant.0 within in
+    let asked = rw (← c.self.view_is) at c.requires in
+    let here = here-of _ c.args.app c.self.invariant.0 asked.app in
     rw (c.note_at.ensures, c.raise.ensures, c.raise-2.ensures, c.user_index-user.ensures, c.place-place.ensures)
-    (IsSound-lent _ c.args.app _ c.args.held c.self.invariant.0 here out can _ _ refl refl, c.self.invariant.1)
+    (IsSound-lent _ c.args.app _ c.args.held c.self.invariant.0 here asked.out asked.can _ _ refl refl, c.self.invariant.1)
 
 pub returns-clause-others : goal.returns-clause-others
 returns-clause-others c = rw (← c.self.view_is, c.note_at.ensures) (others-then c.self.inside.nic c.self.inside.apps.items c.args.app _)

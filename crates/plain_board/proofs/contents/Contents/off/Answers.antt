@@ -6,8 +6,7 @@ use Rattle.plain_board.proofs.contents.Contents.off.Goals as goal
 
 pub off_of-requires : goal.off_of-requires
 off_of-requires c =
-    let app = rw (← c.self.view_is) at c.requires.app in
-    let here = here-of _ c.args.app c.self.invariant.0 app in
-    let out = rw (← c.self.view_is) at c.requires.out in
+    let asked = rw (← c.self.view_is) at c.requires in
+    let here = here-of _ c.args.app c.self.invariant.0 asked.app in
     ⊎_elim (λ held. (held-lies _ c.args.app _ c.self.invariant.0 here c.args.p.now held).0)
-    (λ loan. (loan-lies _ c.args.app _ c.self.invariant.0 here c.args.p.now loan).0) out
+    (λ loan. (loan-lies _ c.args.app _ c.self.invariant.0 here c.args.p.now loan).0) asked.out

@@ -19,7 +19,6 @@ raise-requires-clause-fits c =
 
 pub invariant_of-self : goal.invariant_of-self
 invariant_of-self c =
-    let out = rw (← c.self.view_is) at c.requires.out in
-    let running = rw (← c.self.view_is) at c.requires.open in
+    let asked = rw (← c.self.view_is) at c.requires in
     rw (c.note.ensures, c.store.ensures, c.raise.ensures, c.byte_of-at.ensures.value, c.filling_of-filling.ensures)
-    (IsSound-placed _ c.args.own.now c.args.bytes.now c.self.invariant.0 out c.requires.fits running c.requires.some, c.self.invariant.1)
+    (IsSound-placed _ c.args.own.now c.args.bytes.now c.self.invariant.0 asked.out c.requires.fits asked.open c.requires.some, c.self.invariant.1)

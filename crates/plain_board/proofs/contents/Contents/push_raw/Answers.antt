@@ -24,12 +24,11 @@ returns-then-not-put_back-clause-others c = rw (← c.self.view_is, c.note_at.en
 pub invariant_of-self-2 : goal.invariant_of-self-2
 invariant_of-self-2 c =
     let here = here-of _ c.args.app c.self.invariant.0 (rw (← c.self.view_is) at c.requires.app) in
-    let idle = rw (← c.self.view_is) at c.requires.idle in
-    let counted = rw (← c.self.view_is) at c.requires.counted in
+    let asked = rw (← c.self.view_is) at c.requires in
     let many = ring-length _ c.args.app _ c.args.entry c.self.invariant.0 here _ _ _ c.if-not-put_back.ensures.slots c.index.ensures c.len-entries.ensures.len
     in
     rw (c.note_at-2.ensures, c.put.ensures, c.if-not-put_back.ensures.slots)
-    (IsSound-pushed _ c.args.app _ c.args.entry c.self.invariant.0 here idle counted (c.if-not-put_back.ensures.room refl) _ many, c.self.invariant.1)
+    (IsSound-pushed _ c.args.app _ c.args.entry c.self.invariant.0 here asked.idle asked.counted (c.if-not-put_back.ensures.room refl) _ many, c.self.invariant.1)
 
 pub returns-clause-others : goal.returns-clause-others
 returns-clause-others c = rw (← c.self.view_is, c.note_at-2.ensures) (others-then c.self.inside.nic c.self.inside.apps.items c.args.app _)

@@ -8,15 +8,13 @@ use Rattle.plain_board.proofs.contents.Contents.quiet.Goals as goal
 
 pub invariant_of-self : goal.invariant_of-self
 invariant_of-self c =
-    let within = rw (← c.self.view_is) at c.requires.app in
-    let here = here-of _ c.args.app c.self.invariant.0 within in
+    let here = here-of _ c.args.app c.self.invariant.0 (rw (← c.self.view_is) at c.requires.app) in
     let many = rw c.as_slice.ensures.value at c.ring_len-quiet.ensures in
     rw c.note_at.ensures (IsSound-quiet _ c.args.app _ c.self.invariant.0 here _ (ap (λ n. n == 0) many), c.self.invariant.1)
 
 pub returns-clause-told : goal.returns-clause-told
 returns-clause-told c =
-    let within = rw (← c.self.view_is) at c.requires.app in
-    let here = here-of _ c.args.app c.self.invariant.0 within in
+    let here = here-of _ c.args.app c.self.invariant.0 (rw (← c.self.view_is) at c.requires.app) in
     let many = rw c.as_slice.ensures.value at c.ring_len-quiet.ensures in
     rw (← c.self.view_is, c.note_at.ensures, side-then c.self.inside.apps.items c.args.app _ _ here)
     (told-quiet _ c.args.app _ c.self.invariant.0 here _ (ap (λ n. n == 0) many))
@@ -26,8 +24,7 @@ returns-clause-others c = rw (← c.self.view_is, c.note_at.ensures) (others-the
 
 pub returns-clause-some : goal.returns-clause-some
 returns-clause-some c = λ no.
-    let within = rw (← c.self.view_is) at c.requires.app in
-    let here = here-of _ c.args.app c.self.invariant.0 within in
+    let here = here-of _ c.args.app c.self.invariant.0 (rw (← c.self.view_is) at c.requires.app) in
     let many = rw c.as_slice.ensures.value at c.ring_len-quiet.ensures in
     rw (← c.self.view_is) (some-written _ c.args.app _ c.self.invariant.0 here (sym (ap (λ n. n == 0) many) ∙ no))
 

@@ -1,10 +1,9 @@
 -- Where the ring is full nothing moves. Else the note is the last on its way, and its piece only changes its kind.
 use Rattle.std.proofs.Common.{arith, refl}
 use Rattle.board_face.specs.declared.views.nic.NicLook.TheVariants.{NoteInUse}
-use Rattle.board_face.specs.Blank.{blank_app}
+use Rattle.plain_board.proofs.AppFrames.{here-of}
 use Rattle.plain_board.proofs.Card.{within-setting}
 use Rattle.plain_board.proofs.Still.{IsSound-saw}
-use Rattle.board_face.proofs.SideLemmas.{IsApp-at}
 use Rattle.plain_board.proofs.NotesSent.{IsSound-sent}
 use Rattle.plain_board.proofs.Seeing.{NicTold-full}
 use Rattle.plain_board.proofs.NotNow.{full-sent}
@@ -16,8 +15,7 @@ invariant_of-self c = rw (c.note.ensures, c.if-not-put_back.ensures.slots.0) (Is
 pub invariant_of-self-2 : goal.invariant_of-self-2
 invariant_of-self-2 c =
     let sound = c.self.invariant.0 in
-    let few = within-setting _ _ c.self.invariant.0 (rw (← c.self.view_is) at c.requires.app) in
-    let here = IsApp-at c.self.inside.apps.items c.args.app blank_app sound.set.numbers (let many = sound.set.many in omega arith) in
+    let here = here-of _ c.args.app sound (within-setting _ _ c.self.invariant.0 (rw (← c.self.view_is) at c.requires.app)) in
     let out = rw (← c.self.view_is, ← c.requires.place) at c.requires.out in
     let running = rw (← c.self.view_is) at c.requires.open in
     rw (c.note-2.ensures, c.if-not-put_back.ensures.slots) (

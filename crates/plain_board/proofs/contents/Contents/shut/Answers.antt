@@ -12,14 +12,13 @@ lower-last-requires-clause-some c =
 
 pub invariant_of-self : goal.invariant_of-self
 invariant_of-self c =
-    let out = rw (← c.self.view_is) at c.requires.out in
+    let asked = rw (← c.self.view_is) at c.requires in
     let left = rw c.buffer-buffer.ensures at c.lower-last.ensures.left in
     let last = ap (λ n. n == 0) left in
-    let running = rw (← c.self.view_is) at c.requires.open in
-    let sound = IsSound-shut _ c.args.own c.self.invariant.0 out running _ (c.lower-last.result == 0) refl
-    (came-zero _ c.args.own c.self.invariant.0 out (c.lower-last.result == 0) _ last) in
+    let sound = IsSound-shut _ c.args.own c.self.invariant.0 asked.out asked.open _ (c.lower-last.result == 0) refl
+    (came-zero _ c.args.own c.self.invariant.0 asked.out (c.lower-last.result == 0) _ last) in
     let free = rw c.buffer-buffer.ensures at c.came_free-free.ensures in
-    let came = free ∙ came-code _ c.args.own c.self.invariant.0 out (c.lower-last.result == 0) in
+    let came = free ∙ came-code _ c.args.own c.self.invariant.0 asked.out (c.lower-last.result == 0) in
     rw (c.note.ensures, c.free_if.ensures.cache, c.free_if.ensures.listed, c.lower-last.ensures.counts, c.buffer-buffer.ensures, came)
     (sound, c.self.invariant.1)
 

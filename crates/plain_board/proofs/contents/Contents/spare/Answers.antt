@@ -12,29 +12,25 @@ use Rattle.plain_board.proofs.contents.Contents.spare.Goals as goal
 
 pub invariant_of-self : goal.invariant_of-self
 invariant_of-self c =
-    let within = rw (← c.self.view_is) at c.requires.app in
-    let here = here-of _ c.args.app c.self.invariant.0 within in
+    let here = here-of _ c.args.app c.self.invariant.0 (rw (← c.self.view_is) at c.requires.app) in
     let none = c.in_default.ensures in
     rw (c.note_at.ensures, none.2) (IsSound-looked _ c.args.app _ NoSpare c.self.invariant.0 here, c.self.invariant.1)
 
 pub returns-in_default-clause-view : goal.returns-in_default-clause-view
 returns-in_default-clause-view c =
-    let within = rw (← c.self.view_is) at c.requires.app in
-    let here = here-of _ c.args.app c.self.invariant.0 within in
+    let here = here-of _ c.args.app c.self.invariant.0 (rw (← c.self.view_is) at c.requires.app) in
     rw (← c.self.view_is, c.note_at.ensures, side-then c.self.inside.apps.items c.args.app _ _ here) (AppOnlySaw-spare _)
 
 pub returns-in_default-clause-told : goal.returns-in_default-clause-told
 returns-in_default-clause-told c =
-    let within = rw (← c.self.view_is) at c.requires.app in
-    let here = here-of _ c.args.app c.self.invariant.0 within in
+    let here = here-of _ c.args.app c.self.invariant.0 (rw (← c.self.view_is) at c.requires.app) in
     let none = rw (c.as_slice.ensures.value, c.buffers.ensures.value) at c.in_default.ensures in
     rw (← c.self.view_is, c.note_at.ensures, side-then c.self.inside.apps.items c.args.app _ _ here)
     (told-none _ c.args.app _ c.self.invariant.0 here none.0 none.1)
 
 pub returns-in_default-clause-held : goal.returns-in_default-clause-held
 returns-in_default-clause-held c =
-    let within = rw (← c.self.view_is) at c.requires.app in
-    let here = here-of _ c.args.app c.self.invariant.0 within in
+    let here = here-of _ c.args.app c.self.invariant.0 (rw (← c.self.view_is) at c.requires.app) in
     let none = rw (c.as_slice.ensures.value, c.buffers.ensures.value) at c.in_default.ensures in
     rw (← c.self.view_is) (used-reserve _ c.args.app _ c.self.invariant.0 here none.1)
 
@@ -45,15 +41,13 @@ returns-in_default-clause-others c = rw (← c.self.view_is, c.note_at.ensures) 
 
 pub raise-requires-clause-there : goal.raise-requires-clause-there
 raise-requires-clause-there c =
-    let within = rw (← c.self.view_is) at c.requires.app in
-    let here = here-of _ c.args.app c.self.invariant.0 within in
+    let here = here-of _ c.args.app c.self.invariant.0 (rw (← c.self.view_is) at c.requires.app) in
     let picked = rw (c.as_slice.ensures.value, c.buffers.ensures.value) at c.in-Some.ensures in
     there-pool _ c.args.app c.in-Some.buffer _ c.self.invariant.0 (is_unheld _ c.args.app c.in-Some.buffer _ _ c.self.invariant.0 here picked)
 
 pub raise-requires-clause-fits : goal.raise-requires-clause-fits
 raise-requires-clause-fits c =
-    let within = rw (← c.self.view_is) at c.requires.app in
-    let here = here-of _ c.args.app c.self.invariant.0 within in
+    let here = here-of _ c.args.app c.self.invariant.0 (rw (← c.self.view_is) at c.requires.app) in
     let picked = rw (c.as_slice.ensures.value, c.buffers.ensures.value) at c.in-Some.ensures in
     omega (arith, none-count _ c.args.app c.in-Some.buffer _ c.self.invariant.0 (is_unheld _ c.args.app c.in-Some.buffer _ _ c.self.invariant.0 here picked))
 
@@ -63,44 +57,37 @@ new-requires c = rw c.size_of-size.ensures.value (FitsBuffer-fresh
 
 pub invariant_of-self-2 : goal.invariant_of-self-2
 invariant_of-self-2 c =
-    let within = rw (← c.self.view_is) at c.requires.app in
-    let here = here-of _ c.args.app c.self.invariant.0 within in
-    let stays = rw (← c.self.view_is) at c.requires.here in
-    let due = rw (← c.self.view_is) at c.requires.due in
+    let asked = rw (← c.self.view_is) at c.requires in
+    let here = here-of _ c.args.app c.self.invariant.0 asked.app in
     let picked = rw (c.as_slice.ensures.value, c.buffers.ensures.value) at c.in-Some.ensures in
     let free = is_unheld _ c.args.app c.in-Some.buffer _ _ c.self.invariant.0 here picked in
     rw (c.note_at-2.ensures, c.put.ensures, c.raise.ensures)
-    (IsSound-got_spare _ c.args.app c.in-Some.buffer _ _ c.self.invariant.0 here stays due free, c.self.invariant.1)
+    (IsSound-got_spare _ c.args.app c.in-Some.buffer _ _ c.self.invariant.0 here asked.here asked.due free, c.self.invariant.1)
 
 pub returns-clause-view : goal.returns-clause-view
 returns-clause-view c =
-    let within = rw (← c.self.view_is) at c.requires.app in
-    let here = here-of _ c.args.app c.self.invariant.0 within in
-    let stays = rw (← c.self.view_is) at c.requires.here in
-    let due = rw (← c.self.view_is) at c.requires.due in
+    let asked = rw (← c.self.view_is) at c.requires in
+    let here = here-of _ c.args.app c.self.invariant.0 asked.app in
     let picked = rw (c.as_slice.ensures.value, c.buffers.ensures.value) at c.in-Some.ensures in
     let free = is_unheld _ c.args.app c.in-Some.buffer _ _ c.self.invariant.0 here picked in
     rw (← c.self.view_is, c.note_at-2.ensures, side-then c.self.inside.apps.items c.args.app _ _ here, c.new.ensures)
-    (GotSpare-got _ c.args.app c.in-Some.buffer _ _ c.self.invariant.0 here stays due free _ c.size_of-size.ensures.value)
+    (GotSpare-got _ c.args.app c.in-Some.buffer _ _ c.self.invariant.0 here asked.here asked.due free _ c.size_of-size.ensures.value)
 
 pub returns-clause-told : goal.returns-clause-told
 returns-clause-told c =
-    let within = rw (← c.self.view_is) at c.requires.app in
-    let here = here-of _ c.args.app c.self.invariant.0 within in
-    let stays = rw (← c.self.view_is) at c.requires.here in
-    let due = rw (← c.self.view_is) at c.requires.due in
+    let asked = rw (← c.self.view_is) at c.requires in
+    let here = here-of _ c.args.app c.self.invariant.0 asked.app in
     let picked = rw (c.as_slice.ensures.value, c.buffers.ensures.value) at c.in-Some.ensures in
     let free = is_unheld _ c.args.app c.in-Some.buffer _ _ c.self.invariant.0 here picked in
     rw (← c.self.view_is, c.note_at-2.ensures, side-then c.self.inside.apps.items c.args.app _ _ here)
-    (told-got _ c.args.app c.in-Some.buffer _ _ c.self.invariant.0 here stays due free)
+    (told-got _ c.args.app c.in-Some.buffer _ _ c.self.invariant.0 here asked.here asked.due free)
 
 pub returns-clause-others : goal.returns-clause-others
 returns-clause-others c = rw (← c.self.view_is, c.note_at-2.ensures) (others-then c.self.inside.nic c.self.inside.apps.items c.args.app _)
 
 pub returns-clause-lowest : goal.returns-clause-lowest
 returns-clause-lowest c =
-    let within = rw (← c.self.view_is) at c.requires.app in
-    let here = here-of _ c.args.app c.self.invariant.0 within in
+    let here = here-of _ c.args.app c.self.invariant.0 (rw (← c.self.view_is) at c.requires.app) in
     let picked = rw (c.as_slice.ensures.value, c.buffers.ensures.value) at c.in-Some.ensures in
     rw (← c.self.view_is, c.new.ensures) (found-lowest _ c.args.app _ c.self.invariant.0 here c.in-Some.buffer _ picked)
 
@@ -116,7 +103,6 @@ returns-clause-inside c =
 
 pub returns-clause-unheld : goal.returns-clause-unheld
 returns-clause-unheld c =
-    let within = rw (← c.self.view_is) at c.requires.app in
-    let here = here-of _ c.args.app c.self.invariant.0 within in
+    let here = here-of _ c.args.app c.self.invariant.0 (rw (← c.self.view_is) at c.requires.app) in
     let picked = rw (c.as_slice.ensures.value, c.buffers.ensures.value) at c.in-Some.ensures in
     rw (← c.self.view_is, c.new.ensures) (is_unheld _ c.args.app c.in-Some.buffer _ _ c.self.invariant.0 here picked).none

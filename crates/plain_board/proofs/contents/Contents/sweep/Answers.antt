@@ -10,12 +10,11 @@ seam cache cache' found now e is = rw (is, ← e) (drop-append_seam cache found)
 
 pub invariant_of-self : goal.invariant_of-self
 invariant_of-self c =
-    let inside = rw (← c.self.view_is) at c.requires.word in
-    let room = rw (← c.self.view_is) at c.requires.room in
+    let asked = rw (← c.self.view_is) at c.requires in
     let moved = c.move_word-count.ensures in
     let cached = c.self.invariant.0.cached in
-    let sound = IsSound-swept _ c.args.word c.self.invariant.0 inside c.move_word-count.new.listed.items
-    (omega (arith, room, ap length cached)) moved.len moved.taken moved.others in
+    let sound = IsSound-swept _ c.args.word c.self.invariant.0 asked.word c.move_word-count.new.listed.items
+    (omega (arith, asked.room, ap length cached)) moved.len moved.taken moved.others in
     let found = seam _ _ _ _ cached moved.cache in
     rw (c.note.ensures, found, moved.cache) (sound, c.self.invariant.1)
 
@@ -29,11 +28,10 @@ returns-clause-view c =
 
 pub returns-clause-bound : goal.returns-clause-bound
 returns-clause-bound c =
-    let inside = rw (← c.self.view_is) at c.requires.word in
-    let room = rw (← c.self.view_is) at c.requires.room in
+    let asked = rw (← c.self.view_is) at c.requires in
     let moved = c.move_word-count.ensures in
     let cached = c.self.invariant.0.cached in
-    let sound = IsSound-swept _ c.args.word c.self.invariant.0 inside c.move_word-count.new.listed.items
-    (omega (arith, room, ap length cached)) moved.len moved.taken moved.others in
+    let sound = IsSound-swept _ c.args.word c.self.invariant.0 asked.word c.move_word-count.new.listed.items
+    (omega (arith, asked.room, ap length cached)) moved.len moved.taken moved.others in
     let found = seam _ _ _ _ cached moved.cache in
     rw (c.note.ensures, found) (lost-bound _ sound)

@@ -7,6 +7,5 @@ use Rattle.plain_board.proofs.nic.PlainNicNicFace.end.Goals as goal
 pub invariant_of-self : goal.invariant_of-self
 invariant_of-self c =
     let old = c.self.inside.board.value.contents in
-    let done = rw c.deref_mut.ensures.value at c.end.ensures.view in
-    let apps = rw c.deref_mut.ensures.value at c.end.ensures.apps in
-    rw c.deref_mut.ensures.value (card-keeps old c.end.new.self _ done apps (card-unlogged.end (sides_of old)) _ c.self.invariant)
+    let said = rw c.deref_mut.ensures.value at c.end.ensures in
+    rw c.deref_mut.ensures.value (card-keeps old c.end.new.self _ said.view said.apps (card-unlogged.end (sides_of old)) _ c.self.invariant)

@@ -1,5 +1,5 @@
 -- A return is logged with the counts that it leaves, a stray as one, and that nothing was there isn't.
-use Rattle.std.proofs.Common.{refl, arith}
+use Rattle.std.proofs.Common.{refl}
 use Rattle.board_face.specs.Laws.{pool_of, user_of}
 use Rattle.board_face.specs.NicEvents.{gave_up, honoured, passed_over, nic_saw}
 use Rattle.board_face.specs.declared.views.nic.NicLook.TheVariants.{RingEmpty}
@@ -7,8 +7,7 @@ use Rattle.run_records.specs.declared.event.Event.TheVariants as event
 use Rattle.event_log.proofs.CardLaws.{honoured-law, passed_over-law, card-unlogged}
 use Rattle.plain_board.specs.Stand.{sides_of}
 use Rattle.plain_board.proofs.Logging.{sides-sound, nic-by, only-looked, card-logs, card-keeps}
-use Rattle.board_face.specs.Blank.{blank_app}
-use Rattle.board_face.proofs.SideLemmas.{IsApp-at}
+use Rattle.plain_board.proofs.AppFrames.{here-of}
 use Rattle.plain_board.proofs.Card.{within-setting}
 use Rattle.plain_board.proofs.nic.PlainNicNicFace.entry.Goals as goal
 
@@ -18,8 +17,7 @@ invariant_of-self c =
     let new = c.entry-entry.new.self in
     let before = rw c.deref.ensures at c.sound.ensures in
     let after = rw c.deref-2.ensures at c.sound-2.ensures in
-    let few = within-setting _ _ before (rw (← c.self.view_is) at c.requires.app) in
-    let here = IsApp-at old.apps c.args.app blank_app before.set.numbers (let many = before.set.many in omega arith) in
+    let here = here-of old c.args.app before (within-setting _ _ before (rw (← c.self.view_is) at c.requires.app)) in
     let apps = rw c.deref_mut.ensures.value at c.entry-entry.ensures.apps in
     let b = c.in-Some.buffer in
     let gave = rw (c.deref_mut.ensures.value, c.in-Some.is) at c.entry-entry.ensures.returned in
@@ -40,8 +38,7 @@ invariant_of-self-in-Stray c =
     let new = c.entry-entry.new.self in
     let before = rw c.deref.ensures at c.sound.ensures in
     let after = rw c.deref-2.ensures at c.sound-2.ensures in
-    let few = within-setting _ _ before (rw (← c.self.view_is) at c.requires.app) in
-    let here = IsApp-at old.apps c.args.app blank_app before.set.numbers (let many = before.set.many in omega arith) in
+    let here = here-of old c.args.app before (within-setting _ _ before (rw (← c.self.view_is) at c.requires.app)) in
     let apps = rw c.deref_mut.ensures.value at c.entry-entry.ensures.apps in
     let past = rw (c.deref_mut.ensures.value, c.in-Stray.is) at c.entry-entry.ensures.view in
     let v = passed_over old.nic.view c.args.app past.entry in
@@ -56,12 +53,10 @@ invariant_of-self-in_default c =
     let new = c.entry-entry.new.self in
     let before = rw c.deref.ensures at c.sound.ensures in
     let after = rw c.deref-2.ensures at c.sound-2.ensures in
-    let few = within-setting _ _ before (rw (← c.self.view_is) at c.requires.app) in
-    let here = IsApp-at old.apps c.args.app blank_app before.set.numbers (let many = before.set.many in omega arith) in
-    let apps = rw c.deref_mut.ensures.value at c.entry-entry.ensures.apps in
+    let here = here-of old c.args.app before (within-setting _ _ before (rw (← c.self.view_is) at c.requires.app)) in
+    let said = rw c.deref_mut.ensures.value at c.entry-entry.ensures in
     let none = rw (c.deref_mut.ensures.value, c.in_default.is) at c.entry-entry.ensures.returned in
-    let view = rw c.deref_mut.ensures.value at c.entry-entry.ensures.view in
     let v = nic_saw old.nic.view (RingEmpty c.args.app) in
     rw c.deref_mut.ensures.value
-    (card-keeps old new v (nic-by old new v before after (only-looked _ _ c.args.app _ view none c.in_default-entry.not-Stray) refl) apps
+    (card-keeps old new v (nic-by old new v before after (only-looked _ _ c.args.app _ said.view none c.in_default-entry.not-Stray) refl) said.apps
     (card-unlogged.look (sides_of old) (RingEmpty c.args.app)) _ c.self.invariant)

@@ -8,9 +8,8 @@ use Rattle.plain_board.proofs.nic.PlainNicNicFace.left.Goals as goal
 pub invariant_of-self : goal.invariant_of-self
 invariant_of-self c =
     let old = c.self.inside.board.value.contents in
-    let view = rw c.deref_mut.ensures.value at c.left.ensures.view in
-    let apps = rw c.deref_mut.ensures.value at c.left.ensures.apps in
+    let said = rw c.deref_mut.ensures.value at c.left.ensures in
     rw c.deref_mut.ensures.value
-    (by-answer c.left.result view
-    (λ done. card-keeps old c.left.new.self _ done apps (card-unlogged.leave (sides_of old) c.args.app) _ c.self.invariant)
-    (λ done. card-keeps old c.left.new.self _ done apps (card-unlogged.look (sides_of old) (NotLeft c.args.app)) _ c.self.invariant))
+    (by-answer c.left.result said.view
+    (λ done. card-keeps old c.left.new.self _ done said.apps (card-unlogged.leave (sides_of old) c.args.app) _ c.self.invariant)
+    (λ done. card-keeps old c.left.new.self _ done said.apps (card-unlogged.look (sides_of old) (NotLeft c.args.app)) _ c.self.invariant))

@@ -12,8 +12,7 @@ invariant_of-self c =
     let new = c.sweep-count.new.self in
     let before = rw c.deref.ensures at c.sound.ensures in
     let after = rw c.deref-2.ensures at c.sound-2.ensures in
-    let done = rw c.deref_mut.ensures.value at c.sweep-count.ensures.view in
-    let apps = rw c.deref_mut.ensures.value at c.sweep-count.ensures.apps in
-    let v = swept old.nic.view c.args.word done.found in
+    let said = rw c.deref_mut.ensures.value at c.sweep-count.ensures in
+    let v = swept old.nic.view c.args.word said.view.found in
     rw c.deref_mut.ensures.value
-    (card-keeps old new v (nic-by old new v before after done.event refl) apps (card-unlogged.sweep (sides_of old) c.args.word done.found) _ c.self.invariant)
+    (card-keeps old new v (nic-by old new v before after said.view.event refl) said.apps (card-unlogged.sweep (sides_of old) c.args.word said.view.found) _ c.self.invariant)

@@ -15,11 +15,9 @@ invariant_of-self-2 c =
     let b = c.in_ok-own.own.buffer in
     let before = rw c.deref.ensures at c.sound.ensures in
     let after = rw c.deref-2.ensures at c.sound-2.ensures in
-    let got = rw c.deref_mut.ensures.value at c.in_ok-own.ensures.view in
-    let unheld = rw c.deref_mut.ensures.value at c.in_ok-own.ensures.unheld in
-    let apps = rw c.deref_mut.ensures.value at c.in_ok-own.ensures.apps in
+    let said = rw c.deref_mut.ensures.value at c.in_ok-own.ensures in
     let v = took old.nic.view b in
     rw (c.push.ensures.log, c.deref_mut-2.ensures.value, c.deref_mut.ensures.value)
-    (card-logs old new v (nic-by old new v before after got.event refl) apps (λ n. event.Take b (pool_of n b))
-    (took-law (sides_of old) (sides-sound old before) b got.of_pool unheld)
+    (card-logs old new v (nic-by old new v before after said.view.event refl) said.apps (λ n. event.Take b (pool_of n b))
+    (took-law (sides_of old) (sides-sound old before) b said.view.of_pool said.unheld)
     _ (rw (c.pool_count-pool.ensures, c.deref-3.ensures, c.buffer-buffer.ensures) refl) c.push.ensures.small _ c.self.invariant)
