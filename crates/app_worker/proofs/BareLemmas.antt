@@ -241,6 +241,7 @@ module _ (st : State) (old : AppView) (bare : Bare st old) (is_bare : st.bare â‰
         sound = common.sound;
         blocks = common.blocks;
         bound = common.bound;
+        gives_whole = common.gives_whole;
       };
       reaped = reaped;
       goes = record {

@@ -242,6 +242,7 @@ common-scrubbed st v quiet left common = record {
   sound = common.sound;
   blocks = common.blocks;
   bound = common.bound;
+  gives_whole = common.gives_whole;
 }
 
 -- it comes no less far by that

@@ -26,6 +26,7 @@ use Rattle.board_face.specs.declared.views.app.WrittenEntry.{WrittenEntry}
 use Rattle.app_worker.proofs.Moving.{strays-same, names-same}
 use Rattle.app_worker.proofs.Accounts.{sound-gone}
 use Rattle.app_worker.proofs.Origins.{origins-more, gone-origins}
+use Rattle.app_worker.proofs.ReadWhole.{given-all, gives-still}
 use Rattle.flow_queues.proofs.GivenBack.{gives-gone, gives-same, gives-count, front-gone}
 use Rattle.app_worker.proofs.Written.{blocks-moved}
 use Rattle.zr_kinds.specs.declared.place.Place.{Place}
@@ -336,6 +337,8 @@ gone-all was now old v1 v2 v3 new reaped not_yet pushed torn common first second
         strays = strays-same was.how.stray was.stray.left old new (ap (λ (v : AppView). v.written) view) common.strays;
         entries = subst (λ ws. total (λ (w : WrittenEntry). if w.of_loan then 1 else 0) ws ≤ length new.returned)
             (sym (ap (λ (v : AppView). v.written) view)) (omega (arith, common.entries, count));
+        gives_whole = gives-still old new reads
+            (front-gone old new more written setting behind torn.given ∙ sym (given-all old torn.given)) common.gives_whole;
         names = names-same was.stray old new (ap (λ (v : AppView). v.setting) view) common.names;
         sound = sound-gone old new (ap (λ (v : AppView). v.setting) view) torn.tokens.apart back common.sound;
         blocks = blocks-moved was.how.stray old new was.stray more (ap (λ (v : AppView). v.written) view) setting behind

@@ -4,6 +4,7 @@ pub mod StreamLemmas
 pub mod Accounts
 pub mod Written
 pub mod Origins
+pub mod ReadWhole
 pub mod Counts
 pub mod Moving
 pub mod Posting

@@ -34,6 +34,7 @@ use Rattle.flow_queues.proofs.Tokens.{is-released}
 use Rattle.flow_queues.proofs.Standing.{each-map}
 use Rattle.flow_queues.proofs.Took.{Took, is-took, taken_note, kept-tokens, set-last}
 use Rattle.app_worker.proofs.Oldest.{ends-of}
+use Rattle.app_worker.proofs.ReadWhole.{read-noted}
 use Rattle.flow_queues.proofs.Indexing.{index-set}
 use Rattle.flow_queues.proofs.Resting.{rest-all, rest-set, rest-push}
 use Rattle.flow_queues.proofs.Choosing.{Chosen, is-chosen, bytes-noted, total-noted, many-noted}
@@ -186,6 +187,8 @@ module _ (was : State) (old new : AppView) (t : TakenNote) (works : Working was 
             ));
             waits = works.waits;
             given = gives-taken;
+            read_whole = read-noted old new t (read_of was) (ap (λ (v : AppView). v.reads) view) (ap (λ (v : AppView). v.taken) view)
+                works.stands.due_lent works.read_whole;
             appended = omega (arith, ap (total lent_len) (ap (λ (v : AppView). v.returned) view), works.appended, bytes-in);
           };
           common = common-noted was old new t view-in notes i index now bytes-in few-in common;

@@ -45,6 +45,8 @@ use Rattle.app_worker.proofs.Moving.{abandons-same, lent-same}
 use Rattle.flow_queues.proofs.Indexing.{index-set}
 use Rattle.app_worker.proofs.Accounts.{sound-same}
 use Rattle.app_worker.proofs.Origins.{origins-same}
+use Rattle.app_worker.specs.ReadWhole.{IsReadWhole, AreReadWhole}
+use Rattle.app_worker.proofs.ReadWhole.{gives-more, read-more}
 use Rattle.flow_queues.specs.Entries.{Gives}
 use Rattle.flow_queues.proofs.GivenBack.{gives-same}
 use Rattle.app_worker.proofs.Written.{blocks-same}
@@ -237,6 +239,7 @@ module _ (was : State) (i : ℕ) (own : FlowQueue) (p : Completion × Lending) (
         leak_aside = leaked-aside was.leaked.items old new same_setting (ap (λ (v : AppView). v.app) only.view) common.leak_aside;
         strays = strays-same was.how.stray was.stray.left old new (ap (λ (v : AppView). v.written) only.view) common.strays;
         entries = entries-same old new (ap (λ (v : AppView). v.written) only.view) same_returned common.entries;
+        gives_whole = gives-more old new only common.gives_whole;
         names = names-same was.stray old new same_setting common.names;
         sound = sound-same old new same_returned same_setting common.sound;
         blocks = blocks-same was.how.stray old new was.stray (ap (λ (v : AppView). v.written) only.view) (ap (λ (v : AppView). v.setting) only.view)
@@ -378,13 +381,14 @@ module _ (was : State) (i : ℕ) (own : FlowQueue) (p : Completion × Lending) (
       (λ (none : ps ≡ []). subst (Each (LiesOutside (reserve_of old))) (sym (ap (λ xs. xs ++ was.posted.entries) none ∙ reaped)) tt)
       (flush_off off))
 
-  -- all of it was appended
-  pub oldest-read : (bytes written : ℕ) (kept kept_now : ℕ → Option (List ℕ)) → bytes ≡ own.bytes + p.1.loan.len
+  -- all of it was read and appended
+  pub oldest-read : (bytes written : ℕ) (kept kept_now : ℕ → Option (List ℕ)) → IsReadWhole new.reads (lent_piece old.taken p.1)
+      → bytes ≡ own.bytes + p.1.loan.len
       → written ≡ min (was.written + p.1.loan.len) (2 ^ 64 - 1) → Quits was.how.quit written was.stopped
       → Gained (kept own.number) (kept_now own.number) (λ read. IsReadOf old.taken new.reads p.1 p.1.loan.len p.1.loan.len read)
       → ((other : ℕ) → other ≢ own.number → Keeps (kept other) (kept_now other))
       → ReadOne was (with_read was i own bytes ps p.1 written flush) old new kept kept_now
-  oldest-read bytes written kept kept_now is count quits gained others =
+  oldest-read bytes written kept kept_now whole is count quits gained others =
       let later : FlowQueue = record own { bytes = own.bytes + p.1.loan.len } in
       let stands : Stands was.notes (at.before ++ later ∷ at.after) (ps ++ was.posted.entries)
       (p.1 ∷ was.leaked.items) new = stands-read was.notes at.before at.after own p
@@ -408,6 +412,10 @@ module _ (was : State) (i : ℕ) (own : FlowQueue) (p : Completion × Lending) (
               (omega (arith, some, aside-same old new same_returned same_setting (ap (λ (v : AppView). v.app) only.view)));
           waits = λ some. absurd (omega (arith, some, pushed));
           given = gives-read;
+          read_whole = (
+            subst (λ ts. IsReadWhole new.reads (lent_piece ts p.1)) (sym same_taken) whole,
+            read-more old new was.leaked.items only (subst (λ d. AreReadWhole old (read_out d was.leaked.items)) due works.read_whole),
+          );
           appended = omega (
             arith,
             ap (total lent_len) same_returned,

@@ -179,6 +179,7 @@ common-stopped st v cause none other common = record {
   sound = common.sound;
   blocks = common.blocks;
   bound = common.bound;
+  gives_whole = common.gives_whole;
 }
 
 pub moves-stopped : (was st : State) (old v : AppView) (cause : Stopped) → was.stopped ≡ stop.No → Moves was st old v

@@ -1,5 +1,6 @@
 pub use Rattle.flow_queues.specs.Marks
 pub use Rattle.flow_queues.specs.Core
+pub mod ReadWhole
 pub mod Steps
 pub mod State
 pub mod StateOf

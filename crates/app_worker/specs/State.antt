@@ -24,6 +24,7 @@ use Rattle.flow_queues.specs.Flows.{IsAtRest, RestBut, IsIndex}
 use Rattle.flow_queues.specs.Core.{unsplit_len, held_len}
 use Rattle.flow_queues.specs.Shelves.{FlowEnds}
 use Rattle.flow_queues.specs.Totals.{Quits, capped, lent_len, lent_bytes, loan_entries, raw_entries, taken_len}
+use Rattle.app_worker.specs.ReadWhole.{AreReadWhole, GivesWhole}
 
 pub record State : Type 0 where
   pub app : ℕ
@@ -104,6 +105,8 @@ pub record Working (st : State) (v : AppView) : Type 0 where
   pub waits : 0 < st.stray.left → st.due ≡ None
   -- each loan that it doesn't have any more was appended whole, as each that was read, and nothing else was
   pub appended : total lent_len v.returned + total loan_len (read_of st) ≡ total (λ f. f.bytes) st.flows
+  -- each that waits to be given back, or is kept to the end, was read whole
+  pub read_whole : AreReadWhole v (read_of st)
 
 -- ---- once it has stopped, or has read all
 
@@ -158,6 +161,8 @@ pub record Common (st : State) (v : AppView) : Type 0 where
   -- at most so many raw entries are written as may follow the loans that were given back
   pub strays : raw_entries v + st.stray.left ≤ st.how.stray * loan_entries v
   pub entries : loan_entries v ≤ length v.returned
+  -- only a loan that was read whole is given back by an entry, whatever stops it
+  pub gives_whole : GivesWhole v
   -- each loan that it doesn't have any more had a byte
   pub sound : odd_loans v.setting.layout v.returned ≡ 0
   -- each of these is the same as the entry of the loan that was given back last before it, and one is dropped only where a

@@ -8,6 +8,7 @@ ghost use Rattle.board_face.specs.AppCalls.{IsHere, IsLive, AppOnlySaw};
 ghost use Rattle.flow_queues.specs.Core.{LieApart, IsIn, lent_piece, OnlyReads, IsReadOf};
 ghost use Rattle.board_face.specs.AppEvents.{app_gist, pushed_raw};
 ghost use Rattle.board_face.specs.declared.views.app.AppLook.TheVariants.{RefillInUse};
+ghost use Rattle.app_worker.specs.ReadWhole.{IsReadUpTo};
 ghost use Rattle.app_worker.specs.Steps.{Given, KeptDue, NotKept, Pushes};
 
 use crate::stack::Stray;
@@ -45,6 +46,7 @@ pub fn read_loan<F: AppFace, T: Shelf>(
         (λ (read : List ℕ). IsReadOf (F.seen face.old).taken (F.seen face.new).reads lending.now (bytes.new - bytes.old) most read) }
     ensures exact { OnOk result (Gained (T.kept shelf.old flow) (T.kept shelf.new flow)
         (λ (read : List ℕ). IsReadOf (F.seen face.old).taken (F.seen face.new).reads lending.now most most read)) }
+    ensures through { OnOk result (IsReadUpTo (F.seen face.new).reads (lent_piece (F.seen face.old).taken lending.now) most) }
     ensures others { (other : ℕ) → other ≢ flow → Keeps (T.kept shelf.old other) (T.kept shelf.new other) }
     ensures later { T.faults shelf.old ≤ T.faults shelf.new }
     ensures still { OnOk result (T.faults shelf.new ≡ T.faults shelf.old) }

@@ -10,6 +10,8 @@ use Rattle.flow_queues.specs.declared.queues.Lending.{Lending}
 use Rattle.flow_queues.specs.Core.{IsIn, LieApart, lent_piece}
 use Rattle.flow_queues.proofs.Tokens.{in-contains}
 use Rattle.flow_queues.proofs.ReadLemmas.{IsReadTo, still-apart, still-out, only-then, only-read, one-more, some-more}
+use Rattle.app_worker.specs.ReadWhole.{IsReadUpTo}
+use Rattle.app_worker.proofs.ReadWhole.{read-on}
 use Rattle.app_worker.proofs.reading.read_loan.Goals as goal
 
 pub read-requires-clause-out : goal.read-requires-clause-out
@@ -76,4 +78,9 @@ loop-done-preserved g c =
       λ other away. Keeps-trans _ _ _ (inv.6 other away) (c.append.ensures.others other away),
       search rules,
       search rules,
+      subst (λ k. IsReadUpTo w.reads (lent_piece taken l) (c.loop-done.done + k)) size
+          (read-on taken v lie l c.loop-done.done c.read.new.into out inv.9),
     )
+
+pub returns-clause-through : goal.returns-clause-through
+returns-clause-through g c = λ byte below. c.loop-done.invariant.9 byte (omega (arith, below, c.loop-done.invariant.0))

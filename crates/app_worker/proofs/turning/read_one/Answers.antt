@@ -7,7 +7,8 @@ use Rattle.zr_io.specs.Moved.{Gained}
 use Rattle.circular_buffer.specs.Buffer.{Buffer}
 use Rattle.flow_queues.specs.declared.queues.Lending.{Lending}
 use Rattle.flow_queues.specs.declared.queues.FlowQueue.{FlowQueue}
-use Rattle.flow_queues.specs.Core.{Stands, IsReadOf}
+use Rattle.flow_queues.specs.Core.{Stands, IsReadOf, lent_piece}
+use Rattle.app_worker.specs.ReadWhole.{IsReadUpTo}
 use Rattle.zr_kinds.specs.declared.behaviour.Stopped.TheVariants as stop
 use Rattle.app_worker.specs.State.{State, read_of}
 use Rattle.flow_queues.specs.Totals.{Quits, wanted_of}
@@ -131,6 +132,8 @@ returns-clause-reads g c =
     let other : st.how.quit ≢ Some c.saturating_add-st.result = search rules in
     let not = quits-not st.how.quit st.written most c.saturating_add-st.result c.in-Some.lending.loan.len (search rules) is count other going in
     let whole : most ≡ c.in-Some.lending.loan.len = not.1 in
+    let through : IsReadUpTo (g.F.AppFace.seen c.read_loan-result.new.face).reads
+    (lent_piece (g.F.AppFace.seen c.args.face.now).taken c.in-Some.lending) most = search rules in
     let exact : Gained (g.T.Shelf.kept c.args.shelf.now own.number) (g.T.Shelf.kept c.read_loan-result.new.shelf own.number)
     (λ (read : List ℕ). IsReadOf (g.F.AppFace.seen c.args.face.now).taken (g.F.AppFace.seen c.read_loan-result.new.face).reads c.in-Some.lending most most
     read) = search rules in
@@ -139,7 +142,10 @@ returns-clause-reads g c =
     (sym number) c.read_loan-result.ensures.only c.requires.working c.requires.common c.requires.reaped
     c.still_flushes-st.result flush_on flush_off c.requires.more
     c.read_loan-result.new.bytes c.saturating_add-st.result (g.T.Shelf.kept c.args.shelf.now)
-    (g.T.Shelf.kept c.read_loan-result.new.shelf) (bytes ∙ ap (λ n. own.bytes + n) whole)
+    (g.T.Shelf.kept c.read_loan-result.new.shelf)
+    (subst (IsReadUpTo (g.F.AppFace.seen c.read_loan-result.new.face).reads
+    (lent_piece (g.F.AppFace.seen c.args.face.now).taken c.in-Some.lending)) whole through)
+    (bytes ∙ ap (λ n. own.bytes + n) whole)
     (count ∙ ap (λ n. min (st.written + n) (2 ^ 64 - 1)) whole)
     (subst (Quits st.how.quit c.saturating_add-st.result) (sym c.requires.working.going) not.0)
     (subst (λ (n : ℕ). Gained (g.T.Shelf.kept c.args.shelf.now own.number) (g.T.Shelf.kept c.read_loan-result.new.shelf own.number)

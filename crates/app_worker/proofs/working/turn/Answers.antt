@@ -1,4 +1,4 @@
-use Rattle.std.proofs.Common.{rules, true, ◌≡◌, ℕ, List, Option, sym, subst}
+use Rattle.std.proofs.Common.{rules, true, ◌≡◌, ℕ, List, Option, sym, ap, ◌∙◌, subst}
 use Rattle.board_face.specs.declared.views.app.AppView.{AppView}
 use Rattle.app_worker.specs.State.{State, Working}
 use Rattle.app_worker.specs.StateOf.{state_of}
@@ -52,3 +52,8 @@ returns-in-InUse-clause-turns g c =
     let gives = c.in-InUse.ensures.gives in
     subst (λ (s : State). Turns a s u v k k f f (Idle RefillFull)) (sym gives.0)
     (turns-saw a u v k f f RefillFull gives.1 works c.requires.stands.common c.requires.stands.reaped gives.2 (λ _. gives.1.rose))
+
+pub returns-in-Did-clause-still : goal.returns-in-Did-clause-still
+returns-in-Did-clause-still g c other =
+    let is : c.after.result ≡ turn_after true c.work-turn.result = search rules in
+    c.work-turn.ensures.still (λ same. other (is ∙ ap (turn_after true) same))

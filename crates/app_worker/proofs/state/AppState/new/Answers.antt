@@ -2,7 +2,8 @@ use Rattle.std.proofs.Common.{rules}
 use Rattle.flow_queues.proofs.GivenBack.{fresh_given, fresh_front}
 use Rattle.app_worker.proofs.Written.{fresh_blocks}
 use Rattle.app_worker.proofs.Origins.{fresh_origins}
+use Rattle.app_worker.proofs.ReadWhole.{fresh_whole}
 use Rattle.app_worker.proofs.state.AppState.new.Goals as goal
 
 pub returns-clause-stands : goal.returns-clause-stands
-returns-clause-stands g c = search (rules, fresh_blocks, fresh_given, fresh_front, fresh_origins)
+returns-clause-stands g c = search (rules, fresh_blocks, fresh_given, fresh_front, fresh_origins, fresh_whole)

@@ -1,0 +1,34 @@
+-- That a loan was read whole.
+use Rattle.std.specs.Prelude.{◌≡◌, ℕ, ◌+◌, ◌<◌, ◌≤◌, List, length, take}
+use Rattle.board_face.specs.Texts.{further}
+use Rattle.board_face.specs.declared.views.app.LentPiece.{LentPiece}
+use Rattle.board_face.specs.declared.views.app.Reading.{Reading}
+use Rattle.board_face.specs.declared.views.app.AppView.{AppView}
+use Rattle.flow_queues.specs.declared.queues.Lending.{Lending}
+use Rattle.flow_queues.specs.Core.{Each, IsIn, lent_piece}
+use Rattle.flow_queues.specs.Totals.{loan_entries}
+
+-- This byte of the loan was read: some reading is of the loan's bytes from one of them on, and goes beyond this one.
+pub record IsByteRead (reads : List Reading) (loan : LentPiece) (byte : ℕ) : Type 0 where
+  pub reading : Reading
+  pub read : IsIn reading reads
+  pub from : ℕ
+  pub origin : reading.origin ≡ further loan.origin from
+  pub at_or_behind : from ≤ byte
+  pub within : byte < from + length reading.bytes
+
+-- so many first bytes of it were
+abbrev pub IsReadUpTo : List Reading → LentPiece → ℕ → Type 0
+IsReadUpTo reads loan many = (byte : ℕ) → byte < many → IsByteRead reads loan byte
+
+-- and all of them
+abbrev pub IsReadWhole : List Reading → LentPiece → Type 0
+IsReadWhole reads loan = IsReadUpTo reads loan loan.place.len
+
+-- each of these loans was read whole
+abbrev pub AreReadWhole : AppView → List Lending → Type 0
+AreReadWhole v loans = Each (λ l. IsReadWhole v.reads (lent_piece v.taken l)) loans
+
+-- each loan that an entry gave back was
+abbrev pub GivesWhole : AppView → Type 0
+GivesWhole v = Each (IsReadWhole v.reads) (take (loan_entries v) v.returned)
