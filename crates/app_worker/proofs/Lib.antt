@@ -5,6 +5,7 @@ pub mod Accounts
 pub mod Written
 pub mod Origins
 pub mod ReadWhole
+pub mod ReadMarks
 pub mod Counts
 pub mod Moving
 pub mod Posting

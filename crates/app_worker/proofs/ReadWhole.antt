@@ -2,6 +2,7 @@
 use Rattle.std.proofs.Common.{◌≡◌, ℕ, zero, suc, ◌+◌, ◌<◌, ◌≤◌, List, [], ◌∷◌, ◌++◌, length, take, refl, sym, ap, subst, ◌∙◌}
 use Rattle.std.proofs.Common.{arith, ⊎_elim, inl, take_all}
 use Rattle.std.proofs.lemmas.Bool.{cases_lt}
+use Rattle.board_face.specs.AppCalls.{ShowsCopy}
 use Rattle.board_face.specs.Texts.{further}
 use Rattle.board_face.specs.AppEvents.{has_read, loan_origin}
 use Rattle.board_face.specs.declared.views.app.LentPiece.{LentPiece}
@@ -29,6 +30,7 @@ byte-grows reads more loan byte at = record {
   origin = at.origin;
   at_or_behind = at.at_or_behind;
   within = at.within;
+  shows = at.shows;
 }
 
 whole-grows : (reads more : List Reading) (loan : LentPiece) → IsReadWhole reads loan → IsReadWhole (reads ++ more) loan
@@ -36,19 +38,22 @@ whole-grows reads more loan whole byte below = byte-grows reads more loan byte (
 
 -- the next bytes of a loan are read
 pub read-on : (taken : List TakenNote) (v : AppView) (lie : LieApart v) (l : Lending) (done : ℕ) (text : List ℕ) → IsIn (lent_piece taken l) v.loans
-    → IsReadUpTo v.reads (lent_piece taken l) done → IsReadUpTo (has_read v l.loan done text).reads (lent_piece taken l) (done + length text)
-read-on taken v lie l done [] out read byte below = read byte (omega (arith, below))
-read-on taken v lie l done (b ∷ bs) out read byte below =
+    → ShowsCopy (loan_origin v l.loan) done text → IsReadUpTo v.reads (lent_piece taken l) done
+    → IsReadUpTo (has_read v l.loan done text).reads (lent_piece taken l) (done + length text)
+read-on taken v lie l done [] out shows read byte below = read byte (omega (arith, below))
+read-on taken v lie l done (b ∷ bs) out shows read byte below =
     let one : Reading = record { origin = further (loan_origin v l.loan) done; bytes = b ∷ bs } in
+    let own : loan_origin v l.loan ≡ (lent_piece taken l).origin = loan-origin v lie (lent_piece taken l) out in
     ⊎_elim
     (λ (before : byte < done). byte-grows v.reads (one ∷ []) (lent_piece taken l) byte (read byte before))
     (λ (behind : done ≤ byte). record {
       reading = one;
       read = in-right one v.reads (one ∷ []) (inl refl);
       from = done;
-      origin = ap (λ (o : Origin). further o done) (loan-origin v lie (lent_piece taken l) out);
+      origin = ap (λ (o : Origin). further o done) own;
       at_or_behind = behind;
       within = below;
+      shows = subst (λ (o : Origin). ShowsCopy o done (b ∷ bs)) own shows;
     })
     (cases_lt byte done)
 

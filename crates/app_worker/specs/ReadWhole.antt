@@ -1,14 +1,16 @@
 -- That a loan was read whole.
 use Rattle.std.specs.Prelude.{◌≡◌, ℕ, ◌+◌, ◌<◌, ◌≤◌, List, length, take}
+use Rattle.board_face.specs.AppCalls.{ShowsCopy}
 use Rattle.board_face.specs.Texts.{further}
 use Rattle.board_face.specs.declared.views.app.LentPiece.{LentPiece}
 use Rattle.board_face.specs.declared.views.app.Reading.{Reading}
 use Rattle.board_face.specs.declared.views.app.AppView.{AppView}
 use Rattle.flow_queues.specs.declared.queues.Lending.{Lending}
-use Rattle.flow_queues.specs.Core.{Each, IsIn, lent_piece}
+use Rattle.flow_queues.specs.Core.{Each, IsIn, AreReadAt, lent_piece, marks_of_loan}
 use Rattle.flow_queues.specs.Totals.{loan_entries}
 
--- This byte of the loan was read: some reading is of the loan's bytes from one of them on, and goes beyond this one.
+-- This byte of the loan was read: some reading is of the loan's bytes from one of them on, and goes beyond this one. Of a copy it
+-- shows what was copied, by which alone copies are told apart.
 pub record IsByteRead (reads : List Reading) (loan : LentPiece) (byte : ℕ) : Type 0 where
   pub reading : Reading
   pub read : IsIn reading reads
@@ -16,6 +18,7 @@ pub record IsByteRead (reads : List Reading) (loan : LentPiece) (byte : ℕ) : T
   pub origin : reading.origin ≡ further loan.origin from
   pub at_or_behind : from ≤ byte
   pub within : byte < from + length reading.bytes
+  pub shows : ShowsCopy loan.origin from reading.bytes
 
 -- so many first bytes of it were
 abbrev pub IsReadUpTo : List Reading → LentPiece → ℕ → Type 0
@@ -32,3 +35,17 @@ AreReadWhole v loans = Each (λ l. IsReadWhole v.reads (lent_piece v.taken l)) l
 -- each loan that an entry gave back was
 abbrev pub GivesWhole : AppView → Type 0
 GivesWhole v = Each (IsReadWhole v.reads) (take (loan_entries v) v.returned)
+
+-- ---- by marks
+
+-- the loan is of a note that was taken, and these are the bytes at its marks
+pub record HasBytes (v : AppView) (loan : LentPiece) : Type 0 where
+  pub lending : Lending
+  pub known : lending.note < length v.taken
+  pub is : loan ≡ lent_piece v.taken lending
+  pub bytes : List ℕ
+  pub are : AreReadAt v.taken v.reads (marks_of_loan lending) bytes
+
+-- there are these of each loan that an entry gave back
+abbrev pub GivesRead : AppView → Type 0
+GivesRead v = Each (HasBytes v) (take (loan_entries v) v.returned)

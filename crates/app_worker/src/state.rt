@@ -16,6 +16,7 @@ ghost use Rattle.app_worker.specs.State.{AppStands, app_steps, furthest};
 ghost use Rattle.flow_queues.specs.Totals.{bytes_of, lent_bytes};
 ghost use Rattle.app_worker.specs.Kept.{new_state, IsFresh, flow_bytes};
 ghost use Rattle.app_worker.specs.Moves.{reads_of, reserve_loans};
+ghost use Rattle.app_worker.specs.ReadWhole.{GivesRead};
 ghost use Rattle.app_worker.specs.Turns.{ScrubsIfQuiet, Turns, look_of};
 
 use crate::reading::CHUNK;
@@ -194,6 +195,8 @@ pub fn app_turn<F: AppFace, T: Shelf>(
     ensures copied { st.new.copied ≤ unsplit_bytes (map (λ t. t.note) (F.seen face.new).taken) }
     // It never counts more bytes as written than it was lent, whatever stops it.
     ensures lent { st.new.written ≤ lent_bytes (F.seen face.new) }
+    // Whatever stops it, each loan that an entry gave back was read whole: the bytes at its marks.
+    ensures given_whole { GivesRead (F.seen face.new) }
     // One that came to its end without being stopped has written at least as many bytes as loans.
     ensures counts { st.new.bare ≡ true → st.new.stopped ≡ No → st.new.loans ≤ st.new.written }
     // One that was stopped and hadn't scrubbed has, or it saw a refill slot in use.

@@ -79,7 +79,7 @@ loop-done-preserved g c =
       search rules,
       search rules,
       subst (λ k. IsReadUpTo w.reads (lent_piece taken l) (c.loop-done.done + k)) size
-          (read-on taken v lie l c.loop-done.done c.read.new.into out inv.9),
+          (read-on taken v lie l c.loop-done.done c.read.new.into out c.read.ensures.copied inv.9),
     )
 
 pub returns-clause-through : goal.returns-clause-through

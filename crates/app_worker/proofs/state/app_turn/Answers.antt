@@ -8,6 +8,7 @@ use Rattle.app_worker.proofs.StreamLemmas.{stands-fronts, stands-failed, stands-
 use Rattle.app_worker.proofs.TurnLemmas.{turns-keep}
 use Rattle.app_worker.proofs.FlowBytes.{stands-counted}
 use Rattle.app_worker.proofs.Counts.{copies-few, copies-within, loans-few, written-within}
+use Rattle.app_worker.proofs.ReadMarks.{given-read}
 use Rattle.app_worker.proofs.state.app_turn.Goals as goal
 
 pub returns-clause-fronts : goal.returns-clause-fronts
@@ -40,6 +41,9 @@ returns-clause-copies g c = copies-few (state_of c.turn.new.st) (g.F.AppFace.see
 
 pub returns-clause-copied : goal.returns-clause-copied
 returns-clause-copied g c = copies-within (state_of c.turn.new.st) (g.F.AppFace.seen c.turn.new.face) c.turn.ensures.turns.stands
+
+pub returns-clause-given_whole : goal.returns-clause-given_whole
+returns-clause-given_whole g c = given-read (state_of c.turn.new.st) (g.F.AppFace.seen c.turn.new.face) c.turn.ensures.turns.stands
 
 pub returns-clause-lent : goal.returns-clause-lent
 returns-clause-lent g c = written-within (state_of c.turn.new.st) (g.F.AppFace.seen c.turn.new.face) c.turn.ensures.turns.stands
