@@ -9,7 +9,7 @@ use Rattle.zr_kinds.specs.declared.behaviour.Stopped.TheVariants as stop
 use Rattle.board_face.specs.declared.views.app.AppView.{AppView}
 use Rattle.flow_queues.specs.declared.queues.FlowQueue.{FlowQueue}
 use Rattle.flow_queues.specs.Marks.{marks_of}
-use Rattle.flow_queues.specs.Marks.{AreWholeFrames}
+use Rattle.flow_queues.specs.Marks.{FramesStandTogether}
 use Rattle.flow_queues.specs.Core.{Each, many, own_notes, placed_of, AreReadAt}
 use Rattle.app_worker.specs.State.{State, Working, Bare, AppStands, app_steps, furthest}
 use Rattle.flow_queues.specs.Shelves.{FlowEnds, kept_loans, IsShelved, AreShelved, ReadsFront, IsFrontShelved, AreFronts}
@@ -20,7 +20,7 @@ use Rattle.app_worker.proofs.Noting.{gained-nothing}
 use Rattle.app_worker.proofs.EachBoth.{each-both}
 use Rattle.app_worker.proofs.NoteTaken.{all-end}
 
-pub fronts-of : (first kept : ℕ → Option (List ℕ)) (flows : List FlowQueue) (v : AppView) → Each (FlowEnds v.taken) flows → AreWholeFrames v.taken
+pub fronts-of : (first kept : ℕ → Option (List ℕ)) (flows : List FlowQueue) (v : AppView) → Each (FlowEnds v.taken) flows → FramesStandTogether v.taken
     → AreShelved first kept flows v → HasFronts first kept v
 fronts-of first kept flows v ends whole shelved flow =
     pick flow flows (λ f. FlowEnds v.taken f × IsShelved first kept v.taken v.reads f)
@@ -35,7 +35,7 @@ fronts-of first kept flows v ends whole shelved flow =
     (IsFront v.taken v.reads (marks_of f.number v.taken))
     (λ bytes are. record { read = values_from (placed_of f v.taken).at f.bytes 0; rest = rest; parts = parts; are = are }) both.1.gained))
 
-pub fronts-failed : (first kept : ℕ → Option (List ℕ)) (flows : List FlowQueue) (v : AppView) → Each (FlowEnds v.taken) flows → AreWholeFrames v.taken
+pub fronts-failed : (first kept : ℕ → Option (List ℕ)) (flows : List FlowQueue) (v : AppView) → Each (FlowEnds v.taken) flows → FramesStandTogether v.taken
     → AreFronts first kept flows v → HasFronts first kept v
 fronts-failed first kept flows v ends whole shelved flow =
     pick flow flows (λ f. FlowEnds v.taken f × IsFrontShelved first kept v.taken v.reads (kept_loans v) f)
@@ -52,7 +52,7 @@ fronts-failed first kept flows v ends whole shelved flow =
 
 pub all-of : (first kept : ℕ → Option (List ℕ)) (flows : List FlowQueue) (v : AppView) → Each (FlowEnds v.taken) flows
     → Each (λ f. f.bytes ≡ next_missing (placed_of f v.taken)) flows → ((number : ℕ) → many number flows ≡ 0 → own_notes number v.taken ≡ [])
-    → AreWholeFrames v.taken
+    → FramesStandTogether v.taken
     → AreShelved first kept flows v → HasAll first kept v
 all-of first kept flows v ends all known whole shelved flow =
     pick flow flows (λ f. (FlowEnds v.taken f × (f.bytes ≡ next_missing (placed_of f v.taken))) × IsShelved first kept v.taken v.reads f)
@@ -78,20 +78,20 @@ stands-within st v stands = by-mode st.bare (Bare st v) (Working st v) (app_step
     (λ _ bare. bare-within st v bare stands.common)
     (λ _ works. working-within st v works stands.common)
 
-pub stands-fronts : (first kept : ℕ → Option (List ℕ)) (st : State) (v : AppView) → AppStands st v → AreWholeFrames v.taken
+pub stands-fronts : (first kept : ℕ → Option (List ℕ)) (st : State) (v : AppView) → AppStands st v → FramesStandTogether v.taken
     → AreShelved first kept st.flows v → HasFronts first kept v
 stands-fronts first kept st v stands whole shelved = by-mode st.bare (Bare st v) (Working st v) (HasFronts first kept v) stands.mode
     (λ _ bare. fronts-of first kept st.flows v bare.flows whole shelved)
     (λ _ works. fronts-of first kept st.flows v (all-end st v works) whole shelved)
 
-pub stands-failed : (first kept : ℕ → Option (List ℕ)) (st : State) (v : AppView) → AppStands st v → AreWholeFrames v.taken
+pub stands-failed : (first kept : ℕ → Option (List ℕ)) (st : State) (v : AppView) → AppStands st v → FramesStandTogether v.taken
     → AreFronts first kept st.flows v → HasFronts first kept v
 stands-failed first kept st v stands whole shelved = by-mode st.bare (Bare st v) (Working st v) (HasFronts first kept v) stands.mode
     (λ _ bare. fronts-failed first kept st.flows v bare.flows whole shelved)
     (λ _ works. fronts-failed first kept st.flows v (all-end st v works) whole shelved)
 
 pub stands-all : (first kept : ℕ → Option (List ℕ)) (st : State) (v : AppView) → AppStands st v → st.bare ≡ true → st.stopped ≡ stop.No
-    → AreWholeFrames v.taken → AreShelved first kept st.flows v → HasAll first kept v
+    → FramesStandTogether v.taken → AreShelved first kept st.flows v → HasAll first kept v
 stands-all first kept st v stands is going whole shelved = by-mode st.bare (Bare st v) (Working st v) (HasAll first kept v) stands.mode
     (λ _ bare. all-of first kept st.flows v bare.flows (bare.whole going).1 (bare.known going) whole shelved)
     (λ not _. absurd (cc))

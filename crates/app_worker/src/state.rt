@@ -8,7 +8,7 @@ ghost use Rattle.app_worker.specs.declared.turn.Why.{Why};
 ghost use Rattle.app_worker.specs.declared.turn.Turn.TheVariants.{Idle, Failed, Finished};
 ghost use Rattle.zr_kinds.specs.declared.fault.Fault.TheVariants.{Write};
 ghost use Rattle.zr_kinds.specs.declared.behaviour.Stopped.TheVariants.{No};
-ghost use Rattle.flow_queues.specs.Marks.{AreWholeFrames};
+ghost use Rattle.flow_queues.specs.Marks.{FramesStandTogether};
 ghost use Rattle.flow_queues.specs.Shelves.{AreShelved, AreFronts};
 ghost use Rattle.flow_queues.specs.Streams.{HasFronts, HasAll};
 ghost use Rattle.app_worker.specs.Streams.{HasCounted};
@@ -167,11 +167,11 @@ pub fn app_turn<F: AppFace, T: Shelf>(
         (T.kept shelf.old) (T.kept shelf.new) (T.faults shelf.old) (T.faults shelf.new) result }
     // Where the pieces of each frame stand together among the notes, what the shelf has of each flow since the first turn
     // are the bytes at the first of the flow's marks: read through a loan of their note, or come with it.
-    ensures fronts { (first : ℕ → Option (List ℕ)) → AreWholeFrames (F.seen face.new).taken
+    ensures fronts { (first : ℕ → Option (List ℕ)) → FramesStandTogether (F.seen face.new).taken
         → AreShelved first (T.kept shelf.new) st.new.flows (F.seen face.new)
         → HasFronts first (T.kept shelf.new) (F.seen face.new) }
     // Once the shelf has failed it may have some bytes more than are counted.
-    ensures failed { (first : ℕ → Option (List ℕ)) → AreWholeFrames (F.seen face.new).taken
+    ensures failed { (first : ℕ → Option (List ℕ)) → FramesStandTogether (F.seen face.new).taken
         → AreFronts first (T.kept shelf.new) st.new.flows (F.seen face.new)
         → HasFronts first (T.kept shelf.new) (F.seen face.new) }
     // As long as it hasn't failed, it has as many of each flow as are counted.
@@ -179,7 +179,7 @@ pub fn app_turn<F: AppFace, T: Shelf>(
         → HasCounted first (T.kept shelf.new) st.new.flows }
     // It leaves with all of them, unless it was stopped.
     ensures whole { (first : ℕ → Option (List ℕ)) → result ≡ Finished → st.new.stopped ≡ No
-        → AreWholeFrames (F.seen face.new).taken
+        → FramesStandTogether (F.seen face.new).taken
         → AreShelved first (T.kept shelf.new) st.new.flows (F.seen face.new)
         → HasAll first (T.kept shelf.new) (F.seen face.new) }
     // It goes no further than the notes that were taken, their bytes, and the entries that may follow each, let it.

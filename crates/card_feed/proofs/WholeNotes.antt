@@ -7,9 +7,9 @@ use Rattle.zr_kinds.specs.declared.place.Place.{Place}
 use Rattle.board_face.specs.Relay.{as_taken, IsProper}
 use Rattle.board_face.specs.declared.views.nic.SentNote.{SentNote}
 use Rattle.board_face.specs.declared.views.app.TakenNote.{TakenNote}
-use Rattle.flow_queues.specs.Marks.{Numbered, numbered, AreOfOthers, Follows, Fits, AllStand, AreWholeFrames}
+use Rattle.flow_queues.specs.Marks.{Numbered, numbered, AreOfOthers, Follows, Fits, AllStand, FramesStandTogether}
 use Rattle.page_pool.specs.Frames.{Offered, IsNoteOf, ShowRest, ShowsFrame, ShowFrames}
-use Rattle.card_feed.specs.Sent.{FirstNotesAreWhole}
+use Rattle.card_feed.specs.Sent.{FirstFramesStandTogether}
 use Rattle.card_feed.proofs.NotesShown.{AreAbove, Ascend, HaveBytes}
 
 -- ---- each note follows the one before it
@@ -140,7 +140,7 @@ stand-first k y (t ∷ taken) later all = (
   stand-first (suc k) _ taken later all.3,
 )
 
-pub first-whole : FirstNotesAreWhole
+pub first-whole : FirstFramesStandTogether
 first-whole [] later whole = tt
 first-whole (t ∷ taken) later whole = (whole.0, stand-first 1 _ taken later whole.1)
 
@@ -175,7 +175,7 @@ proper-stand k y (s ∷ notes) proper others linked = (
   proper-stand (suc k) s notes (All-head IsProper s notes others) (All-tail IsProper s notes others) linked.1,
 )
 
-pub proper-whole : (notes : List SentNote) → All IsProper notes → LinkTogether (numbered 0 (map as_taken notes)) → AreWholeFrames (map as_taken notes)
+pub proper-whole : (notes : List SentNote) → All IsProper notes → LinkTogether (numbered 0 (map as_taken notes)) → FramesStandTogether (map as_taken notes)
 proper-whole [] proper linked = tt
 proper-whole (s ∷ notes) proper linked =
     (linked.0, proper-stand 0 s notes (All-head IsProper s notes proper) (All-tail IsProper s notes proper) linked.1)

@@ -9,7 +9,7 @@ use Rattle.board_face.specs.declared.views.nic.SentNote.{SentNote}
 use Rattle.board_face.specs.declared.views.nic.NicSide.{NicSide}
 use Rattle.board_face.specs.declared.views.app.TakenNote.{TakenNote}
 use Rattle.page_pool.specs.Frames.{ShowFrames}
-use Rattle.app_worker.specs.Marks.{AreWholeFrames, marks_of}
+use Rattle.app_worker.specs.Marks.{FramesStandTogether, marks_of}
 use Rattle.card_feed.specs.Offered.{offers_of}
 use Rattle.card_feed.specs.Feed.{FeedState, FeedStands}
 use Rattle.card_feed.specs.Account.{offered_to}
@@ -20,18 +20,18 @@ use Rattle.card_feed.specs.Account.{offered_to}
 abbrev pub ShownNotesAreWhole : Type 0
 ShownNotesAreWhole =
     (split : ℕ) (ports : List ℕ) (frames : List (List ℕ)) (left_out : List ℕ) (a : ℕ) (notes : List SentNote)
-    → ShowFrames split (offered_to a left_out (steered_in ports frames)) notes → All IsProper notes → AreWholeFrames (map as_taken notes)
+    → ShowFrames split (offered_to a left_out (steered_in ports frames)) notes → All IsProper notes → FramesStandTogether (map as_taken notes)
 
 -- The first of whole frames' notes are whole frames: only the last may lack pieces.
-abbrev pub FirstNotesAreWhole : Type 0
-FirstNotesAreWhole = (taken later : List TakenNote) → AreWholeFrames (taken ++ later) → AreWholeFrames taken
+abbrev pub FirstFramesStandTogether : Type 0
+FirstFramesStandTogether = (taken later : List TakenNote) → FramesStandTogether (taken ++ later) → FramesStandTogether taken
 
 -- At any time of a run, the notes that were sent to an application are taken as whole frames.
 abbrev pub FeedsSendWhole : {S : Type 0} → (S → Option (List ℕ)) → (S → ℕ) → Type 0
 FeedsSendWhole {S} left faults =
     (first source : S) (ports : List ℕ) (split : ℕ) (frames : List (List ℕ)) (feed : FeedState) (nic : NicSide)
     → FeedStands left faults first source ports split frames feed nic.view → All IsProper nic.view.sent
-    → (a : ℕ) → AreWholeFrames (map as_taken (sent_to a nic))
+    → (a : ℕ) → FramesStandTogether (map as_taken (sent_to a nic))
 
 -- ---- own flows
 

@@ -1,6 +1,6 @@
 ghost use Rattle.card_feed.specs.Account.{AccountsGiveStreams, ClosedFeedsShow};
 ghost use Rattle.card_feed.specs.Feed.{NewFeedsStand};
-ghost use Rattle.card_feed.specs.Sent.{ShownNotesAreWhole, FirstNotesAreWhole, FeedsSendWhole};
+ghost use Rattle.card_feed.specs.Sent.{ShownNotesAreWhole, FirstFramesStandTogether, FeedsSendWhole};
 ghost use Rattle.card_feed.specs.Sent.{ShownNotesAreOwn, FeedsSendOwn, OwnNotesMarkNoOther, OffersHaveApps};
 
 use zr_io::{Shelf, Source};
@@ -31,7 +31,7 @@ pub fn shown_notes_are_whole()
 /// The first notes of whole frames are whole frames, of which the last may lack pieces. It does nothing: its contract is
 /// the law.
 pub fn first_notes_are_whole()
-    ensures { FirstNotesAreWhole }
+    ensures { FirstFramesStandTogether }
 {}
 
 /// At any time of a run the notes that were sent to an application are taken as whole frames, of which the last may lack

@@ -13,7 +13,7 @@ use Rattle.board_face.specs.declared.views.app.TakenNote.{TakenNote}
 use Rattle.flow_queues.specs.declared.queues.Waiting.{Waiting}
 use Rattle.flow_queues.specs.declared.queues.FlowQueue.{FlowQueue}
 use Rattle.flow_queues.specs.Marks.{Mark, Numbered, numbered, Frame, received_frame, received_frames, frames_of, base_of, placed_marks, marks_of, marks_of_note}
-use Rattle.flow_queues.specs.Marks.{AreWholeFrames}
+use Rattle.flow_queues.specs.Marks.{FramesStandTogether}
 use Rattle.flow_queues.specs.Core.{Each, many, own_notes, BeginAt, placed_of, received_note, received_notes}
 use Rattle.flow_queues.proofs.InParts.{AreSame, none_some}
 use Rattle.flow_queues.proofs.Placing.{own-notes-other, own-notes-here, next_note, received-push, values-split}
@@ -72,7 +72,7 @@ values-alike at later zero p same = refl
 values-alike at later (suc k) p same = rw (same p, values-alike at later k (suc p) same) refl
 
 -- the pieces of each frame stand together in a flow, where they do among all notes
-pub stand-own : (flow : ℕ) (taken : List TakenNote) → AreWholeFrames taken → StandWhole (own_notes flow taken)
+pub stand-own : (flow : ℕ) (taken : List TakenNote) → FramesStandTogether taken → StandWhole (own_notes flow taken)
 stand-own flow [] whole = tt
 stand-own flow (t ∷ ts) whole = whole-own flow (record { number = 0; note = t.note }) (numbered 1 ts) whole.0 whole.1
 
@@ -80,7 +80,7 @@ stand-own flow (t ∷ ts) whole = whole-own flow (record { number = 0; note = t.
 
 -- what was appended stands at the first of the marks
 pub front-of-flow : (flow : FlowQueue) (taken : List TakenNote) (count : ℕ) → BeginAt flow.queue.base (own_notes flow.number taken)
-    → ((p : ℕ) → p < count → IsSome ((placed_of flow taken).at p)) → AreWholeFrames taken
+    → ((p : ℕ) → p < count → IsSome ((placed_of flow taken).at p)) → FramesStandTogether taken
     → (rest : List Mark) × (marks_of flow.number taken ≡ values_from (placed_of flow taken).at count 0 ++ rest)
 unfolding front_of
 front-of-flow flow taken count begun below whole =
@@ -104,7 +104,7 @@ front-of-flow flow taken count begun below whole =
 
 -- at all of them, where that is all
 pub all-of-flow : (flow : FlowQueue) (taken : List TakenNote) → BeginAt flow.queue.base (own_notes flow.number taken) → flow.bytes ≡ next_missing (placed_of flow taken)
-    → AreWholeFrames taken → marks_of flow.number taken ≡ values_from (placed_of flow taken).at flow.bytes 0
+    → FramesStandTogether taken → marks_of flow.number taken ≡ values_from (placed_of flow taken).at flow.bytes 0
 unfolding front_of
 all-of-flow flow taken begun is whole =
     let placed : Placed Mark = placed_of flow taken in

@@ -8,7 +8,7 @@ use Rattle.zr_kinds.specs.declared.behaviour.Stopped.TheVariants as stop
 use Rattle.zr_io.specs.Moved.{Gained, Rose}
 use Rattle.board_face.specs.declared.views.app.AppView.{AppView}
 use Rattle.flow_queues.specs.declared.queues.FlowQueue.{FlowQueue}
-use Rattle.flow_queues.specs.Marks.{AreWholeFrames, marks_of}
+use Rattle.flow_queues.specs.Marks.{FramesStandTogether, marks_of}
 use Rattle.flow_queues.specs.Core.{total, Each, own_notes, most_at_once}
 use Rattle.flow_queues.specs.Shelves.{AreOfOneLoan}
 use Rattle.flow_queues.specs.Totals.{Quits, capped, lent_len, loan_entries, raw_entries, taken_len}
@@ -70,10 +70,10 @@ pub record HasLeft (how : Behaviour) (first kept : ℕ → Option (List ℕ)) (l
   pub noted : Each (λ f. own_notes f.0 v.taken ≢ []) end.flows
   pub once : (number : ℕ) → times number end.flows ≤ 1
   -- what its shelf gained: a front of each flow's bytes, and all of them where nothing stopped it
-  pub fronts : AreWholeFrames v.taken → HasFronts first kept v
-  pub whole : end.stopped ≡ stop.No → AreWholeFrames v.taken → HasAll first kept v
+  pub fronts : FramesStandTogether v.taken → HasFronts first kept v
+  pub whole : end.stopped ≡ stop.No → FramesStandTogether v.taken → HasAll first kept v
   pub counted : (number : ℕ) → Gained (first number) (kept number) (IsCounted end.stopped (bytes_in number end.flows))
-  pub torn : end.stopped ≡ stop.Write → AreWholeFrames v.taken → IsTornAtOne first kept v end.flows
+  pub torn : end.stopped ≡ stop.Write → FramesStandTogether v.taken → IsTornAtOne first kept v end.flows
   -- what stopped it
   pub quits : Quits how.quit end.written end.stopped
   pub later : losses ≤ losses_now

@@ -113,5 +113,5 @@ StandTogether [] = Unit {0}
 StandTogether (n ∷ ns) = (n.note.at ≡ 0) × AllStand n ns
 
 -- as notes that are taken
-abbrev pub AreWholeFrames : List TakenNote → Type 0
-AreWholeFrames taken = StandTogether (numbered 0 taken)
+abbrev pub FramesStandTogether : List TakenNote → Type 0
+FramesStandTogether taken = StandTogether (numbered 0 taken)

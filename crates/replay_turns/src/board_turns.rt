@@ -8,7 +8,7 @@ ghost use Rattle.board_face.specs.AppEvents.{app_gist};
 ghost use Rattle.plain_board.specs.Board.{stand_of, side_of, others_of};
 ghost use Rattle.plain_board.specs.Seen.{IsSeenBy, IsSeenByCard};
 ghost use Rattle.plain_board.specs.Sound.{IsSound};
-ghost use Rattle.app_worker.specs.Marks.{AreWholeFrames};
+ghost use Rattle.app_worker.specs.Marks.{FramesStandTogether};
 ghost use Rattle.app_worker.specs.Moves.{reads_of, reserve_loans};
 ghost use Rattle.flow_queues.specs.Shelves.{AreShelved, AreFronts};
 ghost use Rattle.app_worker.specs.State.{AppStands, app_steps, furthest};
@@ -70,16 +70,16 @@ pub(crate) fn app_step<T: Shelf>(
         (T.kept shelf.old) (T.kept shelf.new) (T.faults shelf.old) (T.faults shelf.new) result.1 }
     // Where the pieces of each frame stand together among the notes, what the shelf has of each flow since the first turn
     // are the bytes at the first of the flow's marks.
-    ensures fronts { (first : ℕ → Option (List ℕ)) → AreWholeFrames (side_of result.0 app).view.taken
+    ensures fronts { (first : ℕ → Option (List ℕ)) → FramesStandTogether (side_of result.0 app).view.taken
         → AreShelved first (T.kept shelf.new) st.new.flows (side_of result.0 app).view
         → HasFronts first (T.kept shelf.new) (side_of result.0 app).view }
     // Once the shelf has failed it may have some bytes more than are counted.
-    ensures failed { (first : ℕ → Option (List ℕ)) → AreWholeFrames (side_of result.0 app).view.taken
+    ensures failed { (first : ℕ → Option (List ℕ)) → FramesStandTogether (side_of result.0 app).view.taken
         → AreFronts first (T.kept shelf.new) st.new.flows (side_of result.0 app).view
         → HasFronts first (T.kept shelf.new) (side_of result.0 app).view }
     // It leaves with all of them, unless it was stopped.
     ensures whole { (first : ℕ → Option (List ℕ)) → result.1 ≡ Finished → st.new.stopped ≡ No
-        → AreWholeFrames (side_of result.0 app).view.taken
+        → FramesStandTogether (side_of result.0 app).view.taken
         → AreShelved first (T.kept shelf.new) st.new.flows (side_of result.0 app).view
         → HasAll first (T.kept shelf.new) (side_of result.0 app).view }
     // It goes no further than the notes that were taken, their bytes, and the entries that may follow each, let it.

@@ -18,7 +18,7 @@ use Rattle.board_face.specs.declared.views.nic.NicSide.{NicSide}
 use Rattle.board_face.specs.declared.views.app.AppSide.{AppSide}
 use Rattle.board_face.proofs.SideLemmas.{IsApp-at}
 use Rattle.page_pool.specs.Frames.{ShowFrames}
-use Rattle.app_worker.specs.Marks.{AreWholeFrames, marks_of}
+use Rattle.app_worker.specs.Marks.{FramesStandTogether, marks_of}
 use Rattle.flow_queues.specs.Ends.{AppEnd, HasLeft}
 use Rattle.flow_queues.specs.Returned.{HasReturned}
 use Rattle.card_feed.specs.Account.{offered_to, kept_in, AppAccounts, AccountsFor, IsFlowRead}
@@ -41,7 +41,7 @@ pub record IsTold (split : ℕ) (steered : List Steered) (refused : List ℕ) (n
   pub taken : app.view.taken ≡ map as_taken (sent_to a nic)
   pub reads : All (IsAsSent (sent_to a nic)) app.view.reads
   pub no_stray : HasNoLoanStray nic app
-  pub whole : AreWholeFrames app.view.taken
+  pub whole : FramesStandTogether app.view.taken
   pub own : All (IsOfOwnFlow (flows_of steered) a) (sent_to a nic)
 
 -- the line is that of this application
@@ -76,7 +76,7 @@ module _ {S T : Type 0} (left : S → Option (List ℕ)) (faults : S → ℕ) (k
         taken = taken;
         reads = subst (λ b. All (IsAsSent (sent_to b nic)) app.view.reads) here.number one.reads;
         no_stray = one.strays;
-        whole = subst AreWholeFrames (sym taken)
+        whole = subst FramesStandTogether (sym taken)
             (notes-whole plan.split plan.ports.items runs.frames feed.refused a (sent_to a nic) shown proper);
         own = notes-own plan.split plan.ports.items runs.frames feed.refused a (sent_to a nic) shown;
       }

@@ -9,7 +9,7 @@ use Rattle.zr_io.proofs.Moved.{Gained-weaker}
 use Rattle.board_face.specs.declared.views.app.Reading.{Reading}
 use Rattle.board_face.specs.declared.views.app.TakenNote.{TakenNote}
 use Rattle.board_face.specs.declared.views.app.AppSide.{AppSide}
-use Rattle.app_worker.specs.Marks.{AreWholeFrames, Mark, marks_of}
+use Rattle.app_worker.specs.Marks.{FramesStandTogether, Mark, marks_of}
 use Rattle.app_worker.specs.Core.{AreReadAt}
 use Rattle.flow_queues.specs.Ends.{AppEnd, HasLeft}
 use Rattle.flow_queues.specs.Streams.{IsFront}
@@ -30,7 +30,7 @@ nothing-gained (Some xs) (Some ys) taken reads (bytes, is, front) =
     is ∙ ap (λ more. xs ++ more) (no-byte taken reads front.read front.rest bytes front.parts front.are) ∙ append-nil xs
 
 module _ (first kept : ℕ → Option (List ℕ)) (losses losses_now : ℕ) (how : Behaviour) (app : AppSide) (end : AppEnd)
-    (has : HasLeft how first kept losses losses_now app.view end) (whole : AreWholeFrames app.view.taken) (number : ℕ) where
+    (has : HasLeft how first kept losses losses_now app.view end) (whole : FramesStandTogether app.view.taken) (number : ℕ) where
   pub flow-read : Gained (first number) (kept number) (IsFlowRead app end.stopped number)
   flow-read =
       let marks : List Mark = marks_of number app.view.taken in

@@ -11,7 +11,7 @@ use Rattle.zr_io.proofs.Moved.{Gained-weaker, Gained-nothing}
 use Rattle.board_face.specs.declared.views.app.TakenNote.{TakenNote}
 use Rattle.board_face.specs.declared.views.app.AppView.{AppView}
 use Rattle.flow_queues.specs.declared.queues.FlowQueue.{FlowQueue}
-use Rattle.app_worker.specs.Marks.{Mark, AreWholeFrames, numbered, placed_marks, marks_of}
+use Rattle.app_worker.specs.Marks.{Mark, FramesStandTogether, numbered, placed_marks, marks_of}
 use Rattle.app_worker.specs.Core.{Each, many, own_notes, BeginAt, placed_of}
 use Rattle.flow_queues.specs.Ends.{IsTorn}
 use Rattle.app_worker.specs.Kept.{flow_bytes}
@@ -32,7 +32,7 @@ few-values at (suc k) p = ⊎_elim
     (cases_Option (at p))
 
 -- the pieces of each frame stand together in a flow, where they do among all notes
-whole-of : (flow : ℕ) (taken : List TakenNote) → AreWholeFrames taken → StandWhole (own_notes flow taken)
+whole-of : (flow : ℕ) (taken : List TakenNote) → FramesStandTogether taken → StandWhole (own_notes flow taken)
 whole-of flow [] whole = tt
 whole-of flow (t ∷ taken) whole = whole-own flow (record { number = 0; note = t.note }) (numbered 1 taken) whole.0 whole.1
 
@@ -45,7 +45,7 @@ part xs ys zs from to first both =
 
 -- the marks from one position to another, as the queue has them
 marks-between : (flow : FlowQueue) (taken : List TakenNote) (from to : ℕ) → BeginAt flow.queue.base (own_notes flow.number taken)
-    → AreWholeFrames taken → ((p : ℕ) → p < to → IsSome ((placed_of flow taken).at p)) → from ≤ to → to ≤ length (marks_of flow.number taken)
+    → FramesStandTogether taken → ((p : ℕ) → p < to → IsSome ((placed_of flow taken).at p)) → from ≤ to → to ≤ length (marks_of flow.number taken)
     → drop from (take to (marks_of flow.number taken)) ≡ values_from (placed_of flow taken).at (to - from) from
 unfolding front_of
 marks-between flow taken from to begun whole below ordered within =
@@ -79,7 +79,7 @@ front-within v marks bytes front =
     omega (arith, ap length front.parts, length-append front.read front.rest, read-length v.taken v.reads front.read bytes front.are)
 
 module _ (first kept : ℕ → Option (List ℕ)) (v : AppView) (own : List FlowQueue) (ends : Each (FlowEnds v.taken) own)
-    (whole : AreWholeFrames v.taken) (none_out : v.loans ≡ []) (fronts : AreFronts first kept own v) (has : HasFronts first kept v) where
+    (whole : FramesStandTogether v.taken) (none_out : v.loans ≡ []) (fronts : AreFronts first kept own v) (has : HasFronts first kept v) where
   -- what stands of a flow with a queue
   abbrev Stands : FlowQueue → Type 0
   Stands f = (FlowEnds v.taken f × IsFrontShelved first kept v.taken v.reads (kept_loans v) f)

@@ -7,7 +7,7 @@ use Rattle.zr_kinds.specs.declared.behaviour.Stopped.TheVariants as stop
 use Rattle.zr_kinds.specs.declared.fault.Fault.TheVariants as fault
 use Rattle.zr_io.specs.Moved.{Rose}
 use Rattle.board_face.specs.declared.views.app.AppView.{AppView}
-use Rattle.app_worker.specs.Marks.{AreWholeFrames}
+use Rattle.app_worker.specs.Marks.{FramesStandTogether}
 use Rattle.flow_queues.specs.Shelves.{AreShelved, AreFronts}
 use Rattle.app_worker.specs.State.{State}
 use Rattle.flow_queues.specs.Streams.{HasFronts, HasAll}
@@ -35,9 +35,9 @@ rose-before a b c before rose = omega (arith, rose, before)
 
 -- What a turn says besides `Turns`.
 pub record Tells (first kept_now : ℕ → Option (List ℕ)) (new : AppView) (now : State) (finished : Type 0) : Type 0 where
-  pub fronts : AreWholeFrames new.taken → AreShelved first kept_now now.flows new → HasFronts first kept_now new
-  pub failed : AreWholeFrames new.taken → AreFronts first kept_now now.flows new → HasFronts first kept_now new
-  pub whole : finished → now.stopped ≡ stop.No → AreWholeFrames new.taken → AreShelved first kept_now now.flows new → HasAll first kept_now new
+  pub fronts : FramesStandTogether new.taken → AreShelved first kept_now now.flows new → HasFronts first kept_now new
+  pub failed : FramesStandTogether new.taken → AreFronts first kept_now now.flows new → HasFronts first kept_now new
+  pub whole : finished → now.stopped ≡ stop.No → FramesStandTogether new.taken → AreShelved first kept_now now.flows new → HasAll first kept_now new
   pub copies : now.copied ≤ now.loans
   pub counts : now.bare ≡ true → now.stopped ≡ stop.No → now.loans ≤ now.written
 
@@ -66,7 +66,7 @@ module _ (first kept kept_now : ℕ → Option (List ℕ)) (losses losses_old lo
   no-failure : now.state.stopped ≢ stop.Write → result ≢ Failed fault.Write
   no-failure not is = not (subst (λ turn. Answers was.state now.state old new losses_old losses_now turn) is turns.answer).1
 
-  fronts : AreWholeFrames new.taken → HasFronts first kept_now new
+  fronts : FramesStandTogether new.taken → HasFronts first kept_now new
   fronts are = elim (is-write now.state.stopped) [
     | inl is ↦ tells.failed are (failed is)
     | inr not ↦ tells.fronts are (shelved not)

@@ -13,7 +13,7 @@ use Rattle.board_face.specs.declared.views.app.AppView.{AppView}
 use Rattle.flow_queues.specs.Ends.{AppEnd, HasLeft}
 use Rattle.app_worker.specs.StateOf.{end_of}
 use Rattle.app_worker.specs.Kept.{new_state, IsFresh}
-use Rattle.app_worker.specs.Marks.{AreWholeFrames}
+use Rattle.app_worker.specs.Marks.{FramesStandTogether}
 use Rattle.flow_queues.specs.Shelves.{AreShelved, AreFronts}
 use Rattle.flow_queues.specs.Returned.{HasReturned}
 use Rattle.app_worker.specs.State.{AppStands}
@@ -69,8 +69,8 @@ pub record WorkerRuns (first kept : ℕ → Option (List ℕ)) (losses losses_no
   pub later : losses ≤ losses_now
   pub cause : w.state.stopped ≡ stop.Write → Rose losses losses_now
   pub still : w.state.stopped ≢ stop.Write → losses_now ≡ losses
-  pub fronts : AreWholeFrames v.taken → HasFronts first kept v
-  pub whole : w.left ≡ true → w.state.stopped ≡ stop.No → AreWholeFrames v.taken → HasAll first kept v
+  pub fronts : FramesStandTogether v.taken → HasFronts first kept v
+  pub whole : w.left ≡ true → w.state.stopped ≡ stop.No → FramesStandTogether v.taken → HasAll first kept v
   pub copies : w.state.copied ≤ w.state.loans
   pub counts : w.left ≡ true → w.state.stopped ≡ stop.No → w.state.loans ≤ w.state.written
 

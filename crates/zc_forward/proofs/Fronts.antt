@@ -5,7 +5,7 @@ use Rattle.zr_kinds.specs.declared.behaviour.Stopped.TheVariants as stop
 use Rattle.zr_io.proofs.Moved.{Gained-weaker}
 use Rattle.board_face.specs.AppCalls.{HasLoan}
 use Rattle.board_face.specs.declared.views.app.AppView.{AppView}
-use Rattle.flow_queues.specs.Marks.{Mark, AreWholeFrames, marks_of}
+use Rattle.flow_queues.specs.Marks.{Mark, FramesStandTogether, marks_of}
 use Rattle.flow_queues.specs.Core.{Each, IsIn}
 use Rattle.flow_queues.specs.Streams.{HasFronts, IsFront}
 use Rattle.flow_queues.specs.Ends.{bytes_in}
@@ -21,7 +21,7 @@ use Rattle.zc_forward.proofs.Live.{has-out}
 use Rattle.zc_forward.proofs.Forwards.{sent-out}
 
 pub front-of : (first got : ℕ → Option (List ℕ)) (losses now : ℕ) (w : Outbox) (st : Desk) (tags : Tags) (v : AppView)
-    → ForwardStands first losses w st tags got now v → AreWholeFrames v.taken → HasFronts first got v
+    → ForwardStands first losses w st tags got now v → FramesStandTogether v.taken → HasFronts first got v
 front-of first got losses now w st tags v before whole n =
     let marks : List Mark = marks_given n before.items in
     let (rest, parts) = items-front st.flows v.taken before.items before.stands.common.found before.poured.given whole n in

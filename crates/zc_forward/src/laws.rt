@@ -2,7 +2,7 @@
 ghost use Rattle.std.specs.Prelude.{◌≡◌, ℕ, List, Option};
 ghost use Rattle.board_face.specs.AppCalls.{HasLoan};
 ghost use Rattle.flow_queues.specs.Core.{Each};
-ghost use Rattle.flow_queues.specs.Marks.{AreWholeFrames};
+ghost use Rattle.flow_queues.specs.Marks.{FramesStandTogether};
 ghost use Rattle.flow_queues.specs.Streams.{HasFronts};
 ghost use Rattle.zc_forward.specs.Sending.{tags_of};
 ghost use Rattle.zc_forward.specs.Forwarding.{ForwardStands};
@@ -17,7 +17,7 @@ pub fn forward_law<F: AppFace, C: Carrier>(forward: &Forward<F, C>)
     ensures fronts { (first : ℕ → Option (List ℕ)) (losses : ℕ)
         → ForwardStands first losses forward.now.work forward.now.desk (C.tags forward.now.carrier) (C.got forward.now.carrier)
         (C.faults forward.now.carrier) (F.seen forward.now.face)
-        → AreWholeFrames (F.seen forward.now.face).taken → HasFronts first (C.got forward.now.carrier) (F.seen forward.now.face) }
+        → FramesStandTogether (F.seen forward.now.face).taken → HasFronts first (C.got forward.now.carrier) (F.seen forward.now.face) }
     ensures live { (first : ℕ → Option (List ℕ)) (losses : ℕ)
         → ForwardStands first losses forward.now.work forward.now.desk (C.tags forward.now.carrier) (C.got forward.now.carrier)
         (C.faults forward.now.carrier) (F.seen forward.now.face)

@@ -16,7 +16,7 @@ use Rattle.board_face.specs.declared.views.app.TakenNote.{TakenNote}
 use Rattle.board_face.specs.declared.views.app.AppView.{AppView}
 use Rattle.flow_queues.specs.declared.queues.Lending.{Lending}
 use Rattle.flow_queues.specs.declared.queues.FlowQueue.{FlowQueue}
-use Rattle.flow_queues.specs.Marks.{Mark, AreWholeFrames, marks_of}
+use Rattle.flow_queues.specs.Marks.{Mark, FramesStandTogether, marks_of}
 use Rattle.flow_queues.specs.Core.{total, Each, many, IsIn, lent_piece, is_copy, one_copy, origin_in, over_waiting, held_len, short_len, over_kept, over_read, short_bytes, unsplit_len, own_notes, BeginAt, received_notes}
 use Rattle.flow_queues.specs.Core.{placed_of, marks_of_waiting, marks_of_loan, IsOfNote, FlowStands, Stands}
 use Rattle.flow_queues.specs.Lent.{LentNext, SawNoSpare, spares_of}
@@ -122,7 +122,7 @@ module _ (taken : List TakenNote) (own now : FlowQueue) (lending : Lending) (old
   bytes-long = values-length at own.bytes 0 (λ p from until. below p (omega (arith, until)))
 
   -- they stand there among the flow's
-  stands-there : AreWholeFrames taken → IsAt (marks_of own.number taken) own.bytes (marks_of_loan lending)
+  stands-there : FramesStandTogether taken → IsAt (marks_of own.number taken) own.bytes (marks_of_loan lending)
   stands-there whole =
       let (rest, parts) = front-of-flow own taken (own.bytes + step.span.len) stands.begun below whole in
       record {
@@ -331,7 +331,7 @@ module _ (was : Desk) (old new : AppView) (own now : FlowQueue) (lending : Lendi
           spares = omega (arith, step.spares, step.copy, copy);
           fits = fits old.taken own now lending old new refl step own-stands sound;
           place = λ whole. subst (λ ts. IsAt (marks_of own.number ts) own.bytes (marks_of_loan lending)) taken-kept
-              (stands-there old.taken own now lending old new refl step own-stands sound (subst AreWholeFrames (sym taken-kept) whole));
+              (stands-there old.taken own now lending old new refl step own-stands sound (subst FramesStandTogether (sym taken-kept) whole));
           items = item-items;
           going = (on, on);
           more = more;

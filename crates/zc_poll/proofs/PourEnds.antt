@@ -8,7 +8,7 @@ use Rattle.zr_io.specs.Moved.{Gained}
 use Rattle.zr_io.proofs.Moved.{Gained-weaker}
 use Rattle.board_face.specs.AppEvents.{reserve_of}
 use Rattle.board_face.specs.declared.views.app.AppView.{AppView}
-use Rattle.flow_queues.specs.Marks.{Mark, AreWholeFrames, marks_of}
+use Rattle.flow_queues.specs.Marks.{Mark, FramesStandTogether, marks_of}
 use Rattle.flow_queues.specs.Core.{total, Each, IsIn, own_notes, BeginAt, AreReadAt}
 use Rattle.flow_queues.specs.Totals.{Quits, capped, lent_len, loan_entries}
 use Rattle.flow_queues.specs.Shelves.{FlowEnds, AreOfOneLoan}
@@ -69,7 +69,7 @@ module _ (first kept : ℕ → Option (List ℕ)) (losses losses_now : ℕ) (w :
   all-counted : w.stopped ≡ stop.No → total (λ f. f.1) w.counts ≡ total lent_len v.returned
   all-counted going = omega (arith, before.poured.sum, before.whole going, lens)
 
-  front : (n : ℕ) → AreWholeFrames v.taken → (bytes : List ℕ)
+  front : (n : ℕ) → FramesStandTogether v.taken → (bytes : List ℕ)
       → IsPoured ((w.stopped ≡ stop.Write) × (n ≡ before.torn)) v (marks_given n before.items) (bytes_in n w.counts) bytes
       → IsFront v.taken v.reads (marks_of n v.taken) bytes
   front n whole bytes is =
@@ -82,7 +82,7 @@ module _ (first kept : ℕ → Option (List ℕ)) (losses losses_now : ℕ) (w :
         are = is.are;
       }
 
-  all : (n : ℕ) → w.stopped ≡ stop.No → AreWholeFrames v.taken → (bytes : List ℕ)
+  all : (n : ℕ) → w.stopped ≡ stop.No → FramesStandTogether v.taken → (bytes : List ℕ)
       → IsPoured ((w.stopped ≡ stop.Write) × (n ≡ before.torn)) v (marks_given n before.items) (bytes_in n w.counts) bytes
       → AreReadAt v.taken v.reads (marks_of n v.taken) bytes
   all n going whole bytes is =
@@ -93,7 +93,7 @@ module _ (first kept : ℕ → Option (List ℕ)) (losses losses_now : ℕ) (w :
       let long : length marks ≤ length bytes = omega (arith, exact, before.poured.counts n, none-at n before.torn before.missing (before.whole going)) in
       subst (λ ms. AreReadAt v.taken v.reads ms bytes) (take_all (length bytes) marks long ∙ sym same) is.are
 
-  torn : (n : ℕ) → AreWholeFrames v.taken → (bytes : List ℕ)
+  torn : (n : ℕ) → FramesStandTogether v.taken → (bytes : List ℕ)
       → IsPoured ((w.stopped ≡ stop.Write) × (n ≡ before.torn)) v (marks_given n before.items) (bytes_in n w.counts) bytes
       → IsTorn (has_left v) before.torn n (bytes_in n w.counts) bytes
   torn n whole bytes is =

@@ -3,7 +3,7 @@ use Rattle.std.proofs.Common.{◌≡◌, ℕ, List, ◌++◌, sym, ap, subst, �
 use Rattle.board_face.specs.declared.views.app.TakenNote.{TakenNote}
 use Rattle.board_face.specs.declared.views.app.AppView.{AppView}
 use Rattle.flow_queues.specs.declared.queues.FlowQueue.{FlowQueue}
-use Rattle.flow_queues.specs.Marks.{Mark, AreWholeFrames, marks_of}
+use Rattle.flow_queues.specs.Marks.{Mark, FramesStandTogether, marks_of}
 use Rattle.flow_queues.specs.Core.{Each, placed_of}
 use Rattle.zr_kinds.specs.CopyingReceiver.{next_missing}
 use Rattle.flow_queues.proofs.Fronts.{front-of-flow, all-of-flow, pick, no-marks}
@@ -13,7 +13,7 @@ use Rattle.zc_poll.specs.Items.{Given, HasGiven, marks_given}
 use Rattle.zc_poll.proofs.Marking.{IsGivenOf, each-two}
 
 pub items-front : (flows : List FlowQueue) (taken : List TakenNote) (items : List Given) → Each (FlowEnds taken) flows → HasGiven items flows taken
-    → AreWholeFrames taken → (flow : ℕ) → (rest : List Mark) × (marks_of flow taken ≡ marks_given flow items ++ rest)
+    → FramesStandTogether taken → (flow : ℕ) → (rest : List Mark) × (marks_of flow taken ≡ marks_given flow items ++ rest)
 items-front flows taken items found given whole flow =
     pick flow flows (λ f. FlowEnds taken f × IsGivenOf items taken f) ((rest : List Mark) × (marks_of flow taken ≡ marks_given flow items ++ rest))
     (each-two (FlowEnds taken) (IsGivenOf items taken) flows found given.flows)
@@ -23,7 +23,7 @@ items-front flows taken items found given whole flow =
     subst (λ n. (rest : List Mark) × (marks_of n taken ≡ marks_given n items ++ rest)) is (rest, parts ∙ ap (λ ms. ms ++ rest) (sym both.1)))
 
 pub items-whole : (st : Desk) (v : AppView) (items : List Given) → Each (FlowEnds v.taken) st.flows → IsWhole st v → HasGiven items st.flows v.taken
-    → AreWholeFrames v.taken → (flow : ℕ) → marks_of flow v.taken ≡ marks_given flow items
+    → FramesStandTogether v.taken → (flow : ℕ) → marks_of flow v.taken ≡ marks_given flow items
 items-whole st v items found all given whole flow =
     pick flow st.flows (λ f. (FlowEnds v.taken f × IsGivenOf items v.taken f) × (f.bytes ≡ next_missing (placed_of f v.taken)))
     (marks_of flow v.taken ≡ marks_given flow items)

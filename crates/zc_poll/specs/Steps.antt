@@ -11,7 +11,7 @@ use Rattle.board_face.specs.declared.views.app.LentPiece.{LentPiece}
 use Rattle.board_face.specs.declared.views.app.TakenNote.{TakenNote}
 use Rattle.board_face.specs.declared.views.app.AppView.{AppView}
 use Rattle.flow_queues.specs.declared.queues.Lending.{Lending}
-use Rattle.flow_queues.specs.Marks.{AreWholeFrames, marks_of}
+use Rattle.flow_queues.specs.Marks.{FramesStandTogether, marks_of}
 use Rattle.flow_queues.specs.Core.{total, IsIn, lent_piece, marks_of_loan}
 use Rattle.zc_poll.specs.declared.step.Lent.{Lent}
 use Rattle.zc_poll.specs.declared.step.Waits.{Waits}
@@ -69,7 +69,7 @@ pub record IsItem (was now : Desk) (old new : AppView) (lent : Lent) : Type 0 wh
   -- the places of its bytes are numbers of 64 bits
   pub fits : lent.position + lent.loan.len < 2 ^ 64
   -- they stand there among those of the flow
-  pub place : AreWholeFrames new.taken → IsAt (marks_of lent.flow new.taken) lent.position (marks_of_loan lending)
+  pub place : FramesStandTogether new.taken → IsAt (marks_of lent.flow new.taken) lent.position (marks_of_loan lending)
   -- as many came before in the flow's items
   pub items : (items : List Given) → HasGiven items was.flows old.taken
       → (lent.position ≡ length (marks_given lent.flow items)) × HasGiven (items ++ given_as lent lending ∷ []) now.flows new.taken

@@ -1,6 +1,6 @@
 //! What the items of a stream are, all together. Nothing runs.
 ghost use Rattle.std.specs.Prelude.{◌≡◌, ℕ, ◌++◌, List, true, false};
-ghost use Rattle.flow_queues.specs.Marks.{Mark, AreWholeFrames, marks_of};
+ghost use Rattle.flow_queues.specs.Marks.{Mark, FramesStandTogether, marks_of};
 ghost use Rattle.zc_poll.specs.Items.{Given, HasGiven, marks_given};
 ghost use Rattle.zc_poll.specs.Standing.{StreamStands};
 
@@ -12,9 +12,9 @@ use board_face::AppFace;
 pub fn items_law<F: AppFace>(stream: &LoanStream<F>)
     requires { StreamStands stream.now.desk (F.seen stream.now.face) }
     ensures fronts { (items : List Given) → HasGiven items stream.now.desk.flows (F.seen stream.now.face).taken
-        → AreWholeFrames (F.seen stream.now.face).taken
+        → FramesStandTogether (F.seen stream.now.face).taken
         → (flow : ℕ) → (rest : List Mark) × (marks_of flow (F.seen stream.now.face).taken ≡ marks_given flow items ++ rest) }
     ensures whole { stream.now.desk.ended ≡ true → stream.now.desk.stopped ≡ false
-        → (items : List Given) → HasGiven items stream.now.desk.flows (F.seen stream.now.face).taken → AreWholeFrames (F.seen stream.now.face).taken
+        → (items : List Given) → HasGiven items stream.now.desk.flows (F.seen stream.now.face).taken → FramesStandTogether (F.seen stream.now.face).taken
         → (flow : ℕ) → marks_of flow (F.seen stream.now.face).taken ≡ marks_given flow items }
 {}

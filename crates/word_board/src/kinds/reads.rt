@@ -74,7 +74,15 @@ pub(crate) fn read_text(
     while done < into.len() {
         let first = (loan.offset as usize + from as usize + done) % 8;
         let more = (8 - first).min(into.len() - done);
-        let word = load_word(words, seat, loan, first_word, from, &into[..done], more as u32);
+        let word = load_word(
+            words,
+            seat,
+            loan,
+            first_word,
+            from,
+            &into[..done],
+            more as u32,
+        );
         copy_part(word, first, &mut into[done..done + more]);
         done += more;
     }

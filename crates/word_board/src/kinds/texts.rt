@@ -61,7 +61,15 @@ pub(crate) fn fill_text(words: &SharedWords, seat: &mut WordSeat, own: Filling, 
     let first = words.map.layout().first_word(own.buffer);
     let last = (len - 1) / 8;
     for k in 0..last {
-        store_spare(words, seat, own, first, len, k, text_word(bytes, k as usize));
+        store_spare(
+            words,
+            seat,
+            own,
+            first,
+            len,
+            k,
+            text_word(bytes, k as usize),
+        );
     }
     let n = text_word(bytes, last as usize);
     fill_spare(words, seat, own, first, bytes, last, n);

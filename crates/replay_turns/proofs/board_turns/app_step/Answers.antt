@@ -1,5 +1,5 @@
 use Rattle.std.proofs.Common.{rules, ◌≡◌, ap}
-use Rattle.app_worker.specs.Marks.{AreWholeFrames}
+use Rattle.app_worker.specs.Marks.{FramesStandTogether}
 use Rattle.plain_board.specs.Board.{others_of}
 use Rattle.plain_board.specs.declared.others.Others.{Others}
 use Rattle.flow_queues.specs.Shelves.{AreShelved, AreFronts}
@@ -23,20 +23,20 @@ returns-clause-told g c why idle = search (rules, c.app_turn-turn.ensures.told w
 pub returns-clause-fronts : goal.returns-clause-fronts
 returns-clause-fronts g c first =
     let kept = g.T.Shelf.kept c.app_turn-turn.new.shelf in
-    view_stands (λ v. AreWholeFrames v.taken → AreShelved first kept c.app_turn-turn.new.st.flows v → HasFronts first kept v) c.args.board
+    view_stands (λ v. FramesStandTogether v.taken → AreShelved first kept c.app_turn-turn.new.st.flows v → HasFronts first kept v) c.args.board
     c.app_turn-turn.new.face.board c.back-board.result c.args.app c.app_turn-turn.new.face.app
     (rw c.app-face.ensures at c.app_turn-turn.ensures.beside) c.back-board.ensures (c.app_turn-turn.ensures.fronts first)
 
 pub returns-clause-failed : goal.returns-clause-failed
 returns-clause-failed g c first =
     let kept = g.T.Shelf.kept c.app_turn-turn.new.shelf in
-    view_stands (λ v. AreWholeFrames v.taken → AreFronts first kept c.app_turn-turn.new.st.flows v → HasFronts first kept v) c.args.board
+    view_stands (λ v. FramesStandTogether v.taken → AreFronts first kept c.app_turn-turn.new.st.flows v → HasFronts first kept v) c.args.board
     c.app_turn-turn.new.face.board c.back-board.result c.args.app c.app_turn-turn.new.face.app
     (rw c.app-face.ensures at c.app_turn-turn.ensures.beside) c.back-board.ensures (c.app_turn-turn.ensures.failed first)
 
 pub returns-clause-whole : goal.returns-clause-whole
 returns-clause-whole g c first finished goes =
     let kept = g.T.Shelf.kept c.app_turn-turn.new.shelf in
-    view_stands (λ v. AreWholeFrames v.taken → AreShelved first kept c.app_turn-turn.new.st.flows v → HasAll first kept v) c.args.board
+    view_stands (λ v. FramesStandTogether v.taken → AreShelved first kept c.app_turn-turn.new.st.flows v → HasAll first kept v) c.args.board
     c.app_turn-turn.new.face.board c.back-board.result c.args.app c.app_turn-turn.new.face.app
     (rw c.app-face.ensures at c.app_turn-turn.ensures.beside) c.back-board.ensures (c.app_turn-turn.ensures.whole first finished goes)
