@@ -5,8 +5,8 @@ usage: tools/event_runs.py [RUNS [SEED]]
 
 RUNS is 300 if left out, and SEED 0: run K draws by SEED + K, captures and options as tools/thread_runs.py does. Each record has
 to be that of a legal run, by `zcrx check` and by the second checker of tools/check_runs.py; its lines have to tell the loans,
-copies and bytes of each application's line and the strays; and with any one line left out either no checker takes it for that
-of a legal run, or its lines tell something else. The report and the streams have to be those of the same replay without --events.
+copies and bytes of each application's line and the strays; and with one line left out, for up to eight lines that are drawn, either
+no checker takes it for that of a legal run, or its lines tell something else. The report and the streams have to be those of the same replay without --events.
 
 ZCRX=FILE names another program than crates/zcrx_cli/out/zcrx_cli, which `make build` leaves there.
 """
