@@ -52,7 +52,8 @@ took_note-law s sound a app at note split next =
     (λ there none. rw (app-there s sound a app at, within-by s sound p.buffer p.offset p.len there none) refl) (λ held. refl) in
     logs-by e s new refl (follows-by e p.buffer (x ∷ []) (y ∷ []) s new refl (NoneReturns-app s a app v at sound.returns) shifts (λ held p u. refl)
     becomes)
-    (tallies-none e s a app v at (λ n. record { loans = refl; bytes = refl; copies = refl }) refl (gains-none app.view v refl refl refl refl))
+    (tallies-none e s a app v at (λ n. record { loans = refl; bytes = refl; copies = refl })
+    (record { stray = refl; takes = refl; sends = refl; deals = refl }) (gains-none app.view v refl refl refl refl))
 
 -- ---- pieces
 
@@ -82,7 +83,8 @@ cut-law s sound a app at p m out some less =
     (λ held. rw (lt-ltb 0 m some, lt-ltb m p.len less) refl) in
     logs-by e s new refl (follows-by e p.buffer (x ∷ []) news s new refl (NoneReturns-app s a app v at sound.returns) shifts
     (λ held q u. pool-said held (pool_of new p.buffer) q) becomes)
-    (tallies-none e s a app v at (λ n. record { loans = refl; bytes = refl; copies = refl }) refl (gains-none app.view v refl refl refl refl))
+    (tallies-none e s a app v at (λ n. record { loans = refl; bytes = refl; copies = refl })
+    (record { stray = refl; takes = refl; sends = refl; deals = refl }) (gains-none app.view v refl refl refl refl))
 
 pub released-law : ReleasedLaw
 released-law s sound a app at p out =
@@ -95,7 +97,8 @@ released-law s sound a app at p out =
     (λ there none. rw (app-there s sound a app at, within-by s sound p.buffer p.offset p.len there none) refl) (λ held. refl) in
     logs-by e s new refl (follows-by e p.buffer (x ∷ []) [] s new refl (NoneReturns-app s a app v at sound.returns) shifts
     (λ held q u. pool-said held (pool_of new p.buffer) q) becomes)
-    (tallies-none e s a app v at (λ n. record { loans = refl; bytes = refl; copies = refl }) refl (gains-none app.view v refl refl refl refl))
+    (tallies-none e s a app v at (λ n. record { loans = refl; bytes = refl; copies = refl })
+    (record { stray = refl; takes = refl; sends = refl; deals = refl }) (gains-none app.view v refl refl refl refl))
 
 -- ---- loans
 
@@ -125,7 +128,8 @@ back-law = record {
       (λ there none. rw (app-there s sound a app at, within-by s sound p.buffer p.offset p.len there none) refl) (λ held. refl) in
       logs-by e s new refl (follows-by e p.buffer (x ∷ []) (holding.Owed a ∷ []) s new refl (NoneReturns-app s a app v at sound.returns) shifts
       (λ held q u. eq-eqb _ _ (u a)) becomes)
-      (tallies-none e s a app v at (λ n. record { loans = refl; bytes = refl; copies = refl }) refl (gains-gave app.view p out));
+      (tallies-none e s a app v at (λ n. record { loans = refl; bytes = refl; copies = refl })
+      (record { stray = refl; takes = refl; sends = refl; deals = refl }) (gains-gave app.view p out));
   abandoned = λ s sound a app at p out.
       let v = abandoned app.view p in
       let new = by_app s a app v in
@@ -136,7 +140,8 @@ back-law = record {
       (λ there none. rw (app-there s sound a app at, within-by s sound p.buffer p.offset p.len there none) refl) (λ held. refl) in
       logs-by e s new refl (follows-by e p.buffer (x ∷ []) (holding.Owed a ∷ []) s new refl (NoneReturns-app s a app v at sound.returns) shifts
       (λ held q u. eq-eqb _ _ (u a)) becomes)
-      (tallies-none e s a app v at (λ n. record { loans = refl; bytes = refl; copies = refl }) refl (gains-returned app.view p out));
+      (tallies-none e s a app v at (λ n. record { loans = refl; bytes = refl; copies = refl })
+      (record { stray = refl; takes = refl; sends = refl; deals = refl }) (gains-returned app.view p out));
 }
 
 -- ---- spares
@@ -185,7 +190,8 @@ got_spare-law s sound a app at buffer own none =
     ) in
     logs-by e s new refl (follows-by e buffer [] (x ∷ []) s new refl (NoneReturns-app s a app v at sound.returns) (shifts-got_spare s a app at buffer)
     (λ held q u. pool-said held (pool_of new buffer) q) becomes)
-    (tallies-none e s a app v at (λ n. record { loans = refl; bytes = refl; copies = refl }) refl (gains-got_spare app.view buffer))
+    (tallies-none e s a app v at (λ n. record { loans = refl; bytes = refl; copies = refl })
+    (record { stray = refl; takes = refl; sends = refl; deals = refl }) (gains-got_spare app.view buffer))
 
 pub lent_own-law : LentOwnLaw
 lent_own-law s sound a app at it out some short =

@@ -20,9 +20,9 @@ use Rattle.board_face.specs.declared.views.app.SpareOwn.{SpareOwn}
 use Rattle.board_face.specs.declared.views.app.Origin.TheVariants.{Copied as of_copy}
 use Rattle.board_face.proofs.ListLemmas.{eqb_same, not-eqb}
 use Rattle.board_face.proofs.Tallies.{total}
-use Rattle.event_log.specs.Tallies.{is_stray, len_of}
+use Rattle.event_log.specs.Tallies.{len_of}
 use Rattle.event_log.proofs.AppShifts.{loans-less, owns-less}
-use Rattle.event_log.proofs.Tallying.{Gains, Tallies, TellsNothing, sum-total, tallies-app}
+use Rattle.event_log.proofs.Tallying.{Gains, IsNoneOfCard, Tallies, TellsNothing, sum-total, tallies-app}
 
 length-total : {A : Type 0} (xs : List A) → total (λ x. 1) xs ≡ length xs
 length-total [] = refl
@@ -87,19 +87,19 @@ gains-lent_own v it out =
 
 -- an event that tells of no loan that begins
 pub tallies-none : (e : Event) (s : AllSides) (a : ℕ) (app : AppSide) (v : AppView) → IsApp s.apps a app → ((n : ℕ) → TellsNothing n e)
-    → is_stray e ≡ false → Gains 0 0 0 app.view v → Tallies e s (by_app s a app v)
-tallies-none e s a app v at nothing not_stray none =
-    tallies-app e s a app (app_at app v) at (rw ((nothing a).loans, (nothing a).bytes, (nothing a).copies) none) (λ n ne. nothing n) not_stray
+    → IsNoneOfCard e → Gains 0 0 0 app.view v → Tallies e s (by_app s a app v)
+tallies-none e s a app v at nothing no_card none =
+    tallies-app e s a app (app_at app v) at (rw ((nothing a).loans, (nothing a).bytes, (nothing a).copies) none) (λ n ne. nothing n) no_card
 
 pub tallies-lent : (s : AllSides) (a : ℕ) (app : AppSide) → IsApp s.apps a app → (p : Place) (pool user : ℕ)
     → Tallies (event.Lend a p.buffer p.offset p.len pool user) s (by_app s a app (lent app.view p))
 tallies-lent s a app at p pool user =
     tallies-app (event.Lend a p.buffer p.offset p.len pool user) s a app (app_at app (lent app.view p)) at (rw (eqb_same a) (gains-lent app.view p))
-    (λ n ne. let other : eqb a n ≡ false = not-eqb a n (λ e. ne (sym e)) in record { loans = other; bytes = rw other refl; copies = refl }) refl
+    (λ n ne. let other : eqb a n ≡ false = not-eqb a n (λ e. ne (sym e)) in record { loans = other; bytes = rw other refl; copies = refl }) (record { stray = refl; takes = refl; sends = refl; deals = refl })
 
 pub tallies-lent_own : (s : AllSides) (a : ℕ) (app : AppSide) → IsApp s.apps a app → (it : Filling) → HasSpare app.view it → (pool user : ℕ)
     → Tallies (event.Own a it.buffer (length (own_bytes app.view it)) pool user) s (by_app s a app (lent_own app.view it))
 tallies-lent_own s a app at it out pool user =
     tallies-app (event.Own a it.buffer (length (own_bytes app.view it)) pool user) s a app (app_at app (lent_own app.view it)) at
     (rw (eqb_same a) (gains-lent_own app.view it out))
-    (λ n ne. let other : eqb a n ≡ false = not-eqb a n (λ e. ne (sym e)) in record { loans = other; bytes = rw other refl; copies = other }) refl
+    (λ n ne. let other : eqb a n ≡ false = not-eqb a n (λ e. ne (sym e)) in record { loans = other; bytes = rw other refl; copies = other }) (record { stray = refl; takes = refl; sends = refl; deals = refl })

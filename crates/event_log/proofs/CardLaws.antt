@@ -2,8 +2,9 @@
 use Rattle.std.proofs.Common.{◌≡◌, ◌∙◌, ℕ, ◌+◌, ◌<◌, ◌≤◌, Bool, true, false, List, [], ◌∷◌, ◌++◌, length, eqb, ltb, Some}
 use Rattle.std.proofs.Common.{refl, sym, ap, arith, ⊎_elim, if◌then◌else◌, leb}
 use Rattle.std.specs.Prelude.{◌||◌, ◌%◌, not, count_by}
-use Rattle.std.specs.List.{list_any, list_all}
+use Rattle.std.specs.List.{list_any, list_all, flat_map}
 use Rattle.std.proofs.lemmas.Bool.{lt-ltb, le-leb, eq-eqb, cases_lt}
+use Rattle.std.proofs.lemmas.List.{append-nil, flat_map_more, map-append}
 use Rattle.std.proofs.lemmas.List.Elements.{All-contains}
 use Rattle.area_layout.specs.Layout.{size_of}
 use Rattle.run_records.specs.declared.event.Event.{Event}
@@ -23,12 +24,13 @@ use Rattle.board_face.specs.declared.views.parts.Setting.{Setting as Shared}
 use Rattle.board_face.specs.declared.views.parts.Filling.{Filling}
 use Rattle.board_face.specs.declared.views.nic.Dealt.{Dealt}
 use Rattle.board_face.specs.declared.views.nic.NicView.{NicView}
+use Rattle.board_face.specs.declared.views.nic.SentNote.{SentNote}
 use Rattle.board_face.proofs.Tallies.{weight as one}
 use Rattle.event_log.specs.CardLaws.{TookLaw, PlacedLaw, SentLaw, ShutLaw, HonouredLaw, PassedOverLaw, CardUnloggedLaw}
 use Rattle.event_log.specs.IsLogged.{AreSound, KeepsLog, run_of}
 use Rattle.event_log.specs.Settings.{setting_of}
 use Rattle.event_log.specs.Plain.{SameHoldings, weight}
-use Rattle.event_log.specs.Tallies.{is_stray, strays_of, was_stray}
+use Rattle.event_log.specs.Tallies.{dealt_as, is_stray, sent_as, strays_of, was_stray}
 use Rattle.event_log.proofs.CardShifts.{shifts-took, shifts-placed, shifts-sent, shifts-shut, shifts-honoured, same-passed_over, same-sent_linear}
 use Rattle.event_log.proofs.Counting.{buffer-there, ends, ends-weight, held-some, length-held}
 use Rattle.event_log.proofs.Following.{Becomes, follows-by, logged-same, logs-by, was-there}
@@ -36,13 +38,13 @@ use Rattle.event_log.proofs.Needs.{NoneReturns-card, app-there, both-said, one-b
 use Rattle.event_log.proofs.Parts.{card_weight}
 use Rattle.event_log.proofs.Settings.{pool_buffers-same}
 use Rattle.event_log.proofs.Shifts.{card-shift}
-use Rattle.event_log.proofs.Tallying.{Tallies, TellsNothing, count-push, keeps-card, tallies-card}
+use Rattle.event_log.proofs.Tallying.{CardGains, Tallies, TellsNothing, card-stays, count-push, keeps-card, tallies-card}
 use Rattle.event_log.proofs.Weighing.{Moves, all-pass, one_if, weight-append, weight-le}
 
 -- an event that tells of no loan, of a card that dealt with no entry
 tallies-unstrayed : (e : Event) (s : AllSides) (v : NicView) → ((a : ℕ) → TellsNothing a e) → is_stray e ≡ false → v.dealt ≡ s.nic.view.dealt
-    → Tallies e s (by_card s v)
-tallies-unstrayed e s v nothing not_stray same = tallies-card e s v nothing (omega (arith, ap strays_of same, ap one not_stray))
+    → CardGains e s.nic.view v → Tallies e s (by_card s v)
+tallies-unstrayed e s v nothing not_stray same gains = tallies-card e s v nothing (omega (arith, ap strays_of same, ap one not_stray)) gains
 
 -- ---- taking
 
@@ -74,7 +76,8 @@ took-law s sound buffer pool none =
     ) in
     logs-by e s new refl (follows-by e buffer [] (holding.Own ∷ []) s new refl (NoneReturns-card s (took s.nic.view buffer) sound.returns)
     (shifts-took s buffer) (λ held p u. pool-said held (pool_of new buffer) p) becomes)
-    (tallies-unstrayed e s (took s.nic.view buffer) (λ n. record { loans = refl; bytes = refl; copies = refl }) refl refl)
+    (tallies-unstrayed e s (took s.nic.view buffer) (λ n. record { loans = refl; bytes = refl; copies = refl }) refl refl
+    (record { takes = refl; sends = sym (append-nil _); deals = sym (append-nil _) }))
 
 -- ---- placing
 
@@ -145,9 +148,19 @@ placed-law s sound it bytes out some within =
     ) in
     logs-by e s new refl (follows-by e it.buffer [] (x ∷ []) s new refl (NoneReturns-card s (placed s.nic.view it bytes) sound.returns)
     (shifts-placed s it bytes out) (λ held p u. pool-said held (pool_of new it.buffer) p) becomes)
-    (tallies-unstrayed e s (placed s.nic.view it bytes) (λ n. record { loans = refl; bytes = refl; copies = refl }) refl refl)
+    (tallies-unstrayed e s (placed s.nic.view it bytes) (λ n. record { loans = refl; bytes = refl; copies = refl }) refl refl
+    (card-stays e s.nic.view (placed s.nic.view it bytes) (record { stray = refl; takes = refl; sends = refl; deals = refl }) refl refl refl))
 
 -- ---- sending and shutting
+
+-- a note more that was sent with a piece, and one in which its bytes travel
+sends-more : (notes : List SentNote) (n : SentNote) → n.note.split ≡ true → flat_map sent_as (notes ++ n ∷ []) ≡ flat_map sent_as notes ++ (n.app, n.note.place) ∷ []
+sends-more notes n split = sym (flat_map_more sent_as [] notes n)
+    ∙ ap (λ c. flat_map sent_as notes ++ (if c then (n.app, n.note.place) ∷ [] else [])) split
+
+sends-none : (notes : List SentNote) (n : SentNote) → n.note.split ≡ false → flat_map sent_as (notes ++ n ∷ []) ≡ flat_map sent_as notes
+sends-none notes n split = sym (flat_map_more sent_as [] notes n)
+    ∙ (ap (λ c. flat_map sent_as notes ++ (if c then (n.app, n.note.place) ∷ [] else [])) split ∙ append-nil (flat_map sent_as notes))
 
 pub sent-law : SentLaw
 sent-law s sound a app at note split out =
@@ -161,7 +174,8 @@ sent-law s sound a app at note split out =
     (λ there none. rw (app-there s sound a app at, within-by s sound p.buffer p.offset p.len there none) refl) (λ held. refl) in
     logs-by e s new refl (follows-by e p.buffer (x ∷ []) (y ∷ []) s new refl (NoneReturns-card s (sent s.nic.view a note) sound.returns) shifts
     (λ held p u. refl) becomes)
-    (tallies-unstrayed e s (sent s.nic.view a note) (λ n. record { loans = refl; bytes = refl; copies = refl }) refl refl)
+    (tallies-unstrayed e s (sent s.nic.view a note) (λ n. record { loans = refl; bytes = refl; copies = refl }) refl refl
+    (record { takes = sym (append-nil _); sends = sends-more s.nic.view.sent _ split; deals = sym (append-nil _) }))
 
 pub shut-law : ShutLaw
 shut-law s sound it last out =
@@ -171,7 +185,8 @@ shut-law s sound it last out =
     let becomes = one-becomes e it.buffer holding.Own [] s new sound shifts refl (λ there none. there) (λ held. refl) in
     logs-by e s new refl (follows-by e it.buffer (holding.Own ∷ []) [] s new refl (NoneReturns-card s (shut s.nic.view it last) sound.returns) shifts
     (λ held p u. pool-said held (pool_of new it.buffer) p) becomes)
-    (tallies-unstrayed e s (shut s.nic.view it last) (λ n. record { loans = refl; bytes = refl; copies = refl }) refl refl)
+    (tallies-unstrayed e s (shut s.nic.view it last) (λ n. record { loans = refl; bytes = refl; copies = refl }) refl refl
+    (card-stays e s.nic.view (shut s.nic.view it last) (record { stray = refl; takes = refl; sends = refl; deals = refl }) refl refl refl))
 
 -- ---- entries
 
@@ -185,7 +200,8 @@ honoured-law s sound a app at entry buffer last owes =
     let becomes = one-becomes e buffer x [] s new sound shifts refl (λ there none. rw (app-there s sound a app at, there) refl) (λ held. refl) in
     logs-by e s new refl (follows-by e buffer (x ∷ []) [] s new refl (NoneReturns-card s v sound.returns) shifts
     (λ held p u. both-said held (pool_of new buffer) a (user_of new a buffer) p (u a)) becomes)
-    (tallies-card e s v (λ n. record { loans = refl; bytes = refl; copies = refl }) (count-push (λ (d : Dealt). was_stray d.fate) s.nic.view.dealt _))
+    (tallies-card e s v (λ n. record { loans = refl; bytes = refl; copies = refl }) (count-push (λ (d : Dealt). was_stray d.fate) s.nic.view.dealt _)
+    (record { takes = sym (append-nil _); sends = sym (append-nil _); deals = map-append dealt_as s.nic.view.dealt _ }))
 
 stray-is : (s : Setting) (h : Holdings) (a : ℕ) → is_app s a ≡ true → after s h (event.Stray a) ≡ Some h
 unfolding after
@@ -197,22 +213,23 @@ passed_over-law s sound a app at entry =
     let new = by_card s v in
     logs-by (event.Stray a) s new refl
     (λ h same. (h, stray-is (run_of s) h a (app-there s sound a app at), λ b f. same b f ∙ sym (same-passed_over s a entry b f)))
-    (tallies-card (event.Stray a) s v (λ n. record { loans = refl; bytes = refl; copies = refl }) (count-push (λ (d : Dealt). was_stray d.fate) s.nic.view.dealt _))
+    (tallies-card (event.Stray a) s v (λ n. record { loans = refl; bytes = refl; copies = refl }) (count-push (λ (d : Dealt). was_stray d.fate) s.nic.view.dealt _)
+    (record { takes = sym (append-nil _); sends = sym (append-nil _); deals = map-append dealt_as s.nic.view.dealt _ }))
 
 -- ---- no event
 
-same-card : (s : AllSides) (v : NicView) → v.sent ≡ s.nic.view.sent → v.dealt ≡ s.nic.view.dealt → v.setting ≡ s.nic.view.setting
+same-card : (s : AllSides) (v : NicView) → v.used ≡ s.nic.view.used → v.sent ≡ s.nic.view.sent → v.dealt ≡ s.nic.view.dealt → v.setting ≡ s.nic.view.setting
     → ((b : ℕ) (f : Holding → ℕ) → card_weight f b (nic_at s.nic v) ≡ card_weight f b s.nic) → KeepsLog s (by_card s v)
-same-card s v sents deals setting weighs =
+same-card s v used sents deals setting weighs =
     logged-same s (by_card s v) (ap (λ (x : Shared). setting_of x.layout) setting) (λ b f. omega (arith, card-shift s v sents deals b f, weighs b f))
-    (keeps-card s v (ap strays_of deals))
+    (keeps-card s v used (ap (flat_map sent_as) sents) deals)
 
 pub card-unlogged : CardUnloggedLaw
 card-unlogged = record {
-  sweep = λ s word found. same-card s (swept s.nic.view word found) refl refl refl (λ b f. refl);
+  sweep = λ s word found. same-card s (swept s.nic.view word found) refl refl refl refl (λ b f. refl);
   linear = λ s sound a app at note split bytes. let v = sent_linear s.nic.view a note bytes in
-      logged-same s (by_card s v) refl (λ b f. same-sent_linear s sound.fit a app at note b f split bytes) (keeps-card s v refl);
-  look = λ s look. same-card s (nic_saw s.nic.view look) refl refl refl (λ b f. refl);
-  leave = λ s a. same-card s (saw_leave s.nic.view a) refl refl refl (λ b f. refl);
-  end = λ s. same-card s (nic_ended s.nic.view) refl refl refl (λ b f. refl);
+      logged-same s (by_card s v) refl (λ b f. same-sent_linear s sound.fit a app at note b f split bytes) (keeps-card s v refl (sends-none s.nic.view.sent _ split) refl);
+  look = λ s look. same-card s (nic_saw s.nic.view look) refl refl refl refl (λ b f. refl);
+  leave = λ s a. same-card s (saw_leave s.nic.view a) refl refl refl refl (λ b f. refl);
+  end = λ s. same-card s (nic_ended s.nic.view) refl refl refl refl (λ b f. refl);
 }

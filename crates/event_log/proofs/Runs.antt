@@ -65,6 +65,7 @@ opened-law setting room most = record {
         (All-get_or NoneTallied apps a app at.there (All-new NoneTallied setting 0 (apps_of setting) (new-tallied setting))) in
         subst (λ n. IsTallied n app.view []) at.number new;
     strays = refl;
+    card = record { takes = refl; sends = refl; deals = refl };
   };
 }
 

@@ -30,7 +30,7 @@ use Rattle.event_log.proofs.Parts.{app_weight, weight-parts}
 use Rattle.event_log.proofs.Runs.{no-holders}
 use Rattle.event_log.proofs.Settings.{total-same}
 use Rattle.event_log.proofs.Shifts.{side-shift}
-use Rattle.event_log.proofs.Tallying.{gains-none, keeps-app, tallies-card}
+use Rattle.event_log.proofs.Tallying.{card-stays, gains-none, keeps-app, tallies-card}
 use Rattle.event_log.proofs.Weighing.{any-some, one_if, weight-count, weight-filter, weight-length}
 
 -- the weights without those of what an application owes
@@ -165,7 +165,8 @@ module _ (s : AllSides) (sound : AreSound s) (a : ℕ) (app : AppSide) (at : IsA
   -- a scrub tells of no loan that begins
   scrub-tallied : (n : ℕ) (events : List Event) → AreTallied s events → AreTallied s (events ++ scrub_of new a n ∷ [])
   scrub-tallied n events was =
-      tallies-card (scrub_of new a n) s s.nic.view (λ other. record { loans = refl; bytes = refl; copies = refl }) (omega arith) events was
+      tallies-card (scrub_of new a n) s s.nic.view (λ other. record { loans = refl; bytes = refl; copies = refl }) (omega arith)
+      (card-stays (scrub_of new a n) s.nic.view s.nic.view (record { stray = refl; takes = refl; sends = refl; deals = refl }) refl refl refl) events was
 
   scrubs : (kept : Kept) → IsLogged s kept → (n : ℕ) → n ≤ total_buffers (run_of s) → ((b : ℕ) → b < n → HasSmallNumbers (scrub_of new a b))
       → Tells (run_of s) (below n) (AreTallied s) (scrub_logged s new a kept n)

@@ -1,9 +1,9 @@
 -- What the events tell of loans, copies and strays goes on to be so, as the sides change.
-use Rattle.std.proofs.Common.{◌≡◌, ◌∙◌, ℕ, ◌+◌, Bool, false, List, [], ◌∷◌, ◌++◌, length, get_or, set, refl, sym, ap, subst, arith, ⊎_elim}
+use Rattle.std.proofs.Common.{◌≡◌, ◌∙◌, ℕ, ◌+◌, Bool, false, List, [], ◌∷◌, ◌++◌, length, map, get_or, set, refl, sym, ap, subst, arith, ⊎_elim}
 use Rattle.std.specs.Prelude.{◌≢◌, count_by}
-use Rattle.std.specs.List.{sum_by}
+use Rattle.std.specs.List.{sum_by, flat_map}
 use Rattle.std.proofs.lemmas.Bool.Decides.{eqb_tells}
-use Rattle.std.proofs.lemmas.List.{get_or-set_same, get_or-set_other, length-set}
+use Rattle.std.proofs.lemmas.List.{append-nil, flat_map_more, get_or-set_same, get_or-set_other, length-set}
 use Rattle.std.proofs.lemmas.List.Sums.{sum_by-cons, sum_by_push}
 use Rattle.run_records.specs.declared.event.Event.{Event}
 use Rattle.board_face.specs.Laws.{AllSides, by_card}
@@ -13,8 +13,8 @@ use Rattle.board_face.specs.declared.views.app.AppView.{AppView}
 use Rattle.board_face.specs.declared.views.app.AppSide.{AppSide}
 use Rattle.board_face.proofs.Parts.{count-tally}
 use Rattle.board_face.proofs.Tallies.{weight as one, total, tally-push}
-use Rattle.event_log.specs.Tallies.{AreTallied, IsTallied, is_copy, is_loan, is_stray, len_of, loan_bytes, strays_in}
-use Rattle.event_log.specs.Tallies.{strays_of}
+use Rattle.event_log.specs.Tallies.{AreTallied, IsTallied, TellsCard, is_copy, is_loan, is_stray, len_of, loan_bytes, strays_in, strays_of}
+use Rattle.event_log.specs.Tallies.{dealt_as, deals_of, sends_of, sent_as, takes_of}
 use Rattle.event_log.specs.ToldLaw.{IsToldOf}
 
 -- ---- one more
@@ -26,14 +26,50 @@ pub sum-total : {A : Type 0} (f : A → ℕ) (xs : List A) → sum_by f xs ≡ t
 sum-total f [] = refl
 sum-total f (x ∷ xs) = sum_by-cons f x xs ∙ ap (λ n. f x + n) (sum-total f xs)
 
+-- ---- what the card did
+
+-- one event more
+list-push : {A : Type 0} (f : Event → List A) (events : List Event) (e : Event) (old new : List A) → flat_map f events ≡ old → new ≡ old ++ f e
+    → flat_map f (events ++ e ∷ []) ≡ new
+list-push f events e old new was is = sym (flat_map_more f [] events e) ∙ (ap (λ xs. xs ++ f e) was ∙ sym is)
+
+-- what the event tells of the card is what the card's lists have more
+pub record CardGains (e : Event) (old new : NicView) : Type 0 where
+  pub takes : new.used ≡ old.used ++ takes_of e
+  pub sends : flat_map sent_as new.sent ≡ flat_map sent_as old.sent ++ sends_of e
+  pub deals : map dealt_as new.dealt ≡ map dealt_as old.dealt ++ deals_of e
+
+card-told : (e : Event) (old new : NicView) (events : List Event) → CardGains e old new → TellsCard old events → TellsCard new (events ++ e ∷ [])
+card-told e old new events gains was = record {
+  takes = list-push takes_of events e _ _ was.takes gains.takes;
+  sends = list-push sends_of events e _ _ was.sends gains.sends;
+  deals = list-push deals_of events e _ _ was.deals gains.deals;
+}
+
+-- The event tells nothing of the card.
+pub record IsNoneOfCard (e : Event) : Type 0 where
+  pub stray : is_stray e ≡ false
+  pub takes : takes_of e ≡ []
+  pub sends : sends_of e ≡ []
+  pub deals : deals_of e ≡ []
+
+-- the card's lists are the same
+pub card-stays : (e : Event) (old new : NicView) → IsNoneOfCard e → new.used ≡ old.used → new.sent ≡ old.sent → new.dealt ≡ old.dealt
+    → CardGains e old new
+card-stays e old new none used sent dealt = record {
+  takes = used ∙ (sym (append-nil old.used) ∙ ap (λ xs. old.used ++ xs) (sym none.takes));
+  sends = ap (flat_map sent_as) sent ∙ (sym (append-nil _) ∙ ap (λ xs. flat_map sent_as old.sent ++ xs) (sym none.sends));
+  deals = ap (map dealt_as) dealt ∙ (sym (append-nil _) ∙ ap (λ xs. map dealt_as old.dealt ++ xs) (sym none.deals));
+}
+
 -- ---- one application changes
 
 -- What the application with this number is may change, and the events with it, if they tell the same of the others.
 pub side-tallied : (s : AllSides) (a : ℕ) (app now : AppSide) → IsApp s.apps a app → (before after : List Event)
     → (IsTallied a app.view before → IsTallied a now.view after)
     → ((other : ℕ) (v : AppView) → other ≢ a → IsTallied other v before → IsTallied other v after) → strays_in after ≡ strays_in before
-    → AreTallied s before → AreTallied (record { nic = s.nic; apps = set s.apps a now }) after
-side-tallied s a app now at before after own others strays was = record {
+    → (TellsCard s.nic.view before → TellsCard s.nic.view after) → AreTallied s before → AreTallied (record { nic = s.nic; apps = set s.apps a now }) after
+side-tallied s a app now at before after own others strays card was = record {
   apps = λ b it there.
       let within = length-set s.apps a now in
       ⊎_elim
@@ -47,6 +83,7 @@ side-tallied s a app now at before after own others strays was = record {
       others b it.view t.1 (was.apps b it (record { there = omega (arith, there.there, within); is = same; number = there.number })))
       (eqb_tells b a);
   strays = strays ∙ was.strays;
+  card = card was.card;
 }
 
 -- so many loans more, with so many bytes, and so many copies
@@ -105,10 +142,11 @@ KeepsTallies old new = (events : List Event) → AreTallied old events → AreTa
 -- an event of an application
 pub tallies-app : (e : Event) (s : AllSides) (a : ℕ) (app now : AppSide) → IsApp s.apps a app
     → Gains (one (is_loan a e)) (loan_bytes a e) (one (is_copy a e)) app.view now.view
-    → ((other : ℕ) → other ≢ a → TellsNothing other e) → is_stray e ≡ false → Tallies e s (record { nic = s.nic; apps = set s.apps a now })
-tallies-app e s a app now at gains nothing not_stray events was =
+    → ((other : ℕ) → other ≢ a → TellsNothing other e) → IsNoneOfCard e → Tallies e s (record { nic = s.nic; apps = set s.apps a now })
+tallies-app e s a app now at gains nothing none events was =
     side-tallied s a app now at events (events ++ e ∷ []) (event-tallied a e app.view now.view events gains)
-    (λ other v ne. nothing-tallied other e v v events (nothing other ne) (none-gained v)) (strays-push events e not_stray) was
+    (λ other v ne. nothing-tallied other e v v events (nothing other ne) (none-gained v)) (strays-push events e none.stray)
+    (card-told e s.nic.view s.nic.view events (card-stays e s.nic.view s.nic.view none refl refl refl)) was
 
 same-tallied : (a : ℕ) (old new : AppView) (events : List Event) → Gains 0 0 0 old new → IsTallied a old events → IsTallied a new events
 same-tallied a old new events none was = record {
@@ -120,18 +158,28 @@ same-tallied a old new events none was = record {
 pub keeps-app : (s : AllSides) (a : ℕ) (app now : AppSide) → IsApp s.apps a app → Gains 0 0 0 app.view now.view
     → KeepsTallies s (record { nic = s.nic; apps = set s.apps a now })
 keeps-app s a app now at none events was =
-    side-tallied s a app now at events events (same-tallied a app.view now.view events none) (λ other v ne is. is) refl was
+    side-tallied s a app now at events events (same-tallied a app.view now.view events none) (λ other v ne is. is) refl (λ is. is) was
 
 -- an event of the card
 pub tallies-card : (e : Event) (s : AllSides) (v : NicView) → ((a : ℕ) → TellsNothing a e)
-    → strays_of v.dealt ≡ strays_of s.nic.view.dealt + one (is_stray e) → Tallies e s (by_card s v)
-tallies-card e s v nothing strays events was = record {
+    → strays_of v.dealt ≡ strays_of s.nic.view.dealt + one (is_stray e) → CardGains e s.nic.view v → Tallies e s (by_card s v)
+tallies-card e s v nothing strays gains events was = record {
   apps = λ a app at. nothing-tallied a e app.view app.view events (nothing a) (none-gained app.view) (was.apps a app at);
   strays = omega (arith, count-push is_stray events e, strays, was.strays);
+  card = card-told e s.nic.view v events gains was.card;
 }
 
-pub keeps-card : (s : AllSides) (v : NicView) → strays_of v.dealt ≡ strays_of s.nic.view.dealt → KeepsTallies s (by_card s v)
-keeps-card s v strays events was = record { apps = was.apps; strays = was.strays ∙ sym strays }
+pub keeps-card : (s : AllSides) (v : NicView) → v.used ≡ s.nic.view.used → flat_map sent_as v.sent ≡ flat_map sent_as s.nic.view.sent
+    → v.dealt ≡ s.nic.view.dealt → KeepsTallies s (by_card s v)
+keeps-card s v used sent dealt events was = record {
+  apps = was.apps;
+  strays = was.strays ∙ ap strays_of (sym dealt);
+  card = record {
+    takes = was.card.takes ∙ sym used;
+    sends = was.card.sends ∙ sym sent;
+    deals = was.card.deals ∙ ap (map dealt_as) (sym dealt);
+  };
+}
 
 -- ---- what a log tells
 

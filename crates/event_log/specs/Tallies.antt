@@ -1,6 +1,7 @@
--- What the events of a run tell of each application's loans and copies, and of the entries that the card passed over.
-use Rattle.std.specs.Prelude.{◌≡◌, ℕ, ◌+◌, ◌==◌, if◌then◌else◌, Bool, true, false, List, length, count_by}
-use Rattle.std.specs.List.{sum_by}
+-- What the events of a run tell of each application's loans and copies, and of what the card did, in order.
+use Rattle.std.specs.Prelude.{◌≡◌, ℕ, ◌+◌, ◌==◌, if◌then◌else◌, Bool, true, false, Option, Some, None, List, [], ◌∷◌, length, map, count_by}
+use Rattle.std.specs.List.{sum_by, flat_map}
+use Rattle.zr_kinds.specs.declared.place.Place.{Place}
 use Rattle.run_records.specs.declared.event.Event.{Event}
 use Rattle.run_records.specs.declared.event.Event.TheVariants as event
 use Rattle.board_face.specs.Laws.{AllSides}
@@ -8,6 +9,8 @@ use Rattle.board_face.specs.Sides.{IsApp}
 use Rattle.board_face.specs.declared.views.nic.Fate.{Fate}
 use Rattle.board_face.specs.declared.views.nic.Fate.TheVariants as fate
 use Rattle.board_face.specs.declared.views.nic.Dealt.{Dealt}
+use Rattle.board_face.specs.declared.views.nic.NicView.{NicView}
+use Rattle.board_face.specs.declared.views.nic.SentNote.{SentNote}
 use Rattle.board_face.specs.declared.views.app.LentPiece.{LentPiece}
 use Rattle.board_face.specs.declared.views.app.AppView.{AppView}
 use Rattle.board_face.specs.declared.views.app.AppSide.{AppSide}
@@ -35,6 +38,22 @@ abbrev pub is_stray : Event → Bool
 is_stray (event.Stray a) = true
 is_stray other = false
 
+-- the buffer that the card took by it
+abbrev pub takes_of : Event → List ℕ
+takes_of (event.Take buffer p) = buffer ∷ []
+takes_of other = []
+
+-- to whom the card sent a note by it, and with the piece at which place
+abbrev pub sends_of : Event → List (ℕ × Place)
+sends_of (event.Sent a b o l) = (a, record { buffer = b; offset = o; len = l }) ∷ []
+sends_of other = []
+
+-- whose entry the card dealt with by it, and for which buffer the entry was honoured
+abbrev pub deals_of : Event → List (ℕ × Option ℕ)
+deals_of (event.Honour a buffer p u) = (a, Some buffer) ∷ []
+deals_of (event.Stray a) = (a, None) ∷ []
+deals_of other = []
+
 -- ---- of all events
 
 abbrev pub loans_in : ℕ → List Event → ℕ
@@ -61,6 +80,23 @@ was_stray (fate.Honoured buffer) = false
 abbrev pub strays_of : List Dealt → ℕ
 strays_of dealt = count_by (λ d. was_stray d.fate) dealt
 
+-- a note that was sent with a piece
+abbrev pub sent_as : SentNote → List (ℕ × Place)
+sent_as n = if n.note.split then (n.app, n.note.place) ∷ [] else []
+
+abbrev pub buffer_of : Fate → Option ℕ
+buffer_of fate.Stray = None
+buffer_of (fate.Honoured buffer) = Some buffer
+
+abbrev pub dealt_as : Dealt → ℕ × Option ℕ
+dealt_as d = (d.app, buffer_of d.fate)
+
+-- The events tell, in order, which buffers the card took, which pieces it sent to whom, and what became of whose entries.
+pub record TellsCard (v : NicView) (events : List Event) : Type 0 where
+  pub takes : flat_map takes_of events ≡ v.used
+  pub sends : flat_map sends_of events ≡ flat_map sent_as v.sent
+  pub deals : flat_map deals_of events ≡ map dealt_as v.dealt
+
 -- The loans of an application that began are those that it has out and those that it returned, with all their bytes; and
 -- each spare that it was given it has still, or it lent it.
 pub record IsTallied (a : ℕ) (v : AppView) (events : List Event) : Type 0 where
@@ -71,3 +107,4 @@ pub record IsTallied (a : ℕ) (v : AppView) (events : List Event) : Type 0 wher
 pub record AreTallied (s : AllSides) (events : List Event) : Type 0 where
   pub apps : (a : ℕ) (app : AppSide) → IsApp s.apps a app → IsTallied a app.view events
   pub strays : strays_in events ≡ strays_of s.nic.view.dealt
+  pub card : TellsCard s.nic.view events
