@@ -26,7 +26,8 @@ use Rattle.event_log.specs.IsLogged.{AreSound, KeepsLog, run_of}
 use Rattle.event_log.specs.Plain.{weight}
 use Rattle.event_log.proofs.AppShifts.{shifts-took_note, same-took_linear, shifts-cut, shifts-released, shifts-lent, shifts-abandoned, shifts-gave}
 use Rattle.event_log.proofs.AppShifts.{shifts-got_spare, same-filled, shifts-lent_own}
-use Rattle.event_log.proofs.AppTallies.{gains-filled, gains-gave, gains-got_spare, gains-returned, tallies-lent, tallies-lent_own, tallies-none}
+use Rattle.event_log.proofs.AppTallies.{gains-filled, takes-none, tallies-abandoned, tallies-gave, tallies-got_spare, tallies-lent, tallies-lent_own, tallies-none}
+use Rattle.event_log.proofs.AppTallies.{tallies-took_note}
 use Rattle.event_log.proofs.CardLaws.{from-none, no-length}
 use Rattle.event_log.proofs.ShortFills.{own_bytes-short}
 use Rattle.event_log.proofs.Following.{Becomes, follows-by, logged-same, logs-by, weights_of}
@@ -34,7 +35,7 @@ use Rattle.event_log.proofs.Needs.{NoneReturns-app, app-there, both-said, one-be
 use Rattle.event_log.proofs.Parts.{app_weight}
 use Rattle.event_log.proofs.Settings.{pool_buffers-same}
 use Rattle.event_log.proofs.Shifts.{app-shift}
-use Rattle.event_log.proofs.Tallying.{Gains, gains-none, keeps-app}
+use Rattle.event_log.proofs.Tallying.{Gains, SameLists, gains-none, keeps-app}
 use Rattle.event_log.proofs.Weighing.{one_if}
 
 -- ---- notes
@@ -52,8 +53,7 @@ took_note-law s sound a app at note split next =
     (λ there none. rw (app-there s sound a app at, within-by s sound p.buffer p.offset p.len there none) refl) (λ held. refl) in
     logs-by e s new refl (follows-by e p.buffer (x ∷ []) (y ∷ []) s new refl (NoneReturns-app s a app v at sound.returns) shifts (λ held p u. refl)
     becomes)
-    (tallies-none e s a app v at (λ n. record { loans = refl; bytes = refl; copies = refl })
-    (record { stray = refl; takes = refl; sends = refl; deals = refl }) (gains-none app.view v refl refl refl refl))
+    (tallies-took_note s a app at note split)
 
 -- ---- pieces
 
@@ -83,8 +83,8 @@ cut-law s sound a app at p m out some less =
     (λ held. rw (lt-ltb 0 m some, lt-ltb m p.len less) refl) in
     logs-by e s new refl (follows-by e p.buffer (x ∷ []) news s new refl (NoneReturns-app s a app v at sound.returns) shifts
     (λ held q u. pool-said held (pool_of new p.buffer) q) becomes)
-    (tallies-none e s a app v at (λ n. record { loans = refl; bytes = refl; copies = refl })
-    (record { stray = refl; takes = refl; sends = refl; deals = refl }) (gains-none app.view v refl refl refl refl))
+    (tallies-none e s a app v at (λ n. record { loans = refl; bytes = refl; copies = refl; holds = refl; returns = refl; spares = refl })
+    (record { stray = refl; takes = refl; sends = refl; deals = refl }) (gains-none app.view v refl refl refl refl) (record { taken = refl; returned = refl; spares = refl }))
 
 pub released-law : ReleasedLaw
 released-law s sound a app at p out =
@@ -97,8 +97,8 @@ released-law s sound a app at p out =
     (λ there none. rw (app-there s sound a app at, within-by s sound p.buffer p.offset p.len there none) refl) (λ held. refl) in
     logs-by e s new refl (follows-by e p.buffer (x ∷ []) [] s new refl (NoneReturns-app s a app v at sound.returns) shifts
     (λ held q u. pool-said held (pool_of new p.buffer) q) becomes)
-    (tallies-none e s a app v at (λ n. record { loans = refl; bytes = refl; copies = refl })
-    (record { stray = refl; takes = refl; sends = refl; deals = refl }) (gains-none app.view v refl refl refl refl))
+    (tallies-none e s a app v at (λ n. record { loans = refl; bytes = refl; copies = refl; holds = refl; returns = refl; spares = refl })
+    (record { stray = refl; takes = refl; sends = refl; deals = refl }) (gains-none app.view v refl refl refl refl) (record { taken = refl; returned = refl; spares = refl }))
 
 -- ---- loans
 
@@ -128,8 +128,7 @@ back-law = record {
       (λ there none. rw (app-there s sound a app at, within-by s sound p.buffer p.offset p.len there none) refl) (λ held. refl) in
       logs-by e s new refl (follows-by e p.buffer (x ∷ []) (holding.Owed a ∷ []) s new refl (NoneReturns-app s a app v at sound.returns) shifts
       (λ held q u. eq-eqb _ _ (u a)) becomes)
-      (tallies-none e s a app v at (λ n. record { loans = refl; bytes = refl; copies = refl })
-      (record { stray = refl; takes = refl; sends = refl; deals = refl }) (gains-gave app.view p out));
+      (tallies-gave s a app at p (user_of new a p.buffer) out);
   abandoned = λ s sound a app at p out.
       let v = abandoned app.view p in
       let new = by_app s a app v in
@@ -140,8 +139,7 @@ back-law = record {
       (λ there none. rw (app-there s sound a app at, within-by s sound p.buffer p.offset p.len there none) refl) (λ held. refl) in
       logs-by e s new refl (follows-by e p.buffer (x ∷ []) (holding.Owed a ∷ []) s new refl (NoneReturns-app s a app v at sound.returns) shifts
       (λ held q u. eq-eqb _ _ (u a)) becomes)
-      (tallies-none e s a app v at (λ n. record { loans = refl; bytes = refl; copies = refl })
-      (record { stray = refl; takes = refl; sends = refl; deals = refl }) (gains-returned app.view p out));
+      (tallies-abandoned s a app at p (user_of new a p.buffer) out);
 }
 
 -- ---- spares
@@ -190,8 +188,7 @@ got_spare-law s sound a app at buffer own none =
     ) in
     logs-by e s new refl (follows-by e buffer [] (x ∷ []) s new refl (NoneReturns-app s a app v at sound.returns) (shifts-got_spare s a app at buffer)
     (λ held q u. pool-said held (pool_of new buffer) q) becomes)
-    (tallies-none e s a app v at (λ n. record { loans = refl; bytes = refl; copies = refl })
-    (record { stray = refl; takes = refl; sends = refl; deals = refl }) (gains-got_spare app.view buffer))
+    (tallies-got_spare s a app at buffer (pool_of new buffer))
 
 pub lent_own-law : LentOwnLaw
 lent_own-law s sound a app at it out some short =
@@ -213,27 +210,29 @@ lent_own-law s sound a app at it out some short =
 
 -- ---- no event
 
-same-app : (s : AllSides) (a : ℕ) (app : AppSide) (v : AppView) → IsApp s.apps a app → Gains 0 0 0 app.view v
+same-app : (s : AllSides) (a : ℕ) (app : AppSide) (v : AppView) → IsApp s.apps a app → Gains 0 0 0 app.view v → SameLists app.view v
     → ((b : ℕ) (f : Holding → ℕ) → weights_of (by_app s a app v) b f ≡ weights_of s b f) → KeepsLog s (by_app s a app v)
-same-app s a app v at none weighs = logged-same s (by_app s a app v) refl weighs (keeps-app s a app (app_at app v) at none)
+same-app s a app v at none same weighs = logged-same s (by_app s a app v) refl weighs (keeps-app s a app (app_at app v) at none same)
 
 -- where nothing of what is held or counted changes
 untouched : (s : AllSides) (a : ℕ) (app : AppSide) (v : AppView) → IsApp s.apps a app
     → ((b : ℕ) (f : Holding → ℕ) → app_weight f b s.nic (app_at app v) ≡ app_weight f b s.nic app) → Gains 0 0 0 app.view v
-    → KeepsLog s (by_app s a app v)
-untouched s a app v at weighs none = same-app s a app v at none (λ b f. omega (arith, app-shift s a app v at b f, weighs b f))
+    → SameLists app.view v → KeepsLog s (by_app s a app v)
+untouched s a app v at weighs none same = same-app s a app v at none same (λ b f. omega (arith, app-shift s a app v at b f, weighs b f))
 
 pub app-unlogged : AppUnloggedLaw
 app-unlogged = record {
   linear = λ s a app at note split next bytes. let v = took_linear app.view note bytes in
-      same-app s a app v at (gains-none app.view v refl refl refl refl) (same-took_linear s a app at note split next bytes);
+      same-app s a app v at (gains-none app.view v refl refl refl refl)
+      (record { taken = takes-none app.view.taken _ split; returned = refl; spares = refl }) (same-took_linear s a app at note split next bytes);
   fill = λ s a app at own bytes out.
-      same-app s a app (filled app.view own bytes) at (gains-filled app.view own bytes out) (same-filled s a app at own bytes out);
-  look = λ s a app at look. let v = app_saw app.view look in untouched s a app v at (λ b f. refl) (gains-none app.view v refl refl refl refl);
-  read = λ s a app at p from bytes. let v = has_read app.view p from bytes in untouched s a app v at (λ b f. refl) (gains-none app.view v refl refl refl refl);
-  raw = λ s a app at entry. let v = pushed_raw app.view entry in untouched s a app v at (λ b f. refl) (gains-none app.view v refl refl refl refl);
-  settled = λ s a app at. let v = came_to_rest app.view in untouched s a app v at (λ b f. refl) (gains-none app.view v refl refl refl refl);
-  quiet = λ s a app at. let v = fell_quiet app.view in untouched s a app v at (λ b f. refl) (gains-none app.view v refl refl refl refl);
-  end = λ s a app at. let v = told_end app.view in untouched s a app v at (λ b f. refl) (gains-none app.view v refl refl refl refl);
-  left = λ s a app at. let v = left_board app.view in untouched s a app v at (λ b f. refl) (gains-none app.view v refl refl refl refl);
+      same-app s a app (filled app.view own bytes) at (gains-filled app.view own bytes out) (record { taken = refl; returned = refl; spares = refl })
+      (same-filled s a app at own bytes out);
+  look = λ s a app at look. let v = app_saw app.view look in untouched s a app v at (λ b f. refl) (gains-none app.view v refl refl refl refl) (record { taken = refl; returned = refl; spares = refl });
+  read = λ s a app at p from bytes. let v = has_read app.view p from bytes in untouched s a app v at (λ b f. refl) (gains-none app.view v refl refl refl refl) (record { taken = refl; returned = refl; spares = refl });
+  raw = λ s a app at entry. let v = pushed_raw app.view entry in untouched s a app v at (λ b f. refl) (gains-none app.view v refl refl refl refl) (record { taken = refl; returned = refl; spares = refl });
+  settled = λ s a app at. let v = came_to_rest app.view in untouched s a app v at (λ b f. refl) (gains-none app.view v refl refl refl refl) (record { taken = refl; returned = refl; spares = refl });
+  quiet = λ s a app at. let v = fell_quiet app.view in untouched s a app v at (λ b f. refl) (gains-none app.view v refl refl refl refl) (record { taken = refl; returned = refl; spares = refl });
+  end = λ s a app at. let v = told_end app.view in untouched s a app v at (λ b f. refl) (gains-none app.view v refl refl refl refl) (record { taken = refl; returned = refl; spares = refl });
+  left = λ s a app at. let v = left_board app.view in untouched s a app v at (λ b f. refl) (gains-none app.view v refl refl refl refl) (record { taken = refl; returned = refl; spares = refl });
 }

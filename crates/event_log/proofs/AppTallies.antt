@@ -1,13 +1,16 @@
 -- What each event of an application adds to its loans and copies.
-use Rattle.std.proofs.Common.{◌≡◌, ℕ, ◌+◌, List, [], ◌∷◌, length, eqb, false, refl, sym, arith, length-append}
-use Rattle.std.specs.List.{sum_by}
+use Rattle.std.proofs.Common.{◌≡◌, ℕ, ◌+◌, List, [], ◌∷◌, length, map, ◌++◌, eqb, true, false, if◌then◌else◌, refl, sym, ap, ◌∙◌, arith, length-append}
+use Rattle.std.specs.List.{sum_by, flat_map}
+use Rattle.std.specs.Prelude.{◌≢◌}
+use Rattle.std.proofs.lemmas.List.{append-nil, flat_map_more, map-append}
 use Rattle.std.proofs.lemmas.List.Sums.{sum_by_push}
+use Rattle.zr_kinds.specs.declared.place.Note.{Note}
 use Rattle.zr_kinds.specs.declared.place.Place.{Place}
 use Rattle.run_records.specs.declared.event.Event.{Event}
 use Rattle.run_records.specs.declared.event.Event.TheVariants as event
 use Rattle.board_face.specs.AppCalls.{HasLoan, HasSpare}
 use Rattle.board_face.specs.AppEvents.{held_origin, lent, loan_origin, loans_without, abandoned, got_spare, owns_without, filled, own_bytes, begin_place}
-use Rattle.board_face.specs.AppEvents.{gave, lent_own}
+use Rattle.board_face.specs.AppEvents.{gave, lent_own, took_note}
 use Rattle.board_face.specs.Laws.{AllSides, by_app}
 use Rattle.board_face.specs.NicEvents.{fresh}
 use Rattle.board_face.specs.Sides.{IsApp, app_at}
@@ -17,12 +20,13 @@ use Rattle.board_face.specs.declared.views.app.AppView.{AppView}
 use Rattle.board_face.specs.declared.views.app.AppSide.{AppSide}
 use Rattle.board_face.specs.declared.views.app.LentPiece.{LentPiece}
 use Rattle.board_face.specs.declared.views.app.SpareOwn.{SpareOwn}
+use Rattle.board_face.specs.declared.views.app.TakenNote.{TakenNote}
 use Rattle.board_face.specs.declared.views.app.Origin.TheVariants.{Copied as of_copy}
 use Rattle.board_face.proofs.ListLemmas.{eqb_same, not-eqb}
-use Rattle.board_face.proofs.Tallies.{total}
-use Rattle.event_log.specs.Tallies.{len_of}
+use Rattle.board_face.proofs.Tallies.{weight as one, total}
+use Rattle.event_log.specs.Tallies.{len_of, place_of, taken_as}
 use Rattle.event_log.proofs.AppShifts.{loans-less, owns-less}
-use Rattle.event_log.proofs.Tallying.{Gains, IsNoneOfCard, Tallies, TellsNothing, sum-total, tallies-app}
+use Rattle.event_log.proofs.Tallying.{Gains, IsNoneOfCard, SameLists, Tallies, TellsNothing, app-stays, gains-none, sum-total, tallies-app}
 
 length-total : {A : Type 0} (xs : List A) → total (λ x. 1) xs ≡ length xs
 length-total [] = refl
@@ -87,19 +91,77 @@ gains-lent_own v it out =
 
 -- an event that tells of no loan that begins
 pub tallies-none : (e : Event) (s : AllSides) (a : ℕ) (app : AppSide) (v : AppView) → IsApp s.apps a app → ((n : ℕ) → TellsNothing n e)
-    → IsNoneOfCard e → Gains 0 0 0 app.view v → Tallies e s (by_app s a app v)
-tallies-none e s a app v at nothing no_card none =
-    tallies-app e s a app (app_at app v) at (rw ((nothing a).loans, (nothing a).bytes, (nothing a).copies) none) (λ n ne. nothing n) no_card
+    → IsNoneOfCard e → Gains 0 0 0 app.view v → SameLists app.view v → Tallies e s (by_app s a app v)
+tallies-none e s a app v at nothing no_card none same =
+    tallies-app e s a app (app_at app v) at (rw ((nothing a).loans, (nothing a).bytes, (nothing a).copies) none)
+    (app-stays a e app.view v (nothing a) same) (λ n ne. nothing n) no_card
+
+-- another application's number
+other-number : (a n : ℕ) → n ≢ a → eqb a n ≡ false
+other-number a n ne = not-eqb a n (λ e. ne (sym e))
+
+-- one note more that was taken, with a piece, and one in which its bytes travelled
+takes-more : (notes : List TakenNote) (t : TakenNote) → t.note.split ≡ true
+    → flat_map taken_as (notes ++ t ∷ []) ≡ flat_map taken_as notes ++ t.note.place ∷ []
+takes-more notes t split = sym (flat_map_more taken_as [] notes t)
+    ∙ ap (λ c. flat_map taken_as notes ++ (if c then t.note.place ∷ [] else [])) split
+
+pub takes-none : (notes : List TakenNote) (t : TakenNote) → t.note.split ≡ false → flat_map taken_as (notes ++ t ∷ []) ≡ flat_map taken_as notes
+takes-none notes t split = sym (flat_map_more taken_as [] notes t)
+    ∙ (ap (λ c. flat_map taken_as notes ++ (if c then t.note.place ∷ [] else [])) split ∙ append-nil (flat_map taken_as notes))
+
+pub tallies-took_note : (s : AllSides) (a : ℕ) (app : AppSide) → IsApp s.apps a app → (note : Note) → note.split ≡ true
+    → Tallies (event.Held a note.place.buffer note.place.offset note.place.len) s (by_app s a app (took_note app.view note))
+tallies-took_note s a app at note split =
+    let p = note.place in
+    let v = took_note app.view note in
+    let more = takes-more app.view.taken (record { note = note; bytes = [] }) split in
+    tallies-app (event.Held a p.buffer p.offset p.len) s a app (app_at app v) at (gains-none app.view v refl refl refl refl)
+    (record { holds = rw (eqb_same a) more; returns = sym (append-nil _); spares = omega arith })
+    (λ n ne. let other = other-number a n ne in record { loans = refl; bytes = refl; copies = refl; holds = rw other refl; returns = refl; spares = refl })
+    (record { stray = refl; takes = refl; sends = refl; deals = refl })
+
+-- a loan was returned, by an entry or without one
+tallies-back : (s : AllSides) (a : ℕ) (app : AppSide) (v : AppView) → IsApp s.apps a app → (p : Place) (user : ℕ) → Gains 0 0 0 app.view v
+    → v.taken ≡ app.view.taken → map place_of v.returned ≡ map place_of app.view.returned ++ p ∷ [] → v.spares ≡ app.view.spares
+    → Tallies (event.Back a p.buffer p.offset p.len user) s (by_app s a app v)
+tallies-back s a app v at p user none taken returned spares =
+    tallies-app (event.Back a p.buffer p.offset p.len user) s a app (app_at app v) at none
+    (record { holds = ap (flat_map taken_as) taken ∙ sym (append-nil _); returns = rw (eqb_same a) returned; spares = omega (arith, spares) })
+    (λ n ne. let other = other-number a n ne in record { loans = refl; bytes = refl; copies = refl; holds = refl; returns = rw other refl; spares = refl })
+    (record { stray = refl; takes = refl; sends = refl; deals = refl })
+
+pub tallies-gave : (s : AllSides) (a : ℕ) (app : AppSide) → IsApp s.apps a app → (p : Place) (user : ℕ) → HasLoan app.view p
+    → Tallies (event.Back a p.buffer p.offset p.len user) s (by_app s a app (gave app.view p))
+tallies-gave s a app at p user out =
+    tallies-back s a app (gave app.view p) at p user (gains-gave app.view p out) refl (map-append place_of app.view.returned _) refl
+
+pub tallies-abandoned : (s : AllSides) (a : ℕ) (app : AppSide) → IsApp s.apps a app → (p : Place) (user : ℕ) → HasLoan app.view p
+    → Tallies (event.Back a p.buffer p.offset p.len user) s (by_app s a app (abandoned app.view p))
+tallies-abandoned s a app at p user out =
+    tallies-back s a app (abandoned app.view p) at p user (gains-returned app.view p out) refl (map-append place_of app.view.returned _) refl
+
+pub tallies-got_spare : (s : AllSides) (a : ℕ) (app : AppSide) → IsApp s.apps a app → (buffer pool : ℕ)
+    → Tallies (event.Spare a buffer pool) s (by_app s a app (got_spare app.view buffer))
+tallies-got_spare s a app at buffer pool =
+    tallies-app (event.Spare a buffer pool) s a app (app_at app (got_spare app.view buffer)) at (gains-got_spare app.view buffer)
+    (record { holds = sym (append-nil _); returns = sym (append-nil _); spares = omega (arith, ap one (eqb_same a)) })
+    (λ n ne. record { loans = refl; bytes = refl; copies = refl; holds = refl; returns = refl; spares = other-number a n ne })
+    (record { stray = refl; takes = refl; sends = refl; deals = refl })
 
 pub tallies-lent : (s : AllSides) (a : ℕ) (app : AppSide) → IsApp s.apps a app → (p : Place) (pool user : ℕ)
     → Tallies (event.Lend a p.buffer p.offset p.len pool user) s (by_app s a app (lent app.view p))
 tallies-lent s a app at p pool user =
     tallies-app (event.Lend a p.buffer p.offset p.len pool user) s a app (app_at app (lent app.view p)) at (rw (eqb_same a) (gains-lent app.view p))
-    (λ n ne. let other : eqb a n ≡ false = not-eqb a n (λ e. ne (sym e)) in record { loans = other; bytes = rw other refl; copies = refl }) (record { stray = refl; takes = refl; sends = refl; deals = refl })
+    (record { holds = sym (append-nil _); returns = sym (append-nil _); spares = omega arith })
+    (λ n ne. let other = other-number a n ne in
+    record { loans = other; bytes = rw other refl; copies = refl; holds = refl; returns = refl; spares = refl }) (record { stray = refl; takes = refl; sends = refl; deals = refl })
 
 pub tallies-lent_own : (s : AllSides) (a : ℕ) (app : AppSide) → IsApp s.apps a app → (it : Filling) → HasSpare app.view it → (pool user : ℕ)
     → Tallies (event.Own a it.buffer (length (own_bytes app.view it)) pool user) s (by_app s a app (lent_own app.view it))
 tallies-lent_own s a app at it out pool user =
     tallies-app (event.Own a it.buffer (length (own_bytes app.view it)) pool user) s a app (app_at app (lent_own app.view it)) at
     (rw (eqb_same a) (gains-lent_own app.view it out))
-    (λ n ne. let other : eqb a n ≡ false = not-eqb a n (λ e. ne (sym e)) in record { loans = other; bytes = rw other refl; copies = other }) (record { stray = refl; takes = refl; sends = refl; deals = refl })
+    (record { holds = sym (append-nil _); returns = sym (append-nil _); spares = omega arith })
+    (λ n ne. let other = other-number a n ne in
+    record { loans = other; bytes = rw other refl; copies = other; holds = refl; returns = refl; spares = refl }) (record { stray = refl; takes = refl; sends = refl; deals = refl })

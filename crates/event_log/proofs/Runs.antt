@@ -44,7 +44,7 @@ no-holders s b none = kinds-none (holders_of b s.nic s.apps) none
 
 -- an application that did nothing has no loans and no spares
 new-tallied : (setting : Shared) (a : ℕ) → IsTallied a (new_app_view setting a) []
-new-tallied setting a = record { loans = refl; bytes = refl; copies = refl }
+new-tallied setting a = record { loans = refl; bytes = refl; copies = refl; lists = record { holds = refl; returns = refl; spares = refl } }
 
 abbrev NoneTallied : AppSide → Type 0
 NoneTallied app = IsTallied app.view.app app.view []

@@ -13,8 +13,8 @@ use Rattle.board_face.specs.declared.views.app.AppView.{AppView}
 use Rattle.board_face.specs.declared.views.app.AppSide.{AppSide}
 use Rattle.board_face.proofs.Parts.{count-tally}
 use Rattle.board_face.proofs.Tallies.{weight as one, total, tally-push}
-use Rattle.event_log.specs.Tallies.{AreTallied, IsTallied, TellsCard, is_copy, is_loan, is_stray, len_of, loan_bytes, strays_in, strays_of}
-use Rattle.event_log.specs.Tallies.{dealt_as, deals_of, sends_of, sent_as, takes_of}
+use Rattle.event_log.specs.Tallies.{AreTallied, IsTallied, TellsApp, TellsCard, is_copy, is_loan, is_spare, is_stray, len_of, loan_bytes, strays_in, strays_of}
+use Rattle.event_log.specs.Tallies.{dealt_as, deals_of, holds_of, place_of, returns_of, sends_of, sent_as, taken_as, takes_of}
 use Rattle.event_log.specs.ToldLaw.{IsToldOf}
 
 -- ---- one more
@@ -100,32 +100,65 @@ gains-none old new loans returned owns spares = record {
   copies_are = omega (arith, ap length owns, spares);
 }
 
+-- what the event tells of the application is what its lists have more
+pub record AppGains (a : ℕ) (e : Event) (old new : AppView) : Type 0 where
+  pub holds : flat_map taken_as new.taken ≡ flat_map taken_as old.taken ++ holds_of a e
+  pub returns : map place_of new.returned ≡ map place_of old.returned ++ returns_of a e
+  pub spares : new.spares ≡ old.spares + one (is_spare a e)
+
+app-told : (a : ℕ) (e : Event) (old new : AppView) (events : List Event) → AppGains a e old new → TellsApp a old events
+    → TellsApp a new (events ++ e ∷ [])
+app-told a e old new events gains was = record {
+  holds = list-push (holds_of a) events e _ _ was.holds gains.holds;
+  returns = list-push (returns_of a) events e _ _ was.returns gains.returns;
+  spares = omega (arith, count-push (is_spare a) events e, gains.spares, was.spares);
+}
+
+-- its lists are the same
+pub record SameLists (old new : AppView) : Type 0 where
+  pub taken : flat_map taken_as new.taken ≡ flat_map taken_as old.taken
+  pub returned : new.returned ≡ old.returned
+  pub spares : new.spares ≡ old.spares
+
 -- one event more that tells of the application
 pub event-tallied : (a : ℕ) (e : Event) (old new : AppView) (events : List Event)
-    → Gains (one (is_loan a e)) (loan_bytes a e) (one (is_copy a e)) old new → IsTallied a old events → IsTallied a new (events ++ e ∷ [])
-event-tallied a e old new events gains was = record {
+    → Gains (one (is_loan a e)) (loan_bytes a e) (one (is_copy a e)) old new → AppGains a e old new → IsTallied a old events
+    → IsTallied a new (events ++ e ∷ [])
+event-tallied a e old new events gains lists was = record {
   loans = omega (arith, count-push (is_loan a) events e, gains.loans_are, was.loans);
   bytes = omega (arith, sum_by_push (loan_bytes a) events e, gains.bytes_are, was.bytes);
   copies = omega (arith, count-push (is_copy a) events e, gains.copies_are, was.copies);
+  lists = app-told a e old new events lists was.lists;
 }
 
--- The event tells of no loan of this application.
+-- The event tells nothing of this application.
 pub record TellsNothing (a : ℕ) (e : Event) : Type 0 where
   pub loans : is_loan a e ≡ false
   pub bytes : loan_bytes a e ≡ 0
   pub copies : is_copy a e ≡ false
+  pub holds : holds_of a e ≡ []
+  pub returns : returns_of a e ≡ []
+  pub spares : is_spare a e ≡ false
+
+pub app-stays : (a : ℕ) (e : Event) (old new : AppView) → TellsNothing a e → SameLists old new → AppGains a e old new
+app-stays a e old new nothing same = record {
+  holds = same.taken ∙ (sym (append-nil _) ∙ ap (λ xs. flat_map taken_as old.taken ++ xs) (sym nothing.holds));
+  returns = ap (map place_of) same.returned ∙ (sym (append-nil _) ∙ ap (λ xs. map place_of old.returned ++ xs) (sym nothing.returns));
+  spares = omega (arith, same.spares, ap one nothing.spares);
+}
 
 nothing-gained : (a : ℕ) (e : Event) (old new : AppView) → TellsNothing a e → Gains 0 0 0 old new
     → Gains (one (is_loan a e)) (loan_bytes a e) (one (is_copy a e)) old new
 nothing-gained a e old new nothing none = rw (nothing.loans, nothing.bytes, nothing.copies) none
 
-pub nothing-tallied : (a : ℕ) (e : Event) (old new : AppView) (events : List Event) → TellsNothing a e → Gains 0 0 0 old new
-    → IsTallied a old events → IsTallied a new (events ++ e ∷ [])
-nothing-tallied a e old new events nothing none was =
-    event-tallied a e old new events (nothing-gained a e old new nothing none) was
-
 none-gained : (v : AppView) → Gains 0 0 0 v v
 none-gained v = gains-none v v refl refl refl refl
+
+pub nothing-tallied : (a : ℕ) (e : Event) (v : AppView) (events : List Event) → TellsNothing a e → IsTallied a v events
+    → IsTallied a v (events ++ e ∷ [])
+nothing-tallied a e v events nothing was =
+    event-tallied a e v v events (nothing-gained a e v v nothing (none-gained v))
+    (app-stays a e v v nothing (record { taken = refl; returned = refl; spares = refl })) was
 
 strays-push : (events : List Event) (e : Event) → is_stray e ≡ false → strays_in (events ++ e ∷ []) ≡ strays_in events
 strays-push events e not_one = omega (arith, count-push is_stray events e, ap one not_one)
@@ -141,30 +174,36 @@ KeepsTallies old new = (events : List Event) → AreTallied old events → AreTa
 
 -- an event of an application
 pub tallies-app : (e : Event) (s : AllSides) (a : ℕ) (app now : AppSide) → IsApp s.apps a app
-    → Gains (one (is_loan a e)) (loan_bytes a e) (one (is_copy a e)) app.view now.view
+    → Gains (one (is_loan a e)) (loan_bytes a e) (one (is_copy a e)) app.view now.view → AppGains a e app.view now.view
     → ((other : ℕ) → other ≢ a → TellsNothing other e) → IsNoneOfCard e → Tallies e s (record { nic = s.nic; apps = set s.apps a now })
-tallies-app e s a app now at gains nothing none events was =
-    side-tallied s a app now at events (events ++ e ∷ []) (event-tallied a e app.view now.view events gains)
-    (λ other v ne. nothing-tallied other e v v events (nothing other ne) (none-gained v)) (strays-push events e none.stray)
+tallies-app e s a app now at gains lists nothing none events was =
+    side-tallied s a app now at events (events ++ e ∷ []) (event-tallied a e app.view now.view events gains lists)
+    (λ other v ne. nothing-tallied other e v events (nothing other ne)) (strays-push events e none.stray)
     (card-told e s.nic.view s.nic.view events (card-stays e s.nic.view s.nic.view none refl refl refl)) was
 
-same-tallied : (a : ℕ) (old new : AppView) (events : List Event) → Gains 0 0 0 old new → IsTallied a old events → IsTallied a new events
-same-tallied a old new events none was = record {
+same-tallied : (a : ℕ) (old new : AppView) (events : List Event) → Gains 0 0 0 old new → SameLists old new → IsTallied a old events
+    → IsTallied a new events
+same-tallied a old new events none same was = record {
   loans = omega (arith, none.loans_are, was.loans);
   bytes = omega (arith, none.bytes_are, was.bytes);
   copies = omega (arith, none.copies_are, was.copies);
+  lists = record {
+    holds = was.lists.holds ∙ sym same.taken;
+    returns = was.lists.returns ∙ ap (map place_of) (sym same.returned);
+    spares = was.lists.spares ∙ sym same.spares;
+  };
 }
 
 pub keeps-app : (s : AllSides) (a : ℕ) (app now : AppSide) → IsApp s.apps a app → Gains 0 0 0 app.view now.view
-    → KeepsTallies s (record { nic = s.nic; apps = set s.apps a now })
-keeps-app s a app now at none events was =
-    side-tallied s a app now at events events (same-tallied a app.view now.view events none) (λ other v ne is. is) refl (λ is. is) was
+    → SameLists app.view now.view → KeepsTallies s (record { nic = s.nic; apps = set s.apps a now })
+keeps-app s a app now at none same events was =
+    side-tallied s a app now at events events (same-tallied a app.view now.view events none same) (λ other v ne is. is) refl (λ is. is) was
 
 -- an event of the card
 pub tallies-card : (e : Event) (s : AllSides) (v : NicView) → ((a : ℕ) → TellsNothing a e)
     → strays_of v.dealt ≡ strays_of s.nic.view.dealt + one (is_stray e) → CardGains e s.nic.view v → Tallies e s (by_card s v)
 tallies-card e s v nothing strays gains events was = record {
-  apps = λ a app at. nothing-tallied a e app.view app.view events (nothing a) (none-gained app.view) (was.apps a app at);
+  apps = λ a app at. nothing-tallied a e app.view events (nothing a) (was.apps a app at);
   strays = omega (arith, count-push is_stray events e, strays, was.strays);
   card = card-told e s.nic.view v events gains was.card;
 }

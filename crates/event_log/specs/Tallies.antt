@@ -12,6 +12,7 @@ use Rattle.board_face.specs.declared.views.nic.Dealt.{Dealt}
 use Rattle.board_face.specs.declared.views.nic.NicView.{NicView}
 use Rattle.board_face.specs.declared.views.nic.SentNote.{SentNote}
 use Rattle.board_face.specs.declared.views.app.LentPiece.{LentPiece}
+use Rattle.board_face.specs.declared.views.app.TakenNote.{TakenNote}
 use Rattle.board_face.specs.declared.views.app.AppView.{AppView}
 use Rattle.board_face.specs.declared.views.app.AppSide.{AppSide}
 
@@ -37,6 +38,21 @@ loan_bytes a other = 0
 abbrev pub is_stray : Event → Bool
 is_stray (event.Stray a) = true
 is_stray other = false
+
+-- the application took a note whose piece lies there
+abbrev pub holds_of : ℕ → Event → List Place
+holds_of a (event.Held app b o l) = if app == a then record { buffer = b; offset = o; len = l } ∷ [] else []
+holds_of a other = []
+
+-- it returned the loan that lies there
+abbrev pub returns_of : ℕ → Event → List Place
+returns_of a (event.Back app b o l u) = if app == a then record { buffer = b; offset = o; len = l } ∷ [] else []
+returns_of a other = []
+
+-- it was given a spare
+abbrev pub is_spare : ℕ → Event → Bool
+is_spare a (event.Spare app b p) = app == a
+is_spare a other = false
 
 -- the buffer that the card took by it
 abbrev pub takes_of : Event → List ℕ
@@ -80,6 +96,19 @@ was_stray (fate.Honoured buffer) = false
 abbrev pub strays_of : List Dealt → ℕ
 strays_of dealt = count_by (λ d. was_stray d.fate) dealt
 
+-- a note that was taken with a piece
+abbrev pub taken_as : TakenNote → List Place
+taken_as t = if t.note.split then t.note.place ∷ [] else []
+
+abbrev pub place_of : LentPiece → Place
+place_of loan = loan.place
+
+-- The events tell, in order, which pieces an application took and which loans it returned, and how many spares it was given.
+pub record TellsApp (a : ℕ) (v : AppView) (events : List Event) : Type 0 where
+  pub holds : flat_map (holds_of a) events ≡ flat_map taken_as v.taken
+  pub returns : flat_map (returns_of a) events ≡ map place_of v.returned
+  pub spares : count_by (is_spare a) events ≡ v.spares
+
 -- a note that was sent with a piece
 abbrev pub sent_as : SentNote → List (ℕ × Place)
 sent_as n = if n.note.split then (n.app, n.note.place) ∷ [] else []
@@ -103,6 +132,7 @@ pub record IsTallied (a : ℕ) (v : AppView) (events : List Event) : Type 0 wher
   pub loans : loans_in a events ≡ length v.loans + length v.returned
   pub bytes : bytes_in a events ≡ sum_by len_of v.loans + sum_by len_of v.returned
   pub copies : copies_in a events + length v.owns ≡ v.spares
+  pub lists : TellsApp a v events
 
 pub record AreTallied (s : AllSides) (events : List Event) : Type 0 where
   pub apps : (a : ℕ) (app : AppSide) → IsApp s.apps a app → IsTallied a app.view events
