@@ -19,7 +19,8 @@ use Rattle.event_log.specs.Tallies.{AreTallied}
 abbrev pub run_of : AllSides → Setting
 run_of s = setting_of s.nic.view.setting.layout
 
--- `all` are all events so far. The log has the first of them, as many as it has room for, and is whole where these are all.
+-- `all` are events that lead from no holders to those of the sides, and tell what the roles did. The log has the first of them, as
+-- many as it has room for, and is whole where these are all.
 pub record IsLogged (s : AllSides) (kept : Kept) : Type 0 where
   pub most : kept.room ≤ 1000000
   pub all : List Event

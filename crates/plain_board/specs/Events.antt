@@ -1,4 +1,4 @@
--- What the log says of a call, beyond what its face says.
+-- What a call answers for the log, beyond what its face says.
 use Rattle.std.specs.Prelude.{◌≡◌, ℕ, ◌≤◌, Bool, List, length, ⊤}
 use Rattle.zr_kinds.specs.declared.ring.Rqe.{Rqe}
 use Rattle.board_face.specs.Holders.{owed_in}

@@ -98,7 +98,7 @@ impl PlainBoard {
 
     /// What holds of every board, between any two calls: counts are holders, each pool buffer is free once or held, the
     /// area has each text at its place, what lies in the slots is what is on its way, what was read is what was sent, and
-    /// no entry of a loan was a stray; and the log tells of all that happened. It does nothing: its contract says so.
+    /// no entry of a loan was a stray; and the log tells how that came about. It does nothing: its contract says so.
     pub fn sound(&self)
         ensures contents { IsSound (stand_of self.now) }
         ensures log { IsRecorded (sides_of self.now) self.now.log }

@@ -195,9 +195,10 @@ module _ {T : Type 0} (kept : T → ℕ → Option (List ℕ)) (shelves shelves_
       let few : length logged.all ≤ 1000000 = leb-true _ _ (sym (ap (λ (k : Kept). k.whole) log-all) ∙ whole) in
       (few, ap (λ (k : Kept). k.events) log-all ∙ take_all 1000000 logged.all few)
 
-  pub tells-run : TellsRun plan outcome log
+  pub tells-run : TellsRun plan outcome s log
   tells-run = record {
     all = logged.all;
+    tallied = logged.tallied;
     holdings = logged.holdings;
     reached = subst (λ set. all_after set no_holdings logged.all ≡ Some logged.holdings) is-setting logged.reached;
     over = λ b. length-none (logged.holdings b)

@@ -9,7 +9,9 @@ use Rattle.run_records.specs.Holders.{Holdings, all_after, no_holdings}
 use Rattle.run_records.specs.LegalRun.{IsLegalRun}
 use Rattle.run_records.specs.RunText.{text_of}
 use Rattle.event_log.specs.Logs.{Kept, log_of}
-use Rattle.event_log.specs.Tallies.{bytes_in, copies_in, loans_in, strays_in}
+use Rattle.board_face.specs.Laws.{AllSides}
+use Rattle.event_log.specs.Tallies.{AreTallied, bytes_in, copies_in, loans_in, strays_in}
+use Rattle.plain_board.specs.Board.{sides_of}
 use Rattle.card_feed.specs.Counts.{capped}
 use Rattle.card_feed.specs.declared.plan.Plan.{Plan}
 use Rattle.run_account.specs.Ran.{Told}
@@ -38,10 +40,12 @@ pub record IsReportOf (count : ℕ → ℕ) (outcome : Told) (events : List Even
   pub apps : (number : ℕ) (line : AppLine) → slice_get outcome.apps number ≡ Some line → IsLineOf count number line events
   pub strays : outcome.pool.strays ≡ count (strays_in events)
 
--- What the record of a run tells.
-pub record TellsRun (plan : Plan) (outcome : Told) (log : Kept) : Type 0 where
-  -- all events of the run, one after another: they lead from no holders to none
+-- What the record of a run tells, on whose board these are the sides.
+pub record TellsRun (plan : Plan) (outcome : Told) (sides : AllSides) (log : Kept) : Type 0 where
+  -- Events that lead, one after another, from no holders to none. They tell, in order, what the card took and sent and what
+  -- became of each entry, which pieces each application took and which loans it returned; and how many spares and loans it had.
   pub all : List Event
+  pub tallied : AreTallied sides all
   pub holdings : Holdings
   pub reached : all_after (setting_of plan) no_holdings all ≡ Some holdings
   pub over : (buffer : ℕ) → holdings buffer ≡ []
@@ -57,5 +61,5 @@ pub record TellsRun (plan : Plan) (outcome : Told) (log : Kept) : Type 0 where
 -- what the record tells, where there is one
 abbrev pub HasRecord : Plan → Told → Card → Type 0
 HasRecord plan outcome Card.Blank = ⊤
-HasRecord plan outcome (Card.Plain board) = plan.events ≡ true → TellsRun plan outcome board.log
+HasRecord plan outcome (Card.Plain board) = plan.events ≡ true → TellsRun plan outcome (sides_of board) board.log
 HasRecord plan outcome (Card.Words board desk) = ⊤

@@ -328,9 +328,10 @@ pub fn zcrx_alone<S: Source, T: Shelf, O: Sink>(
 
 /// Runs the command that `words`, the words after the program's name, ask for. To replay a capture shelf `a` takes the
 /// flows to the port of place `a` among the ports, and `random` keys the table of flows; to make one neither source nor
-/// shelves are needed, and to check the record of a run no shelves. With a text of turns a replay goes by these on one thread. Without one the reading, the card and each
-/// application have a thread of their own, and `gate` is asked before each turn of the card and of an application. The board of
-/// a run is left in `card`. Answers the status: 0, or the number of the fault that comes first.
+/// shelves are needed, and to check the record of a run no shelves. With a text of turns a replay goes by these on one thread.
+/// Without one the reading, the card and each application have a thread of their own, and `gate` is asked before each turn of
+/// the card and of an application. The board of a run is left in `card`. Answers the status: 0, or the number of the fault that
+/// comes first.
 pub fn zcrx<S: Source + Send, T: Shelf + Send, O: Sink, G: Gate + Sync, R: Threads + Wait + Sync>(
     rt: &R,
     alloc: Global,
