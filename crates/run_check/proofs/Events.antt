@@ -11,7 +11,8 @@ use Rattle.run_records.specs.declared.event.Event.{Event}
 use Rattle.run_records.specs.declared.event.Event.TheVariants as event
 use Rattle.run_records.specs.Setting.{IsSetting, Setting, total_buffers}
 use Rattle.run_records.specs.Holders.{Holdings, after, buffer_of, changed, has_counts, is_in_range, only_if, with_holders}
-use Rattle.run_check.specs.Holding.{Changes, HasChanged, HasSmallApp, SameHolders, SameHoldings, bytes_of, holdings_of, weight}
+use Rattle.run_records.specs.EventFields.{bytes_of}
+use Rattle.run_check.specs.Holding.{Changes, HasChanged, HasSmallApp, SameHolders, SameHoldings, holdings_of, weight}
 use Rattle.run_check.proofs.Areas.{size_most}
 use Rattle.run_check.proofs.Alike.{counts-same}
 

@@ -11,6 +11,11 @@ abbrev pub GivesByte : Option (List ℕ) → Option (List ℕ) → Option ℕ �
 GivesByte old new (Some byte) = Consumes old new (byte ∷ [])
 GivesByte old new None = IsAtEnd old
 
+-- where no byte comes, nothing is left
+abbrev pub IsLeftEmpty : Option (List ℕ) → Option ℕ → Type 0
+IsLeftEmpty left (Some byte) = Unit {0}
+IsLeftEmpty left None = IsAtEnd left
+
 -- no byte is a line feed
 abbrev pub IsOneLine : Text → Type 0
 IsOneLine line = All (λ byte. byte ≢ 10) line

@@ -42,18 +42,6 @@ HasChanged setting old e new false = after setting old e ≡ None
 abbrev pub can_place : List Holding → ℕ → ℕ → Bool
 can_place held offset len = list_any (is_same holding.Own) held && nat_lt 0 len && (offset % 64 == 0) && list_all (is_apart offset len) held
 
--- the offset and the length of the bytes that an event names
-abbrev pub bytes_of : Event → ℕ × ℕ
-bytes_of (event.Place b o l p) = (o, l)
-bytes_of (event.Sent a b o l) = (o, l)
-bytes_of (event.Held a b o l) = (o, l)
-bytes_of (event.Cut a b o l m p) = (o, l)
-bytes_of (event.Lend a b o l p u) = (o, l)
-bytes_of (event.Back a b o l u) = (o, l)
-bytes_of (event.Free a b o l p) = (o, l)
-bytes_of (event.Own a b l p u) = (0, l)
-bytes_of other = (0, 0)
-
 -- an application whose user count changes is one of eight
 abbrev pub HasSmallApp : Event → Type 0
 HasSmallApp (event.Lend a b o l p u) = a < 8

@@ -1,5 +1,6 @@
 -- What a check says of the bytes of a record.
-use Rattle.std.specs.Prelude.{◌≡◌, ℕ, ◌+◌, ◌≢◌, Bool, List, [], ◌∷◌, ◌++◌, length, All, Result, Ok, Err}
+use Rattle.std.specs.Prelude.{◌≡◌, ℕ, ◌+◌, ◌≢◌, Bool, List, [], ◌∷◌, ◌++◌, length, All, Option, Result, Ok, Err}
+use Rattle.std.specs.Io.KnownBytes.{IsAtEnd}
 use Rattle.zr_kinds.specs.declared.fault.Fault.{Fault}
 use Rattle.zr_kinds.specs.declared.fault.Fault.TheVariants as fault
 use Rattle.zr_io.specs.Moved.{Rose}
@@ -43,6 +44,11 @@ pub record IsFirstBad (bytes : List ℕ) (number : ℕ) : Type 0 where
 abbrev pub Judges : List ℕ → Checked → Type 0
 Judges bytes (Yes lines) = IsRunText bytes lines
 Judges bytes (No line) = IsFirstBad bytes line × ((lines : ℕ) → IsRunText bytes lines → ⊥)
+
+-- with `Yes` the source was read to its end
+abbrev pub IsReadToEnd : Option (List ℕ) → Checked → Type 0
+IsReadToEnd left (Yes lines) = IsAtEnd left
+IsReadToEnd left (No line) = Unit {0}
 
 -- the faults of a check: memory, which is free, and a failed read, at which the source's count rose
 abbrev pub HasCheckCause : {T : Type 0} → ℕ → ℕ → Result T Fault → Type 0

@@ -1,7 +1,7 @@
 //! A source byte by byte.
 ghost use Rattle.std.specs.Prelude.{◌≡◌, [], IfOk};
 ghost use Rattle.run_check.specs.Judged.{HasCheckCause};
-ghost use Rattle.run_check.specs.Coming.{GivesByte, ahead};
+ghost use Rattle.run_check.specs.Coming.{GivesByte, IsLeftEmpty, ahead};
 
 use std::alloc::{AllocError, Global};
 use std::marker::Model;
@@ -45,6 +45,7 @@ impl Bytes {
     /// The next byte. `Ok(None)` is the end.
     pub(crate) fn next<S: Source>(&mut self, source: &mut S) -> Result<Option<u8>, Fault>
         ensures gives { IfOk result (GivesByte (ahead self.old (S.left source.old)) (ahead self.new (S.left source.new))) }
+        ensures end { IfOk result (IsLeftEmpty (S.left source.new)) }
         ensures cause { HasCheckCause (S.faults source.old) (S.faults source.new) result }
     {
         if self.given == self.read {

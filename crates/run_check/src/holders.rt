@@ -2,7 +2,7 @@
 ghost use Rattle.std.specs.Prelude.{◌≡◌, ◌<◌, ◌+◌, ◌^◌, ℕ, List, [], IfOk, length, IsTrue, ◌↔◌};
 ghost use Rattle.run_records.specs.Setting.{IsSetting, total_buffers};
 ghost use Rattle.run_records.specs.Holders.{buffer_of, changed, has_counts, is_in_range};
-ghost use Rattle.run_check.specs.Holding.{Changes, HasChanged, HasSmallApp, bytes_of, holdings_of};
+ghost use Rattle.run_check.specs.Holding.{Changes, HasChanged, HasSmallApp, holdings_of};
 
 use crate::buffer::Buffer;
 use crate::places::Hand;
@@ -80,28 +80,11 @@ fn buffer_of(event: Event) -> Option<u32>
     }
 }
 
-/// The offset and the length of the bytes that the event names, or 0.
-fn bytes_of(event: Event) -> (u32, u32)
-    ensures { result ≡ bytes_of event }
-{
-    match event {
-        Event::Place { offset, len, .. }
-        | Event::Sent { offset, len, .. }
-        | Event::Held { offset, len, .. }
-        | Event::Cut { offset, len, .. }
-        | Event::Lend { offset, len, .. }
-        | Event::Back { offset, len, .. }
-        | Event::Free { offset, len, .. } => (offset, len),
-        Event::Own { len, .. } => (0, len),
-        _ => (0, 0),
-    }
-}
-
 fn is_in_range(setting: &Setting, event: Event) -> bool
     ensures value { result ≡ is_in_range setting.now event }
     ensures sound { IsSetting setting.now }
 {
-    let (offset, len) = bytes_of(event);
+    let (offset, len) = event.bytes();
     match event {
         Event::Take { buffer, .. } | Event::Shut { buffer, .. } => setting.is_buffer(buffer),
         Event::Place { buffer, .. } => setting.is_within(buffer, offset, len),
@@ -128,7 +111,7 @@ fn change(setting: &Setting, held: &mut Buffer, event: Event) -> Result<bool, Al
     requires few { length held.old + 1 < 2 ^ 32 }
     ensures { IfOk result (Changes (changed setting.now held.old event) held.new) }
 {
-    let (offset, len) = bytes_of(event);
+    let (offset, len) = event.bytes();
     match event {
         Event::Take { buffer, .. } => Ok(held.take(setting.is_pool_buffer(buffer))),
         Event::Place { .. } => held.place(offset, len),

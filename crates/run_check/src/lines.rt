@@ -59,6 +59,7 @@ impl Lines {
     /// Whether the source is at its end.
     pub(crate) fn is_over<S: Source>(&mut self, source: &mut S) -> Result<bool, Fault>
         ensures over { IfOk result (IsOver (ahead self.old.bytes (S.left source.old))) }
+        ensures end { IfOk result (λ over. IsTrue over → IsAtEnd (S.left source.new)) }
         ensures cause { HasCheckCause (S.faults source.old) (S.faults source.new) result }
     {
         Ok(self.bytes.next(source)?.is_none())

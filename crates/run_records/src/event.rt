@@ -1,3 +1,6 @@
+ghost use Rattle.std.specs.Prelude.{◌≡◌};
+ghost use Rattle.run_records.specs.EventFields.{bytes_of, counts_of};
+
 /// What happened to the holders of one buffer. `pool` is the buffer's pool count behind the event, and `user` the user
 /// count of the application and the buffer. Offsets and lengths are bytes.
 #[derive(Clone, Copy, Debug, PartialEq, Eq)]
@@ -99,6 +102,45 @@ pub enum Event {
         pool: u32,
         user: u32,
     },
+}
+
+impl Event {
+    /// The offset and the length of the bytes that the event names, or 0.
+    pub fn bytes(self) -> (u32, u32)
+        ensures { result ≡ bytes_of self }
+    {
+        match self {
+            Event::Place { offset, len, .. }
+            | Event::Sent { offset, len, .. }
+            | Event::Held { offset, len, .. }
+            | Event::Cut { offset, len, .. }
+            | Event::Lend { offset, len, .. }
+            | Event::Back { offset, len, .. }
+            | Event::Free { offset, len, .. } => (offset, len),
+            Event::Own { len, .. } => (0, len),
+            _ => (0, 0),
+        }
+    }
+
+    /// The pool count and the user count behind the event. One that it doesn't say is 0.
+    pub fn counts(self) -> (u32, u32)
+        ensures { result ≡ counts_of self }
+    {
+        match self {
+            Event::Lend { pool, user, .. }
+            | Event::Honour { pool, user, .. }
+            | Event::Own { pool, user, .. }
+            | Event::Scrub { pool, user, .. } => (pool, user),
+            Event::Take { pool, .. }
+            | Event::Place { pool, .. }
+            | Event::Cut { pool, .. }
+            | Event::Free { pool, .. }
+            | Event::Spare { pool, .. }
+            | Event::Shut { pool, .. } => (pool, 0),
+            Event::Back { user, .. } => (0, user),
+            _ => (0, 0),
+        }
+    }
 }
 
 /// The events of a run, in order: all of them, or the first where the log had no room for more.

@@ -49,78 +49,34 @@ fn put_event(block: &mut Block, event: Event)
     requires { array_string_len block.old + 128 ≤ 8192 }
     ensures { block.new.bytes ≡ block.old.bytes ++ (line_of event ++ 10 ∷ []) }
 {
+    let (offset, len) = event.bytes();
+    let (pool, user) = event.counts();
     match event {
-        Event::Take { buffer, pool } => put_line(block, "take", &[buffer, pool]),
-        Event::Place {
-            buffer,
-            offset,
-            len,
-            pool,
-        } => put_line(block, "place", &[buffer, offset, len, pool]),
-        Event::Sent {
-            app,
-            buffer,
-            offset,
-            len,
-        } => put_line(block, "sent", &[app, buffer, offset, len]),
-        Event::Held {
-            app,
-            buffer,
-            offset,
-            len,
-        } => put_line(block, "held", &[app, buffer, offset, len]),
+        Event::Take { buffer, .. } => put_line(block, "take", &[buffer, pool]),
+        Event::Place { buffer, .. } => put_line(block, "place", &[buffer, offset, len, pool]),
+        Event::Sent { app, buffer, .. } => put_line(block, "sent", &[app, buffer, offset, len]),
+        Event::Held { app, buffer, .. } => put_line(block, "held", &[app, buffer, offset, len]),
         Event::Cut {
             app,
             buffer,
-            offset,
-            len,
             at,
-            pool,
+            ..
         } => put_line(block, "cut", &[app, buffer, offset, len, at, pool]),
-        Event::Lend {
-            app,
-            buffer,
-            offset,
-            len,
-            pool,
-            user,
-        } => put_line(block, "lend", &[app, buffer, offset, len, pool, user]),
-        Event::Back {
-            app,
-            buffer,
-            offset,
-            len,
-            user,
-        } => put_line(block, "back", &[app, buffer, offset, len, user]),
-        Event::Honour {
-            app,
-            buffer,
-            pool,
-            user,
-        } => put_line(block, "honour", &[app, buffer, pool, user]),
+        Event::Lend { app, buffer, .. } => {
+            put_line(block, "lend", &[app, buffer, offset, len, pool, user])
+        }
+        Event::Back { app, buffer, .. } => {
+            put_line(block, "back", &[app, buffer, offset, len, user])
+        }
+        Event::Honour { app, buffer, .. } => put_line(block, "honour", &[app, buffer, pool, user]),
         Event::Stray { app } => put_line(block, "stray", &[app]),
-        Event::Free {
-            app,
-            buffer,
-            offset,
-            len,
-            pool,
-        } => put_line(block, "free", &[app, buffer, offset, len, pool]),
-        Event::Spare { app, buffer, pool } => put_line(block, "spare", &[app, buffer, pool]),
-        Event::Own {
-            app,
-            buffer,
-            len,
-            pool,
-            user,
-        } => put_line(block, "own", &[app, buffer, len, pool, user]),
-        Event::Shut { buffer, pool } => put_line(block, "shut", &[buffer, pool]),
-        Event::Scrub {
-            app,
-            buffer,
-            pool,
-            user,
-        } => put_line(block, "scrub", &[app, buffer, pool, user]),
+        Event::Free { app, buffer, .. } => {
+            put_line(block, "free", &[app, buffer, offset, len, pool])
+        }
+        Event::Spare { app, buffer, .. } => put_line(block, "spare", &[app, buffer, pool]),
+        Event::Own { app, buffer, .. } => put_line(block, "own", &[app, buffer, len, pool, user]),
+        Event::Shut { buffer, .. } => put_line(block, "shut", &[buffer, pool]),
+        Event::Scrub { app, buffer, .. } => put_line(block, "scrub", &[app, buffer, pool, user]),
     }
 }
 

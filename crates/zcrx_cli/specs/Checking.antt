@@ -1,8 +1,8 @@
 -- What `check` leaves.
-use Rattle.std.specs.Prelude.{◌≡◌, ℕ, List, [], ◌∷◌, ◌++◌, ◌==◌, ◌⊎◌, true, take, codes, Option, IfSome}
+use Rattle.std.specs.Prelude.{◌≡◌, ◌≢◌, ℕ, List, [], ◌∷◌, ◌++◌, ◌==◌, ◌⊎◌, true, take, codes, Option, IfSome}
 use Rattle.std.specs.Fmt.{decimal}
 use Rattle.std.specs.List.{list_any}
-use Rattle.std.specs.Io.KnownBytes.{Appends}
+use Rattle.std.specs.Io.KnownBytes.{Appends, IsAtEnd}
 use Rattle.zr_io.specs.Moved.{Rose}
 use Rattle.run_check.specs.Judged.{Judges}
 use Rattle.run_check.specs.declared.checking.Checked.{Checked}
@@ -34,3 +34,7 @@ pub record Checks {S O : Type 0} (left : S → Option (List ℕ)) (failed : S �
   -- With 8 a read failed, and with 1 there was no memory: nothing was written.
   pub read : answer ≡ 8 → Rose (failed source) (failed source_now) × (out_now ≡ out)
   pub unmade : answer ≡ 1 → out_now ≡ out
+  -- With 0 the source was read to its end. Only with 8 did a read fail, and only with 9 a write.
+  pub whole : answer ≡ 0 → IsAtEnd (left source_now)
+  pub unread : answer ≢ 8 → failed source_now ≡ failed source
+  pub unwritten : answer ≢ 9 → refusals out_now ≡ refusals out

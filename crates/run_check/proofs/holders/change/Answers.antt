@@ -1,5 +1,5 @@
 use Rattle.std.proofs.Common.{◌≡◌, ◌∙◌, ap, arith, refl}
-use Rattle.run_check.specs.Holding.{bytes_of}
+use Rattle.run_records.specs.EventFields.{bytes_of}
 use Rattle.run_check.proofs.Events.{bytes_near}
 use Rattle.run_check.proofs.holders.change.Goals as goal
 
@@ -8,8 +8,8 @@ place-requires-clause-fits c =
     omega (
       arith,
       bytes_near c.args.setting.now c.args.event c.requires.sound c.requires.ranged,
-      ap (λ bytes. bytes.0) c.bytes_of-offset.ensures,
-      ap (λ bytes. bytes.1) c.bytes_of-offset.ensures,
+      ap (λ bytes. bytes.0) c.bytes-offset.ensures,
+      ap (λ bytes. bytes.1) c.bytes-offset.ensures,
     )
 
 pub cut-requires-clause-fits : goal.cut-requires-clause-fits
@@ -17,15 +17,15 @@ cut-requires-clause-fits c =
     omega (
       arith,
       bytes_near c.args.setting.now c.args.event c.requires.sound c.requires.ranged,
-      ap (λ bytes. bytes.0) c.bytes_of-offset.ensures,
-      ap (λ bytes. bytes.1) c.bytes_of-offset.ensures,
+      ap (λ bytes. bytes.0) c.bytes-offset.ensures,
+      ap (λ bytes. bytes.1) c.bytes-offset.ensures,
     )
 
 pub returns-in-Place : goal.returns-in-Place
 returns-in-Place c =
-    let bytes : c.bytes_of-offset.result ≡ (c.in-Place.offset, c.in-Place.len) = c.bytes_of-offset.ensures ∙ ap bytes_of c.in-Place.is in
-    let offset : c.bytes_of-offset.result.0 ≡ c.in-Place.offset = ap (λ b. b.0) bytes in
-    let len : c.bytes_of-offset.result.1 ≡ c.in-Place.len = ap (λ b. b.1) bytes in
+    let bytes : c.bytes-offset.result ≡ (c.in-Place.offset, c.in-Place.len) = c.bytes-offset.ensures ∙ ap bytes_of c.in-Place.is in
+    let offset : c.bytes-offset.result.0 ≡ c.in-Place.offset = ap (λ b. b.0) bytes in
+    let len : c.bytes-offset.result.1 ≡ c.in-Place.len = ap (λ b. b.1) bytes in
     rw (c.in-Place.is, ← offset, ← len) c.place.ensures
 
 pub returns-in-Stray : goal.returns-in-Stray
