@@ -6,7 +6,8 @@ usage: tools/event_runs.py [RUNS [SEED]]
 RUNS is 300 if left out, and SEED 0: run K draws by SEED + K, captures and options as tools/thread_runs.py does. Each record has
 to be that of a legal run, by `zcrx check` and by the second checker of tools/check_runs.py; its lines have to tell the loans,
 copies and bytes of each application's line and the strays; and with one line left out, for up to eight lines that are drawn, either
-no checker takes it for that of a legal run, or its lines tell something else. The report and the streams have to be those of the same replay without --events.
+no checker takes it for that of a legal run, or its lines tell something else. The report and the streams have to be those of the
+same replay without --events. And a record of 1,000,000 events is read to its end, where one of 1,000,001 isn't that of a run.
 
 ZCRX=FILE names another program than crates/zcrx_cli/out/zcrx_cli, which `make build` leaves there.
 """
@@ -100,11 +101,22 @@ def faults_of(program, draw):
             yield f"without line {place + 1} all is as it was: {words}"
 
 
+def faults_of_long_records(program):
+    """A record has at most 1,000,000 events; one of many is read to its end."""
+    for strays, answer in ((1_000_000, ("checked 1000002\n", 0)), (1_000_001, ("bad 1000002\n", 14))):
+        found = checked(program, "run 1:1024 1\n" + "stray 0\n" * strays + "end\n")
+        if found != answer:
+            yield f"{strays} strays: {found}"
+
+
 def main():
     runs = int(sys.argv[1]) if len(sys.argv) > 1 else 300
     seed = int(sys.argv[2]) if len(sys.argv) > 2 else 0
     program = os.path.abspath(os.environ.get("ZCRX", TOP / "crates/zcrx_cli/out/zcrx_cli"))
     wrong = 0
+    for fault in faults_of_long_records(program):
+        print(fault)
+        wrong += 1
     for run in range(seed, seed + runs):
         for fault in faults_of(program, random.Random(run)):
             print(f"run {run}: {fault}")

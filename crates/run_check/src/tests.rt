@@ -46,6 +46,36 @@ const LONG: [&str; 23] = [
     "end",
 ];
 
+/// The bytes of a loan that is owed are placed again.
+const PLACED_AGAIN: [&str; 9] = [
+    "run 1:1024 1",
+    "take 0 1",
+    "place 0 0 5 2",
+    "sent 0 0 0 5",
+    "held 0 0 0 5",
+    "lend 0 0 0 5 2 1",
+    "back 0 0 0 5 1",
+    "place 0 0 5 3",
+    "more",
+];
+
+/// Two loans of a buffer are owed, and taken back at once.
+const BOTH_SCRUBBED: [&str; 13] = [
+    "run 1:1024 1",
+    "take 0 1",
+    "place 0 0 5 2",
+    "sent 0 0 0 5",
+    "held 0 0 0 5",
+    "cut 0 0 0 5 2 3",
+    "lend 0 0 0 2 3 1",
+    "lend 0 0 2 3 3 2",
+    "back 0 0 0 2 2",
+    "back 0 0 2 3 2",
+    "scrub 0 0 1 0",
+    "shut 0 0",
+    "end",
+];
+
 /// The text of lines, where the one with a number from 1 is another.
 fn text_of(
     alloc: Global,
@@ -107,12 +137,41 @@ fn legal_runs_are_told(rt: HostRuntime) -> Result<(), Fail> {
         Ok(Checked::Yes { lines: 7 })
     );
 
+    let none = text_of(rt.alloc(), SHORT.split_at(2).0, 2, "more")?;
+    assert_eq!(&rt;
+        answer(rt.alloc(), none, 50, &[]),
+        Ok(Checked::Yes { lines: 2 })
+    );
+
     // Buffer 4 is one of the pool's here, and may be a spare as well.
     let large = text_of(rt.alloc(), &LONG, 1, "run 4096:16384 2")?;
     assert_eq!(&rt;
         answer(rt.alloc(), large, 50, &[]),
         Ok(Checked::Yes { lines: 23 })
     );
+    Ok(())
+}
+
+#[test]
+fn bytes_of_an_owed_loan_are_placed_again(rt: HostRuntime) -> Result<(), Fail> {
+    let alloc = rt.alloc();
+    let text = text_of(alloc, &PLACED_AGAIN, 0, "")?;
+    assert_eq!(&rt; answer(alloc, text, 50, &[]), Ok(Checked::Yes { lines: 9 }));
+    let text = text_of(alloc, &PLACED_AGAIN, 7, "place 0 0 5 3")?;
+    assert_eq!(&rt; answer(alloc, text, 50, &[]), Ok(Checked::No { line: 7 }));
+    Ok(())
+}
+
+#[test]
+fn a_scrub_takes_all_that_is_owed(rt: HostRuntime) -> Result<(), Fail> {
+    let alloc = rt.alloc();
+    let text = text_of(alloc, &BOTH_SCRUBBED, 0, "")?;
+    assert_eq!(&rt;
+        answer(alloc, text, 50, &[]),
+        Ok(Checked::Yes { lines: 13 })
+    );
+    let text = text_of(alloc, &BOTH_SCRUBBED, 11, "scrub 0 0 2 1")?;
+    assert_eq!(&rt; answer(alloc, text, 50, &[]), Ok(Checked::No { line: 11 }));
     Ok(())
 }
 
@@ -291,6 +350,8 @@ fn a_line_that_is_missing_is_named(rt: HostRuntime) -> Result<(), Fail> {
     );
     let text = text_of(alloc, SHORT.split_at(9).0, 0, "")?;
     assert_eq!(&rt; answer(alloc, text, 9, &[]), Ok(Checked::No { line: 10 }));
+    let text = text_of(alloc, &SHORT, 3, "place 0 0 5 1")?;
+    assert_eq!(&rt; answer(alloc, text, 9, &[]), Ok(Checked::No { line: 3 }));
     let text = text_of(alloc, SHORT.split_at(1).0, 0, "")?;
     assert_eq!(&rt; answer(alloc, text, 9, &[]), Ok(Checked::No { line: 2 }));
 

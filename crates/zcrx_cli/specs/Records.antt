@@ -40,7 +40,7 @@ pub record IsReportOf (count : ℕ → ℕ) (outcome : Told) (events : List Even
   pub apps : (number : ℕ) (line : AppLine) → slice_get outcome.apps number ≡ Some line → IsLineOf count number line events
   pub strays : outcome.pool.strays ≡ count (strays_in events)
 
--- What the record of a run tells, on whose board these are the sides.
+-- What the record of a run tells. These are the sides of its board.
 pub record TellsRun (plan : Plan) (outcome : Told) (sides : AllSides) (log : Kept) : Type 0 where
   -- Events that lead, one after another, from no holders to none. They tell, in order, what the card took and sent and what
   -- became of each entry, which pieces each application took and which loans it returned; and how many spares and loans it had.

@@ -86,7 +86,11 @@ fn start(rt: &HostRuntime, threads: &(impl Threads + Wait + Sync)) -> Result<u8,
         .map_err(|_| Fault::Memory)?;
     let input = BufReader::with_capacity(rt.alloc(), INPUT_BUFFER, rt.reader());
     let flows = AtomicU64::new(0);
-    let progress = Progress::new(rt, &flows);
+    let command = words.first().copied();
+    let progress = match command {
+        Some("replay") => Progress::new(rt, &flows),
+        _ => None,
+    };
     let mut source = Front::new(StdSource::new(input.map_err(|_| Fault::Memory)?), progress);
     let mut shelves = make_shelves(rt, spare_files(rt), &flows).map_err(|_| Fault::Memory)?;
     let mut out = StdSink::new(io::writer(rt));
@@ -109,7 +113,7 @@ fn start(rt: &HostRuntime, threads: &(impl Threads + Wait + Sync)) -> Result<u8,
         say_usage(rt, &words);
     }
     say_lost(rt, &shelves);
-    say_status(rt, status, source.bytes(), source.place());
+    say_status(rt, command, status, source.bytes(), source.place());
     Ok(status)
 }
 
@@ -130,7 +134,7 @@ fn main(rt: HostRuntime) -> ExitCode {
     let status = match start(&rt, &rt) {
         Ok(status) => status,
         Err(fault) => {
-            say_status(&rt, fault.number(), &[], None);
+            say_status(&rt, None, fault.number(), &[], None);
             fault.number()
         }
     };

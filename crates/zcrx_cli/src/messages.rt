@@ -47,7 +47,7 @@ fn cut_short(front: &[u8]) -> &'static str {
 /// What a status says, and what to do about it. The input began with `front`.
 fn meaning(fault: Fault, front: &[u8]) -> &'static str {
     match fault {
-        Fault::Memory => "there was no memory for all of it (fewer --buffers, or a smaller --size)",
+        Fault::Memory => "there was no memory for all of it",
         Fault::Usage => "the words have no reading",
         Fault::NotPcap => no_capture(front),
         Fault::Version =>
@@ -66,6 +66,14 @@ fn meaning(fault: Fault, front: &[u8]) -> &'static str {
         Fault::BadBlock =>
             "a block of the pcapng capture is out of form; what came before it was replayed",
         Fault::BadRun => "the run record isn't that of a legal run",
+    }
+}
+
+/// What else to do about a fault of this command.
+fn advice(fault: Fault, command: Option<&str>) -> &'static str {
+    match (fault, command) {
+        (Fault::Memory, Some("replay")) => " (fewer --buffers, or a smaller --size)",
+        _ => "",
     }
 }
 
@@ -98,8 +106,14 @@ fn is_within(fault: Fault) -> bool {
     )
 }
 
-/// Says what a status means, where it isn't 0. The input began with `front`, and its reading ended at `place`.
-pub(crate) fn say_status(rt: &HostRuntime, status: u8, front: &[u8], place: Option<Place>) {
+/// Says what a status of the command means, where it isn't 0. The input began with `front`, and its reading ended at `place`.
+pub(crate) fn say_status(
+    rt: &HostRuntime,
+    command: Option<&str>,
+    status: u8,
+    front: &[u8],
+    place: Option<Place>,
+) {
     let Some(fault) = fault_of(status) else {
         return;
     };
@@ -109,7 +123,8 @@ pub(crate) fn say_status(rt: &HostRuntime, status: u8, front: &[u8], place: Opti
             let _ = eprintln!(rt; "zcrx: status {status}: {meaning} (at {place})");
         }
         _ => {
-            let _ = eprintln!(rt; "zcrx: status {status}: {meaning}");
+            let advice = advice(fault, command);
+            let _ = eprintln!(rt; "zcrx: status {status}: {meaning}{advice}");
         }
     }
 }

@@ -129,3 +129,30 @@ fn a_lost_record_is_told(rt: HostRuntime) -> Result<(), Fail> {
     assert!(&rt; left.sent.ends_with(b"status 0\nrun "));
     Ok(())
 }
+
+/// A replay that ends by a fault of the capture, or whose shelf fails, has the record of a legal run too.
+#[test]
+fn a_record_stands_behind_a_fault(rt: HostRuntime) -> Result<(), Fail> {
+    let words = ["replay", "--turns", "n", "--events", "9000"];
+    let mut cut = HELLO.to_vec(rt.alloc())?;
+    cut.push(0)?;
+    let cut_short = Given {
+        words: &words,
+        sink_room: RECORD_ROOM,
+        ..faultless(&cut)
+    };
+    let lost = Given {
+        words: &words,
+        shelf_fails: &[(1, 2)],
+        sink_room: RECORD_ROOM,
+        ..faultless(&HELLO)
+    };
+    for (given, status) in [(&cut_short, 6), (&lost, 9)] {
+        let left = run(&rt, given)?;
+        assert_eq!(&rt; left.status, status);
+        let record = record_of(&left.sent)?;
+        assert!(&rt; record.ends_with("\nend\n"), "{status}");
+        assert_eq!(&rt; checked(&rt, record)?, 0, "{status}");
+    }
+    Ok(())
+}
