@@ -5,6 +5,7 @@ ghost use Rattle.word_board.specs.Board.{new_desk};
 ghost use Rattle.word_board.specs.Desk.{AreOfBoard, AreServed, took_back};
 
 use crate::app_seat::AppSeat;
+use crate::card_steps::CardSteps;
 use crate::hands::{AppHand, MOST_APPS};
 use crate::kinds::{join_seats, look_served};
 use crate::nic_seat::NicSeat;
@@ -93,10 +94,11 @@ impl<'a> NicSeat<'a> {
         ensures served { AreServed desk.new.view }
         ensures known { AreOfBoard desk.new.board.setting desk.new.view }
     {
-        let NicSeat { board, seat, hand } = self;
-        join_seats(&board.words, &mut desk.seat, seat);
+        let NicSeat { card, hand } = self;
+        let CardSteps { words, seat } = card;
+        join_seats(words, &mut desk.seat, seat);
         desk.cache = hand.cache;
-        look_served(&board.words, &mut desk.seat);
+        look_served(words, &mut desk.seat);
     }
 }
 

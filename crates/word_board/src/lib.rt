@@ -5,6 +5,7 @@
 mod app_seat;
 mod bits;
 mod board;
+mod card_steps;
 mod desk;
 mod finish;
 mod found;

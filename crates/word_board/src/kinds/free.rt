@@ -1,4 +1,4 @@
-ghost use Rattle.std.specs.Prelude.{◌≡◌, ℕ, ◌/◌, ◌<◌, ◌==◌, [], true, length, Contains, false};
+ghost use Rattle.std.specs.Prelude.{◌≡◌, ◌/◌, ◌<◌, ◌==◌, [], true, length, Contains, false};
 ghost use Rattle.area_layout.specs.Layout.{pool_buffers};
 ghost use Rattle.board_face.specs.AppCalls.{MaySpare};
 ghost use Rattle.board_face.specs.NicCalls.{free_words_of};
@@ -6,14 +6,15 @@ ghost use Rattle.board_face.specs.NicEvents.{word_bits};
 ghost use Rattle.board_face.specs.Used.{PicksAreGiven};
 ghost use Rattle.ref_words.specs.FreeLaws.{IsSwept};
 ghost use Rattle.ref_words.specs.FreeSteps.{side_swept, side_nic_listed, side_app_listed, side_word_looked, side_bit_cleared};
-ghost use Rattle.ref_words.specs.Seated.{card_view, app_view};
-ghost use Rattle.word_board.specs.Board.{card_of, app_of};
+ghost use Rattle.ref_words.specs.Seated.{app_view};
+ghost use Rattle.word_board.specs.Board.{app_of};
 ghost use Rattle.board_face.specs.AppEvents.{app_gist};
 ghost use Rattle.word_board.specs.Told.{SawFree, SawUnlisted};
 
 use crate::bits::{and_as, or_as};
+use crate::card_steps::CardSteps;
 use crate::rule::{SharedWords, WordSeat};
-use crate::steps::{load_as, swap_as};
+use crate::steps::load_as;
 use ref_words::laws;
 use std::marker::Brand;
 
@@ -22,34 +23,26 @@ pub(crate) const WORD_BITS: u32 = 64;
 
 /// The card sweeps a word of the free list: the buffers that are listed there enter its cache, the highest first. It answers
 /// the number that tells which they are.
-pub(crate) fn sweep_word(words: &SharedWords, seat: &mut WordSeat, word: u32) -> u64
-    requires table { seat.old.table_id ≡ words.now.table.shared.table_id }
-    requires card { seat.old.me ≡ (card_view (card_of seat.old.me.0), []) }
-    requires within { word < free_words_of words.now.map }
-    requires room { length (card_of seat.old.me.0).view.cache < 64 }
-    ensures table { seat.new.table_id ≡ seat.old.table_id }
-    ensures event { seat.new.me ≡ (card_view (side_swept (card_of seat.old.me.0) word result), []) }
-    ensures swept { IsSwept (card_of seat.old.me.0) word result }
+pub(crate) fn sweep_word(card: &mut CardSteps, word: u32) -> u64
+    requires within { word < free_words_of card.old.board.setting }
+    requires room { length card.old.side.view.cache < 64 }
+    ensures event { card.new ≡ record card.old { side = side_swept card.old.side word result } }
+    ensures swept { IsSwept card.old.side word result }
 {
     laws::k18();
-    let index = words.map.free(word);
-    let table = &words.table;
-    swap_as::<Brand, u32>(table, seat, index, 0, word)
+    let index = card.map().free(word);
+    card.swap::<Brand, u32>(index, 0, word)
 }
 
 /// The card lists a pool buffer that it has in hand.
-pub(crate) fn list_by_card(words: &SharedWords, seat: &mut WordSeat, buffer: u32)
-    requires table { seat.old.table_id ≡ words.now.table.shared.table_id }
-    requires card { seat.old.me ≡ (card_view (card_of seat.old.me.0), []) }
-    requires of_pool { buffer < pool_buffers words.now.map.layout }
-    requires in_hand { Contains (card_of seat.old.me.0).inside.hands buffer }
-    ensures table { seat.new.table_id ≡ seat.old.table_id }
-    ensures event { seat.new.me ≡ (card_view (side_nic_listed (card_of seat.old.me.0) buffer), []) }
+pub(crate) fn list_by_card(card: &mut CardSteps, buffer: u32)
+    requires of_pool { buffer < pool_buffers card.old.board.setting.layout }
+    requires in_hand { Contains card.old.side.inside.hands buffer }
+    ensures { card.new ≡ record card.old { side = side_nic_listed card.old.side buffer } }
 {
     laws::k19();
-    let word = words.map.free(buffer / WORD_BITS);
-    let table = &words.table;
-    or_as::<Brand, u32>(table, seat, word, 1 << (buffer % WORD_BITS), buffer);
+    let word = card.map().free(buffer / WORD_BITS);
+    card.or::<Brand, u32>(word, 1 << (buffer % WORD_BITS), buffer);
 }
 
 /// An application lists a pool buffer that it has in hand.

@@ -9,25 +9,23 @@ ghost use Rattle.board_face.specs.SlotSteps.{next_slot, side_dealt};
 ghost use Rattle.board_face.specs.declared.views.nic.Fate.TheVariants.{Honoured};
 ghost use Rattle.board_face.specs.declared.views.nic.Judged.TheVariants.{Owed};
 ghost use Rattle.ref_words.specs.Rings.{takes_entry_at};
-ghost use Rattle.ref_words.specs.Seated.{card_view, app_view};
-ghost use Rattle.word_board.specs.Board.{card_of, app_of};
+ghost use Rattle.ref_words.specs.Seated.{app_view};
+ghost use Rattle.word_board.specs.Board.{app_of};
 
+use crate::card_steps::CardSteps;
 use crate::kinds::{free_honoured, give_back, list_by_app, list_by_card, release_held, shut_own};
 use crate::rule::{SharedWords, WordSeat};
 use board_face::Filling;
 use zr_kinds::{Place, Rqe};
 
 /// The card lists this buffer where it has it in hand. It has no other in hand.
-fn list_last_by_card(words: &SharedWords, seat: &mut WordSeat, buffer: u32, in_hand: bool)
-    requires table { seat.old.table_id ≡ words.now.table.shared.table_id }
-    requires card { seat.old.me ≡ (card_view (card_of seat.old.me.0), []) }
-    requires of_pool { in_hand ≡ true → buffer < pool_buffers words.now.map.layout }
-    requires hands { (card_of seat.old.me.0).inside.hands ≡ (if in_hand then buffer ∷ [] else []) }
-    ensures table { seat.new.table_id ≡ seat.old.table_id }
-    ensures event { seat.new.me ≡ (card_view (record (card_of seat.old.me.0) { inside = record (card_of seat.old.me.0).inside { hands = [] } }), []) }
+fn list_last_by_card(card: &mut CardSteps, buffer: u32, in_hand: bool)
+    requires of_pool { in_hand ≡ true → buffer < pool_buffers card.old.board.setting.layout }
+    requires hands { card.old.side.inside.hands ≡ (if in_hand then buffer ∷ [] else []) }
+    ensures { card.new ≡ record card.old { side = record card.old.side { inside = record card.old.side.inside { hands = [] } } } }
 {
     if in_hand {
-        list_by_card(words, seat, buffer);
+        list_by_card(card, buffer);
     }
 }
 
@@ -47,26 +45,17 @@ pub(crate) fn list_last_by_app(words: &SharedWords, seat: &mut WordSeat, buffer:
 
 /// The card closes a buffer: its own reference goes. A pool buffer that comes to be free by that is cached where the cache has
 /// `room`, and listed else. It answers whether no holder is left.
-pub(crate) fn shut_buffer(
-    words: &SharedWords,
-    seat: &mut WordSeat,
-    own: Filling,
-    pool: u32,
-    room: bool,
-) -> bool
-    requires table { seat.old.table_id ≡ words.now.table.shared.table_id }
-    requires card { seat.old.me ≡ (card_view (card_of seat.old.me.0), []) }
-    requires set { (card_of seat.old.me.0).view.setting ≡ words.now.map }
-    requires within { own.buffer < total words.now.map.layout }
-    requires out { HasOwn (card_of seat.old.me.0).view own }
-    requires pool { pool ≡ pool_buffers words.now.map.layout }
-    requires room { room ≡ nat_lt (length (card_of seat.old.me.0).view.cache) cache_room }
-    requires bare { (card_of seat.old.me.0).inside.hands ≡ [] }
-    ensures table { seat.new.table_id ≡ seat.old.table_id }
-    ensures event { seat.new.me ≡ (card_view (nic_at (card_of seat.old.me.0) (shut (card_of seat.old.me.0).view own result)), []) }
+pub(crate) fn shut_buffer(card: &mut CardSteps, own: Filling, pool: u32, room: bool) -> bool
+    requires set { card.old.side.view.setting ≡ card.old.board.setting }
+    requires within { own.buffer < total card.old.board.setting.layout }
+    requires out { HasOwn card.old.side.view own }
+    requires pool { pool ≡ pool_buffers card.old.board.setting.layout }
+    requires room { room ≡ nat_lt (length card.old.side.view.cache) cache_room }
+    requires bare { card.old.side.inside.hands ≡ [] }
+    ensures { card.new ≡ record card.old { side = nic_at card.old.side (shut card.old.side.view own result) } }
 {
-    let last = shut_own(words, seat, own);
-    list_last_by_card(words, seat, own.buffer, last && own.buffer < pool && !room);
+    let last = shut_own(card, own);
+    list_last_by_card(card, own.buffer, last && own.buffer < pool && !room);
     last
 }
 
@@ -81,34 +70,27 @@ pub(crate) struct Loaded {
 /// The card deals with an entry in hand that is a return: both counts are lowered, a pool buffer that comes to be free by that
 /// is cached or listed as in `shut_buffer`, and then the slot is freed. It answers whether no holder is left.
 pub(crate) fn honour_entry(
-    words: &SharedWords,
-    seat: &mut WordSeat,
+    card: &mut CardSteps,
     loaded: Loaded,
     buffer: u32,
     pool: u32,
     room: bool,
 ) -> bool
-    requires table { seat.old.table_id ≡ words.now.table.shared.table_id }
-    requires card { seat.old.me ≡ (card_view (card_of seat.old.me.0), []) }
-    requires set { (card_of seat.old.me.0).view.setting ≡ words.now.map }
-    requires app { loaded.app < apps_of words.now.map }
-    requires slot { loaded.slot < words.now.map.places }
-    requires next { loaded.slot ≡ takes_entry_at words.now.map (card_of seat.old.me.0) loaded.app }
-    requires seen { (next_slot (card_of seat.old.me.0).inside.refill_slots loaded.app).seen ≡ true }
-    requires within { buffer < total words.now.map.layout }
-    requires in_hand { (card_of seat.old.me.0).inside.entry ≡ Some (record { app = loaded.app; entry = loaded.entry; judged = Owed buffer }) }
-    requires pool { pool ≡ pool_buffers words.now.map.layout }
-    requires room { room ≡ nat_lt (length (card_of seat.old.me.0).view.cache) cache_room }
-    requires bare { (card_of seat.old.me.0).inside.hands ≡ [] }
-    ensures table { seat.new.table_id ≡ seat.old.table_id }
-    ensures event { seat.new.me ≡ (
-      card_view (side_dealt (nic_at (card_of seat.old.me.0) (gave_up (card_of seat.old.me.0).view buffer result)) loaded.app loaded.entry (Honoured buffer)),
-      [],
-    ) }
+    requires set { card.old.side.view.setting ≡ card.old.board.setting }
+    requires app { loaded.app < apps_of card.old.board.setting }
+    requires slot { loaded.slot < card.old.board.setting.places }
+    requires next { loaded.slot ≡ takes_entry_at card.old.board.setting card.old.side loaded.app }
+    requires seen { (next_slot card.old.side.inside.refill_slots loaded.app).seen ≡ true }
+    requires within { buffer < total card.old.board.setting.layout }
+    requires in_hand { card.old.side.inside.entry ≡ Some (record { app = loaded.app; entry = loaded.entry; judged = Owed buffer }) }
+    requires pool { pool ≡ pool_buffers card.old.board.setting.layout }
+    requires room { room ≡ nat_lt (length card.old.side.view.cache) cache_room }
+    requires bare { card.old.side.inside.hands ≡ [] }
+    ensures { card.new ≡ record card.old { side = side_dealt (nic_at card.old.side (gave_up card.old.side.view buffer result)) loaded.app loaded.entry (Honoured buffer) } }
 {
-    let last = give_back(words, seat, loaded.app, loaded.entry, buffer);
-    list_last_by_card(words, seat, buffer, last && buffer < pool && !room);
-    free_honoured(words, seat, loaded.app, loaded.slot, loaded.entry, buffer);
+    let last = give_back(card, loaded.app, loaded.entry, buffer);
+    list_last_by_card(card, buffer, last && buffer < pool && !room);
+    free_honoured(card, loaded.app, loaded.slot, loaded.entry, buffer);
     last
 }
 

@@ -9,12 +9,13 @@ ghost use Rattle.board_face.specs.declared.views.nic.NicLook.TheVariants.{NotLef
 ghost use Rattle.ref_words.specs.PhaseSteps.{side_ended, side_leave_looked, side_left, side_end_looked, side_note_sought};
 ghost use Rattle.ref_words.specs.PhaseSteps.{side_reserve_looked, side_abandoned};
 ghost use Rattle.ref_words.specs.Rings.{takes_note_at};
-ghost use Rattle.ref_words.specs.Seated.{card_view, app_view};
-ghost use Rattle.word_board.specs.Board.{card_of, app_of};
+ghost use Rattle.ref_words.specs.Seated.{app_view};
+ghost use Rattle.word_board.specs.Board.{app_of};
 ghost use Rattle.board_face.specs.NicEvents.{nic_gist};
 ghost use Rattle.board_face.specs.AppEvents.{app_gist};
 ghost use Rattle.word_board.specs.Told.{SawNotLeft, SawNotEnded, SawNoNote, SawReserveHeld};
 
+use crate::card_steps::CardSteps;
 use crate::rule::{SharedWords, WordSeat};
 use crate::steps::{load_as, swap_as};
 use ref_words::laws;
@@ -22,18 +23,14 @@ use std::marker::Brand;
 use zr_kinds::Place;
 
 /// The card ends: it stores 1 into its phase word. No token is out, and no piece is in the making.
-pub(crate) fn end_card(words: &SharedWords, seat: &mut WordSeat)
-    requires table { seat.old.table_id ≡ words.now.table.shared.table_id }
-    requires card { seat.old.me ≡ (card_view (card_of seat.old.me.0), []) }
-    requires none { HasNoToken (card_of seat.old.me.0).view }
-    requires idle { (card_of seat.old.me.0).inside.making ≡ None }
-    ensures table { seat.new.table_id ≡ seat.old.table_id }
-    ensures event { seat.new.me ≡ (card_view (side_ended (card_of seat.old.me.0)), []) }
+pub(crate) fn end_card(card: &mut CardSteps)
+    requires none { HasNoToken card.old.side.view }
+    requires idle { card.old.side.inside.making ≡ None }
+    ensures { card.new ≡ record card.old { side = side_ended card.old.side } }
 {
     laws::k22();
-    let word = words.map.phase(0);
-    let table = &words.table;
-    swap_as::<Brand, ()>(table, seat, word, 1, ());
+    let word = card.map().phase(0);
+    card.swap::<Brand, ()>(word, 1, ());
 }
 
 /// An application leaves: it stores 1 into its phase word.
@@ -53,21 +50,17 @@ pub(crate) fn leave_app(words: &SharedWords, seat: &mut WordSeat, app: u32)
 }
 
 /// The card looks whether an application has left.
-pub(crate) fn look_left(words: &SharedWords, seat: &mut WordSeat, app: u32) -> bool
-    requires table { seat.old.table_id ≡ words.now.table.shared.table_id }
-    requires card { seat.old.me ≡ (card_view (card_of seat.old.me.0), []) }
-    requires app { app < apps_of words.now.map }
-    ensures table { seat.new.table_id ≡ seat.old.table_id }
-    ensures event { seat.new.me ≡ (card_view (side_leave_looked (card_of seat.old.me.0) app result), []) }
+pub(crate) fn look_left(card: &mut CardSteps, app: u32) -> bool
+    requires app { app < apps_of card.old.board.setting }
+    ensures event { card.new ≡ record card.old { side = side_leave_looked card.old.side app result } }
     ensures view { MatchBool result
-        ((card_of seat.new.me.0).view ≡ saw_leave (card_of seat.old.me.0).view app)
-        (NicOnlySaw (NotLeft app) (card_of seat.old.me.0).view (card_of seat.new.me.0).view) }
-    ensures told { result ≡ false → SawNotLeft words.now.map (nic_gist (card_of seat.old.me.0).view) app }
+        (card.new.side.view ≡ saw_leave card.old.side.view app)
+        (NicOnlySaw (NotLeft app) card.old.side.view card.new.side.view) }
+    ensures told { result ≡ false → SawNotLeft card.old.board.setting (nic_gist card.old.side.view) app }
 {
     laws::k23();
-    let word = words.map.phase(1 + app as usize);
-    let table = &words.table;
-    load_as::<Brand, u32>(table, seat, word, app) == 1
+    let word = card.map().phase(1 + app as usize);
+    card.load::<Brand, u32>(word, app) == 1
 }
 
 /// An application looks whether the card has ended. Once it saw that, it sees it again.

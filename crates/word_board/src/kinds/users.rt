@@ -1,4 +1,4 @@
-ghost use Rattle.std.specs.Prelude.{◌≡◌, ℕ, ◌+◌, ◌^◌, ◌<◌, [], true, false, Some, ◌==◌};
+ghost use Rattle.std.specs.Prelude.{◌≡◌, ◌+◌, ◌^◌, ◌<◌, [], true, false, Some, ◌==◌};
 ghost use Rattle.area_layout.specs.Layout.{total, judged};
 ghost use Rattle.board_face.specs.NicCalls.{apps_of};
 ghost use Rattle.board_face.specs.AppCalls.{HasHeld, HasSpare, IsFilled, CanLend};
@@ -7,11 +7,12 @@ ghost use Rattle.board_face.specs.Returns.{loans_out};
 ghost use Rattle.board_face.specs.Sides.{app_at};
 ghost use Rattle.board_face.specs.Steps.{side_judged, side_user_lowered, side_user_taken};
 ghost use Rattle.board_face.specs.declared.views.nic.Judged.TheVariants.{Not, Owed};
-ghost use Rattle.ref_words.specs.Seated.{card_view, app_view};
-ghost use Rattle.word_board.specs.Board.{card_of, app_of};
+ghost use Rattle.ref_words.specs.Seated.{app_view};
+ghost use Rattle.word_board.specs.Board.{app_of};
 
+use crate::card_steps::CardSteps;
 use crate::rule::{SharedWords, WordSeat};
-use crate::steps::{add_as, load_as, sub_as, swap_as};
+use crate::steps::{add_as, swap_as};
 use board_face::Filling;
 use ref_words::laws;
 use std::marker::Brand;
@@ -61,48 +62,28 @@ pub(crate) fn lend_spare(words: &SharedWords, seat: &mut WordSeat, app: u32, own
 
 /// The card looks at the user count for the entry in hand, which names the buffer. `true` says that it was 0, so that the
 /// entry is a stray.
-pub(crate) fn look_user(
-    words: &SharedWords,
-    seat: &mut WordSeat,
-    app: u32,
-    entry: Rqe,
-    buffer: u32,
-) -> bool
-    requires table { seat.old.table_id ≡ words.now.table.shared.table_id }
-    requires card { seat.old.me ≡ (card_view (card_of seat.old.me.0), []) }
-    requires app { app < apps_of words.now.map }
-    requires within { buffer < total words.now.map.layout }
-    requires names { judged words.now.map.layout entry ≡ Some buffer }
-    requires in_hand { (card_of seat.old.me.0).inside.entry ≡ Some (record { app = app; entry = entry; judged = Not }) }
-    ensures table { seat.new.table_id ≡ seat.old.table_id }
-    ensures event { seat.new.me ≡ (card_view (side_judged (card_of seat.old.me.0) app entry buffer result), []) }
+pub(crate) fn look_user(card: &mut CardSteps, app: u32, entry: Rqe, buffer: u32) -> bool
+    requires app { app < apps_of card.old.board.setting }
+    requires within { buffer < total card.old.board.setting.layout }
+    requires names { judged card.old.board.setting.layout entry ≡ Some buffer }
+    requires in_hand { card.old.side.inside.entry ≡ Some (record { app = app; entry = entry; judged = Not }) }
+    ensures { card.new ≡ record card.old { side = side_judged card.old.side app entry buffer result } }
 {
     laws::k8();
-    let word = words.map.user(app, buffer);
-    let table = &words.table;
-    load_as::<Brand, (u32, Rqe, u32)>(table, seat, word, (app, entry, buffer)) == 0
+    let word = card.map().user(app, buffer);
+    card.load::<Brand, (u32, Rqe, u32)>(word, (app, entry, buffer)) == 0
 }
 
 /// The user count is lowered for the entry in hand, for which it was seen above 0.
-pub(crate) fn lower_user(
-    words: &SharedWords,
-    seat: &mut WordSeat,
-    app: u32,
-    entry: Rqe,
-    buffer: u32,
-)
-    requires table { seat.old.table_id ≡ words.now.table.shared.table_id }
-    requires card { seat.old.me ≡ (card_view (card_of seat.old.me.0), []) }
-    requires app { app < apps_of words.now.map }
-    requires within { buffer < total words.now.map.layout }
-    requires in_hand { (card_of seat.old.me.0).inside.entry ≡ Some (record { app = app; entry = entry; judged = Owed buffer }) }
-    ensures table { seat.new.table_id ≡ seat.old.table_id }
-    ensures event { seat.new.me ≡ (card_view (side_user_lowered (card_of seat.old.me.0) app entry buffer), []) }
+pub(crate) fn lower_user(card: &mut CardSteps, app: u32, entry: Rqe, buffer: u32)
+    requires app { app < apps_of card.old.board.setting }
+    requires within { buffer < total card.old.board.setting.layout }
+    requires in_hand { card.old.side.inside.entry ≡ Some (record { app = app; entry = entry; judged = Owed buffer }) }
+    ensures { card.new ≡ record card.old { side = side_user_lowered card.old.side app entry buffer } }
 {
     laws::k9();
-    let word = words.map.user(app, buffer);
-    let table = &words.table;
-    sub_as::<Brand, (u32, Rqe, u32)>(table, seat, word, 1, (app, entry, buffer));
+    let word = card.map().user(app, buffer);
+    card.sub::<Brand, (u32, Rqe, u32)>(word, 1, (app, entry, buffer));
 }
 
 /// An application's scrub swaps its user count for the buffer to which it came with 0. It answers how many references it took.

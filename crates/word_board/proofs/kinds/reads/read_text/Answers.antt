@@ -10,7 +10,6 @@ use Rattle.ref_words.specs.AreaLaws.{part_of}
 use Rattle.ref_words.specs.AreaSteps.{side_loaded}
 use Rattle.ref_words.specs.Seated.{app_view}
 use Rattle.ref_words.proofs.TextsRead.{loaded-is}
-use Rattle.word_rings.specs.Texts.{word_bytes}
 use Rattle.word_board.specs.Board.{app_of}
 use Rattle.word_board.specs.Reads.{HasReadSoFar}
 use Rattle.word_board.proofs.kinds.reads.read_text.Goals as goal
