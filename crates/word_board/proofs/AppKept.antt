@@ -4,7 +4,6 @@ use Rattle.std.specs.Prelude.{◌==◌, if◌then◌else◌, All, Option, Some, 
 use Rattle.std.proofs.lemmas.List.{length-set, length-append}
 use Rattle.std.proofs.lemmas.List.Elements.{All-nil, All-cons, All-append, All-push, All-map, All-contains}
 use Rattle.std.proofs.Math.Nat.{mod-add-mod, mod-lt}
-use Rattle.atomic_table.specs.Table.{Me}
 use Rattle.zr_kinds.specs.declared.place.Place.{Place}
 use Rattle.zr_kinds.specs.declared.place.Note.{Note}
 use Rattle.zr_kinds.specs.declared.ring.Rqe.{Rqe}
@@ -31,9 +30,6 @@ use Rattle.board_face.proofs.Tallies.{weight, tally-push}
 use Rattle.board_face.proofs.Parts.{count-tally}
 use Rattle.board_face.proofs.LiesLemmas.{loans-at}
 use Rattle.board_face.proofs.WrittenLemmas.{loans-fewer}
-use Rattle.ref_words.specs.declared.view.View.{View}
-use Rattle.ref_words.specs.Seated.{app_view}
-use Rattle.word_board.specs.Board.{app_of}
 use Rattle.word_board.specs.Hands.{AppRests, AppLies, KnowsSlots, AppKeeps}
 use Rattle.word_board.specs.Polls.{Polls, end_known}
 use Rattle.word_board.proofs.LoansCounted.{count-raised, count-lowered}
@@ -339,11 +335,3 @@ module _ (setting : Setting) (app new : AppSide) (number note entry : ℕ) (raw 
   kept-polled got_end p =
       let known = kept-end_known setting app number note entry raw loans filled k p.over in
       rw p.event (kept-told_end setting (end_known app p.over) number note entry raw loans filled known)
-
--- ---- what a seat is
-
--- a fact of the side that a step left is one of the seat's
-pub sits : {T : Type 0} (P : AppSide → Type 0) (table before here : T) (me : Me (Unit {0}) View) (side : AppSide) → table ≡ before → before ≡ here
-    → me ≡ (app_view side, []) → P side → (table ≡ here) × (me ≡ (app_view (app_of me.0), [])) × P (app_of me.0)
-sits P table before here me side same at is fact =
-    subst (λ (m : Me (Unit {0}) View). (table ≡ here) × (m ≡ (app_view (app_of m.0), [])) × P (app_of m.0)) (sym is) (same ∙ at, refl, fact)

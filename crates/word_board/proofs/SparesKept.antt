@@ -1,5 +1,5 @@
 -- What an application keeps is right after each event of its spares, and once a loan is abandoned.
-use Rattle.std.proofs.Common.{◌≡◌, ℕ, ◌+◌, ◌-◌, ◌^◌, ◌<◌, ◌≤◌, Bool, true, false, List, [], ◌∷◌, ◌++◌, length, map, set, get_or, refl, ap, sym, ◌∙◌, subst}
+use Rattle.std.proofs.Common.{◌≡◌, ℕ, ◌+◌, ◌-◌, ◌^◌, ◌<◌, ◌≤◌, Bool, true, false, List, [], ◌∷◌, ◌++◌, length, map, set, get_or, refl, ap, ◌∙◌}
 use Rattle.std.proofs.Common.{arith, Option, ⊎_elim, length-append}
 use Rattle.std.specs.Prelude.{◌==◌, if◌then◌else◌, nat_lt, All, AllPairs, IsTrue, ◌↔◌}
 use Rattle.std.proofs.lemmas.List.{length-set, get_or-set_same, get_or_default}
@@ -27,10 +27,6 @@ use Rattle.board_face.proofs.ListLemmas.{All-without}
 use Rattle.board_face.proofs.Parts.{count-tally}
 use Rattle.board_face.proofs.Tallies.{tally-push}
 use Rattle.board_face.proofs.WrittenLemmas.{loans-fewer}
-use Rattle.atomic_table.specs.Table.{Me}
-use Rattle.ref_words.specs.declared.view.View.{View}
-use Rattle.ref_words.specs.Seated.{app_view}
-use Rattle.word_board.specs.Board.{app_of}
 use Rattle.word_board.specs.Hands.{AppKeeps}
 use Rattle.word_board.proofs.AppKept.{loan-lies, loan-some, kept as kept-event}
 use Rattle.word_board.proofs.LoansCounted.{count-raised, count-lowered, counted-tells}
@@ -45,16 +41,6 @@ TextIsShort s = length s.bytes ≤ 256
 picked-longer : (c : Bool) (picks : List ℕ) (buffer : ℕ) → length (if c then picks ++ buffer ∷ [] else picks) ≤ length picks + 1
 picked-longer true picks buffer = omega (arith, length-append picks (buffer ∷ []))
 picked-longer false picks buffer = omega arith
-
--- a seat has the side of an event
-pub is-view : (me : Me (Unit {0}) View) (side : AppSide) → me ≡ (app_view side, []) → me ≡ (app_view (app_of me.0), [])
-is-view me side e = subst (λ (x : Me (Unit {0}) View). x ≡ (app_view (app_of x.0), [])) (sym e) refl
-
-pub keeps-view : (me : Me (Unit {0}) View) (side : AppSide) → me ≡ (app_view side, [])
-    → (setting : Setting) (number note entry : ℕ) (raw : Option ℕ) (loans loans' lengths lengths' : List ℕ) → loans' ≡ loans → lengths' ≡ lengths
-    → AppKeeps setting side number note entry raw loans lengths → AppKeeps setting (app_of me.0) number note entry raw loans' lengths'
-keeps-view me side e setting number note entry raw loans loans' lengths lengths' same same' kept =
-    subst (λ (x : Me (Unit {0}) View). AppKeeps setting (app_of x.0) number note entry raw loans' lengths') (sym e) (rw (same, same') kept)
 
 module _ (setting : Setting) (app : AppSide) (number note entry : ℕ) (raw : Option ℕ) (loans lengths : List ℕ)
     (kept : AppKeeps setting app number note entry raw loans lengths) where

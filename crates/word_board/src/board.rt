@@ -4,6 +4,7 @@ ghost use Rattle.board_face.specs.Opened.{new_nic, new_app};
 ghost use Rattle.word_board.specs.Board.{new_desk, was_given, gave_role};
 
 use crate::app_seat::AppSeat;
+use crate::app_steps::AppSteps;
 use crate::card_steps::CardSteps;
 use crate::desk::Desk;
 use crate::hands::NicHand;
@@ -89,6 +90,6 @@ impl WordBoard {
         let hand = kept.take()?;
         let mut seat = deal_role(&self.words, &mut desk.seat, 1 + app as usize);
         take_app_role(&self.words, &mut seat, app);
-        Some(AppSeat::new(self, seat, hand))
+        Some(AppSeat::new(AppSteps::new(&self.words, seat, app), hand))
     }
 }

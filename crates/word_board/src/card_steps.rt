@@ -35,7 +35,7 @@ impl<'a> Model for CardSteps<'a> {
 
 /// The card's side after a step, and what it is told by the rule, both by the number that the step found. A call passes
 /// `Brand`, and its proof picks them.
-pub trait CardAfter {
+pub(crate) trait CardAfter {
     ghost after: { ℕ → NicSide };
 
     ghost told: { ℕ → Type 0 };
@@ -51,7 +51,7 @@ impl CardAfter for Brand {
 }
 
 /// Such a step, as one of a seat.
-pub struct OfCard<N: CardAfter> {
+pub(crate) struct OfCard<N: CardAfter> {
     marker: PhantomData<N>,
 }
 

@@ -5,6 +5,7 @@ ghost use Rattle.word_board.specs.Board.{new_desk};
 ghost use Rattle.word_board.specs.Desk.{AreOfBoard, AreServed, took_back};
 
 use crate::app_seat::AppSeat;
+use crate::app_steps::AppSteps;
 use crate::card_steps::CardSteps;
 use crate::hands::{AppHand, MOST_APPS};
 use crate::kinds::{join_seats, look_served};
@@ -111,8 +112,9 @@ impl<'a> AppSeat<'a> {
         ensures served { AreServed desk.new.view }
         ensures known { AreOfBoard desk.new.board.setting desk.new.view }
     {
-        let AppSeat { board, seat, .. } = self;
-        join_seats(&board.words, &mut desk.seat, seat);
-        look_served(&board.words, &mut desk.seat);
+        let AppSeat { app, .. } = self;
+        let AppSteps { words, seat, .. } = app;
+        join_seats(words, &mut desk.seat, seat);
+        look_served(words, &mut desk.seat);
     }
 }

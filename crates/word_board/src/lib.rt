@@ -3,7 +3,7 @@
 #![tactic(auto)]
 
 mod app_seat;
-mod bits;
+mod app_steps;
 mod board;
 mod card_steps;
 mod desk;

@@ -6,12 +6,9 @@ ghost use Rattle.board_face.specs.NicCalls.{HasOwn};
 ghost use Rattle.board_face.specs.Tokens.{filled_by, next_place};
 ghost use Rattle.ref_words.specs.AreaLaws.{IsMadeAt, IsMadeThere, IsLastWord};
 ghost use Rattle.ref_words.specs.AreaSteps.{made_words, side_piece_stored, side_piece_placed, side_spare_stored, side_spare_filled};
-ghost use Rattle.ref_words.specs.Seated.{app_view};
-ghost use Rattle.word_board.specs.Board.{app_of};
 
+use crate::app_steps::AppSteps;
 use crate::card_steps::CardSteps;
-use crate::rule::{SharedWords, WordSeat};
-use crate::steps::swap_as;
 use board_face::Filling;
 use ref_words::laws;
 use std::marker::Brand;
@@ -56,61 +53,37 @@ pub(crate) fn place_piece(
 }
 
 /// An application stores the word `k` of a spare's text, the next one; the first begins the text. It isn't the last.
-pub(crate) fn store_spare(
-    words: &SharedWords,
-    seat: &mut WordSeat,
-    own: Filling,
-    first: u64,
-    len: u32,
-    k: u32,
-    n: u64,
-)
-    requires table { seat.old.table_id ≡ words.now.table.shared.table_id }
-    requires app { seat.old.me ≡ (app_view (app_of seat.old.me.0), []) }
-    requires out { HasSpare (app_of seat.old.me.0).view own }
+pub(crate) fn store_spare(app: &mut AppSteps, own: Filling, first: u64, len: u32, k: u32, n: u64)
+    requires out { HasSpare app.old.side.view own }
     requires empty { own.start ≡ 0 }
     requires few { len ≤ 256 }
-    requires lies { LiesIn words.now.map.layout (begin_place own.buffer len) }
-    requires first { first ≡ first_word words.now.map.layout own.buffer }
-    requires making { IsMadeThere (app_of seat.old.me.0).inside.making (begin_place own.buffer len) }
-    requires so_far { k ≡ length (made_words (app_of seat.old.me.0).inside.making) }
+    requires lies { LiesIn app.old.board.setting.layout (begin_place own.buffer len) }
+    requires first { first ≡ first_word app.old.board.setting.layout own.buffer }
+    requires making { IsMadeThere app.old.side.inside.making (begin_place own.buffer len) }
+    requires so_far { k ≡ length (made_words app.old.side.inside.making) }
     requires more { 8 * (k + 1) < len }
-    ensures table { seat.new.table_id ≡ seat.old.table_id }
-    ensures event { seat.new.me ≡ (app_view (side_spare_stored (app_of seat.old.me.0) (begin_place own.buffer len) n), []) }
+    ensures { app.new ≡ record app.old { side = side_spare_stored app.old.side (begin_place own.buffer len) n } }
 {
     laws::k11();
-    let word = words.map.text(own.buffer, first, 0, 8 * k);
-    let table = &words.table;
-    swap_as::<Brand, (Filling, u32, u64)>(table, seat, word, n, (own, len, n));
+    let word = app.map().text(own.buffer, first, 0, 8 * k);
+    app.swap::<Brand, (Filling, u32, u64)>(word, n, (own, len, n));
 }
 
 /// It stores the last word, and the spare is filled.
-pub(crate) fn fill_spare(
-    words: &SharedWords,
-    seat: &mut WordSeat,
-    own: Filling,
-    first: u64,
-    bytes: &[u8],
-    k: u32,
-    n: u64,
-)
-    requires table { seat.old.table_id ≡ words.now.table.shared.table_id }
-    requires app { seat.old.me ≡ (app_view (app_of seat.old.me.0), []) }
-    requires out { HasSpare (app_of seat.old.me.0).view own }
+pub(crate) fn fill_spare(app: &mut AppSteps, own: Filling, first: u64, bytes: &[u8], k: u32, n: u64)
+    requires out { HasSpare app.old.side.view own }
     requires empty { own.start ≡ 0 }
     requires some { 0 < length bytes.now }
     requires few { length bytes.now ≤ 256 }
-    requires lies { LiesIn words.now.map.layout (begin_place own.buffer (length bytes.now)) }
-    requires first { first ≡ first_word words.now.map.layout own.buffer }
-    requires making { IsMadeThere (app_of seat.old.me.0).inside.making (begin_place own.buffer (length bytes.now)) }
-    requires so_far { k ≡ length (made_words (app_of seat.old.me.0).inside.making) }
+    requires lies { LiesIn app.old.board.setting.layout (begin_place own.buffer (length bytes.now)) }
+    requires first { first ≡ first_word app.old.board.setting.layout own.buffer }
+    requires making { IsMadeThere app.old.side.inside.making (begin_place own.buffer (length bytes.now)) }
+    requires so_far { k ≡ length (made_words app.old.side.inside.making) }
     requires inside { 8 * k < length bytes.now }
-    requires last { IsLastWord (app_of seat.old.me.0).inside.making n bytes.now }
-    ensures table { seat.new.table_id ≡ seat.old.table_id }
-    ensures event { seat.new.me ≡ (app_view (side_spare_filled (app_of seat.old.me.0) own bytes.now), []) }
+    requires last { IsLastWord app.old.side.inside.making n bytes.now }
+    ensures { app.new ≡ record app.old { side = side_spare_filled app.old.side own bytes.now } }
 {
     laws::k11();
-    let word = words.map.text(own.buffer, first, 0, 8 * k);
-    let table = &words.table;
-    swap_as::<Brand, (Filling, &[u8])>(table, seat, word, n, (own, bytes));
+    let word = app.map().text(own.buffer, first, 0, 8 * k);
+    app.swap::<Brand, (Filling, &[u8])>(word, n, (own, bytes));
 }

@@ -9,12 +9,10 @@ ghost use Rattle.board_face.specs.SlotSteps.{next_slot, side_dealt};
 ghost use Rattle.board_face.specs.declared.views.nic.Fate.TheVariants.{Honoured};
 ghost use Rattle.board_face.specs.declared.views.nic.Judged.TheVariants.{Owed};
 ghost use Rattle.ref_words.specs.Rings.{takes_entry_at};
-ghost use Rattle.ref_words.specs.Seated.{app_view};
-ghost use Rattle.word_board.specs.Board.{app_of};
 
+use crate::app_steps::AppSteps;
 use crate::card_steps::CardSteps;
 use crate::kinds::{free_honoured, give_back, list_by_app, list_by_card, release_held, shut_own};
-use crate::rule::{SharedWords, WordSeat};
 use board_face::Filling;
 use zr_kinds::{Place, Rqe};
 
@@ -30,16 +28,13 @@ fn list_last_by_card(card: &mut CardSteps, buffer: u32, in_hand: bool)
 }
 
 /// So does an application.
-pub(crate) fn list_last_by_app(words: &SharedWords, seat: &mut WordSeat, buffer: u32, in_hand: bool)
-    requires table { seat.old.table_id ≡ words.now.table.shared.table_id }
-    requires app { seat.old.me ≡ (app_view (app_of seat.old.me.0), []) }
-    requires of_pool { in_hand ≡ true → buffer < pool_buffers words.now.map.layout }
-    requires hands { (app_of seat.old.me.0).inside.hands ≡ (if in_hand then buffer ∷ [] else []) }
-    ensures table { seat.new.table_id ≡ seat.old.table_id }
-    ensures event { seat.new.me ≡ (app_view (record (app_of seat.old.me.0) { inside = record (app_of seat.old.me.0).inside { hands = [] } }), []) }
+pub(crate) fn list_last_by_app(app: &mut AppSteps, buffer: u32, in_hand: bool)
+    requires of_pool { in_hand ≡ true → buffer < pool_buffers app.old.board.setting.layout }
+    requires hands { app.old.side.inside.hands ≡ (if in_hand then buffer ∷ [] else []) }
+    ensures { app.new ≡ record app.old { side = record app.old.side { inside = record app.old.side.inside { hands = [] } } } }
 {
     if in_hand {
-        list_by_app(words, seat, buffer);
+        list_by_app(app, buffer);
     }
 }
 
@@ -95,17 +90,14 @@ pub(crate) fn honour_entry(
 }
 
 /// An application gives a held piece up. A pool buffer that comes to be free by that is listed.
-pub(crate) fn release_piece(words: &SharedWords, seat: &mut WordSeat, place: Place, pool: u32)
-    requires table { seat.old.table_id ≡ words.now.table.shared.table_id }
-    requires app { seat.old.me ≡ (app_view (app_of seat.old.me.0), []) }
-    requires set { (app_of seat.old.me.0).view.setting ≡ words.now.map }
-    requires within { place.buffer < total words.now.map.layout }
-    requires out { HasHeld (app_of seat.old.me.0).view place }
-    requires pool { pool ≡ pool_buffers words.now.map.layout }
-    requires bare { (app_of seat.old.me.0).inside.hands ≡ [] }
-    ensures table { seat.new.table_id ≡ seat.old.table_id }
-    ensures event { seat.new.me ≡ (app_view (app_at (app_of seat.old.me.0) (released (app_of seat.old.me.0).view place)), []) }
+pub(crate) fn release_piece(app: &mut AppSteps, place: Place, pool: u32)
+    requires set { app.old.side.view.setting ≡ app.old.board.setting }
+    requires within { place.buffer < total app.old.board.setting.layout }
+    requires out { HasHeld app.old.side.view place }
+    requires pool { pool ≡ pool_buffers app.old.board.setting.layout }
+    requires bare { app.old.side.inside.hands ≡ [] }
+    ensures { app.new ≡ record app.old { side = app_at app.old.side (released app.old.side.view place) } }
 {
-    let last = release_held(words, seat, place);
-    list_last_by_app(words, seat, place.buffer, last && place.buffer < pool);
+    let last = release_held(app, place);
+    list_last_by_app(app, place.buffer, last && place.buffer < pool);
 }
