@@ -29,12 +29,12 @@ impl<'a> Model for AppSeat<'a> {
 
     ghost view = { λ s. s.app };
 
-    ghost invariant = { λ s. AppKeeps s.app.board.setting s.app.side s.hand.app s.hand.note s.hand.entry s.hand.raw s.hand.loans.items s.hand.filled.items };
+    ghost invariant = { λ s. AppKeeps s.app.board.setting s.app.side s.hand.note s.hand.entry s.hand.raw s.hand.loans.items s.hand.filled.items };
 }
 
 impl<'a> AppSeat<'a> {
     pub(crate) fn new(app: AppSteps<'a>, hand: AppHand) -> AppSeat<'a>
-        requires { AppKeeps app.board.setting app.side hand.app hand.note hand.entry hand.raw hand.loans.items hand.filled.items }
+        requires { AppKeeps app.board.setting app.side hand.note hand.entry hand.raw hand.loans.items hand.filled.items }
         ensures { result ≡ app.entry }
     {
         AppSeat { app, hand }
@@ -63,7 +63,7 @@ impl<'a> AppFace for AppSeat<'a> {
     }
 
     fn reserve(&self) -> u32 {
-        self.app.map().layout().buffers() + self.hand.app
+        self.app.map().layout().buffers() + self.app.number()
     }
 
     fn off(&self, p: &Place) -> u64 {
@@ -154,7 +154,7 @@ impl<'a> AppFace for AppSeat<'a> {
     fn spare(&mut self) -> Option<Own> {
         let layout = self.app.map().layout();
         let free_words = layout.buffers().div_ceil(WORD_BITS);
-        let reserve = layout.buffers() + self.hand.app;
+        let reserve = layout.buffers() + self.app.number();
         let buffer = take_spare(&mut self.app, free_words, reserve)?;
         put(&mut self.hand.filled, buffer as usize, 0);
         Some(Own::new(buffer, 0, layout.size_of(buffer)))
@@ -181,7 +181,7 @@ impl<'a> AppFace for AppSeat<'a> {
     }
 
     fn abandon(&mut self, loan: Loan) {
-        let reserve = self.app.map().layout().buffers() + self.hand.app;
+        let reserve = self.app.map().layout().buffers() + self.app.number();
         let place = loan.place();
         abandon_loan(&mut self.app, reserve, place);
         lower(&mut self.hand.loans, place.buffer as usize);

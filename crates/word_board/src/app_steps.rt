@@ -98,6 +98,7 @@ impl<'a> AppSteps<'a> {
     pub(crate) fn number(&self) -> u32
         ensures value { result ≡ self.now.side.view.app }
         ensures few { result < apps_of self.now.board.setting }
+        ensures here { self.now.side.view.app < apps_of self.now.board.setting }
     {
         self.number
     }

@@ -53,7 +53,7 @@ impl Model for Desk {
         × (d.seat.me.1 ≡ [])
         × HasDealt (d.nic_given ∷ map is_none d.hands.items) d.seat.me.0
         × (length d.hands.items ≡ apps_of d.setting)
-        × ((a : ℕ) → IfSome (slice_index_or d.hands.items a None) (λ hand. IsNew d.setting a hand.app hand.note hand.entry hand.raw hand.loans.items hand.filled.items))
+        × ((a : ℕ) → IfSome (slice_index_or d.hands.items a None) (λ hand. IsNew d.setting hand.note hand.entry hand.raw hand.loans.items hand.filled.items))
         × AreOver d.seat.me.0
         × (d.cache.items ≡ cache_back d.seat.me.0.nics)
         × (length d.listed.items ≡ pool_buffers d.setting.layout)
@@ -71,8 +71,8 @@ impl Desk {
         let layout = setting.layout;
         let buffers = layout.buffers();
         let mut hands = Vec::with_capacity(alloc, MOST_APPS)?;
-        for app in 0..layout.total() - buffers {
-            hands.push(Some(AppHand::new(alloc, &layout, app)?))?;
+        for _app in 0..layout.total() - buffers {
+            hands.push(Some(AppHand::new(alloc, &layout)?))?;
         }
         Ok(Desk {
             setting,

@@ -7,14 +7,14 @@ use Rattle.word_board.proofs.app_seat.AppSeatAppFace.abandon.Goals as goal
 pub lower-requires-clause-there : goal.lower-requires-clause-there
 lower-requires-clause-there c =
     let out : HasLoan c.self.inside.app.side.view c.place-place.result = search rules in
-    loan-there _ _ _ _ _ _ _ _ c.self.invariant _ out
+    loan-there _ _ _ _ _ _ _ c.self.invariant _ out
 
 pub lower-requires-clause-some : goal.lower-requires-clause-some
 lower-requires-clause-some c =
     let out : HasLoan c.self.inside.app.side.view c.place-place.result = search rules in
-    loan-counted _ _ _ _ _ _ _ _ c.self.invariant _ out
+    loan-counted _ _ _ _ _ _ _ c.self.invariant _ out
 
 pub invariant_of-self : goal.invariant_of-self
 invariant_of-self c =
     let out : HasLoan c.self.inside.app.side.view c.place-place.result = search rules in
-    let did = c.abandon_loan.ensures in rw (did, c.lower.ensures.counts) (AppKeeps-abandoned _ _ _ _ _ _ _ _ c.self.invariant _ out)
+    let did = c.abandon_loan.ensures in rw (did, c.lower.ensures.counts) (AppKeeps-abandoned _ _ _ _ _ _ _ c.self.invariant _ out)

@@ -20,6 +20,6 @@ invariant_of-self c =
     let setting = c.self.inside.app.board.setting in
     let place = c.place-place.ensures in
     let out = subst (λ s. HasHeld s.side.view c.args.held) (sym c.self.view_is) c.requires.out in
-    let keeps = kept-cut setting me hand.app hand.note hand.entry hand.raw hand.loans.items hand.filled.items c.self.invariant c.place-place.result
+    let keeps = kept-cut setting me hand.note hand.entry hand.raw hand.loans.items hand.filled.items c.self.invariant c.place-place.result
     c.args.at (rw place out) (rw place c.requires.rest) in
     rw c.cut_piece.ensures.event keeps

@@ -35,7 +35,7 @@ invariant_of-self c =
     let mine = c.self.inside.app.side in
     let hand = c.self.inside.hand in
     let setting = c.self.inside.app.board.setting in
-    let keeps = kept-saw setting mine hand.app hand.note hand.entry hand.raw hand.loans.items hand.filled.items c.self.invariant RefillInUse in
+    let keeps = kept-saw setting mine hand.note hand.entry hand.raw hand.loans.items hand.filled.items c.self.invariant RefillInUse in
     rw c.if-not-give_entry.ensures.event keeps
 
 pub invariant_of-self-2 : goal.invariant_of-self-2
@@ -46,7 +46,7 @@ invariant_of-self-2 c =
     let place = c.place-place.ensures in
     let out = subst (λ s. HasLoan s.side.view c.args.loan) (sym c.self.view_is) c.requires.out in
     let places = c.places-places.ensures.value ∙ ap (λ (s : Setting). s.places) c.map-2.ensures in
-    let keeps = kept-gave setting mine hand.app hand.note hand.entry hand.raw hand.loans.items hand.filled.items c.self.invariant
+    let keeps = kept-gave setting mine hand.note hand.entry hand.raw hand.loans.items hand.filled.items c.self.invariant
     c.place-place.result (rw place out) in
     rw c.if-not-give_entry.ensures.event (rw (c.lower.ensures.counts, c.slot_after-self-inside.ensures, places) keeps)
 

@@ -30,6 +30,6 @@ invariant_of-self c =
     let setting = c.self.inside.app.board.setting in
     let place = c.place-place.ensures in
     let out = subst (λ s. HasHeld s.side.view c.args.held) (sym c.self.view_is) c.requires.out in
-    let keeps = kept-lent setting mine hand.app hand.note hand.entry hand.raw hand.loans.items hand.filled.items c.self.invariant
+    let keeps = kept-lent setting mine hand.note hand.entry hand.raw hand.loans.items hand.filled.items c.self.invariant
     c.place-place.result (rw place out) in
     rw c.lend_held.ensures.event (rw c.raise.ensures keeps)

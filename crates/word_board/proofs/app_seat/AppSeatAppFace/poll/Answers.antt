@@ -31,9 +31,9 @@ invariant_of-self c =
       | in-Note w ↦ ⊎_elim (λ t. ap is_note t.2) (λ t. ap is_note t.1) w.in-Note.is
       | in-Note-2 w ↦ ⊎_elim (λ t. ap is_note t.2) (λ t. ap is_note t.1) w.in-Note.is
     ] in
-    let keeps = kept-polled setting c.self.inside.app.side c.poll-polled.new.app.side hand.app hand.note hand.entry hand.raw
+    let keeps = kept-polled setting c.self.inside.app.side c.poll-polled.new.app.side hand.note hand.entry hand.raw
     hand.loans.items hand.filled.items c.poll-polled.new.linear c.self.invariant c.poll-polled.result c.poll-polled.ensures.event in
-    let noted = subst (λ b. AppKeeps setting c.poll-polled.new.app.side hand.app (if b then (hand.note + 1) % setting.places else hand.note)
+    let noted = subst (λ b. AppKeeps setting c.poll-polled.new.app.side (if b then (hand.note + 1) % setting.places else hand.note)
     hand.entry hand.raw hand.loans.items hand.filled.items) is keeps in
     rw (c.poll-polled.ensures.board, c.slot_after-self-inside.ensures, places) noted
 
@@ -47,9 +47,9 @@ invariant_of-self-else-matches c =
       | in-Note w ↦ absurd (let wrong : true ≡ false = sym w.matches-is ∙ c.if-matches.false in cc)
       | in-Note-2 w ↦ absurd (let wrong : true ≡ false = sym w.matches-is ∙ c.if-matches.false in cc)
     ] in
-    let keeps = kept-polled setting c.self.inside.app.side c.poll-polled.new.app.side hand.app hand.note hand.entry hand.raw
+    let keeps = kept-polled setting c.self.inside.app.side c.poll-polled.new.app.side hand.note hand.entry hand.raw
     hand.loans.items hand.filled.items c.poll-polled.new.linear c.self.invariant c.poll-polled.result c.poll-polled.ensures.event in
-    let noted = subst (λ b. AppKeeps setting c.poll-polled.new.app.side hand.app (if b then (hand.note + 1) % setting.places else hand.note)
+    let noted = subst (λ b. AppKeeps setting c.poll-polled.new.app.side (if b then (hand.note + 1) % setting.places else hand.note)
     hand.entry hand.raw hand.loans.items hand.filled.items) is keeps in
     rw c.poll-polled.ensures.board noted
 

@@ -12,7 +12,7 @@ invariant_of-self c =
     let mine = c.self.inside.app.side in
     let hand = c.self.inside.hand in
     let setting = c.self.inside.app.board.setting in
-    let keeps = kept-saw setting mine hand.app hand.note hand.entry hand.raw hand.loans.items hand.filled.items c.self.invariant RefillInUse in
+    let keeps = kept-saw setting mine hand.note hand.entry hand.raw hand.loans.items hand.filled.items c.self.invariant RefillInUse in
     rw c.if-not-push_raw.ensures.event keeps
 
 pub invariant_of-self-2 : goal.invariant_of-self-2
@@ -22,7 +22,7 @@ invariant_of-self-2 c =
     let setting = c.self.inside.app.board.setting in
     let places = c.places-places.ensures.value ∙ ap (λ (s : Setting). s.places) c.map.ensures in
     let some : 0 < setting.places = omega (arith, places, c.places-places.ensures.some) in
-    let keeps = kept-pushed setting mine hand.app hand.note hand.entry hand.raw hand.loans.items hand.filled.items c.self.invariant c.args.entry
+    let keeps = kept-pushed setting mine hand.note hand.entry hand.raw hand.loans.items hand.filled.items c.self.invariant c.args.entry
     (entry-within setting mine hand.note hand.entry hand.raw c.self.invariant.slots some) in
     rw c.if-not-push_raw.ensures.event (rw (c.slot_after-self-inside.ensures, places) keeps)
 

@@ -12,7 +12,7 @@ invariant_of-self c =
     let hand = c.self.inside.hand in
     let setting = c.self.inside.app.board.setting in
     let slots = c.fall_quiet.new.app.side.inside.free_slots in
-    let keeps = kept-quieted setting mine hand.app hand.note hand.entry hand.raw hand.loans.items hand.filled.items c.self.invariant
+    let keeps = kept-quieted setting mine hand.note hand.entry hand.raw hand.loans.items hand.filled.items c.self.invariant
     c.fall_quiet.result slots in
     rw c.fall_quiet.ensures.event keeps
 

@@ -14,6 +14,6 @@ invariant_of-self c =
     let mine = c.self.inside.app.side in
     let hand = c.self.inside.hand in
     let setting = c.self.inside.app.board.setting in
-    let keeps = kept-read setting mine hand.app hand.note hand.entry hand.raw hand.loans.items hand.filled.items c.self.invariant c.place.result
+    let keeps = kept-read setting mine hand.note hand.entry hand.raw hand.loans.items hand.filled.items c.self.invariant c.place.result
     c.args.from c.read_text.new.into in
     rw c.read_text.ensures.event keeps

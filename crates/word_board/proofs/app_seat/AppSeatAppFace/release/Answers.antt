@@ -14,5 +14,5 @@ invariant_of-self c =
     let mine = c.self.inside.app.side in
     let hand = c.self.inside.hand in
     let setting = c.self.inside.app.board.setting in
-    let keeps = kept-released setting mine hand.app hand.note hand.entry hand.raw hand.loans.items hand.filled.items c.self.invariant c.place.result in
+    let keeps = kept-released setting mine hand.note hand.entry hand.raw hand.loans.items hand.filled.items c.self.invariant c.place.result in
     rw c.release_piece.ensures keeps

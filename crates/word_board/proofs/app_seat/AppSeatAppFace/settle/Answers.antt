@@ -18,7 +18,7 @@ invariant_of-self-else-at_rest c =
     let mine = c.self.inside.app.side in
     let hand = c.self.inside.hand in
     let setting = c.self.inside.app.board.setting in
-    let keeps = kept-saw setting mine hand.app hand.note hand.entry hand.raw hand.loans.items hand.filled.items c.self.invariant RawOnItsWay in
+    let keeps = kept-saw setting mine hand.note hand.entry hand.raw hand.loans.items hand.filled.items c.self.invariant RawOnItsWay in
     rw c.if-at_rest.ensures.event keeps
 
 pub returns-else-at_rest-clause-raw : goal.returns-else-at_rest-clause-raw

@@ -27,7 +27,7 @@ put-requires c =
     let got = c.in_ok-buffer.ensures.event.got in
     let same = ap (λ (s : Setting). s.layout) c.map.ensures in
     let sound : IsLayout c.self.inside.app.board.setting.layout = subst IsLayout same c.layout-layout.ensures.sound in
-    given-there _ _ _ _ _ _ _ _ c.self.invariant c.in_ok-buffer.buffer got.apart got.buffer sound
+    given-there _ _ _ _ _ _ _ c.self.invariant c.in_ok-buffer.buffer got.apart got.buffer sound
 
 pub invariant_of-self-2 : goal.invariant_of-self-2
 invariant_of-self-2 c =
@@ -35,7 +35,7 @@ invariant_of-self-2 c =
     let got = did.event.got in
     let same = ap (λ (s : Setting). s.layout) c.map.ensures in
     let sound : IsLayout c.self.inside.app.board.setting.layout = subst IsLayout same c.layout-layout.ensures.sound in
-    rw (did.board, did.event.event, c.put.ensures) (AppKeeps-got_spare _ _ _ _ _ _ _ _ c.self.invariant c.in_ok-buffer.buffer got.apart got.buffer sound)
+    rw (did.board, did.event.event, c.put.ensures) (AppKeeps-got_spare _ _ _ _ _ _ _ c.self.invariant c.in_ok-buffer.buffer got.apart got.buffer sound)
 
 -- no spare is there
 
@@ -45,7 +45,7 @@ invariant_of-self c =
     let mine = c.self.inside.app.side in
     let hand = c.self.inside.hand in
     let setting = c.self.inside.app.board.setting in
-    let keeps = kept-saw setting mine hand.app hand.note hand.entry hand.raw hand.loans.items hand.filled.items c.self.invariant NoSpare in
+    let keeps = kept-saw setting mine hand.note hand.entry hand.raw hand.loans.items hand.filled.items c.self.invariant NoSpare in
     let searched = ap {B = AppSide} (λ ws. record { view = app_saw mine.view NoSpare; inside = record mine.inside { words_without = ws } })
     (sym c.self.invariant.rests.searched.0) in
     rw (did.board, did.event.event, searched) keeps

@@ -65,12 +65,12 @@ new-requires-2 c =
     let setting : desk.setting ≡ c.args.self.now.setting = ap (λ (d : TheDesk). d.board.setting) c.desk.view_is ∙ ap (λ (b : TheBoard). b.setting) c.requires.desk in
     let there = in-hands _ _ _ _ _ c.desk.view_is c.requires.desk c.desk.invariant.3 c.requires.app in
     let some = sym c.take.ensures.value ∙ c.in_ok-hand.was in
-    let IsOf : Setting → AppHand → Type 0 = λ s hand. IsNew s a hand.app hand.note hand.entry hand.raw hand.loans.items hand.filled.items in
+    let IsOf : Setting → AppHand → Type 0 = λ s hand. IsNew s hand.note hand.entry hand.raw hand.loans.items hand.filled.items in
     let new : IsOf desk.setting c.in_ok-hand.hand = subst (λ (k : Option AppHand). IfSome k (IsOf desk.setting))
     (at-some desk.nic_given hands a _ _ c.index_mut-kept.ensures.value some there) (c.desk.invariant.4 a) in
     let own = ap (λ (b : TheBoard). b.setting) c.self.view_is in
     rw (c.new.ensures, c.take_app_role.ensures.me, own)
-    (AppKeeps-new c.args.self.now.setting a _ _ _ _ _ _ c.requires.app (subst (λ s. IsOf s c.in_ok-hand.hand) setting new))
+    (AppKeeps-new c.args.self.now.setting a _ _ _ _ _ c.requires.app (subst (λ s. IsOf s c.in_ok-hand.hand) setting new))
 
 pub invariant_of-desk-2 : goal.invariant_of-desk-2
 invariant_of-desk-2 c =
@@ -84,7 +84,7 @@ invariant_of-desk-2 c =
     let given : List Bool = desk.nic_given ∷ map is_none hands in
     let role-there : 1 + a < length given = omega (arith, there, length-map hands is_none) in
     let view : c.deal_role-seat.new.desk.me.0 ≡ dealt_out (1 + a) desk.seat.me.0 = ap (λ (me : Me (Unit {0}) View). me.0) did.desk in
-    let IsOf : ℕ → AppHand → Type 0 = λ b hand. IsNew desk.setting b hand.app hand.note hand.entry hand.raw hand.loans.items hand.filled.items in (
+    let IsOf : ℕ → AppHand → Type 0 = λ _ hand. IsNew desk.setting hand.note hand.entry hand.raw hand.loans.items hand.filled.items in (
       did.number ∙ was.0,
       ap (λ (me : Me (Unit {0}) View). me.1) did.desk ∙ was.1,
       rw (c.take.ensures.after, view, given-set desk.nic_given hands a)

@@ -1,5 +1,4 @@
-use Rattle.std.proofs.Common.{refl, ap, ◌∙◌}
-use Rattle.ref_words.specs.Words.{pool_at}
+use Rattle.std.proofs.Common.{refl}
 use Rattle.word_board.proofs.HeldPlaces.{held-ends}
 use Rattle.word_board.proofs.Stepping.{raises}
 use Rattle.word_board.proofs.kinds.app_counts.cut_piece.Goals as goal
@@ -8,10 +7,9 @@ pub add-requires-clause-may : goal.add-requires-clause-may
 add-requires-clause-may c =
     let setting = c.args.app.now.board.setting in
     let mine = c.args.app.now.side in
-    let at = c.pool-word.ensures.value ∙ ap (λ s. pool_at s c.args.place.buffer) c.map.ensures in
     record {
       number = λ n. refl;
       step = λ ws nic apps rule here small.
           let law = c.k5.ensures.cut setting ws nic apps mine.view.app mine c.args.place c.args.at rule here c.requires.out c.requires.front c.requires.rest in
-          (raises setting ws c.args.place.buffer c.pool-word.result at c.requires.within rule law.few law.rule, held-ends setting ws nic apps mine.view.app mine c.args.place rule here c.requires.out c.requires.within);
+          (raises setting ws c.args.place.buffer c.pool-word.result (cc) c.requires.within rule law.few law.rule, held-ends setting ws nic apps mine.view.app mine c.args.place rule here c.requires.out c.requires.within);
     }

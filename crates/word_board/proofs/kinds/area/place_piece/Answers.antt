@@ -1,9 +1,6 @@
-use Rattle.std.proofs.Common.{◌≡◌, ◌+◌, ◌*◌, ◌<◌, length, ap, ◌∙◌, subst, arith, rules}
+use Rattle.std.proofs.Common.{◌*◌, ◌<◌, length, subst, arith, rules}
 use Rattle.board_face.specs.Tokens.{next_place}
-use Rattle.board_face.specs.declared.views.parts.Setting.{Setting}
-use Rattle.ref_words.specs.Area.{area_word}
 use Rattle.ref_words.specs.AreaLaws.{next_word}
-use Rattle.ref_words.specs.Words.{area_at}
 use Rattle.ref_words.proofs.AreaWords.{within-area}
 use Rattle.word_board.proofs.Stepping.{stores-area, bytes-small}
 use Rattle.word_board.proofs.kinds.area.place_piece.Goals as goal
@@ -15,11 +12,8 @@ swap-requires-clause-may c ws apps rule small =
     let bytes = c.args.bytes.now in
     let place = next_place c.args.own (length bytes) in
     let i = next_word setting.layout mine.inside.making place in
-    let at : c.text-word.result ≡ area_at setting i = c.text-word.ensures.value
-    ∙ (ap (λ (k : Setting). area_at k (area_word k.layout place.buffer (place.offset + 8 * c.args.k))) c.map.ensures
-    ∙ ap (λ k. area_at setting (area_word setting.layout place.buffer (place.offset + 8 * k))) c.requires.so_far) in
     let inside = subst (λ k. 8 * k < length bytes) c.requires.so_far c.requires.inside in
     let law = c.k11.ensures.placed setting ws mine apps c.args.own bytes c.args.n rule c.requires.out c.requires.making c.requires.last
     (bytes-small bytes (search rules)) in
     let less = let end = c.requires.lies.bytes in within-area setting.layout rule.refs.layout place.buffer _ c.requires.lies.buffer (omega (arith, end, inside)) in
-    (stores-area setting ws i c.text-word.result at less rule c.args.n law, tt)
+    (stores-area setting ws i c.text-word.result (cc) less rule c.args.n law, tt)

@@ -1,8 +1,5 @@
-use Rattle.std.proofs.Common.{◌≡◌, ◌+◌, ◌*◌, ◌<◌, ap, ◌∙◌, subst, arith}
-use Rattle.board_face.specs.declared.views.parts.Setting.{Setting}
-use Rattle.ref_words.specs.Area.{area_word}
+use Rattle.std.proofs.Common.{◌+◌, ◌*◌, ◌<◌, subst, arith}
 use Rattle.ref_words.specs.AreaLaws.{next_word}
-use Rattle.ref_words.specs.Words.{area_at}
 use Rattle.ref_words.proofs.AreaWords.{within-area}
 use Rattle.word_board.proofs.Stepping.{stores-area}
 use Rattle.word_board.proofs.kinds.area.store_piece.Goals as goal
@@ -13,10 +10,7 @@ swap-requires-clause-may c ws apps rule small =
     let mine = c.args.card.now.side in
     let place = c.args.place in
     let i = next_word setting.layout mine.inside.making place in
-    let at : c.text-word.result ≡ area_at setting i = c.text-word.ensures.value
-    ∙ (ap (λ (k : Setting). area_at k (area_word k.layout place.buffer (place.offset + 8 * c.args.k))) c.map.ensures
-    ∙ ap (λ k. area_at setting (area_word setting.layout place.buffer (place.offset + 8 * k))) c.requires.so_far) in
     let more = subst (λ k. 8 * (k + 1) < place.len) c.requires.so_far c.requires.more in
     let law = c.k11.ensures.piece setting ws mine apps place c.args.n rule c.requires.making more in
     let less = let end = c.requires.lies.bytes in within-area setting.layout rule.refs.layout place.buffer _ c.requires.lies.buffer (omega (arith, end, more)) in
-    (stores-area setting ws i c.text-word.result at less rule c.args.n law, tt)
+    (stores-area setting ws i c.text-word.result (cc) less rule c.args.n law, tt)

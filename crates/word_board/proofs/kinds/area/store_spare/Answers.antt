@@ -1,9 +1,6 @@
-use Rattle.std.proofs.Common.{◌≡◌, ◌+◌, ◌*◌, ◌<◌, refl, ap, ◌∙◌, subst, arith}
+use Rattle.std.proofs.Common.{◌+◌, ◌*◌, ◌<◌, refl, subst, arith}
 use Rattle.board_face.specs.AppEvents.{begin_place}
-use Rattle.board_face.specs.declared.views.parts.Setting.{Setting}
-use Rattle.ref_words.specs.Area.{area_word}
 use Rattle.ref_words.specs.AreaLaws.{next_word}
-use Rattle.ref_words.specs.Words.{area_at}
 use Rattle.ref_words.proofs.AreaWords.{within-area}
 use Rattle.word_board.proofs.Stepping.{stores-area}
 use Rattle.word_board.proofs.kinds.area.store_spare.Goals as goal
@@ -15,9 +12,6 @@ swap-requires-clause-may c =
     let own = c.args.own in
     let place = begin_place own.buffer c.args.len in
     let i = next_word setting.layout mine.inside.making place in
-    let at : c.text-word.result ≡ area_at setting i = c.text-word.ensures.value
-    ∙ (ap (λ (k : Setting). area_at k (area_word k.layout place.buffer (0 + 8 * c.args.k))) c.map.ensures
-    ∙ ap (λ k. area_at setting (area_word setting.layout place.buffer (0 + 8 * k))) c.requires.so_far) in
     let more = subst (λ k. 8 * (k + 1) < place.len) c.requires.so_far c.requires.more in
     record {
       number = λ n. refl;
@@ -25,5 +19,5 @@ swap-requires-clause-may c =
           let law = c.k11.ensures.spare setting ws nic apps mine.view.app mine own c.args.len c.args.n rule here c.requires.out c.requires.empty c.requires.few
           c.requires.making more in
           let less = let end = c.requires.lies.bytes in within-area setting.layout rule.refs.layout place.buffer _ c.requires.lies.buffer (omega (arith, end, more)) in
-          (stores-area setting ws i c.text-word.result at less rule c.args.n law, tt);
+          (stores-area setting ws i c.text-word.result (cc) less rule c.args.n law, tt);
     }

@@ -1,5 +1,3 @@
-use Rattle.std.proofs.Common.{ap, ◌∙◌}
-use Rattle.ref_words.specs.Words.{pool_at}
 use Rattle.word_board.proofs.Stepping.{raises}
 use Rattle.word_board.proofs.kinds.card_counts.begin_piece.Goals as goal
 
@@ -7,6 +5,5 @@ pub add-requires-clause-may : goal.add-requires-clause-may
 add-requires-clause-may c ws apps rule small =
     let setting = c.args.card.now.board.setting in
     let mine = c.args.card.now.side in
-    let at = c.pool-word.ensures.value ∙ ap (λ s. pool_at s c.args.own.buffer) c.map.ensures in
     let law = c.k5.ensures.piece setting ws mine apps c.args.own c.args.n rule c.requires.out c.requires.some c.requires.fits c.requires.idle in
-    (raises setting ws c.args.own.buffer c.pool-word.result at c.requires.within rule law.few law.rule, tt)
+    (raises setting ws c.args.own.buffer c.pool-word.result (cc) c.requires.within rule law.few law.rule, tt)

@@ -1,8 +1,7 @@
-use Rattle.std.proofs.Common.{◌≡◌, ℕ, ◌<◌, ap, ◌∙◌, subst, arith}
+use Rattle.std.proofs.Common.{ℕ, ◌<◌, subst, arith}
 use Rattle.board_face.specs.SlotSteps.{side_dealt}
 use Rattle.board_face.specs.declared.views.nic.Fate.TheVariants.{Stray}
 use Rattle.board_face.specs.declared.views.nic.NicSide.{NicSide}
-use Rattle.ref_words.specs.Words.{refill_at}
 use Rattle.ref_words.specs.Rings.{takes_entry_at}
 use Rattle.word_board.proofs.Stepping.{stores-refill}
 use Rattle.word_board.proofs.kinds.card_entries.free_stray.Goals as goal
@@ -14,9 +13,7 @@ swap-requires-clause-may c ws apps rule small =
     let a = c.args.app in
     let s = takes_entry_at setting mine a in
     let i : ℕ = 0 in
-    let at : c.refill-word.result ≡ refill_at setting a s i = c.refill-word.ensures.value
-    ∙ (ap (λ k. refill_at k a c.args.slot 0) c.map.ensures ∙ ap (λ k. refill_at setting a k 0) c.requires.next) in
     let within : s < setting.places = subst (λ k. k < setting.places) c.requires.next c.requires.within in
     let next : ℕ → NicSide = λ n. side_dealt mine a c.args.entry Stray in
     let law = c.k17.ensures.stray setting ws mine apps a c.args.entry rule c.requires.app c.requires.seen c.requires.in_hand in
-    (stores-refill setting ws a s i c.refill-word.result at c.requires.app within (omega arith) rule 0 law, tt)
+    (stores-refill setting ws a s i c.refill-word.result (cc) c.requires.app within (omega arith) rule 0 law, tt)

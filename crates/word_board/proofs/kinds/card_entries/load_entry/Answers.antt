@@ -1,8 +1,7 @@
-use Rattle.std.proofs.Common.{◌≡◌, ℕ, ◌<◌, ap, sym, ◌∙◌, subst}
+use Rattle.std.proofs.Common.{ℕ, ◌<◌, sym, subst}
 use Rattle.board_face.specs.SlotSteps.{side_entry_loaded}
 use Rattle.board_face.specs.declared.views.nic.NicSide.{NicSide}
 use Rattle.word_rings.specs.Slots.{refill_width}
-use Rattle.ref_words.specs.Words.{refill_at}
 use Rattle.ref_words.specs.Rings.{takes_entry_at}
 use Rattle.ref_words.specs.SlotLaws.{refill_words_at}
 use Rattle.ref_words.specs.Rule.{BoardRule}
@@ -16,14 +15,11 @@ load-requires-clause-may c ws apps rule small =
     let a = c.args.app in
     let s = takes_entry_at setting mine a in
     let i : ℕ = refill_words_at mine a in
-    let at : c.refill-word.result ≡ refill_at setting a s i = c.refill-word.ensures.value
-    ∙ (ap (λ k. refill_at k a c.args.slot c.args.at) c.map.ensures
-    ∙ (ap (λ k. refill_at setting a k c.args.at) c.requires.next ∙ ap (λ k. refill_at setting a s k) c.requires.so_far)) in
     let within : s < setting.places = subst (λ k. k < setting.places) c.requires.next c.requires.within in
     let more = subst (λ k. k < refill_width) c.requires.so_far c.requires.more in
     let next : ℕ → NicSide = λ n. side_entry_loaded mine a n in
     let law = c.k16.ensures.entry setting ws mine apps a rule c.requires.app c.requires.seen more in (
       loads setting ws c.refill-word.result
-          (subst (λ n. BoardRule setting ws (next n) apps) (sym (found-refill setting ws a s i c.refill-word.result at c.requires.app within more rule)) law),
+          (subst (λ n. BoardRule setting ws (next n) apps) (sym (found-refill setting ws a s i c.refill-word.result (cc) c.requires.app within more rule)) law),
       tt,
     )

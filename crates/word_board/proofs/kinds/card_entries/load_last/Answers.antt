@@ -1,8 +1,7 @@
-use Rattle.std.proofs.Common.{◌≡◌, ℕ, ◌+◌, ◌<◌, ◌++◌, ◌∷◌, [], ap, ◌∙◌, subst, arith}
+use Rattle.std.proofs.Common.{◌≡◌, ℕ, ◌+◌, ◌<◌, ◌++◌, ◌∷◌, [], subst, arith}
 use Rattle.board_face.specs.SlotSteps.{next_slot, side_in_hand}
 use Rattle.board_face.specs.declared.views.nic.NicSide.{NicSide}
 use Rattle.word_rings.specs.Slots.{refill_width, entry_of}
-use Rattle.ref_words.specs.Words.{refill_at}
 use Rattle.ref_words.specs.Rings.{takes_entry_at}
 use Rattle.ref_words.specs.SlotLaws.{refill_words_at}
 use Rattle.word_board.proofs.Stepping.{loads, found-refill}
@@ -15,15 +14,12 @@ load-requires-clause-may c ws apps rule small =
     let a = c.args.app in
     let s = takes_entry_at setting mine a in
     let i : ℕ = refill_words_at mine a in
-    let at : c.refill-word.result ≡ refill_at setting a s i = c.refill-word.ensures.value
-    ∙ (ap (λ k. refill_at k a c.args.slot c.args.at) c.map.ensures
-    ∙ (ap (λ k. refill_at setting a k c.args.at) c.requires.next ∙ ap (λ k. refill_at setting a s k) c.requires.so_far)) in
     let within : s < setting.places = subst (λ k. k < setting.places) c.requires.next c.requires.within in
     let last : i + 1 ≡ refill_width = subst (λ k. k + 1 ≡ refill_width) c.requires.so_far c.requires.last in
     let more : i < refill_width = omega (arith, last) in
     let next : ℕ → NicSide = λ n. side_in_hand mine a n (entry_of (1 ∷ (next_slot mine.inside.refill_slots a).words ++ n ∷ [])) in
     let law = c.k16.ensures.in_hand setting ws mine apps a _ rule c.requires.app c.requires.seen last c.requires.idle
-    (found-refill setting ws a s i c.refill-word.result at c.requires.app within more rule) in (
+    (found-refill setting ws a s i c.refill-word.result (cc) c.requires.app within more rule) in (
       loads setting ws c.refill-word.result law,
       tt,
     )

@@ -1,4 +1,4 @@
-use Rattle.std.proofs.Common.{◌≡◌, ℕ, ◌<◌, ap, sym, ◌∙◌, subst, arith}
+use Rattle.std.proofs.Common.{◌≡◌, ℕ, ◌<◌, sym, subst, arith}
 use Rattle.std.specs.Prelude.{◌==◌, false}
 use Rattle.board_face.specs.SlotSteps.{side_entry_looked}
 use Rattle.board_face.specs.declared.views.nic.NicSide.{NicSide}
@@ -16,8 +16,7 @@ load-requires-clause-may c ws apps rule small =
     let a = c.args.app in
     let s = takes_entry_at setting mine a in
     let i : ℕ = 0 in
-    let at : c.refill-word.result ≡ refill_at setting a s i = c.refill-word.ensures.value
-    ∙ (ap (λ k. refill_at k a c.args.slot 0) c.map.ensures ∙ ap (λ k. refill_at setting a k 0) c.requires.next) in
+    let at : c.refill-word.result ≡ refill_at setting a s i = cc in
     let within : s < setting.places = subst (λ k. k < setting.places) c.requires.next c.requires.within in
     let next : ℕ → NicSide = λ n. side_entry_looked mine a (n == 1) in
     let law = c.k16_flag.ensures.entry setting ws mine apps a rule c.requires.app in (

@@ -1,6 +1,5 @@
-use Rattle.std.proofs.Common.{◌≡◌, ℕ, ◌<◌, set, ap, sym, ◌∙◌, subst, arith}
+use Rattle.std.proofs.Common.{◌≡◌, ℕ, ◌<◌, set, sym, subst, arith}
 use Rattle.std.specs.Prelude.{◌==◌, false}
-use Rattle.board_face.specs.NicCalls.{apps_of}
 use Rattle.board_face.specs.SlotSteps.{side_refill_looked}
 use Rattle.board_face.specs.declared.views.app.AppSide.{AppSide}
 use Rattle.ref_words.specs.Words.{refill_at}
@@ -17,10 +16,7 @@ load-requires-clause-may c =
     let mine = c.args.app.now.side in
     let a = mine.view.app in
     let s = writes_entry_at setting mine in
-    let at : c.refill-word.result ≡ refill_at setting a s 0 = c.refill-word.ensures.value
-    ∙ (ap (λ k. refill_at k c.number.result c.args.slot 0) c.map.ensures
-    ∙ (ap (λ k. refill_at setting k c.args.slot 0) c.number.ensures.value ∙ ap (λ k. refill_at setting a k 0) c.requires.next)) in
-    let few : a < apps_of setting = subst (λ k. k < apps_of setting) c.number.ensures.value c.number.ensures.few in
+    let at : c.refill-word.result ≡ refill_at setting a s 0 = cc in
     let within : s < setting.places = subst (λ k. k < setting.places) c.requires.next c.requires.within in
     let next : ℕ → AppSide = λ n. side_refill_looked mine (n == 0) in
     record {
@@ -29,7 +25,7 @@ load-requires-clause-may c =
           let law = c.k13.ensures.entry setting ws nic apps mine rule here in (
             loads setting ws c.refill-word.result
                 (subst (λ n. BoardRule setting ws nic (set apps a (next n)))
-                (sym (found-refill setting ws a s 0 c.refill-word.result at few within (omega arith) rule)) law),
-            (λ no. tells-app setting ws nic apps mine rule here _ (subst (λ n. (n == 0) ≡ false) (found-refill setting ws a s 0 c.refill-word.result at few within (omega arith) rule) no)),
+                (sym (found-refill setting ws a s 0 c.refill-word.result at c.number.ensures.here within (omega arith) rule)) law),
+            (λ no. tells-app setting ws nic apps mine rule here _ (subst (λ n. (n == 0) ≡ false) (found-refill setting ws a s 0 c.refill-word.result at c.number.ensures.here within (omega arith) rule) no)),
           );
     }

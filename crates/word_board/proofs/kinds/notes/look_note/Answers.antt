@@ -1,4 +1,4 @@
-use Rattle.std.proofs.Common.{◌≡◌, ℕ, ◌<◌, ap, sym, ◌∙◌, subst, arith}
+use Rattle.std.proofs.Common.{◌≡◌, ℕ, ◌<◌, sym, subst, arith}
 use Rattle.std.specs.Prelude.{◌==◌, false, All}
 use Rattle.area_layout.specs.Layout.{pool_buffers}
 use Rattle.board_face.specs.declared.views.nic.PlacedText.{PlacedText}
@@ -19,8 +19,7 @@ load-requires-clause-may c ws apps rule small =
     let a = c.args.app in
     let s = writes_note_at setting mine a in
     let i : ℕ = 0 in
-    let at : c.note-word.result ≡ note_at setting a s i = c.note-word.ensures.value
-    ∙ (ap (λ k. note_at k a c.args.slot 0) c.map.ensures ∙ ap (λ k. note_at setting a k 0) c.requires.next) in
+    let at : c.note-word.result ≡ note_at setting a s i = cc in
     let within : s < setting.places = subst (λ k. k < setting.places) c.requires.next c.requires.within in
     let next : ℕ → NicSide = λ n. side_note_looked mine a (n == 0) in
     let law = c.k13.ensures.note setting ws mine apps a rule c.requires.app c.requires.unstored in (

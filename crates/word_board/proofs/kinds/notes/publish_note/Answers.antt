@@ -1,7 +1,6 @@
-use Rattle.std.proofs.Common.{◌≡◌, ℕ, ◌<◌, ap, ◌∙◌, subst, arith}
+use Rattle.std.proofs.Common.{ℕ, ◌<◌, subst, arith}
 use Rattle.board_face.specs.SlotSteps.{side_sent}
 use Rattle.board_face.specs.declared.views.nic.NicSide.{NicSide}
-use Rattle.ref_words.specs.Words.{note_at}
 use Rattle.ref_words.specs.Rings.{writes_note_at}
 use Rattle.word_board.proofs.Stepping.{stores-note}
 use Rattle.word_board.proofs.kinds.notes.publish_note.Goals as goal
@@ -13,11 +12,9 @@ swap-requires-clause-may c ws apps rule small =
     let a = c.args.app in
     let s = writes_note_at setting mine a in
     let i : ℕ = 0 in
-    let at : c.note-word.result ≡ note_at setting a s i = c.note-word.ensures.value
-    ∙ (ap (λ k. note_at k a c.args.slot 0) c.map.ensures ∙ ap (λ k. note_at setting a k 0) c.requires.next) in
     let within : s < setting.places = subst (λ k. k < setting.places) c.requires.next c.requires.within in
     let words_are = c.requires.words in
     let next : ℕ → NicSide = λ n. side_sent mine a c.args.note in
     let law = c.k15_note.ensures.split setting ws mine apps a c.args.note rule c.requires.app c.requires.out c.requires.fields c.requires.seen words_are
     c.requires.fits in
-    (stores-note setting ws a s i c.note-word.result at c.requires.app within (omega arith) rule 1 law, tt)
+    (stores-note setting ws a s i c.note-word.result (cc) c.requires.app within (omega arith) rule 1 law, tt)

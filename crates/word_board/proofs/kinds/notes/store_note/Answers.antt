@@ -1,8 +1,7 @@
-use Rattle.std.proofs.Common.{◌≡◌, ℕ, ◌<◌, ap, ◌∙◌, subst}
+use Rattle.std.proofs.Common.{ℕ, ◌<◌, subst}
 use Rattle.board_face.specs.SlotSteps.{side_note_stored}
 use Rattle.board_face.specs.declared.views.nic.NicSide.{NicSide}
 use Rattle.word_rings.specs.Slots.{note_width}
-use Rattle.ref_words.specs.Words.{note_at}
 use Rattle.ref_words.specs.Rings.{writes_note_at}
 use Rattle.ref_words.specs.SlotLaws.{note_words_at}
 use Rattle.word_board.proofs.Stepping.{stores-note}
@@ -15,11 +14,8 @@ swap-requires-clause-may c ws apps rule small =
     let a = c.args.app in
     let s = writes_note_at setting mine a in
     let i : ℕ = note_words_at mine a in
-    let at : c.note-word.result ≡ note_at setting a s i = c.note-word.ensures.value
-    ∙ (ap (λ k. note_at k a c.args.slot c.args.at) c.map.ensures
-    ∙ (ap (λ k. note_at setting a k c.args.at) c.requires.next ∙ ap (λ k. note_at setting a s k) c.requires.so_far)) in
     let within : s < setting.places = subst (λ k. k < setting.places) c.requires.next c.requires.within in
     let more = subst (λ k. k < note_width) c.requires.so_far c.requires.more in
     let next : ℕ → NicSide = λ n. side_note_stored mine a c.args.n in
     let law = c.k14.ensures.note setting ws mine apps a c.args.n rule c.requires.app c.requires.seen more in
-    (stores-note setting ws a s i c.note-word.result at c.requires.app within more rule c.args.n law, tt)
+    (stores-note setting ws a s i c.note-word.result (cc) c.requires.app within more rule c.args.n law, tt)

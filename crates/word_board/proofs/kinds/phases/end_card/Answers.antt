@@ -1,5 +1,4 @@
-use Rattle.std.proofs.Common.{ap, ◌∙◌, arith}
-use Rattle.ref_words.specs.Words.{phase_at}
+use Rattle.std.proofs.Common.{arith}
 use Rattle.word_board.proofs.PhaseSteps.{stores-phase}
 use Rattle.word_board.proofs.kinds.phases.end_card.Goals as goal
 
@@ -7,6 +6,5 @@ pub swap-requires-clause-may : goal.swap-requires-clause-may
 swap-requires-clause-may c ws apps rule small =
     let setting = c.args.card.now.board.setting in
     let mine = c.args.card.now.side in
-    let at = c.phase-word.ensures.value ∙ ap (λ s. phase_at s 0) c.map.ensures in
     let law = c.k22.ensures.card setting ws mine apps rule c.requires.none c.requires.idle in
-    (stores-phase setting ws 0 c.phase-word.result at (omega arith) rule law, tt)
+    (stores-phase setting ws 0 c.phase-word.result (cc) (omega arith) rule law, tt)

@@ -3,7 +3,6 @@ use Rattle.std.specs.Prelude.{◌==◌, false}
 use Rattle.board_face.specs.declared.views.app.AppSide.{AppSide}
 use Rattle.ref_words.specs.PhaseSteps.{side_end_looked}
 use Rattle.ref_words.specs.Rule.{BoardRule}
-use Rattle.ref_words.specs.Words.{phase_at}
 use Rattle.ref_words.proofs.AppNumbers.{end_looked-number}
 use Rattle.board_face.specs.AppEvents.{app_gist}
 use Rattle.ref_words.specs.PhaseRule.{phase_word}
@@ -21,12 +20,11 @@ load-requires-clause-may c =
     let told : ℕ → Type 0 = λ n. (mine.inside.end_seen ≡ true → n ≡ 1) × (mine.view.ended ≡ true → n ≡ 1)
     × ((n == 1) ≡ false → SawNotEnded setting (app_gist mine.view)) in
     let next : ℕ → AppSide = λ n. side_end_looked mine (n == 1) in
-    let at : c.phase-word.result ≡ phase_at setting 0 = c.phase-word.ensures.value ∙ ap (λ s. phase_at s 0) c.map.ensures in
     record {
       number = λ n. end_looked-number mine (n == 1);
       step = λ ws nic apps rule here small.
           let law = c.k23.ensures.app setting ws nic apps mine rule here in
-          let found = found-phase setting ws 0 c.phase-word.result at (omega arith) rule in (
+          let found = found-phase setting ws 0 c.phase-word.result (cc) (omega arith) rule in (
             loads setting ws c.phase-word.result (subst (λ n. BoardRule setting ws nic (set apps mine.view.app (next n))) (sym found) law.1),
             (
               (λ saw. found ∙ law.0 saw),

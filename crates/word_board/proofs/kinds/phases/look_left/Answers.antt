@@ -1,4 +1,4 @@
-use Rattle.std.proofs.Common.{◌≡◌, ℕ, ◌+◌, false, ap, sym, ◌∙◌, subst, arith}
+use Rattle.std.proofs.Common.{◌≡◌, ℕ, ◌+◌, false, sym, subst, arith}
 use Rattle.std.specs.Prelude.{◌==◌}
 use Rattle.board_face.specs.declared.views.nic.NicSide.{NicSide}
 use Rattle.ref_words.specs.PhaseSteps.{side_leave_looked}
@@ -15,7 +15,7 @@ load-requires-clause-may c ws apps rule small =
     let mine = c.args.card.now.side in
     let a : ℕ = c.args.app in
     let next : ℕ → NicSide = λ n. side_leave_looked mine a (n == 1) in
-    let at : c.phase-word.result ≡ phase_at setting (1 + a) = c.phase-word.ensures.value ∙ ap (λ s. phase_at s (1 + a)) c.map.ensures in
+    let at : c.phase-word.result ≡ phase_at setting (1 + a) = cc in
     let law = c.k23.ensures.card setting ws mine apps a rule c.requires.app in (
       loads setting ws c.phase-word.result
           (subst (λ n. BoardRule setting ws (next n) apps)

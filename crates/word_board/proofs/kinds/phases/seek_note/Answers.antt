@@ -1,6 +1,5 @@
-use Rattle.std.proofs.Common.{◌≡◌, ℕ, ◌<◌, set, ap, sym, ◌∙◌, subst, arith}
+use Rattle.std.proofs.Common.{◌≡◌, ℕ, ◌<◌, set, sym, subst, arith}
 use Rattle.std.specs.Prelude.{◌==◌, false}
-use Rattle.board_face.specs.NicCalls.{apps_of}
 use Rattle.board_face.specs.declared.views.app.AppSide.{AppSide}
 use Rattle.ref_words.specs.PhaseSteps.{side_note_sought}
 use Rattle.ref_words.specs.Words.{note_at}
@@ -18,10 +17,7 @@ load-requires-clause-may c =
     let a = mine.view.app in
     let s = takes_note_at setting mine in
     let i : ℕ = 0 in
-    let at : c.note-word.result ≡ note_at setting a s i = c.note-word.ensures.value
-    ∙ (ap (λ k. note_at k c.number.result c.args.slot 0) c.map.ensures
-    ∙ (ap (λ k. note_at setting k c.args.slot 0) c.number.ensures.value ∙ ap (λ k. note_at setting a k 0) c.requires.next)) in
-    let few : a < apps_of setting = subst (λ k. k < apps_of setting) c.number.ensures.value c.number.ensures.few in
+    let at : c.note-word.result ≡ note_at setting a s i = cc in
     let within : s < setting.places = subst (λ k. k < setting.places) c.requires.next c.requires.within in
     let next : ℕ → AppSide = λ n. side_note_sought mine (n == 1) in
     record {
@@ -30,7 +26,7 @@ load-requires-clause-may c =
           let law = c.k16_end.ensures setting ws nic apps mine rule here in (
             loads setting ws c.note-word.result
                 (subst (λ n. BoardRule setting ws nic (set apps a (next n)))
-                (sym (found-note setting ws a s i c.note-word.result at few within (omega arith) rule)) law),
-            (λ no. tells-app setting ws nic apps mine rule here _ (subst (λ n. (n == 1) ≡ false) (found-note setting ws a s i c.note-word.result at few within (omega arith) rule) no)),
+                (sym (found-note setting ws a s i c.note-word.result at c.number.ensures.here within (omega arith) rule)) law),
+            (λ no. tells-app setting ws nic apps mine rule here _ (subst (λ n. (n == 1) ≡ false) (found-note setting ws a s i c.note-word.result at c.number.ensures.here within (omega arith) rule) no)),
           );
     }

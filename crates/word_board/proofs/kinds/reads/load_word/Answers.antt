@@ -1,11 +1,9 @@
-use Rattle.std.proofs.Common.{◌≡◌, ℕ, zero, suc, ◌+◌, ◌%◌, List, length, refl, ap, ◌∙◌, arith}
+use Rattle.std.proofs.Common.{◌≡◌, ℕ, zero, suc, ◌+◌, ◌%◌, List, length, refl, arith}
 use Rattle.zr_kinds.specs.declared.place.Place.{Place}
 use Rattle.board_face.specs.declared.views.app.AppSide.{AppSide}
-use Rattle.board_face.specs.declared.views.parts.Setting.{Setting}
 use Rattle.ref_words.specs.Area.{area_word}
 use Rattle.ref_words.specs.AreaLaws.{part_of}
 use Rattle.ref_words.specs.AreaSteps.{side_loaded}
-use Rattle.ref_words.specs.Words.{area_at}
 use Rattle.ref_words.proofs.AreaWords.{within-area}
 use Rattle.word_board.proofs.Stepping.{found-area, loads}
 use Rattle.word_board.proofs.kinds.reads.load_word.Goals as goal
@@ -25,15 +23,13 @@ load-requires-clause-may c =
     let more : ℕ = c.args.more in
     let o : ℕ = loan.offset + (from + length so_far) in
     let i = area_word setting.layout loan.buffer o in
-    let at : c.text-word.result ≡ area_at setting i = c.text-word.ensures.value
-    ∙ ap (λ (k : Setting). area_at k (area_word k.layout loan.buffer o)) c.map.ensures in
     let reads = c.requires.reads in
     record {
       number = λ n. same-number mine loan from (length so_far) (part_of n (o % 8) more);
       step = λ ws nic apps rule here small.
           let less = let end = c.requires.lies.bytes in within-area setting.layout rule.refs.layout loan.buffer o c.requires.lies.buffer
           (omega (arith, end, c.requires.some, c.requires.within)) in
-          let found = found-area setting ws i c.text-word.result at less rule in
+          let found = found-area setting ws i c.text-word.result (cc) less rule in
           let law = c.k12.ensures setting ws nic apps mine.view.app mine loan from reads.before so_far more _ rule here c.requires.out reads.is
           c.requires.within c.requires.in_word found in
           (loads setting ws c.text-word.result law.1, law.0);

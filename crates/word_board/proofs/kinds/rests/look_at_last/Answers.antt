@@ -1,6 +1,5 @@
-use Rattle.std.proofs.Common.{ℕ, ◌<◌, set, ap, sym, ◌∙◌, subst, arith, ◌≡◌}
+use Rattle.std.proofs.Common.{ℕ, set, sym, subst, arith, ◌≡◌}
 use Rattle.std.specs.Prelude.{◌==◌, false}
-use Rattle.board_face.specs.NicCalls.{apps_of}
 use Rattle.board_face.specs.declared.views.app.AppSide.{AppSide}
 use Rattle.ref_words.specs.RestSteps.{side_last_looked}
 use Rattle.ref_words.specs.Words.{refill_at}
@@ -16,9 +15,7 @@ load-requires-clause-may c =
     let mine = c.args.app.now.side in
     let a = mine.view.app in
     let s = c.args.slot in
-    let at = c.refill-word.ensures.value ∙ (ap (λ k. refill_at k c.number.result s 0) c.map.ensures
-    ∙ ap (λ k. refill_at setting k s 0) c.number.ensures.value) in
-    let few : a < apps_of setting = subst (λ k. k < apps_of setting) c.number.ensures.value c.number.ensures.few in
+    let at : c.refill-word.result ≡ refill_at setting a s 0 = cc in
     let next : ℕ → AppSide = λ n. side_last_looked mine s (n == 0) in
     record {
       number = λ n. last_looked-number mine s (n == 0);
@@ -27,7 +24,7 @@ load-requires-clause-may c =
           c.requires.others in (
             loads setting ws c.refill-word.result
                 (subst (λ n. BoardRule setting ws nic (set apps a (next n)))
-                (sym (found-refill setting ws a s 0 c.refill-word.result at few c.requires.within (omega arith) rule)) law),
-            (λ no. tells-app setting ws nic apps mine rule here _ (record { slot = s; within = c.requires.within; in_use = (subst (λ n. (n == 0) ≡ false) (found-refill setting ws a s 0 c.refill-word.result at few c.requires.within (omega arith) rule) no) })),
+                (sym (found-refill setting ws a s 0 c.refill-word.result at c.number.ensures.here c.requires.within (omega arith) rule)) law),
+            (λ no. tells-app setting ws nic apps mine rule here _ (record { slot = s; within = c.requires.within; in_use = (subst (λ n. (n == 0) ≡ false) (found-refill setting ws a s 0 c.refill-word.result at c.number.ensures.here c.requires.within (omega arith) rule) no) })),
           );
     }

@@ -1,9 +1,7 @@
-use Rattle.std.proofs.Common.{◌≡◌, ℕ, ◌+◌, ◌<◌, length, set, refl, ap, sym, ◌∙◌, subst}
-use Rattle.board_face.specs.NicCalls.{apps_of}
+use Rattle.std.proofs.Common.{ℕ, ◌+◌, ◌<◌, length, set, refl, sym, subst}
 use Rattle.board_face.specs.SlotSteps.{side_slot_loaded}
 use Rattle.board_face.specs.declared.views.app.AppSide.{AppSide}
 use Rattle.word_rings.specs.Slots.{note_width}
-use Rattle.ref_words.specs.Words.{note_at}
 use Rattle.ref_words.specs.Rings.{takes_note_at}
 use Rattle.ref_words.specs.Rule.{BoardRule}
 use Rattle.word_board.proofs.Stepping.{loads, found-note}
@@ -16,11 +14,6 @@ load-requires-clause-may c =
     let a = mine.view.app in
     let s = takes_note_at setting mine in
     let i : ℕ = 1 + length mine.inside.note_slot.words in
-    let at : c.note-word.result ≡ note_at setting a s i = c.note-word.ensures.value
-    ∙ (ap (λ k. note_at k c.number.result c.args.slot c.args.at) c.map.ensures
-    ∙ (ap (λ k. note_at setting k c.args.slot c.args.at) c.number.ensures.value
-    ∙ (ap (λ k. note_at setting a k c.args.at) c.requires.next ∙ ap (λ k. note_at setting a s k) c.requires.so_far))) in
-    let few : a < apps_of setting = subst (λ k. k < apps_of setting) c.number.ensures.value c.number.ensures.few in
     let within : s < setting.places = subst (λ k. k < setting.places) c.requires.next c.requires.within in
     let more = subst (λ k. k < note_width) c.requires.so_far c.requires.more in
     let next : ℕ → AppSide = λ n. side_slot_loaded mine n in
@@ -30,7 +23,7 @@ load-requires-clause-may c =
           let law = c.k16.ensures.note setting ws nic apps mine rule here c.requires.seen more in (
             loads setting ws c.note-word.result
                 (subst (λ n. BoardRule setting ws nic (set apps a (next n)))
-                (sym (found-note setting ws a s i c.note-word.result at few within more rule)) law),
+                (sym (found-note setting ws a s i c.note-word.result (cc) c.number.ensures.here within more rule)) law),
             tt,
           );
     }

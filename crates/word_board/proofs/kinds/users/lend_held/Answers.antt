@@ -1,6 +1,4 @@
-use Rattle.std.proofs.Common.{◌<◌, refl, ap, ◌∙◌, subst}
-use Rattle.board_face.specs.NicCalls.{apps_of}
-use Rattle.ref_words.specs.Words.{user_at}
+use Rattle.std.proofs.Common.{refl}
 use Rattle.word_board.proofs.LoansOut.{loans-few}
 use Rattle.word_board.proofs.Stepping.{raises-user}
 use Rattle.word_board.proofs.kinds.users.lend_held.Goals as goal
@@ -9,12 +7,9 @@ pub add-requires-clause-may : goal.add-requires-clause-may
 add-requires-clause-may c =
     let setting = c.args.app.now.board.setting in
     let mine = c.args.app.now.side in
-    let at = c.user-word.ensures.value ∙ (ap (λ s. user_at s c.number.result c.args.place.buffer) c.map.ensures
-    ∙ ap (λ k. user_at setting k c.args.place.buffer) c.number.ensures.value) in
-    let few = subst (λ k. k < apps_of setting) c.number.ensures.value c.number.ensures.few in
     record {
       number = λ n. refl;
       step = λ ws nic apps rule here small.
           let law = c.k7.ensures.held setting ws nic apps mine.view.app mine c.args.place rule here c.requires.out c.requires.can c.requires.unbegun in
-          (raises-user setting ws mine.view.app c.args.place.buffer c.user-word.result at few c.requires.within rule law.few law.rule, loans-few setting ws nic apps mine.view.app c.args.place.buffer mine rule here few c.requires.within law.few);
+          (raises-user setting ws mine.view.app c.args.place.buffer c.user-word.result (cc) c.number.ensures.here c.requires.within rule law.few law.rule, loans-few setting ws nic apps mine.view.app c.args.place.buffer mine rule here c.number.ensures.here c.requires.within law.few);
     }

@@ -1,5 +1,3 @@
-use Rattle.std.proofs.Common.{ap, ◌∙◌}
-use Rattle.ref_words.specs.Words.{user_at}
 use Rattle.word_board.proofs.Stepping.{lowers-user}
 use Rattle.word_board.proofs.kinds.users.lower_user.Goals as goal
 
@@ -7,6 +5,5 @@ pub sub-requires-clause-may : goal.sub-requires-clause-may
 sub-requires-clause-may c ws apps rule small =
     let setting = c.args.card.now.board.setting in
     let mine = c.args.card.now.side in
-    let at = c.user-word.ensures.value ∙ ap (λ s. user_at s c.args.app c.args.buffer) c.map.ensures in
     let law = c.k9.ensures setting ws mine apps c.args.app c.args.entry c.args.buffer rule c.requires.in_hand in
-    (lowers-user setting ws c.args.app c.args.buffer c.user-word.result at c.requires.app c.requires.within rule law.owed small law.rule, tt)
+    (lowers-user setting ws c.args.app c.args.buffer c.user-word.result (cc) c.requires.app c.requires.within rule law.owed small law.rule, tt)

@@ -1,5 +1,4 @@
-use Rattle.std.proofs.Common.{ℕ, ◌<◌, set, refl, ap, ◌∙◌, subst}
-use Rattle.board_face.specs.NicCalls.{apps_of}
+use Rattle.std.proofs.Common.{◌≡◌, ℕ, set, refl}
 use Rattle.board_face.specs.declared.views.app.AppSide.{AppSide}
 use Rattle.board_face.specs.Steps.{side_user_taken}
 use Rattle.ref_words.specs.Words.{user_at, with_user}
@@ -12,16 +11,14 @@ swap-requires-clause-may c =
     let setting = c.args.app.now.board.setting in
     let mine = c.args.app.now.side in
     let next : ℕ → AppSide = λ n. side_user_taken mine c.args.buffer n in
-    let at = c.user-word.ensures.value ∙ (ap (λ s. user_at s c.number.result c.args.buffer) c.map.ensures
-    ∙ ap (λ k. user_at setting k c.args.buffer) c.number.ensures.value) in
-    let few = subst (λ k. k < apps_of setting) c.number.ensures.value c.number.ensures.few in
+    let at : c.user-word.result ≡ user_at setting mine.view.app c.args.buffer = cc in
     record {
       number = λ n. refl;
       step = λ ws nic apps rule here small.
           let law = c.k10.ensures setting ws nic apps mine.view.app mine c.args.buffer rule here c.requires.within c.requires.next
           c.requires.quiet c.requires.lent c.requires.counted in (
-            clears-user setting ws mine.view.app c.args.buffer c.user-word.result at few c.requires.within rule
-                (of-user setting ws mine.view.app c.args.buffer c.user-word.result at few c.requires.within rule (λ n. BoardRule setting
+            clears-user setting ws mine.view.app c.args.buffer c.user-word.result at c.number.ensures.here c.requires.within rule
+                (of-user setting ws mine.view.app c.args.buffer c.user-word.result at c.number.ensures.here c.requires.within rule (λ n. BoardRule setting
                 (with_user ws mine.view.app c.args.buffer 0) nic (set apps mine.view.app (next n))) law),
             tt,
           );
