@@ -4,7 +4,6 @@ use Rattle.std.specs.Prelude.{◌==◌, if◌then◌else◌, All, Option, Some, 
 use Rattle.std.proofs.lemmas.List.{length-set, length-append}
 use Rattle.std.proofs.lemmas.List.Elements.{All-nil, All-cons, All-append, All-push, All-map, All-contains}
 use Rattle.std.proofs.Math.Nat.{mod-add-mod, mod-lt}
-use Rattle.atomic_table.specs.Table.{Me}
 use Rattle.zr_kinds.specs.declared.place.Place.{Place}
 use Rattle.zr_kinds.specs.declared.place.Note.{Note}
 use Rattle.zr_kinds.specs.declared.ring.Rqe.{Rqe}
@@ -19,6 +18,7 @@ use Rattle.board_face.specs.AppEvents.{app_saw, fell_quiet, cut, held_origin, he
 use Rattle.board_face.specs.Returns.{loans_out}
 use Rattle.board_face.specs.declared.answers.Polled.{Polled}
 use Rattle.board_face.specs.declared.answers.Polled.TheVariants.{Note as got_note, Linear as got_linear, Empty as got_none, Ended as got_end}
+use Rattle.board_face.specs.NicCalls.{apps_of}
 use Rattle.board_face.specs.declared.views.parts.Setting.{Setting}
 use Rattle.board_face.specs.declared.views.app.Origin.TheVariants.{Note as of_note}
 use Rattle.board_face.specs.declared.views.app.HeldPiece.{HeldPiece}
@@ -31,9 +31,6 @@ use Rattle.board_face.proofs.Tallies.{weight, tally-push}
 use Rattle.board_face.proofs.Parts.{count-tally}
 use Rattle.board_face.proofs.LiesLemmas.{loans-at}
 use Rattle.board_face.proofs.WrittenLemmas.{loans-fewer}
-use Rattle.ref_words.specs.declared.view.View.{View}
-use Rattle.ref_words.specs.Seated.{app_view}
-use Rattle.word_board.specs.Board.{app_of}
 use Rattle.word_board.specs.Hands.{AppRests, AppLies, KnowsSlots, AppKeeps}
 use Rattle.word_board.specs.Polls.{Polls, end_known}
 use Rattle.word_board.proofs.LoansCounted.{count-raised, count-lowered}
@@ -146,14 +143,14 @@ module _ (setting : Setting) (app now : AppSide) (same : rest_of now ≡ rest_of
     apart = rw owns l.apart;
   }
 
-  pub kept : (number note entry note' entry' : ℕ) (raw raw' : Option ℕ) (loans loans' filled : List ℕ)
+  pub kept : (note entry note' entry' : ℕ) (raw raw' : Option ℕ) (loans loans' filled : List ℕ)
       → All (λ h. LiesIn setting.layout h.place) now.view.helds → All (λ l. LiesIn setting.layout l.place) now.view.loans
       → KnowsSlots setting now note' entry' raw' → length loans' ≡ all_buffers setting.layout
       → ((b : ℕ) → b < all_buffers setting.layout → slice_index loans' b ≡ loans_out b now)
-      → AppKeeps setting app number note entry raw loans filled → AppKeeps setting now number note' entry' raw' loans' filled
-  kept number note entry note' entry' raw raw' loans loans' filled helds lent slots many out k = record {
+      → AppKeeps setting app note entry raw loans filled → AppKeeps setting now note' entry' raw' loans' filled
+  kept note entry note' entry' raw raw' loans loans' filled helds lent slots many out k = record {
     set = ap (λ (s : AppSide). s.view.setting) same ∙ k.set;
-    is = (ap (λ (s : AppSide). s.view.app) same ∙ k.is.0, k.is.1);
+    here = subst (λ a. a < apps_of setting) (sym (ap (λ (s : AppSide). s.view.app) same)) k.here;
     rests = rests k.rests;
     lies = lies helds lent k.lies;
     slots = slots;
@@ -162,51 +159,51 @@ module _ (setting : Setting) (app now : AppSide) (same : rest_of now ≡ rest_of
 
 -- ---- events of tokens
 
-module _ (setting : Setting) (app : AppSide) (number note entry : ℕ) (raw : Option ℕ) (loans filled : List ℕ)
-    (k : AppKeeps setting app number note entry raw loans filled) where
+module _ (setting : Setting) (app : AppSide) (note entry : ℕ) (raw : Option ℕ) (loans filled : List ℕ)
+    (k : AppKeeps setting app note entry raw loans filled) where
   -- a look alone
-  pub kept-saw : (look : AppLook) → AppKeeps setting (app_at app (app_saw app.view look)) number note entry raw loans filled
+  pub kept-saw : (look : AppLook) → AppKeeps setting (app_at app (app_saw app.view look)) note entry raw loans filled
   kept-saw look =
-      kept setting app (app_at app (app_saw app.view look)) refl number note entry note entry raw raw loans loans filled k.lies.helds k.lies.loans
+      kept setting app (app_at app (app_saw app.view look)) refl note entry note entry raw raw loans loans filled k.lies.helds k.lies.loans
       (record { next_note = k.slots.next_note; next_entry = k.slots.next_entry; last_raw = k.slots.last_raw }) k.tokens.many.0 k.tokens.out k
 
   -- after a look at refill slots, of which some were seen free
   pub kept-quieted : (quiet : Bool) (slots : List ℕ) → AppKeeps setting (record {
     view = if quiet then fell_quiet app.view else app_saw app.view NotQuiet;
     inside = record app.inside { free_slots = slots };
-  }) number note entry raw loans filled
+  }) note entry raw loans filled
   kept-quieted true slots =
-      kept setting app (record { view = fell_quiet app.view; inside = record app.inside { free_slots = slots } }) refl number note entry note entry raw
+      kept setting app (record { view = fell_quiet app.view; inside = record app.inside { free_slots = slots } }) refl note entry note entry raw
       raw loans loans filled k.lies.helds k.lies.loans
       (record { next_note = k.slots.next_note; next_entry = k.slots.next_entry; last_raw = k.slots.last_raw }) k.tokens.many.0 k.tokens.out k
   kept-quieted false slots =
-      kept setting app (record { view = app_saw app.view NotQuiet; inside = record app.inside { free_slots = slots } }) refl number note entry note entry
+      kept setting app (record { view = app_saw app.view NotQuiet; inside = record app.inside { free_slots = slots } }) refl note entry note entry
       raw raw loans loans filled k.lies.helds k.lies.loans
       (record { next_note = k.slots.next_note; next_entry = k.slots.next_entry; last_raw = k.slots.last_raw }) k.tokens.many.0 k.tokens.out k
 
   pub kept-read : (p : Place) (from : ℕ) (bytes : List ℕ)
-      → AppKeeps setting (app_at app (has_read app.view p from bytes)) number note entry raw loans filled
+      → AppKeeps setting (app_at app (has_read app.view p from bytes)) note entry raw loans filled
   kept-read p from bytes =
-      kept setting app (app_at app (has_read app.view p from bytes)) refl number note entry note entry raw raw loans loans filled k.lies.helds
+      kept setting app (app_at app (has_read app.view p from bytes)) refl note entry note entry raw raw loans loans filled k.lies.helds
       k.lies.loans (record { next_note = k.slots.next_note; next_entry = k.slots.next_entry; last_raw = k.slots.last_raw }) k.tokens.many.0 k.tokens.out k
 
   without_lies : (p : Place) → All (λ h. LiesIn setting.layout h.place) (helds_without app.view p)
   without_lies p = All-without (λ (h : HeldPiece). LiesIn setting.layout h.place) (λ h. same_place p h.place) app.view.helds k.lies.helds
 
-  pub kept-released : (p : Place) → AppKeeps setting (app_at app (released app.view p)) number note entry raw loans filled
+  pub kept-released : (p : Place) → AppKeeps setting (app_at app (released app.view p)) note entry raw loans filled
   kept-released p =
-      kept setting app (app_at app (released app.view p)) refl number note entry note entry raw raw loans loans filled (without_lies p) k.lies.loans
+      kept setting app (app_at app (released app.view p)) refl note entry note entry raw raw loans loans filled (without_lies p) k.lies.loans
       (record { next_note = k.slots.next_note; next_entry = k.slots.next_entry; last_raw = k.slots.last_raw }) k.tokens.many.0 k.tokens.out k
 
   pub kept-cut : (p : Place) (at : ℕ) → HasHeld app.view p → at < p.len
-      → AppKeeps setting (app_at app (cut app.view p at)) number note entry raw loans filled
+      → AppKeeps setting (app_at app (cut app.view p at)) note entry raw loans filled
   kept-cut p at out rest =
       let whole = held-lies setting app p k.lies out in
       let P = λ (h : HeldPiece). LiesIn setting.layout h.place in
       let front : HeldPiece = record { place = front_place p at; origin = held_origin app.view p } in
       let back : HeldPiece = record { place = rest_place p at; origin = further (held_origin app.view p) at } in
       let bytes = whole.bytes in
-      kept setting app (app_at app (cut app.view p at)) refl number note entry note entry raw raw loans loans filled
+      kept setting app (app_at app (cut app.view p at)) refl note entry note entry raw raw loans loans filled
       (All-append P (helds_without app.view p) (front ∷ back ∷ []) (without_lies p)
       (All-cons P front (back ∷ []) (record { buffer = whole.buffer; bytes = omega arith })
       (All-cons P back [] (record { buffer = whole.buffer; bytes = omega arith }) (All-nil P))))
@@ -215,13 +212,13 @@ module _ (setting : Setting) (app : AppSide) (number note entry : ℕ) (raw : Op
 
   -- it lends a held piece
   pub kept-lent : (p : Place) → HasHeld app.view p
-      → AppKeeps setting (app_at app (lent app.view p)) number note entry raw (slice_set loans p.buffer (slice_index loans p.buffer + 1)) filled
+      → AppKeeps setting (app_at app (lent app.view p)) note entry raw (slice_set loans p.buffer (slice_index loans p.buffer + 1)) filled
   kept-lent p out =
       let now = app_at app (lent app.view p) in
       let one : LentPiece = record { place = p; origin = held_origin app.view p } in
       let whole = held-lies setting app p k.lies out in
       let loans' = slice_set loans p.buffer (slice_index loans p.buffer + 1) in
-      kept setting app now refl number note entry note entry raw raw loans loans' filled (without_lies p)
+      kept setting app now refl note entry note entry raw raw loans loans' filled (without_lies p)
       (All-push (λ (l : LentPiece). LiesIn setting.layout l.place) app.view.loans one k.lies.loans whole)
       (record { next_note = k.slots.next_note; next_entry = k.slots.next_entry; last_raw = k.slots.last_raw })
       (length-set loans p.buffer (slice_index loans p.buffer + 1) ∙ k.tokens.many.0)
@@ -236,11 +233,11 @@ module _ (setting : Setting) (app : AppSide) (number note entry : ℕ) (raw : Op
 
   -- it gives a loan back
   pub kept-gave : (p : Place) → HasLoan app.view p
-      → AppKeeps setting (side_gave app p) number note ((entry + 1) % setting.places) raw (slice_set loans p.buffer (slice_index loans p.buffer - 1)) filled
+      → AppKeeps setting (side_gave app p) note ((entry + 1) % setting.places) raw (slice_set loans p.buffer (slice_index loans p.buffer - 1)) filled
   kept-gave p out =
       let whole = loan-lies setting app p k.lies out in
       let P = λ (l : LentPiece). LiesIn setting.layout l.place in
-      kept setting app (side_gave app p) refl number note entry note ((entry + 1) % setting.places) raw raw loans
+      kept setting app (side_gave app p) refl note entry note ((entry + 1) % setting.places) raw raw loans
       (slice_set loans p.buffer (slice_index loans p.buffer - 1)) filled k.lies.helds
       (All-without P (λ l. same_place p l.place) app.view.loans k.lies.loans)
       (record {
@@ -255,9 +252,9 @@ module _ (setting : Setting) (app : AppSide) (number note entry : ℕ) (raw : Op
 
   -- it pushes a raw entry, whose slot it keeps in mind
   pub kept-pushed : (raw_entry : Rqe) → entry < setting.places
-      → AppKeeps setting (side_pushed app raw_entry) number note ((entry + 1) % setting.places) (Some entry) loans filled
+      → AppKeeps setting (side_pushed app raw_entry) note ((entry + 1) % setting.places) (Some entry) loans filled
   kept-pushed raw_entry within =
-      kept setting app (side_pushed app raw_entry) refl number note entry note ((entry + 1) % setting.places) raw (Some entry) loans loans filled
+      kept setting app (side_pushed app raw_entry) refl note entry note ((entry + 1) % setting.places) raw (Some entry) loans loans filled
       k.lies.helds k.lies.loans
       (record {
         next_note = k.slots.next_note;
@@ -268,9 +265,9 @@ module _ (setting : Setting) (app : AppSide) (number note entry : ℕ) (raw : Op
 
   -- it takes a note
   pub kept-took_note : (taken : Note) → LiesIn setting.layout taken.place
-      → AppKeeps setting (side_took_note app taken) number ((note + 1) % setting.places) entry raw loans filled
+      → AppKeeps setting (side_took_note app taken) ((note + 1) % setting.places) entry raw loans filled
   kept-took_note taken whole =
-      kept setting app (side_took_note app taken) refl number note entry ((note + 1) % setting.places) entry raw raw loans loans filled
+      kept setting app (side_took_note app taken) refl note entry ((note + 1) % setting.places) entry raw raw loans loans filled
       (All-push (λ (h : HeldPiece). LiesIn setting.layout h.place) app.view.helds (record { place = taken.place; origin = of_note (length app.view.taken) 0 })
       k.lies.helds whole)
       k.lies.loans
@@ -282,9 +279,9 @@ module _ (setting : Setting) (app : AppSide) (number note entry : ℕ) (raw : Op
       k.tokens.many.0 k.tokens.out k
 
   pub kept-took_linear : (taken : Note) (bytes : List ℕ)
-      → AppKeeps setting (side_took_linear app taken bytes) number ((note + 1) % setting.places) entry raw loans filled
+      → AppKeeps setting (side_took_linear app taken bytes) ((note + 1) % setting.places) entry raw loans filled
   kept-took_linear taken bytes =
-      kept setting app (side_took_linear app taken bytes) refl number note entry ((note + 1) % setting.places) entry raw raw loans loans filled
+      kept setting app (side_took_linear app taken bytes) refl note entry ((note + 1) % setting.places) entry raw raw loans loans filled
       k.lies.helds k.lies.loans
       (record {
         next_note = behind setting.places note app.view.taken _ k.slots.next_note;
@@ -294,16 +291,16 @@ module _ (setting : Setting) (app : AppSide) (number note entry : ℕ) (raw : Op
       k.tokens.many.0 k.tokens.out k
 
   -- it knows whether the card has ended
-  pub kept-end_known : (over : Bool) → AppKeeps setting (end_known app over) number note entry raw loans filled
+  pub kept-end_known : (over : Bool) → AppKeeps setting (end_known app over) note entry raw loans filled
   kept-end_known over =
       kept setting app (end_known app over)
-      (ap (λ unseen. let rest = rest_of app in record rest { inside = record rest.inside { end_unseen = unseen } }) (sym k.rests.looked)) number note entry note entry raw raw loans loans filled k.lies.helds k.lies.loans
+      (ap (λ unseen. let rest = rest_of app in record rest { inside = record rest.inside { end_unseen = unseen } }) (sym k.rests.looked)) note entry note entry raw raw loans loans filled k.lies.helds k.lies.loans
       (record { next_note = k.slots.next_note; next_entry = k.slots.next_entry; last_raw = k.slots.last_raw }) k.tokens.many.0 k.tokens.out k
 
   -- it was told so
-  pub kept-told_end : AppKeeps setting (app_at app (told_end app.view)) number note entry raw loans filled
+  pub kept-told_end : AppKeeps setting (app_at app (told_end app.view)) note entry raw loans filled
   kept-told_end =
-      kept setting app (app_at app (told_end app.view)) refl number note entry note entry raw raw loans loans filled k.lies.helds k.lies.loans
+      kept setting app (app_at app (told_end app.view)) refl note entry note entry raw raw loans loans filled k.lies.helds k.lies.loans
       (record { next_note = k.slots.next_note; next_entry = k.slots.next_entry; last_raw = k.slots.last_raw }) k.tokens.many.0 k.tokens.out k
 
 -- ---- a look for a note
@@ -322,28 +319,20 @@ none-noted (got_linear taken) split linear = absurd (linear taken refl)
 none-noted got_none split linear = refl
 none-noted got_end split linear = refl
 
-module _ (setting : Setting) (app new : AppSide) (number note entry : ℕ) (raw : Option ℕ) (loans filled linear : List ℕ)
-    (k : AppKeeps setting app number note entry raw loans filled) where
+module _ (setting : Setting) (app new : AppSide) (note entry : ℕ) (raw : Option ℕ) (loans filled linear : List ℕ)
+    (k : AppKeeps setting app note entry raw loans filled) where
   pub kept-polled : (answer : Polled) → Polls app new linear answer
-      → AppKeeps setting new number (if is_note answer then (note + 1) % setting.places else note) entry raw loans filled
+      → AppKeeps setting new (if is_note answer then (note + 1) % setting.places else note) entry raw loans filled
   kept-polled (got_note taken held) p =
-      let known = kept-end_known setting app number note entry raw loans filled k p.over in
-      rw p.event (kept-took_note setting (end_known app p.over) number note entry raw loans filled known taken
+      let known = kept-end_known setting app note entry raw loans filled k p.over in
+      rw p.event (kept-took_note setting (end_known app p.over) note entry raw loans filled known taken
       (subst (λ s. LiesIn s.layout taken.place) k.set p.looked.lies))
   kept-polled (got_linear taken) p =
-      let known = kept-end_known setting app number note entry raw loans filled k p.over in
-      rw p.event (kept-took_linear setting (end_known app p.over) number note entry raw loans filled known taken (take taken.total linear))
+      let known = kept-end_known setting app note entry raw loans filled k p.over in
+      rw p.event (kept-took_linear setting (end_known app p.over) note entry raw loans filled known taken (take taken.total linear))
   kept-polled got_none p =
-      let known = kept-end_known setting app number note entry raw loans filled k p.over in
-      rw p.event (kept-saw setting (end_known app p.over) number note entry raw loans filled known NoNote)
+      let known = kept-end_known setting app note entry raw loans filled k p.over in
+      rw p.event (kept-saw setting (end_known app p.over) note entry raw loans filled known NoNote)
   kept-polled got_end p =
-      let known = kept-end_known setting app number note entry raw loans filled k p.over in
-      rw p.event (kept-told_end setting (end_known app p.over) number note entry raw loans filled known)
-
--- ---- what a seat is
-
--- a fact of the side that a step left is one of the seat's
-pub sits : {T : Type 0} (P : AppSide → Type 0) (table before here : T) (me : Me (Unit {0}) View) (side : AppSide) → table ≡ before → before ≡ here
-    → me ≡ (app_view side, []) → P side → (table ≡ here) × (me ≡ (app_view (app_of me.0), [])) × P (app_of me.0)
-sits P table before here me side same at is fact =
-    subst (λ (m : Me (Unit {0}) View). (table ≡ here) × (m ≡ (app_view (app_of m.0), [])) × P (app_of m.0)) (sym is) (same ∙ at, refl, fact)
+      let known = kept-end_known setting app note entry raw loans filled k p.over in
+      rw p.event (kept-told_end setting (end_known app p.over) note entry raw loans filled known)

@@ -29,7 +29,7 @@ use Rattle.board_face.proofs.ListLemmas.{All-without}
 use Rattle.board_face.proofs.NicLemmas.{sent_to-same, sent_to-other}
 use Rattle.ref_words.specs.FreeLaws.{IsSwept}
 use Rattle.ref_words.specs.FreeSteps.{found_in, side_swept}
-use Rattle.word_board.specs.Board.{IsSetting, TheBoard, TheNic}
+use Rattle.word_board.specs.Board.{IsSetting, TheNic}
 use Rattle.word_board.specs.Hands.{NicKeeps}
 
 -- ---- the next slots
@@ -39,9 +39,9 @@ pub few-apps : (setting : Setting) (a : ℕ) → IsSetting setting → a < apps_
 few-apps setting a sound here = omega (arith, here, sound.layout.reserves.1)
 
 -- what its face calls an application is one of the board
-pub own-app : (setting : Setting) (nic : NicSide) (board : TheBoard) (seat : TheNic) (a : ℕ) → nic.view.setting ≡ setting
-    → record { board = board; side = nic } ≡ seat → a < apps_of seat.side.view.setting → a < apps_of setting
-own-app setting nic board seat a set is here =
+pub own-app : (setting : Setting) (card seat : TheNic) (a : ℕ) → card.side.view.setting ≡ setting → card ≡ seat
+    → a < apps_of seat.side.view.setting → a < apps_of setting
+own-app setting card seat a set is here =
     subst (λ t. a < apps_of t) set (subst (λ (x : TheNic). a < apps_of x.side.view.setting) (sym is) here)
 
 -- One more at this application: its next slot is the one behind, and those of the others are as before.

@@ -11,7 +11,7 @@ use Rattle.board_face.specs.declared.views.app.AppSide.{AppSide}
 use Rattle.ref_words.specs.Words.{Words, table_of, free_at, free_of, with_free, with_listed, with_unlisted}
 use Rattle.ref_words.specs.Rule.{BoardRule}
 use Rattle.ref_words.proofs.Laying.{free-word, free-set}
-use Rattle.word_board.proofs.Stepping.{Makes}
+use Rattle.word_board.specs.Steps.{Makes}
 
 module _ (setting : Setting) (words : Words) (j i : ℕ) (at : i ≡ free_at setting j) (within : j < free_words_of setting) where
   pub found-free : {nic : NicSide} {apps : List AppSide} → BoardRule setting words nic apps → get_or (table_of words) i 0 ≡ free_of words j

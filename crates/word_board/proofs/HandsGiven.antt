@@ -56,11 +56,11 @@ none-counted zero b = refl
 none-counted (suc n) zero = refl
 none-counted (suc n) (suc b) = none-counted n b
 
-pub AppKeeps-new : (setting : Setting) (a app note entry : ℕ) (raw : Option ℕ) (loans lengths : List ℕ) → a < apps_of setting
-    → IsNew setting a app note entry raw loans lengths → AppKeeps setting (new_app setting a) app note entry raw loans lengths
-AppKeeps-new setting a app note entry raw loans lengths there new = record {
+pub AppKeeps-new : (setting : Setting) (a note entry : ℕ) (raw : Option ℕ) (loans lengths : List ℕ) → a < apps_of setting
+    → IsNew setting note entry raw loans lengths → AppKeeps setting (new_app setting a) note entry raw loans lengths
+AppKeeps-new setting a note entry raw loans lengths there new = record {
   set = refl;
-  is = (sym new.is, omega (arith, there, new.is));
+  here = there;
   rests = record {
     making = refl;
     hands = refl;

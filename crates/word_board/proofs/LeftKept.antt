@@ -1,5 +1,5 @@
 -- What the card knows of the words that are left in its note slots, as it begins and behind each note.
-use Rattle.std.proofs.Common.{◌≡◌, ⊎_elim, inl, inr, ℕ, zero, suc, ◌+◌, ◌*◌, ◌%◌, ◌<◌, ◌≤◌, List, [], ◌∷◌, ◌++◌, length, replicate, set}
+use Rattle.std.proofs.Common.{◌≡◌, ⊎_elim, ℕ, zero, suc, ◌+◌, ◌*◌, ◌%◌, ◌<◌, ◌≤◌, List, [], ◌∷◌, ◌++◌, length, replicate, set}
 use Rattle.std.proofs.Common.{get_or, refl, ap, sym, ◌∙◌, subst, arith, mod-lt}
 use Rattle.std.specs.Prelude.{◌≢◌, ◌==◌, filter}
 use Rattle.std.proofs.Math.Nat.{add-mod_right}

@@ -1,6 +1,6 @@
 -- What an application's next note slot is, once it loaded words from there.
 use Rattle.std.proofs.Common.{◌≡◌, ℕ, suc, ◌+◌, ◌<◌, List, [], ◌∷◌, ◌++◌, length, take, drop, set, ap, sym, ◌∙◌, arith}
-use Rattle.std.proofs.Common.{⊎_elim, ◌≤◌, false, min, append_assoc}
+use Rattle.std.proofs.Common.{⊎_elim, false, min, append_assoc}
 use Rattle.std.specs.Prelude.{if◌then◌else◌}
 use Rattle.std.proofs.Math.Seq.{drop-append_seam}
 use Rattle.std.proofs.lemmas.Bool.{cases_lt}

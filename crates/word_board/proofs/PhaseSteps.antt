@@ -7,7 +7,7 @@ use Rattle.ref_words.specs.Words.{Words, table_of, phase_at, roles_of}
 use Rattle.ref_words.specs.PhaseRule.{with_phase}
 use Rattle.ref_words.specs.Rule.{BoardRule}
 use Rattle.ref_words.proofs.PhaseWords.{phase-word, phase-set}
-use Rattle.word_board.proofs.Stepping.{Makes}
+use Rattle.word_board.specs.Steps.{Makes}
 
 module _ (setting : Setting) (words : Words) (r x : ℕ) (at : x ≡ phase_at setting r) (few : r < roles_of setting) where
   pub found-phase : {nic : NicSide} {apps : List AppSide} → BoardRule setting words nic apps → get_or (table_of words) x 0 ≡ get_or words.phases r 0

@@ -1,5 +1,5 @@
 -- What an application keeps is right after each event of its spares, and once a loan is abandoned.
-use Rattle.std.proofs.Common.{◌≡◌, ℕ, ◌+◌, ◌-◌, ◌^◌, ◌<◌, ◌≤◌, Bool, true, false, List, [], ◌∷◌, ◌++◌, length, map, set, get_or, refl, ap, sym, ◌∙◌, subst}
+use Rattle.std.proofs.Common.{◌≡◌, ℕ, ◌+◌, ◌-◌, ◌^◌, ◌<◌, ◌≤◌, Bool, true, false, List, [], ◌∷◌, ◌++◌, length, map, set, get_or, refl, ap, ◌∙◌}
 use Rattle.std.proofs.Common.{arith, Option, ⊎_elim, length-append}
 use Rattle.std.specs.Prelude.{◌==◌, if◌then◌else◌, nat_lt, All, AllPairs, IsTrue, ◌↔◌}
 use Rattle.std.proofs.lemmas.List.{length-set, get_or-set_same, get_or_default}
@@ -27,10 +27,6 @@ use Rattle.board_face.proofs.ListLemmas.{All-without}
 use Rattle.board_face.proofs.Parts.{count-tally}
 use Rattle.board_face.proofs.Tallies.{tally-push}
 use Rattle.board_face.proofs.WrittenLemmas.{loans-fewer}
-use Rattle.atomic_table.specs.Table.{Me}
-use Rattle.ref_words.specs.declared.view.View.{View}
-use Rattle.ref_words.specs.Seated.{app_view}
-use Rattle.word_board.specs.Board.{app_of}
 use Rattle.word_board.specs.Hands.{AppKeeps}
 use Rattle.word_board.proofs.AppKept.{loan-lies, loan-some, kept as kept-event}
 use Rattle.word_board.proofs.LoansCounted.{count-raised, count-lowered, counted-tells}
@@ -46,18 +42,8 @@ picked-longer : (c : Bool) (picks : List ℕ) (buffer : ℕ) → length (if c th
 picked-longer true picks buffer = omega (arith, length-append picks (buffer ∷ []))
 picked-longer false picks buffer = omega arith
 
--- a seat has the side of an event
-pub is-view : (me : Me (Unit {0}) View) (side : AppSide) → me ≡ (app_view side, []) → me ≡ (app_view (app_of me.0), [])
-is-view me side e = subst (λ (x : Me (Unit {0}) View). x ≡ (app_view (app_of x.0), [])) (sym e) refl
-
-pub keeps-view : (me : Me (Unit {0}) View) (side : AppSide) → me ≡ (app_view side, [])
-    → (setting : Setting) (number note entry : ℕ) (raw : Option ℕ) (loans loans' lengths lengths' : List ℕ) → loans' ≡ loans → lengths' ≡ lengths
-    → AppKeeps setting side number note entry raw loans lengths → AppKeeps setting (app_of me.0) number note entry raw loans' lengths'
-keeps-view me side e setting number note entry raw loans loans' lengths lengths' same same' kept =
-    subst (λ (x : Me (Unit {0}) View). AppKeeps setting (app_of x.0) number note entry raw loans' lengths') (sym e) (rw (same, same') kept)
-
-module _ (setting : Setting) (app : AppSide) (number note entry : ℕ) (raw : Option ℕ) (loans lengths : List ℕ)
-    (kept : AppKeeps setting app number note entry raw loans lengths) where
+module _ (setting : Setting) (app : AppSide) (note entry : ℕ) (raw : Option ℕ) (loans lengths : List ℕ)
+    (kept : AppKeeps setting app note entry raw loans lengths) where
   -- ---- spares
 
   module _ (own : Filling) (out : HasSpare app.view own) where
@@ -108,10 +94,10 @@ module _ (setting : Setting) (app : AppSide) (number note entry : ℕ) (raw : Op
     abbrev others : List SpareOwn
     others = owns_without app.view own
 
-    pub AppKeeps-filled : AppKeeps setting (app_at app (filled app.view own bytes)) number note entry raw loans (set lengths own.buffer (length bytes))
+    pub AppKeeps-filled : AppKeeps setting (app_at app (filled app.view own bytes)) note entry raw loans (set lengths own.buffer (length bytes))
     AppKeeps-filled = record {
       set = kept.set;
-      is = kept.is;
+      here = kept.here;
       rests = record {
         making = kept.rests.making;
         hands = kept.rests.hands;
@@ -148,11 +134,11 @@ module _ (setting : Setting) (app : AppSide) (number note entry : ℕ) (raw : Op
     abbrev lent_piece : LentPiece
     lent_piece = record { place = begin_place own.buffer (length (own_bytes app.view own)); origin = of_copy (own_bytes app.view own) }
 
-    pub AppKeeps-lent_own : AppKeeps setting (app_at app (lent_own app.view own)) number note entry raw
+    pub AppKeeps-lent_own : AppKeeps setting (app_at app (lent_own app.view own)) note entry raw
         (set loans own.buffer (get_or loans own.buffer 0 + 1)) lengths
     AppKeeps-lent_own = record {
       set = kept.set;
-      is = kept.is;
+      here = kept.here;
       rests = record {
         making = kept.rests.making;
         hands = kept.rests.hands;
@@ -194,7 +180,7 @@ module _ (setting : Setting) (app : AppSide) (number note entry : ℕ) (raw : Op
     pub given-within : buffer < total setting.layout
     given-within =
         let pool = ap (λ s. pool_buffers s.layout) kept.set in
-        ⊎_elim (λ less. omega (arith, pool, less)) (λ e. omega (arith, pool, e, kept.is.0, kept.is.1)) mine
+        ⊎_elim (λ less. omega (arith, pool, less)) (λ e. omega (arith, pool, e, kept.here)) mine
 
     pub given-there : buffer < length lengths
     given-there = omega (arith, given-within, kept.tokens.many.1)
@@ -202,10 +188,10 @@ module _ (setting : Setting) (app : AppSide) (number note entry : ℕ) (raw : Op
     pub AppKeeps-got_spare : AppKeeps setting (record {
       view = got_spare app.view buffer;
       inside = record app.inside { words_without = []; reserve_seen_free = false };
-    }) number note entry raw loans (set lengths buffer 0)
+    }) note entry raw loans (set lengths buffer 0)
     AppKeeps-got_spare = record {
       set = kept.set;
-      is = kept.is;
+      here = kept.here;
       rests = record {
         making = kept.rests.making;
         hands = kept.rests.hands;
@@ -250,10 +236,10 @@ module _ (setting : Setting) (app : AppSide) (number note entry : ℕ) (raw : Op
     loan-counted = omega (arith, kept.tokens.out place.buffer lies-there, loan-some app place out)
 
     -- it is abandoned
-    pub AppKeeps-abandoned : AppKeeps setting (app_at app (abandoned app.view place)) number note entry raw
+    pub AppKeeps-abandoned : AppKeeps setting (app_at app (abandoned app.view place)) note entry raw
         (set loans place.buffer (get_or loans place.buffer 0 - 1)) lengths
     AppKeeps-abandoned =
-        kept-event setting app (app_at app (abandoned app.view place)) refl number note entry note entry raw raw loans
+        kept-event setting app (app_at app (abandoned app.view place)) refl note entry note entry raw raw loans
         (set loans place.buffer (get_or loans place.buffer 0 - 1)) lengths kept.lies.helds
         (All-without (λ l. LiesIn setting.layout l.place) (λ (l : LentPiece). same_place place l.place) app.view.loans kept.lies.loans)
         (record { next_note = kept.slots.next_note; next_entry = kept.slots.next_entry; last_raw = kept.slots.last_raw })

@@ -20,14 +20,8 @@ use Rattle.ref_words.specs.Rule.{BoardRule}
 use Rattle.ref_words.proofs.Roles.{card-is, card-moves, app-is, app-moves}
 use Rattle.ref_words.proofs.Laying.{pool-word, pool-set, user-word, user-set, note-word, note-set, refill-word, refill-set}
 use Rattle.ref_words.proofs.LayingArea.{area-is, area-set}
-use Rattle.word_board.specs.Board.{IsBoard}
-
--- What a step on the word i makes of the board, where it leaves m there: words that stand by the rule to the sides.
-pub record Makes (setting : Setting) (words : Words) (i m : ℕ) (nic : NicSide) (apps : List AppSide) : Type 0 where
-  pub words' : Words
-  pub laid : set (table_of words) i m ≡ table_of words'
-  pub roles : words'.roles ≡ words.roles
-  pub rule : BoardRule setting words' nic apps
+use Rattle.word_board.specs.Board.{IsBoard, TheNic, TheApp}
+use Rattle.word_board.specs.Steps.{Makes, MayCard, MayApp}
 
 module _ (setting : Setting) (slots id i : ℕ) (f : ℕ → ℕ) (told : ℕ → Type 0) where
   -- A step of the card's seat is allowed where its law holds for all words and applications.
@@ -91,6 +85,22 @@ module _ (setting : Setting) (slots id i : ℕ) (f : ℕ → ℕ) (told : ℕ �
         },
         (refl, subst told found both.1),
       ))
+
+-- What the card may do, the table allows, where the words are those of its board and the seat has its side.
+pub card-allows : (card : TheNic) (setting : Setting) (slots id i : ℕ) (f : ℕ → ℕ) (next : ℕ → NicSide) (told : ℕ → Type 0) → setting ≡ card.board.setting
+    → (me : Me (Unit {0}) View) → me ≡ (card_view card.side, []) → MayCard card i f next told
+    → Allows (IsBoard setting) slots id me i f (λ n w. (w ≡ (card_view (next n), me.1)) × told n)
+card-allows card setting slots id i f next told set me sits may =
+    subst (λ s. Allows (IsBoard s) slots id me i f (λ n w. (w ≡ (card_view (next n), me.1)) × told n)) (sym set)
+    (card-step card.board.setting slots id i f told card.side next may me sits)
+
+-- So may an application.
+pub app-allows : (app : TheApp) (setting : Setting) (slots id i : ℕ) (f : ℕ → ℕ) (next : ℕ → AppSide) (told : ℕ → Type 0) → setting ≡ app.board.setting
+    → (me : Me (Unit {0}) View) → me ≡ (app_view app.side, []) → MayApp app i f next told
+    → Allows (IsBoard setting) slots id me i f (λ n w. (w ≡ (app_view (next n), me.1)) × told n)
+app-allows app setting slots id i f next told set me sits may =
+    subst (λ s. Allows (IsBoard s) slots id me i f (λ n w. (w ≡ (app_view (next n), me.1)) × told n)) (sym set)
+    (app-step app.board.setting slots id i f told app.side next may.number may.step me sits)
 
 -- ---- a pool count
 

@@ -72,8 +72,7 @@ pub record AppLies (setting : Setting) (app : AppSide) : Type 0 where
   pub apart : AllPairs (λ s t. s.own.buffer ≢ t.own.buffer) app.view.owns
 
 -- what an application keeps that has done nothing
-pub record IsNew (setting : Setting) (number : ℕ) (app note entry : ℕ) (raw : Option ℕ) (loans filled : List ℕ) : Type 0 where
-  pub is : app ≡ number
+pub record IsNew (setting : Setting) (note entry : ℕ) (raw : Option ℕ) (loans filled : List ℕ) : Type 0 where
   pub slots : (note ≡ 0) × (entry ≡ 0) × (raw ≡ None)
   pub none_out : loans ≡ replicate (total setting.layout) 0
   pub none_filled : filled ≡ replicate (total setting.layout) 0
@@ -92,9 +91,9 @@ pub record KnowsTokens (setting : Setting) (app : AppSide) (loans filled : List 
   pub out : (b : ℕ) → b < total setting.layout → slice_index loans b ≡ loans_out b app
   pub lengths : All (λ s. slice_index filled s.own.buffer ≡ length s.bytes) app.view.owns
 
-pub record AppKeeps (setting : Setting) (app : AppSide) (number note entry : ℕ) (raw : Option ℕ) (loans filled : List ℕ) : Type 0 where
+pub record AppKeeps (setting : Setting) (app : AppSide) (note entry : ℕ) (raw : Option ℕ) (loans filled : List ℕ) : Type 0 where
   pub set : app.view.setting ≡ setting
-  pub is : (app.view.app ≡ number) × (number < apps_of setting)
+  pub here : app.view.app < apps_of setting
   pub rests : AppRests setting app
   pub lies : AppLies setting app
   pub slots : KnowsSlots setting app note entry raw

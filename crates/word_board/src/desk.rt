@@ -5,6 +5,8 @@ ghost use Rattle.word_board.specs.Board.{new_desk};
 ghost use Rattle.word_board.specs.Desk.{AreOfBoard, AreServed, took_back};
 
 use crate::app_seat::AppSeat;
+use crate::app_steps::AppSteps;
+use crate::card_steps::CardSteps;
 use crate::hands::{AppHand, MOST_APPS};
 use crate::kinds::{join_seats, look_served};
 use crate::nic_seat::NicSeat;
@@ -51,7 +53,7 @@ impl Model for Desk {
         × (d.seat.me.1 ≡ [])
         × HasDealt (d.nic_given ∷ map is_none d.hands.items) d.seat.me.0
         × (length d.hands.items ≡ apps_of d.setting)
-        × ((a : ℕ) → IfSome (slice_index_or d.hands.items a None) (λ hand. IsNew d.setting a hand.app hand.note hand.entry hand.raw hand.loans.items hand.filled.items))
+        × ((a : ℕ) → IfSome (slice_index_or d.hands.items a None) (λ hand. IsNew d.setting hand.note hand.entry hand.raw hand.loans.items hand.filled.items))
         × AreOver d.seat.me.0
         × (d.cache.items ≡ cache_back d.seat.me.0.nics)
         × (length d.listed.items ≡ pool_buffers d.setting.layout)
@@ -69,8 +71,8 @@ impl Desk {
         let layout = setting.layout;
         let buffers = layout.buffers();
         let mut hands = Vec::with_capacity(alloc, MOST_APPS)?;
-        for app in 0..layout.total() - buffers {
-            hands.push(Some(AppHand::new(alloc, &layout, app)?))?;
+        for _app in 0..layout.total() - buffers {
+            hands.push(Some(AppHand::new(alloc, &layout)?))?;
         }
         Ok(Desk {
             setting,
@@ -93,10 +95,11 @@ impl<'a> NicSeat<'a> {
         ensures served { AreServed desk.new.view }
         ensures known { AreOfBoard desk.new.board.setting desk.new.view }
     {
-        let NicSeat { board, seat, hand } = self;
-        join_seats(&board.words, &mut desk.seat, seat);
+        let NicSeat { card, hand } = self;
+        let CardSteps { words, seat } = card;
+        join_seats(words, &mut desk.seat, seat);
         desk.cache = hand.cache;
-        look_served(&board.words, &mut desk.seat);
+        look_served(words, &mut desk.seat);
     }
 }
 
@@ -109,8 +112,9 @@ impl<'a> AppSeat<'a> {
         ensures served { AreServed desk.new.view }
         ensures known { AreOfBoard desk.new.board.setting desk.new.view }
     {
-        let AppSeat { board, seat, .. } = self;
-        join_seats(&board.words, &mut desk.seat, seat);
-        look_served(&board.words, &mut desk.seat);
+        let AppSeat { app, .. } = self;
+        let AppSteps { words, seat, .. } = app;
+        join_seats(words, &mut desk.seat, seat);
+        look_served(words, &mut desk.seat);
     }
 }

@@ -72,7 +72,6 @@ impl NicHand {
 /// What an application keeps.
 #[derive(Drop)]
 pub(crate) struct AppHand {
-    pub(crate) app: u32,
     /// The next note slot.
     pub(crate) note: u32,
     /// The next refill slot.
@@ -87,14 +86,13 @@ pub(crate) struct AppHand {
 
 impl AppHand {
     /// Of an application that has done nothing.
-    pub(crate) fn new(alloc: Global, layout: &Layout, app: u32) -> Result<AppHand, AllocError>
-        ensures slots { IfOk result (λ hand. (hand.app ≡ app) × (hand.note ≡ 0) × (hand.entry ≡ 0) × (hand.raw ≡ None)) }
+    pub(crate) fn new(alloc: Global, layout: &Layout) -> Result<AppHand, AllocError>
+        ensures slots { IfOk result (λ hand. (hand.note ≡ 0) × (hand.entry ≡ 0) × (hand.raw ≡ None)) }
         ensures loans { IfOk result (λ hand. hand.loans.items ≡ replicate (total layout.now) 0) }
         ensures filled { IfOk result (λ hand. hand.filled.items ≡ replicate (total layout.now) 0) }
     {
         let buffers = layout.total() as usize;
         Ok(AppHand {
-            app,
             note: 0,
             entry: 0,
             raw: None,

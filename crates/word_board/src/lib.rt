@@ -3,8 +3,9 @@
 #![tactic(auto)]
 
 mod app_seat;
-mod bits;
+mod app_steps;
 mod board;
+mod card_steps;
 mod desk;
 mod finish;
 mod found;

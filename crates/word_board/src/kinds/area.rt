@@ -6,126 +6,84 @@ ghost use Rattle.board_face.specs.NicCalls.{HasOwn};
 ghost use Rattle.board_face.specs.Tokens.{filled_by, next_place};
 ghost use Rattle.ref_words.specs.AreaLaws.{IsMadeAt, IsMadeThere, IsLastWord};
 ghost use Rattle.ref_words.specs.AreaSteps.{made_words, side_piece_stored, side_piece_placed, side_spare_stored, side_spare_filled};
-ghost use Rattle.ref_words.specs.Seated.{card_view, app_view};
-ghost use Rattle.word_board.specs.Board.{card_of, app_of};
 
-use crate::rule::{SharedWords, WordSeat};
-use crate::steps::swap_as;
+use crate::app_steps::AppSteps;
+use crate::card_steps::CardSteps;
 use board_face::Filling;
 use ref_words::laws;
 use std::marker::Brand;
 use zr_kinds::Place;
 
 /// The card stores the word `k` of the piece that it began, the next one. It isn't the last.
-pub(crate) fn store_piece(
-    words: &SharedWords,
-    seat: &mut WordSeat,
-    place: Place,
-    first: u64,
-    k: u32,
-    n: u64,
-)
-    requires table { seat.old.table_id ≡ words.now.table.shared.table_id }
-    requires card { seat.old.me ≡ (card_view (card_of seat.old.me.0), []) }
-    requires lies { LiesIn words.now.map.layout place }
-    requires first { first ≡ first_word words.now.map.layout place.buffer }
-    requires making { IsMadeAt (card_of seat.old.me.0).inside.making place }
-    requires so_far { k ≡ length (made_words (card_of seat.old.me.0).inside.making) }
+pub(crate) fn store_piece(card: &mut CardSteps, place: Place, first: u64, k: u32, n: u64)
+    requires lies { LiesIn card.old.board.setting.layout place }
+    requires first { first ≡ first_word card.old.board.setting.layout place.buffer }
+    requires making { IsMadeAt card.old.side.inside.making place }
+    requires so_far { k ≡ length (made_words card.old.side.inside.making) }
     requires more { 8 * (k + 1) < place.len }
-    ensures table { seat.new.table_id ≡ seat.old.table_id }
-    ensures event { seat.new.me ≡ (card_view (side_piece_stored (card_of seat.old.me.0) place n), []) }
+    ensures { card.new ≡ record card.old { side = side_piece_stored card.old.side place n } }
 {
     laws::k11();
-    let word = words.map.text(place.buffer, first, place.offset, 8 * k);
-    let table = &words.table;
-    swap_as::<Brand, (Place, u64)>(table, seat, word, n, (place, n));
+    let word = card.map().text(place.buffer, first, place.offset, 8 * k);
+    card.swap::<Brand, (Place, u64)>(word, n, (place, n));
 }
 
 /// It stores the last word, and the piece is placed.
 pub(crate) fn place_piece(
-    words: &SharedWords,
-    seat: &mut WordSeat,
+    card: &mut CardSteps,
     own: Filling,
     first: u64,
     bytes: &[u8],
     k: u32,
     n: u64,
 )
-    requires table { seat.old.table_id ≡ words.now.table.shared.table_id }
-    requires card { seat.old.me ≡ (card_view (card_of seat.old.me.0), []) }
-    requires out { HasOwn (card_of seat.old.me.0).view (filled_by own (length bytes.now)) }
-    requires lies { LiesIn words.now.map.layout (next_place own (length bytes.now)) }
-    requires first { first ≡ first_word words.now.map.layout own.buffer }
-    requires making { IsMadeAt (card_of seat.old.me.0).inside.making (next_place own (length bytes.now)) }
-    requires so_far { k ≡ length (made_words (card_of seat.old.me.0).inside.making) }
+    requires out { HasOwn card.old.side.view (filled_by own (length bytes.now)) }
+    requires lies { LiesIn card.old.board.setting.layout (next_place own (length bytes.now)) }
+    requires first { first ≡ first_word card.old.board.setting.layout own.buffer }
+    requires making { IsMadeAt card.old.side.inside.making (next_place own (length bytes.now)) }
+    requires so_far { k ≡ length (made_words card.old.side.inside.making) }
     requires fits { own.start + length bytes.now ≤ own.size }
     requires inside { 8 * k < length bytes.now }
-    requires last { IsLastWord (card_of seat.old.me.0).inside.making n bytes.now }
-    ensures table { seat.new.table_id ≡ seat.old.table_id }
-    ensures event { seat.new.me ≡ (card_view (side_piece_placed (card_of seat.old.me.0) own bytes.now), []) }
+    requires last { IsLastWord card.old.side.inside.making n bytes.now }
+    ensures { card.new ≡ record card.old { side = side_piece_placed card.old.side own bytes.now } }
 {
     laws::k11();
-    let word = words.map.text(own.buffer, first, own.start, 8 * k);
-    let table = &words.table;
-    swap_as::<Brand, (Filling, &[u8])>(table, seat, word, n, (own, bytes));
+    let word = card.map().text(own.buffer, first, own.start, 8 * k);
+    card.swap::<Brand, (Filling, &[u8])>(word, n, (own, bytes));
 }
 
 /// An application stores the word `k` of a spare's text, the next one; the first begins the text. It isn't the last.
-pub(crate) fn store_spare(
-    words: &SharedWords,
-    seat: &mut WordSeat,
-    own: Filling,
-    first: u64,
-    len: u32,
-    k: u32,
-    n: u64,
-)
-    requires table { seat.old.table_id ≡ words.now.table.shared.table_id }
-    requires app { seat.old.me ≡ (app_view (app_of seat.old.me.0), []) }
-    requires out { HasSpare (app_of seat.old.me.0).view own }
+pub(crate) fn store_spare(app: &mut AppSteps, own: Filling, first: u64, len: u32, k: u32, n: u64)
+    requires out { HasSpare app.old.side.view own }
     requires empty { own.start ≡ 0 }
     requires few { len ≤ 256 }
-    requires lies { LiesIn words.now.map.layout (begin_place own.buffer len) }
-    requires first { first ≡ first_word words.now.map.layout own.buffer }
-    requires making { IsMadeThere (app_of seat.old.me.0).inside.making (begin_place own.buffer len) }
-    requires so_far { k ≡ length (made_words (app_of seat.old.me.0).inside.making) }
+    requires lies { LiesIn app.old.board.setting.layout (begin_place own.buffer len) }
+    requires first { first ≡ first_word app.old.board.setting.layout own.buffer }
+    requires making { IsMadeThere app.old.side.inside.making (begin_place own.buffer len) }
+    requires so_far { k ≡ length (made_words app.old.side.inside.making) }
     requires more { 8 * (k + 1) < len }
-    ensures table { seat.new.table_id ≡ seat.old.table_id }
-    ensures event { seat.new.me ≡ (app_view (side_spare_stored (app_of seat.old.me.0) (begin_place own.buffer len) n), []) }
+    ensures { app.new ≡ record app.old { side = side_spare_stored app.old.side (begin_place own.buffer len) n } }
 {
     laws::k11();
-    let word = words.map.text(own.buffer, first, 0, 8 * k);
-    let table = &words.table;
-    swap_as::<Brand, (Filling, u32, u64)>(table, seat, word, n, (own, len, n));
+    let word = app.map().text(own.buffer, first, 0, 8 * k);
+    app.swap::<Brand, (Filling, u32, u64)>(word, n, (own, len, n));
 }
 
 /// It stores the last word, and the spare is filled.
-pub(crate) fn fill_spare(
-    words: &SharedWords,
-    seat: &mut WordSeat,
-    own: Filling,
-    first: u64,
-    bytes: &[u8],
-    k: u32,
-    n: u64,
-)
-    requires table { seat.old.table_id ≡ words.now.table.shared.table_id }
-    requires app { seat.old.me ≡ (app_view (app_of seat.old.me.0), []) }
-    requires out { HasSpare (app_of seat.old.me.0).view own }
+pub(crate) fn fill_spare(app: &mut AppSteps, own: Filling, first: u64, bytes: &[u8], k: u32, n: u64)
+    requires out { HasSpare app.old.side.view own }
     requires empty { own.start ≡ 0 }
     requires some { 0 < length bytes.now }
     requires few { length bytes.now ≤ 256 }
-    requires lies { LiesIn words.now.map.layout (begin_place own.buffer (length bytes.now)) }
-    requires first { first ≡ first_word words.now.map.layout own.buffer }
-    requires making { IsMadeThere (app_of seat.old.me.0).inside.making (begin_place own.buffer (length bytes.now)) }
-    requires so_far { k ≡ length (made_words (app_of seat.old.me.0).inside.making) }
+    requires lies { LiesIn app.old.board.setting.layout (begin_place own.buffer (length bytes.now)) }
+    requires first { first ≡ first_word app.old.board.setting.layout own.buffer }
+    requires making { IsMadeThere app.old.side.inside.making (begin_place own.buffer (length bytes.now)) }
+    requires so_far { k ≡ length (made_words app.old.side.inside.making) }
     requires inside { 8 * k < length bytes.now }
-    requires last { IsLastWord (app_of seat.old.me.0).inside.making n bytes.now }
-    ensures table { seat.new.table_id ≡ seat.old.table_id }
-    ensures event { seat.new.me ≡ (app_view (side_spare_filled (app_of seat.old.me.0) own bytes.now), []) }
+    requires last { IsLastWord app.old.side.inside.making n bytes.now }
+    ensures { app.new ≡ record app.old { side = side_spare_filled app.old.side own bytes.now } }
 {
     laws::k11();
-    let word = words.map.text(own.buffer, first, 0, 8 * k);
-    let table = &words.table;
-    swap_as::<Brand, (Filling, &[u8])>(table, seat, word, n, (own, bytes));
+    let word = app.map().text(own.buffer, first, 0, 8 * k);
+    app.swap::<Brand, (Filling, &[u8])>(word, n, (own, bytes));
 }

@@ -9,64 +9,48 @@ ghost use Rattle.board_face.specs.SlotSteps.{next_slot, side_dealt};
 ghost use Rattle.board_face.specs.declared.views.nic.Fate.TheVariants.{Honoured};
 ghost use Rattle.board_face.specs.declared.views.nic.Judged.TheVariants.{Owed};
 ghost use Rattle.ref_words.specs.Rings.{takes_entry_at};
-ghost use Rattle.ref_words.specs.Seated.{card_view, app_view};
-ghost use Rattle.word_board.specs.Board.{card_of, app_of};
 
+use crate::app_steps::AppSteps;
+use crate::card_steps::CardSteps;
 use crate::kinds::{free_honoured, give_back, list_by_app, list_by_card, release_held, shut_own};
-use crate::rule::{SharedWords, WordSeat};
 use board_face::Filling;
 use zr_kinds::{Place, Rqe};
 
 /// The card lists this buffer where it has it in hand. It has no other in hand.
-fn list_last_by_card(words: &SharedWords, seat: &mut WordSeat, buffer: u32, in_hand: bool)
-    requires table { seat.old.table_id ≡ words.now.table.shared.table_id }
-    requires card { seat.old.me ≡ (card_view (card_of seat.old.me.0), []) }
-    requires of_pool { in_hand ≡ true → buffer < pool_buffers words.now.map.layout }
-    requires hands { (card_of seat.old.me.0).inside.hands ≡ (if in_hand then buffer ∷ [] else []) }
-    ensures table { seat.new.table_id ≡ seat.old.table_id }
-    ensures event { seat.new.me ≡ (card_view (record (card_of seat.old.me.0) { inside = record (card_of seat.old.me.0).inside { hands = [] } }), []) }
+fn list_last_by_card(card: &mut CardSteps, buffer: u32, in_hand: bool)
+    requires of_pool { in_hand ≡ true → buffer < pool_buffers card.old.board.setting.layout }
+    requires hands { card.old.side.inside.hands ≡ (if in_hand then buffer ∷ [] else []) }
+    ensures { card.new ≡ record card.old { side = record card.old.side { inside = record card.old.side.inside { hands = [] } } } }
 {
     if in_hand {
-        list_by_card(words, seat, buffer);
+        list_by_card(card, buffer);
     }
 }
 
 /// So does an application.
-pub(crate) fn list_last_by_app(words: &SharedWords, seat: &mut WordSeat, buffer: u32, in_hand: bool)
-    requires table { seat.old.table_id ≡ words.now.table.shared.table_id }
-    requires app { seat.old.me ≡ (app_view (app_of seat.old.me.0), []) }
-    requires of_pool { in_hand ≡ true → buffer < pool_buffers words.now.map.layout }
-    requires hands { (app_of seat.old.me.0).inside.hands ≡ (if in_hand then buffer ∷ [] else []) }
-    ensures table { seat.new.table_id ≡ seat.old.table_id }
-    ensures event { seat.new.me ≡ (app_view (record (app_of seat.old.me.0) { inside = record (app_of seat.old.me.0).inside { hands = [] } }), []) }
+pub(crate) fn list_last_by_app(app: &mut AppSteps, buffer: u32, in_hand: bool)
+    requires of_pool { in_hand ≡ true → buffer < pool_buffers app.old.board.setting.layout }
+    requires hands { app.old.side.inside.hands ≡ (if in_hand then buffer ∷ [] else []) }
+    ensures { app.new ≡ record app.old { side = record app.old.side { inside = record app.old.side.inside { hands = [] } } } }
 {
     if in_hand {
-        list_by_app(words, seat, buffer);
+        list_by_app(app, buffer);
     }
 }
 
 /// The card closes a buffer: its own reference goes. A pool buffer that comes to be free by that is cached where the cache has
 /// `room`, and listed else. It answers whether no holder is left.
-pub(crate) fn shut_buffer(
-    words: &SharedWords,
-    seat: &mut WordSeat,
-    own: Filling,
-    pool: u32,
-    room: bool,
-) -> bool
-    requires table { seat.old.table_id ≡ words.now.table.shared.table_id }
-    requires card { seat.old.me ≡ (card_view (card_of seat.old.me.0), []) }
-    requires set { (card_of seat.old.me.0).view.setting ≡ words.now.map }
-    requires within { own.buffer < total words.now.map.layout }
-    requires out { HasOwn (card_of seat.old.me.0).view own }
-    requires pool { pool ≡ pool_buffers words.now.map.layout }
-    requires room { room ≡ nat_lt (length (card_of seat.old.me.0).view.cache) cache_room }
-    requires bare { (card_of seat.old.me.0).inside.hands ≡ [] }
-    ensures table { seat.new.table_id ≡ seat.old.table_id }
-    ensures event { seat.new.me ≡ (card_view (nic_at (card_of seat.old.me.0) (shut (card_of seat.old.me.0).view own result)), []) }
+pub(crate) fn shut_buffer(card: &mut CardSteps, own: Filling, pool: u32, room: bool) -> bool
+    requires set { card.old.side.view.setting ≡ card.old.board.setting }
+    requires within { own.buffer < total card.old.board.setting.layout }
+    requires out { HasOwn card.old.side.view own }
+    requires pool { pool ≡ pool_buffers card.old.board.setting.layout }
+    requires room { room ≡ nat_lt (length card.old.side.view.cache) cache_room }
+    requires bare { card.old.side.inside.hands ≡ [] }
+    ensures { card.new ≡ record card.old { side = nic_at card.old.side (shut card.old.side.view own result) } }
 {
-    let last = shut_own(words, seat, own);
-    list_last_by_card(words, seat, own.buffer, last && own.buffer < pool && !room);
+    let last = shut_own(card, own);
+    list_last_by_card(card, own.buffer, last && own.buffer < pool && !room);
     last
 }
 
@@ -81,49 +65,39 @@ pub(crate) struct Loaded {
 /// The card deals with an entry in hand that is a return: both counts are lowered, a pool buffer that comes to be free by that
 /// is cached or listed as in `shut_buffer`, and then the slot is freed. It answers whether no holder is left.
 pub(crate) fn honour_entry(
-    words: &SharedWords,
-    seat: &mut WordSeat,
+    card: &mut CardSteps,
     loaded: Loaded,
     buffer: u32,
     pool: u32,
     room: bool,
 ) -> bool
-    requires table { seat.old.table_id ≡ words.now.table.shared.table_id }
-    requires card { seat.old.me ≡ (card_view (card_of seat.old.me.0), []) }
-    requires set { (card_of seat.old.me.0).view.setting ≡ words.now.map }
-    requires app { loaded.app < apps_of words.now.map }
-    requires slot { loaded.slot < words.now.map.places }
-    requires next { loaded.slot ≡ takes_entry_at words.now.map (card_of seat.old.me.0) loaded.app }
-    requires seen { (next_slot (card_of seat.old.me.0).inside.refill_slots loaded.app).seen ≡ true }
-    requires within { buffer < total words.now.map.layout }
-    requires in_hand { (card_of seat.old.me.0).inside.entry ≡ Some (record { app = loaded.app; entry = loaded.entry; judged = Owed buffer }) }
-    requires pool { pool ≡ pool_buffers words.now.map.layout }
-    requires room { room ≡ nat_lt (length (card_of seat.old.me.0).view.cache) cache_room }
-    requires bare { (card_of seat.old.me.0).inside.hands ≡ [] }
-    ensures table { seat.new.table_id ≡ seat.old.table_id }
-    ensures event { seat.new.me ≡ (
-      card_view (side_dealt (nic_at (card_of seat.old.me.0) (gave_up (card_of seat.old.me.0).view buffer result)) loaded.app loaded.entry (Honoured buffer)),
-      [],
-    ) }
+    requires set { card.old.side.view.setting ≡ card.old.board.setting }
+    requires app { loaded.app < apps_of card.old.board.setting }
+    requires slot { loaded.slot < card.old.board.setting.places }
+    requires next { loaded.slot ≡ takes_entry_at card.old.board.setting card.old.side loaded.app }
+    requires seen { (next_slot card.old.side.inside.refill_slots loaded.app).seen ≡ true }
+    requires within { buffer < total card.old.board.setting.layout }
+    requires in_hand { card.old.side.inside.entry ≡ Some (record { app = loaded.app; entry = loaded.entry; judged = Owed buffer }) }
+    requires pool { pool ≡ pool_buffers card.old.board.setting.layout }
+    requires room { room ≡ nat_lt (length card.old.side.view.cache) cache_room }
+    requires bare { card.old.side.inside.hands ≡ [] }
+    ensures { card.new ≡ record card.old { side = side_dealt (nic_at card.old.side (gave_up card.old.side.view buffer result)) loaded.app loaded.entry (Honoured buffer) } }
 {
-    let last = give_back(words, seat, loaded.app, loaded.entry, buffer);
-    list_last_by_card(words, seat, buffer, last && buffer < pool && !room);
-    free_honoured(words, seat, loaded.app, loaded.slot, loaded.entry, buffer);
+    let last = give_back(card, loaded.app, loaded.entry, buffer);
+    list_last_by_card(card, buffer, last && buffer < pool && !room);
+    free_honoured(card, loaded.app, loaded.slot, loaded.entry, buffer);
     last
 }
 
 /// An application gives a held piece up. A pool buffer that comes to be free by that is listed.
-pub(crate) fn release_piece(words: &SharedWords, seat: &mut WordSeat, place: Place, pool: u32)
-    requires table { seat.old.table_id ≡ words.now.table.shared.table_id }
-    requires app { seat.old.me ≡ (app_view (app_of seat.old.me.0), []) }
-    requires set { (app_of seat.old.me.0).view.setting ≡ words.now.map }
-    requires within { place.buffer < total words.now.map.layout }
-    requires out { HasHeld (app_of seat.old.me.0).view place }
-    requires pool { pool ≡ pool_buffers words.now.map.layout }
-    requires bare { (app_of seat.old.me.0).inside.hands ≡ [] }
-    ensures table { seat.new.table_id ≡ seat.old.table_id }
-    ensures event { seat.new.me ≡ (app_view (app_at (app_of seat.old.me.0) (released (app_of seat.old.me.0).view place)), []) }
+pub(crate) fn release_piece(app: &mut AppSteps, place: Place, pool: u32)
+    requires set { app.old.side.view.setting ≡ app.old.board.setting }
+    requires within { place.buffer < total app.old.board.setting.layout }
+    requires out { HasHeld app.old.side.view place }
+    requires pool { pool ≡ pool_buffers app.old.board.setting.layout }
+    requires bare { app.old.side.inside.hands ≡ [] }
+    ensures { app.new ≡ record app.old { side = app_at app.old.side (released app.old.side.view place) } }
 {
-    let last = release_held(words, seat, place);
-    list_last_by_app(words, seat, place.buffer, last && place.buffer < pool);
+    let last = release_held(app, place);
+    list_last_by_app(app, place.buffer, last && place.buffer < pool);
 }

@@ -9,130 +9,96 @@ ghost use Rattle.board_face.specs.declared.views.nic.NicLook.TheVariants.{NotLef
 ghost use Rattle.ref_words.specs.PhaseSteps.{side_ended, side_leave_looked, side_left, side_end_looked, side_note_sought};
 ghost use Rattle.ref_words.specs.PhaseSteps.{side_reserve_looked, side_abandoned};
 ghost use Rattle.ref_words.specs.Rings.{takes_note_at};
-ghost use Rattle.ref_words.specs.Seated.{card_view, app_view};
-ghost use Rattle.word_board.specs.Board.{card_of, app_of};
 ghost use Rattle.board_face.specs.NicEvents.{nic_gist};
 ghost use Rattle.board_face.specs.AppEvents.{app_gist};
 ghost use Rattle.word_board.specs.Told.{SawNotLeft, SawNotEnded, SawNoNote, SawReserveHeld};
 
-use crate::rule::{SharedWords, WordSeat};
-use crate::steps::{load_as, swap_as};
+use crate::app_steps::AppSteps;
+use crate::card_steps::CardSteps;
 use ref_words::laws;
 use std::marker::Brand;
 use zr_kinds::Place;
 
 /// The card ends: it stores 1 into its phase word. No token is out, and no piece is in the making.
-pub(crate) fn end_card(words: &SharedWords, seat: &mut WordSeat)
-    requires table { seat.old.table_id ≡ words.now.table.shared.table_id }
-    requires card { seat.old.me ≡ (card_view (card_of seat.old.me.0), []) }
-    requires none { HasNoToken (card_of seat.old.me.0).view }
-    requires idle { (card_of seat.old.me.0).inside.making ≡ None }
-    ensures table { seat.new.table_id ≡ seat.old.table_id }
-    ensures event { seat.new.me ≡ (card_view (side_ended (card_of seat.old.me.0)), []) }
+pub(crate) fn end_card(card: &mut CardSteps)
+    requires none { HasNoToken card.old.side.view }
+    requires idle { card.old.side.inside.making ≡ None }
+    ensures { card.new ≡ record card.old { side = side_ended card.old.side } }
 {
     laws::k22();
-    let word = words.map.phase(0);
-    let table = &words.table;
-    swap_as::<Brand, ()>(table, seat, word, 1, ());
+    let word = card.map().phase(0);
+    card.swap::<Brand, ()>(word, 1, ());
 }
 
 /// An application leaves: it stores 1 into its phase word.
-pub(crate) fn leave_app(words: &SharedWords, seat: &mut WordSeat, app: u32)
-    requires table { seat.old.table_id ≡ words.now.table.shared.table_id }
-    requires app { seat.old.me ≡ (app_view (app_of seat.old.me.0), []) }
-    requires number { (app_of seat.old.me.0).view.app ≡ app }
-    requires few { app < apps_of words.now.map }
-    requires can { CanLeave (app_of seat.old.me.0).view }
-    ensures table { seat.new.table_id ≡ seat.old.table_id }
-    ensures event { seat.new.me ≡ (app_view (side_left (app_of seat.old.me.0)), []) }
+pub(crate) fn leave_app(app: &mut AppSteps)
+    requires can { CanLeave app.old.side.view }
+    ensures { app.new ≡ record app.old { side = side_left app.old.side } }
 {
     laws::k22();
-    let word = words.map.phase(1 + app as usize);
-    let table = &words.table;
-    swap_as::<Brand, u32>(table, seat, word, 1, app);
+    let word = app.map().phase(1 + app.number() as usize);
+    app.swap::<Brand, ()>(word, 1, ());
 }
 
 /// The card looks whether an application has left.
-pub(crate) fn look_left(words: &SharedWords, seat: &mut WordSeat, app: u32) -> bool
-    requires table { seat.old.table_id ≡ words.now.table.shared.table_id }
-    requires card { seat.old.me ≡ (card_view (card_of seat.old.me.0), []) }
-    requires app { app < apps_of words.now.map }
-    ensures table { seat.new.table_id ≡ seat.old.table_id }
-    ensures event { seat.new.me ≡ (card_view (side_leave_looked (card_of seat.old.me.0) app result), []) }
+pub(crate) fn look_left(card: &mut CardSteps, app: u32) -> bool
+    requires app { app < apps_of card.old.board.setting }
+    ensures event { card.new ≡ record card.old { side = side_leave_looked card.old.side app result } }
     ensures view { MatchBool result
-        ((card_of seat.new.me.0).view ≡ saw_leave (card_of seat.old.me.0).view app)
-        (NicOnlySaw (NotLeft app) (card_of seat.old.me.0).view (card_of seat.new.me.0).view) }
-    ensures told { result ≡ false → SawNotLeft words.now.map (nic_gist (card_of seat.old.me.0).view) app }
+        (card.new.side.view ≡ saw_leave card.old.side.view app)
+        (NicOnlySaw (NotLeft app) card.old.side.view card.new.side.view) }
+    ensures told { result ≡ false → SawNotLeft card.old.board.setting (nic_gist card.old.side.view) app }
 {
     laws::k23();
-    let word = words.map.phase(1 + app as usize);
-    let table = &words.table;
-    load_as::<Brand, u32>(table, seat, word, app) == 1
+    let word = card.map().phase(1 + app as usize);
+    card.load::<Brand, u32>(word, app) == 1
 }
 
 /// An application looks whether the card has ended. Once it saw that, it sees it again.
-pub(crate) fn look_end(words: &SharedWords, seat: &mut WordSeat) -> bool
-    requires table { seat.old.table_id ≡ words.now.table.shared.table_id }
-    requires app { seat.old.me ≡ (app_view (app_of seat.old.me.0), []) }
-    ensures table { seat.new.table_id ≡ seat.old.table_id }
-    ensures event { seat.new.me ≡ (app_view (side_end_looked (app_of seat.old.me.0) result), []) }
-    ensures again { (app_of seat.old.me.0).inside.end_seen ≡ true → result ≡ true }
-    ensures ended { (app_of seat.old.me.0).view.ended ≡ true → result ≡ true }
-    ensures told { result ≡ false → SawNotEnded words.now.map (app_gist (app_of seat.old.me.0).view) }
+pub(crate) fn look_end(app: &mut AppSteps) -> bool
+    ensures event { app.new ≡ record app.old { side = side_end_looked app.old.side result } }
+    ensures again { app.old.side.inside.end_seen ≡ true → result ≡ true }
+    ensures ended { app.old.side.view.ended ≡ true → result ≡ true }
+    ensures told { result ≡ false → SawNotEnded app.old.board.setting (app_gist app.old.side.view) }
 {
     laws::k23();
-    let word = words.map.phase(0);
-    let table = &words.table;
-    load_as::<Brand, ()>(table, seat, word, ()) == 1
+    let word = app.map().phase(0);
+    app.load::<Brand, ()>(word, ()) == 1
 }
 
 /// An application that looked for the end looks at the flag of its next note slot. `true` says that the slot is full.
-pub(crate) fn seek_note(words: &SharedWords, seat: &mut WordSeat, app: u32, slot: u32) -> bool
-    requires table { seat.old.table_id ≡ words.now.table.shared.table_id }
-    requires app { seat.old.me ≡ (app_view (app_of seat.old.me.0), []) }
-    requires number { (app_of seat.old.me.0).view.app ≡ app }
-    requires few { app < apps_of words.now.map }
-    requires within { slot < words.now.map.places }
-    requires next { slot ≡ takes_note_at words.now.map (app_of seat.old.me.0) }
-    ensures table { seat.new.table_id ≡ seat.old.table_id }
-    ensures event { seat.new.me ≡ (app_view (side_note_sought (app_of seat.old.me.0) result), []) }
-    ensures told { result ≡ false → SawNoNote words.now.map (app_gist (app_of seat.old.me.0).view) }
+pub(crate) fn seek_note(app: &mut AppSteps, slot: u32) -> bool
+    requires within { slot < app.old.board.setting.places }
+    requires next { slot ≡ takes_note_at app.old.board.setting app.old.side }
+    ensures event { app.new ≡ record app.old { side = side_note_sought app.old.side result } }
+    ensures told { result ≡ false → SawNoNote app.old.board.setting (app_gist app.old.side.view) }
 {
     laws::k16_end();
-    let word = words.map.note(app, slot, 0);
-    let table = &words.table;
-    load_as::<Brand, ()>(table, seat, word, ()) == 1
+    let word = app.map().note(app.number(), slot, 0);
+    app.load::<Brand, ()>(word, ()) == 1
 }
 
 /// An application that looked at each free word looks whether somebody has its reserve. `true` says that nobody does.
-pub(crate) fn look_reserve(words: &SharedWords, seat: &mut WordSeat, reserve: u32) -> bool
-    requires table { seat.old.table_id ≡ words.now.table.shared.table_id }
-    requires app { seat.old.me ≡ (app_view (app_of seat.old.me.0), []) }
-    requires within { reserve < total words.now.map.layout }
-    requires own { reserve ≡ reserve_of (app_of seat.old.me.0).view }
-    requires searched { HasSearched (app_of seat.old.me.0) }
-    ensures table { seat.new.table_id ≡ seat.old.table_id }
-    ensures event { seat.new.me ≡ (app_view (side_reserve_looked (app_of seat.old.me.0) result), []) }
-    ensures told { result ≡ false → SawReserveHeld words.now.map (app_gist (app_of seat.old.me.0).view) }
+pub(crate) fn look_reserve(app: &mut AppSteps, reserve: u32) -> bool
+    requires within { reserve < total app.old.board.setting.layout }
+    requires own { reserve ≡ reserve_of app.old.side.view }
+    requires searched { HasSearched app.old.side }
+    ensures event { app.new ≡ record app.old { side = side_reserve_looked app.old.side result } }
+    ensures told { result ≡ false → SawReserveHeld app.old.board.setting (app_gist app.old.side.view) }
 {
     laws::k24();
-    let word = words.map.pool(reserve);
-    let table = &words.table;
-    load_as::<Brand, ()>(table, seat, word, ()) == 0
+    let word = app.map().pool(reserve);
+    app.load::<Brand, ()>(word, ()) == 0
 }
 
 /// An application abandons a loan, as of the moment in which it loads the pool count of its reserve.
-pub(crate) fn abandon_loan(words: &SharedWords, seat: &mut WordSeat, reserve: u32, place: Place)
-    requires table { seat.old.table_id ≡ words.now.table.shared.table_id }
-    requires app { seat.old.me ≡ (app_view (app_of seat.old.me.0), []) }
-    requires within { reserve < total words.now.map.layout }
-    requires own { reserve ≡ reserve_of (app_of seat.old.me.0).view }
-    requires out { HasLoan (app_of seat.old.me.0).view place }
-    ensures table { seat.new.table_id ≡ seat.old.table_id }
-    ensures event { seat.new.me ≡ (app_view (side_abandoned (app_of seat.old.me.0) place), []) }
+pub(crate) fn abandon_loan(app: &mut AppSteps, reserve: u32, place: Place)
+    requires within { reserve < total app.old.board.setting.layout }
+    requires own { reserve ≡ reserve_of app.old.side.view }
+    requires out { HasLoan app.old.side.view place }
+    ensures { app.new ≡ record app.old { side = side_abandoned app.old.side place } }
 {
     laws::k24();
-    let word = words.map.pool(reserve);
-    let table = &words.table;
-    load_as::<Brand, Place>(table, seat, word, place);
+    let word = app.map().pool(reserve);
+    app.load::<Brand, Place>(word, place);
 }

@@ -5,12 +5,9 @@ ghost use Rattle.board_face.specs.AppEvents.{loan_origin, has_read};
 ghost use Rattle.board_face.specs.Sides.{app_at};
 ghost use Rattle.ref_words.specs.AreaLaws.{part_of};
 ghost use Rattle.ref_words.specs.AreaSteps.{side_loaded};
-ghost use Rattle.ref_words.specs.Seated.{app_view};
-ghost use Rattle.word_board.specs.Board.{app_of};
 ghost use Rattle.word_board.specs.Reads.{HasReadSoFar};
 
-use crate::rule::{SharedWords, WordSeat};
-use crate::steps::load_as;
+use crate::app_steps::AppSteps;
 use ref_words::laws;
 use std::marker::Brand;
 use word_rings::bytes_of_word;
@@ -19,70 +16,47 @@ use zr_kinds::Place;
 /// An application loads the next word of a read from a loan's byte `from` on, of which it read these bytes so far. Of the word the
 /// read wants so many bytes. What it reads of a copied text is known at once.
 pub(crate) fn load_word(
-    words: &SharedWords,
-    seat: &mut WordSeat,
+    app: &mut AppSteps,
     loan: Place,
     first: u64,
     from: u32,
     so_far: &[u8],
     more: u32,
 ) -> u64
-    requires table { seat.old.table_id ≡ words.now.table.shared.table_id }
-    requires app { seat.old.me ≡ (app_view (app_of seat.old.me.0), []) }
-    requires out { HasLoan (app_of seat.old.me.0).view loan }
-    requires lies { LiesIn words.now.map.layout loan }
-    requires first { first ≡ first_word words.now.map.layout loan.buffer }
-    requires reads { HasReadSoFar (app_of seat.old.me.0).view loan from so_far.now }
+    requires out { HasLoan app.old.side.view loan }
+    requires lies { LiesIn app.old.board.setting.layout loan }
+    requires first { first ≡ first_word app.old.board.setting.layout loan.buffer }
+    requires reads { HasReadSoFar app.old.side.view loan from so_far.now }
     requires some { 0 < more }
     requires within { from + length so_far.now + more ≤ loan.len }
     requires in_word { (loan.offset + (from + length so_far.now)) % 8 + more ≤ 8 }
-    ensures table { seat.new.table_id ≡ seat.old.table_id }
-    ensures event { seat.new.me ≡ (
-      app_view (side_loaded (app_of seat.old.me.0) loan from (length so_far.now)
-          (part_of result ((loan.offset + (from + length so_far.now)) % 8) more)),
-      [],
-    ) }
-    ensures copied { ShowsCopy (loan_origin (app_of seat.old.me.0).view loan) from
+    ensures event { app.new ≡ record app.old {
+      side = side_loaded app.old.side loan from (length so_far.now)
+          (part_of result ((loan.offset + (from + length so_far.now)) % 8) more);
+    } }
+    ensures copied { ShowsCopy (loan_origin app.old.side.view loan) from
         (so_far.now ++ part_of result ((loan.offset + (from + length so_far.now)) % 8) more) }
 {
     laws::k12();
     let further = from + so_far.len() as u32;
-    let word = words.map.text(loan.buffer, first, loan.offset, further);
-    let table = &words.table;
-    load_as::<Brand, (Place, u32, &[u8], u32)>(table, seat, word, (loan, from, so_far, more))
+    let word = app.map().text(loan.buffer, first, loan.offset, further);
+    app.load::<Brand, (Place, u32, &[u8], u32)>(word, (loan, from, so_far, more))
 }
 
 /// An application reads bytes of a loan, from its byte `from` on: a load for each word that has some of them.
-pub(crate) fn read_text(
-    words: &SharedWords,
-    seat: &mut WordSeat,
-    loan: Place,
-    from: u32,
-    into: &mut [u8],
-)
-    requires table { seat.old.table_id ≡ words.now.table.shared.table_id }
-    requires app { seat.old.me ≡ (app_view (app_of seat.old.me.0), []) }
-    requires out { HasLoan (app_of seat.old.me.0).view loan }
-    requires lies { LiesIn words.now.map.layout loan }
+pub(crate) fn read_text(app: &mut AppSteps, loan: Place, from: u32, into: &mut [u8])
+    requires out { HasLoan app.old.side.view loan }
+    requires lies { LiesIn app.old.board.setting.layout loan }
     requires within { from + length into.old ≤ loan.len }
-    ensures table { seat.new.table_id ≡ seat.old.table_id }
-    ensures event { seat.new.me ≡ (app_view (app_at (app_of seat.old.me.0) (has_read (app_of seat.old.me.0).view loan from into.new)), []) }
-    ensures copied { ShowsCopy (loan_origin (app_of seat.old.me.0).view loan) from into.new }
+    ensures event { app.new ≡ record app.old { side = app_at app.old.side (has_read app.old.side.view loan from into.new) } }
+    ensures copied { ShowsCopy (loan_origin app.old.side.view loan) from into.new }
 {
-    let first_word = words.map.layout().first_word(loan.buffer);
+    let first_word = app.map().layout().first_word(loan.buffer);
     let mut done = 0;
     while done < into.len() {
         let first = (loan.offset as usize + from as usize + done) % 8;
         let more = (8 - first).min(into.len() - done);
-        let word = load_word(
-            words,
-            seat,
-            loan,
-            first_word,
-            from,
-            &into[..done],
-            more as u32,
-        );
+        let word = load_word(app, loan, first_word, from, &into[..done], more as u32);
         copy_part(word, first, &mut into[done..done + more]);
         done += more;
     }

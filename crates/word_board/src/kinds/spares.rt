@@ -6,40 +6,35 @@ ghost use Rattle.board_face.specs.NicCalls.{free_words_of};
 ghost use Rattle.board_face.specs.Steps.{side_picked};
 ghost use Rattle.board_face.specs.Used.{PicksAreGiven};
 ghost use Rattle.ref_words.specs.FreeSteps.{side_word_without};
-ghost use Rattle.ref_words.specs.Seated.{app_view};
-ghost use Rattle.word_board.specs.Board.{app_of};
 ghost use Rattle.word_board.specs.Spares.{Searched, FoundNone, TookListed, TookSpare, TookNoSpare};
 ghost use Rattle.board_face.specs.AppEvents.{app_gist};
 ghost use Rattle.word_board.specs.Told.{SawWithout, SawNoneListed, SawReserveHeld, IsLowestSeen, IsFirstSeen};
 
+use crate::app_steps::AppSteps;
 use crate::kinds::{
     WORD_BITS, look_free_word, look_reserve, pick_buffer, take_picked, take_reserve,
 };
-use crate::rule::{SharedWords, WordSeat};
 
 /// An application looks at a word of the free list, and tries to pick the lowest buffer that is listed there. `None` says that
 /// no buffer was listed, or that another was faster.
-fn pick_in_word(words: &SharedWords, seat: &mut WordSeat, word: u32) -> Option<u32>
-    requires table { seat.old.table_id ≡ words.now.table.shared.table_id }
-    requires app { seat.old.me ≡ (app_view (app_of seat.old.me.0), []) }
-    requires within { word < free_words_of words.now.map }
-    requires sound { IsLayout words.now.map.layout }
-    requires due { MaySpare (app_of seat.old.me.0).view }
-    requires given { PicksAreGiven (app_of seat.old.me.0) }
-    ensures table { seat.new.table_id ≡ seat.old.table_id }
+fn pick_in_word(app: &mut AppSteps, word: u32) -> Option<u32>
+    requires within { word < free_words_of app.old.board.setting }
+    requires sound { IsLayout app.old.board.setting.layout }
+    requires due { MaySpare app.old.side.view }
+    requires given { PicksAreGiven app.old.side }
     ensures event { MatchOption result
-        (seat.new.me ≡ (app_view (side_word_without (app_of seat.old.me.0) word), []))
-        (λ buffer. (seat.new.me ≡ (app_view (side_picked (app_of seat.old.me.0) buffer), [])) × (buffer < pool_buffers words.now.map.layout)) }
+        (app.new ≡ record app.old { side = side_word_without app.old.side word })
+        (λ buffer. (app.new ≡ record app.old { side = side_picked app.old.side buffer }) × (buffer < pool_buffers app.old.board.setting.layout)) }
     ensures told { MatchOption result
-        (SawWithout words.now.map (app_gist (app_of seat.old.me.0).view) word)
-        (λ buffer. IsLowestSeen words.now.map (app_gist (app_of seat.old.me.0).view) word buffer) }
+        (SawWithout app.old.board.setting (app_gist app.old.side.view) word)
+        (λ buffer. IsLowestSeen app.old.board.setting (app_gist app.old.side.view) word buffer) }
 {
-    let found = look_free_word(words, seat, word);
+    let found = look_free_word(app, word);
     if found == 0 {
         return None;
     }
     let buffer = word * WORD_BITS + found.trailing_zeros();
-    if pick_buffer(words, seat, buffer) {
+    if pick_buffer(app, buffer) {
         Some(buffer)
     } else {
         None
@@ -47,23 +42,20 @@ fn pick_in_word(words: &SharedWords, seat: &mut WordSeat, word: u32) -> Option<u
 }
 
 /// An application goes through the words of the free list until it has picked a buffer.
-fn pick_listed(words: &SharedWords, seat: &mut WordSeat, free_words: u32) -> Option<u32>
-    requires table { seat.old.table_id ≡ words.now.table.shared.table_id }
-    requires app { seat.old.me ≡ (app_view (app_of seat.old.me.0), []) }
-    requires set { (app_of seat.old.me.0).view.setting ≡ words.now.map }
-    requires all { free_words ≡ free_words_of words.now.map }
-    requires sound { IsLayout words.now.map.layout }
-    requires due { MaySpare (app_of seat.old.me.0).view }
-    requires given { PicksAreGiven (app_of seat.old.me.0) }
-    ensures table { seat.new.table_id ≡ seat.old.table_id }
-    ensures app { seat.new.me ≡ (app_view (app_of seat.new.me.0), []) }
-    ensures event { Searched (app_of seat.old.me.0) (app_of seat.new.me.0) result }
+fn pick_listed(app: &mut AppSteps, free_words: u32) -> Option<u32>
+    requires set { app.old.side.view.setting ≡ app.old.board.setting }
+    requires all { free_words ≡ free_words_of app.old.board.setting }
+    requires sound { IsLayout app.old.board.setting.layout }
+    requires due { MaySpare app.old.side.view }
+    requires given { PicksAreGiven app.old.side }
+    ensures board { app.new.board ≡ app.old.board }
+    ensures event { Searched app.old.side app.new.side result }
     ensures told { MatchOption result
-        (SawNoneListed words.now.map (app_gist (app_of seat.old.me.0).view))
-        (λ buffer. IsFirstSeen words.now.map (app_gist (app_of seat.old.me.0).view) buffer) }
+        (SawNoneListed app.old.board.setting (app_gist app.old.side.view))
+        (λ buffer. IsFirstSeen app.old.board.setting (app_gist app.old.side.view) buffer) }
 {
     for word in 0..free_words {
-        if let Some(buffer) = pick_in_word(words, seat, word) {
+        if let Some(buffer) = pick_in_word(app, word) {
             return Some(buffer);
         }
     }
@@ -72,64 +64,53 @@ fn pick_listed(words: &SharedWords, seat: &mut WordSeat, free_words: u32) -> Opt
 
 /// An application takes a spare from the free list: it picks a buffer, and holds it. `None` says that each word was seen 0, or
 /// its lowest buffer was lost to another.
-fn spare_listed(words: &SharedWords, seat: &mut WordSeat, free_words: u32) -> Option<u32>
-    requires table { seat.old.table_id ≡ words.now.table.shared.table_id }
-    requires app { seat.old.me ≡ (app_view (app_of seat.old.me.0), []) }
-    requires set { (app_of seat.old.me.0).view.setting ≡ words.now.map }
-    requires all { free_words ≡ free_words_of words.now.map }
-    requires sound { IsLayout words.now.map.layout }
-    requires here { IsHere (app_of seat.old.me.0).view }
-    requires due { MaySpare (app_of seat.old.me.0).view }
-    requires given { PicksAreGiven (app_of seat.old.me.0) }
-    requires bare { (app_of seat.old.me.0).inside.hands ≡ [] }
-    ensures table { seat.new.table_id ≡ seat.old.table_id }
-    ensures app { seat.new.me ≡ (app_view (app_of seat.new.me.0), []) }
+fn spare_listed(app: &mut AppSteps, free_words: u32) -> Option<u32>
+    requires set { app.old.side.view.setting ≡ app.old.board.setting }
+    requires all { free_words ≡ free_words_of app.old.board.setting }
+    requires sound { IsLayout app.old.board.setting.layout }
+    requires here { IsHere app.old.side.view }
+    requires due { MaySpare app.old.side.view }
+    requires given { PicksAreGiven app.old.side }
+    requires bare { app.old.side.inside.hands ≡ [] }
+    ensures board { app.new.board ≡ app.old.board }
     ensures event { MatchOption result
-        (FoundNone (app_of seat.old.me.0) (app_of seat.new.me.0))
-        (λ buffer. TookListed (app_of seat.old.me.0) (app_of seat.new.me.0) buffer) }
+        (FoundNone app.old.side app.new.side)
+        (λ buffer. TookListed app.old.side app.new.side buffer) }
     ensures told { MatchOption result
-        (SawNoneListed words.now.map (app_gist (app_of seat.old.me.0).view))
-        (λ buffer. IsFirstSeen words.now.map (app_gist (app_of seat.old.me.0).view) buffer) }
+        (SawNoneListed app.old.board.setting (app_gist app.old.side.view))
+        (λ buffer. IsFirstSeen app.old.board.setting (app_gist app.old.side.view) buffer) }
 {
-    let buffer = pick_listed(words, seat, free_words)?;
-    take_picked(words, seat, buffer);
+    let buffer = pick_listed(app, free_words)?;
+    take_picked(app, buffer);
     Some(buffer)
 }
 
 /// An application takes a spare: a buffer from the free list, else its reserve. `None` says that no word had one, and that the
 /// reserve was seen to be held after that.
-pub(crate) fn take_spare(
-    words: &SharedWords,
-    seat: &mut WordSeat,
-    free_words: u32,
-    reserve: u32,
-) -> Option<u32>
-    requires table { seat.old.table_id ≡ words.now.table.shared.table_id }
-    requires app { seat.old.me ≡ (app_view (app_of seat.old.me.0), []) }
-    requires set { (app_of seat.old.me.0).view.setting ≡ words.now.map }
-    requires all { free_words ≡ free_words_of words.now.map }
-    requires own { reserve ≡ reserve_of (app_of seat.old.me.0).view }
-    requires within { reserve < total words.now.map.layout }
-    requires sound { IsLayout words.now.map.layout }
-    requires here { IsHere (app_of seat.old.me.0).view }
-    requires due { MaySpare (app_of seat.old.me.0).view }
-    requires given { PicksAreGiven (app_of seat.old.me.0) }
-    requires bare { (app_of seat.old.me.0).inside.hands ≡ [] }
-    ensures table { seat.new.table_id ≡ seat.old.table_id }
-    ensures app { seat.new.me ≡ (app_view (app_of seat.new.me.0), []) }
+pub(crate) fn take_spare(app: &mut AppSteps, free_words: u32, reserve: u32) -> Option<u32>
+    requires set { app.old.side.view.setting ≡ app.old.board.setting }
+    requires all { free_words ≡ free_words_of app.old.board.setting }
+    requires own { reserve ≡ reserve_of app.old.side.view }
+    requires within { reserve < total app.old.board.setting.layout }
+    requires sound { IsLayout app.old.board.setting.layout }
+    requires here { IsHere app.old.side.view }
+    requires due { MaySpare app.old.side.view }
+    requires given { PicksAreGiven app.old.side }
+    requires bare { app.old.side.inside.hands ≡ [] }
+    ensures board { app.new.board ≡ app.old.board }
     ensures event { MatchOption result
-        (TookNoSpare (app_of seat.old.me.0) (app_of seat.new.me.0))
-        (λ buffer. TookSpare (app_of seat.old.me.0) (app_of seat.new.me.0) buffer) }
+        (TookNoSpare app.old.side app.new.side)
+        (λ buffer. TookSpare app.old.side app.new.side buffer) }
     ensures told { MatchOption result
-        (SawNoneListed words.now.map (app_gist (app_of seat.old.me.0).view) × SawReserveHeld words.now.map (app_gist (app_of seat.old.me.0).view))
-        (λ buffer. IsFirstSeen words.now.map (app_gist (app_of seat.old.me.0).view) buffer) }
+        (SawNoneListed app.old.board.setting (app_gist app.old.side.view) × SawReserveHeld app.old.board.setting (app_gist app.old.side.view))
+        (λ buffer. IsFirstSeen app.old.board.setting (app_gist app.old.side.view) buffer) }
 {
-    if let Some(buffer) = spare_listed(words, seat, free_words) {
+    if let Some(buffer) = spare_listed(app, free_words) {
         return Some(buffer);
     }
-    if !look_reserve(words, seat, reserve) {
+    if !look_reserve(app, reserve) {
         return None;
     }
-    take_reserve(words, seat, reserve);
+    take_reserve(app, reserve);
     Some(reserve)
 }

@@ -6,27 +6,23 @@ ghost use Rattle.board_face.specs.NicCalls.{HasOwn};
 ghost use Rattle.board_face.specs.NicEvents.{placed};
 ghost use Rattle.board_face.specs.Sides.{nic_at, app_at};
 ghost use Rattle.board_face.specs.Tokens.{next_place};
-ghost use Rattle.ref_words.specs.Seated.{card_view, app_view};
-ghost use Rattle.word_board.specs.Board.{card_of, app_of};
 
+use crate::app_steps::AppSteps;
+use crate::card_steps::CardSteps;
 use crate::kinds::area::{fill_spare, place_piece, store_piece, store_spare};
 use crate::kinds::card_counts::begin_piece;
-use crate::rule::{SharedWords, WordSeat};
 use board_face::Filling;
 use word_rings::text_word;
 use zr_kinds::Place;
 
 /// The card places a text where the buffer's next bytes go: it begins a piece, and then stores the text word by word.
-pub(crate) fn place_text(words: &SharedWords, seat: &mut WordSeat, own: Filling, bytes: &[u8])
-    requires table { seat.old.table_id ≡ words.now.table.shared.table_id }
-    requires card { seat.old.me ≡ (card_view (card_of seat.old.me.0), []) }
-    requires out { HasOwn (card_of seat.old.me.0).view own }
+pub(crate) fn place_text(card: &mut CardSteps, own: Filling, bytes: &[u8])
+    requires out { HasOwn card.old.side.view own }
     requires some { 0 < length bytes.now }
     requires fits { own.start + length bytes.now ≤ own.size }
-    requires lies { LiesIn words.now.map.layout (next_place own (length bytes.now)) }
-    requires idle { (card_of seat.old.me.0).inside.making ≡ None }
-    ensures table { seat.new.table_id ≡ seat.old.table_id }
-    ensures event { seat.new.me ≡ (card_view (nic_at (card_of seat.old.me.0) (placed (card_of seat.old.me.0).view own bytes.now)), []) }
+    requires lies { LiesIn card.old.board.setting.layout (next_place own (length bytes.now)) }
+    requires idle { card.old.side.inside.making ≡ None }
+    ensures { card.new ≡ record card.old { side = nic_at card.old.side (placed card.old.side.view own bytes.now) } }
 {
     let len = bytes.len() as u32;
     let place = Place {
@@ -34,43 +30,32 @@ pub(crate) fn place_text(words: &SharedWords, seat: &mut WordSeat, own: Filling,
         offset: own.start,
         len,
     };
-    begin_piece(words, seat, own, len);
-    let first = words.map.layout().first_word(own.buffer);
+    begin_piece(card, own, len);
+    let first = card.map().layout().first_word(own.buffer);
     let last = (len - 1) / 8;
     for k in 0..last {
-        store_piece(words, seat, place, first, k, text_word(bytes, k as usize));
+        store_piece(card, place, first, k, text_word(bytes, k as usize));
     }
     let n = text_word(bytes, last as usize);
-    place_piece(words, seat, own, first, bytes, last, n);
+    place_piece(card, own, first, bytes, last, n);
 }
 
 /// An application fills a spare: it stores the text word by word.
-pub(crate) fn fill_text(words: &SharedWords, seat: &mut WordSeat, own: Filling, bytes: &[u8])
-    requires table { seat.old.table_id ≡ words.now.table.shared.table_id }
-    requires app { seat.old.me ≡ (app_view (app_of seat.old.me.0), []) }
-    requires out { HasSpare (app_of seat.old.me.0).view own }
+pub(crate) fn fill_text(app: &mut AppSteps, own: Filling, bytes: &[u8])
+    requires out { HasSpare app.old.side.view own }
     requires empty { own.start ≡ 0 }
     requires some { 0 < length bytes.now }
     requires few { length bytes.now ≤ 256 }
-    requires lies { LiesIn words.now.map.layout (begin_place own.buffer (length bytes.now)) }
-    requires idle { (app_of seat.old.me.0).inside.making ≡ None }
-    ensures table { seat.new.table_id ≡ seat.old.table_id }
-    ensures event { seat.new.me ≡ (app_view (app_at (app_of seat.old.me.0) (filled (app_of seat.old.me.0).view own bytes.now)), []) }
+    requires lies { LiesIn app.old.board.setting.layout (begin_place own.buffer (length bytes.now)) }
+    requires idle { app.old.side.inside.making ≡ None }
+    ensures { app.new ≡ record app.old { side = app_at app.old.side (filled app.old.side.view own bytes.now) } }
 {
     let len = bytes.len() as u32;
-    let first = words.map.layout().first_word(own.buffer);
+    let first = app.map().layout().first_word(own.buffer);
     let last = (len - 1) / 8;
     for k in 0..last {
-        store_spare(
-            words,
-            seat,
-            own,
-            first,
-            len,
-            k,
-            text_word(bytes, k as usize),
-        );
+        store_spare(app, own, first, len, k, text_word(bytes, k as usize));
     }
     let n = text_word(bytes, last as usize);
-    fill_spare(words, seat, own, first, bytes, last, n);
+    fill_spare(app, own, first, bytes, last, n);
 }

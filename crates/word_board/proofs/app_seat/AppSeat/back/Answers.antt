@@ -5,7 +5,7 @@ use Rattle.std.proofs.lemmas.List.{append-nil}
 use Rattle.ref_words.specs.Over.{AppIsOver}
 use Rattle.ref_words.specs.Seated.{both_sides, app_view}
 use Rattle.ref_words.specs.declared.view.View.{View}
-use Rattle.word_board.specs.Board.{HasDealt, app_of}
+use Rattle.word_board.specs.Board.{HasDealt, TheApp}
 use Rattle.word_board.specs.Desk.{AreOver, AreServed, cache_back}
 use Rattle.word_board.proofs.AtDesk.{HasDealt-both, AreOver-app}
 use Rattle.word_board.proofs.app_seat.AppSeat.back.Goals as goal
@@ -13,26 +13,25 @@ use Rattle.word_board.proofs.app_seat.AppSeat.back.Goals as goal
 pub look_served-requires-clause-over : goal.look_served-requires-clause-over
 look_served-requires-clause-over c =
     let desk = c.desk.inside in
-    let mine = app_of c.self.inside.seat.me.0 in
+    let mine = c.self.inside.app.side in
     let view : c.join_seats.new.desk.me.0 ≡ both_sides desk.seat.me.0 (app_view mine) = ap (λ me. me.0) c.join_seats.ensures.desk
-    ∙ ap (both_sides desk.seat.me.0) (ap (λ me. me.0) c.self.invariant.1) in
+    ∙ ap (both_sides desk.seat.me.0) (ap (λ me. me.0) c.app.invariant.1 ∙ ap (λ (v : TheApp). app_view v.side) c.app.view_is) in
     subst AreOver (sym view) (AreOver-app desk.seat.me.0 mine c.desk.invariant.5 (record {
       left = ap (λ s. s.side.view.left) c.self.view_is ∙ c.requires.left;
-      hands = c.self.invariant.2.rests.hands;
-      lowered = c.self.invariant.2.rests.owes;
+      hands = c.self.invariant.rests.hands;
+      lowered = c.self.invariant.rests.owes;
     }))
 
 pub invariant_of-desk : goal.invariant_of-desk
 invariant_of-desk c =
     let desk = c.desk.inside in
     let was = c.desk.invariant in
-    let seat = c.self.inside.seat in
-    let mine = app_of seat.me.0 in
+    let mine = c.self.inside.app.side in
     let joined = c.join_seats.ensures in
     let looked = c.look_served.ensures in
     let view : c.look_served.new.desk.me.0 ≡ both_sides desk.seat.me.0 (app_view mine) = ap (λ me. me.0) looked.me
-    ∙ (ap (λ me. me.0) joined.desk ∙ ap (both_sides desk.seat.me.0) (ap (λ me. me.0) c.self.invariant.1)) in
-    let keeps = c.self.invariant.2 in
+    ∙ (ap (λ me. me.0) joined.desk ∙ ap (both_sides desk.seat.me.0) (ap (λ me. me.0) c.app.invariant.1 ∙ ap (λ (v : TheApp). app_view v.side) c.app.view_is)) in
+    let keeps = c.self.invariant in
     let given = desk.nic_given ∷ map is_none desk.hands.items in
     let over : AppIsOver mine = record {
       left = ap (λ s. s.side.view.left) c.self.view_is ∙ c.requires.left;

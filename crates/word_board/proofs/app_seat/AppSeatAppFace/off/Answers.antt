@@ -1,15 +1,14 @@
-use Rattle.std.proofs.Common.{sym, ap, subst}
+use Rattle.std.proofs.Common.{sym, subst}
 use Rattle.std.proofs.Common.{⊎_elim}
 use Rattle.board_face.specs.AppCalls.{HasPlace}
-use Rattle.word_board.specs.Board.{app_of}
 use Rattle.word_board.proofs.AppKept.{held-lies, loan-lies}
 use Rattle.word_board.proofs.app_seat.AppSeatAppFace.off.Goals as goal
 
 pub off_of-requires : goal.off_of-requires
 off_of-requires c =
-    let mine = app_of c.self.inside.seat.me.0 in
-    let setting = ap (λ b. b.setting) c.board.view_is in
+    let mine = c.self.inside.app.side in
+    let setting = c.map.ensures in
     let out = subst (λ s. HasPlace s.side.view c.args.p.now) (sym c.self.view_is) c.requires in
     rw (c.layout.ensures.value, setting)
-    (⊎_elim (held-lies c.self.inside.board.now.setting mine c.args.p.now c.self.invariant.2.lies)
-    (loan-lies c.self.inside.board.now.setting mine c.args.p.now c.self.invariant.2.lies) out)
+    (⊎_elim (held-lies c.self.inside.app.board.setting mine c.args.p.now c.self.invariant.lies)
+    (loan-lies c.self.inside.app.board.setting mine c.args.p.now c.self.invariant.lies) out)

@@ -1,71 +1,64 @@
 use Rattle.std.proofs.Common.{◌≡◌, ◌+◌, ◌%◌, sym, ◌∙◌, ap, subst, arith}
 use Rattle.std.proofs.Common.{true, false, ⊎_elim}
 use Rattle.std.specs.Prelude.{if◌then◌else◌}
-use Rattle.word_board.specs.Board.{TheApp, app_of}
+use Rattle.word_board.specs.Board.{TheApp}
 use Rattle.word_board.specs.Hands.{AppKeeps}
 use Rattle.word_board.proofs.AppKept.{note-within, is_note, none-noted, kept-polled}
 use Rattle.word_board.proofs.app_seat.AppSeatAppFace.poll.Goals.{in_default, in-Note, in-Note-2}
 use Rattle.board_face.specs.AppEvents.{app_gist}
 use Rattle.board_face.specs.Looks.{AppTold}
 use Rattle.board_face.specs.declared.views.parts.Setting.{Setting}
-use Rattle.word_board.specs.Told.{AppTells, SawNotEnded, SawNoNote}
+use Rattle.word_board.specs.Told.{AppTells}
 use Rattle.word_board.proofs.Telling.{told-polled}
 use Rattle.word_board.proofs.app_seat.AppSeatAppFace.poll.Goals as goal
 
 pub poll-polled-requires-clause-within : goal.poll-polled-requires-clause-within
 poll-polled-requires-clause-within c =
     let hand = c.self.inside.hand in
-    let places = ap (λ b. b.setting.places) c.board.view_is in
-    let within = note-within c.self.inside.board.now.setting (app_of c.self.inside.seat.me.0) hand.note hand.entry hand.raw c.self.invariant.2.slots
+    let places = ap (λ (s : Setting). s.places) c.map.ensures in
+    let within = note-within c.self.inside.app.board.setting c.self.inside.app.side hand.note hand.entry hand.raw c.self.invariant.slots
     (omega (arith, places, c.places-places.ensures.value, c.places-places.ensures.some)) in
     omega (arith, within, places)
 
 pub invariant_of-self : goal.invariant_of-self
 invariant_of-self c =
     let hand = c.self.inside.hand in
-    let setting = c.self.inside.board.now.setting in
-    let places = c.places-places.ensures.value ∙ ap (λ b. b.setting.places) c.board.view_is in
+    let setting = c.self.inside.app.board.setting in
+    let places = c.places-places.ensures.value ∙ ap (λ (s : Setting). s.places) c.map.ensures in
     let is : is_note c.poll-polled.result ≡ true =
     elim c.match-matches.branch [
       | in_default w ↦ absurd (let wrong : true ≡ false = sym c.if-matches.true ∙ w.matches-is in cc)
       | in-Note w ↦ ⊎_elim (λ t. ap is_note t.2) (λ t. ap is_note t.1) w.in-Note.is
       | in-Note-2 w ↦ ⊎_elim (λ t. ap is_note t.2) (λ t. ap is_note t.1) w.in-Note.is
     ] in
-    let keeps = kept-polled setting (app_of c.self.inside.seat.me.0) (app_of c.poll-polled.new.seat.me.0) hand.app hand.note hand.entry hand.raw
-    hand.loans.items hand.filled.items c.poll-polled.new.linear c.self.invariant.2 c.poll-polled.result c.poll-polled.ensures.event in
-    let noted = subst (λ b. AppKeeps setting (app_of c.poll-polled.new.seat.me.0) hand.app (if b then (hand.note + 1) % setting.places else hand.note)
-    hand.entry hand.raw hand.loans.items hand.filled.items) is keeps in (
-      c.poll-polled.ensures.table ∙ c.self.invariant.0,
-      c.poll-polled.ensures.app,
-      rw (c.slot_after-self-inside.ensures, places) noted,
-    )
+    let keeps = kept-polled setting c.self.inside.app.side c.poll-polled.new.app.side hand.note hand.entry hand.raw
+    hand.loans.items hand.filled.items c.poll-polled.new.linear c.self.invariant c.poll-polled.result c.poll-polled.ensures.event in
+    let noted = subst (λ b. AppKeeps setting c.poll-polled.new.app.side (if b then (hand.note + 1) % setting.places else hand.note)
+    hand.entry hand.raw hand.loans.items hand.filled.items) is keeps in
+    rw (c.poll-polled.ensures.board, c.slot_after-self-inside.ensures, places) noted
 
 pub invariant_of-self-else-matches : goal.invariant_of-self-else-matches
 invariant_of-self-else-matches c =
     let hand = c.self.inside.hand in
-    let setting = c.self.inside.board.now.setting in
+    let setting = c.self.inside.app.board.setting in
     let is : is_note c.poll-polled.result ≡ false =
     elim c.match-matches.branch [
       | in_default w ↦ none-noted c.poll-polled.result w.in_default.not-Note w.in_default.not-Linear
       | in-Note w ↦ absurd (let wrong : true ≡ false = sym w.matches-is ∙ c.if-matches.false in cc)
       | in-Note-2 w ↦ absurd (let wrong : true ≡ false = sym w.matches-is ∙ c.if-matches.false in cc)
     ] in
-    let keeps = kept-polled setting (app_of c.self.inside.seat.me.0) (app_of c.poll-polled.new.seat.me.0) hand.app hand.note hand.entry hand.raw
-    hand.loans.items hand.filled.items c.poll-polled.new.linear c.self.invariant.2 c.poll-polled.result c.poll-polled.ensures.event in
-    let noted = subst (λ b. AppKeeps setting (app_of c.poll-polled.new.seat.me.0) hand.app (if b then (hand.note + 1) % setting.places else hand.note)
-    hand.entry hand.raw hand.loans.items hand.filled.items) is keeps in (
-      c.poll-polled.ensures.table ∙ c.self.invariant.0,
-      c.poll-polled.ensures.app,
-      noted,
-    )
+    let keeps = kept-polled setting c.self.inside.app.side c.poll-polled.new.app.side hand.note hand.entry hand.raw
+    hand.loans.items hand.filled.items c.poll-polled.new.linear c.self.invariant c.poll-polled.result c.poll-polled.ensures.event in
+    let noted = subst (λ b. AppKeeps setting c.poll-polled.new.app.side (if b then (hand.note + 1) % setting.places else hand.note)
+    hand.entry hand.raw hand.loans.items hand.filled.items) is keeps in
+    rw c.poll-polled.ensures.board noted
 
 pub returns-else-matches-clause-told : goal.returns-else-matches-clause-told
 returns-else-matches-clause-told c =
-    let mine = app_of c.self.inside.seat.me.0 in
-    let setting = ap (λ b. b.setting) c.board.view_is in
-    subst (λ (s : TheApp). AppTold (λ look. AppTells look (app_gist s.side.view) s.board) s.side.view (app_of c.poll-polled.new.seat.me.0).view)
+    let mine = c.self.inside.app.side in
+    subst (λ (s : TheApp). AppTold (λ look. AppTells look (app_gist s.side.view) s.board) s.side.view c.poll-polled.new.app.side.view)
     c.self.view_is
-    (told-polled (λ look. AppTells look (app_gist mine.view) c.self.inside.board.now) mine (app_of c.poll-polled.new.seat.me.0)
+    (told-polled (λ look. AppTells look (app_gist mine.view) c.self.inside.app.board) mine c.poll-polled.new.app.side
     c.poll-polled.new.linear c.poll-polled.result c.poll-polled.ensures.event
-    (λ none. subst (λ (s : Setting). SawNotEnded s (app_gist mine.view) × SawNoNote s (app_gist mine.view)) setting (c.poll-polled.ensures.told none))
+    c.poll-polled.ensures.told
     tt)

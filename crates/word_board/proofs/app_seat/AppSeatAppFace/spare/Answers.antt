@@ -1,21 +1,18 @@
 -- A spare is given whose buffer holds nothing of the application.
-use Rattle.std.proofs.Common.{◌∙◌, [], refl, ap, sym, subst}
+use Rattle.std.proofs.Common.{refl, ap, sym, subst}
 use Rattle.area_layout.specs.Layout.{IsLayout}
 use Rattle.board_face.proofs.TokenLemmas.{FitsBuffer-fresh}
 use Rattle.board_face.specs.declared.views.app.AppSide.{AppSide}
-use Rattle.ref_words.specs.Seated.{app_view}
-use Rattle.word_board.specs.Board.{TheBoard, TheApp, app_of}
-use Rattle.word_board.proofs.SparesKept.{keeps-view, given-there, AppKeeps-got_spare}
+use Rattle.word_board.specs.Board.{TheApp}
+use Rattle.word_board.proofs.SparesKept.{given-there, AppKeeps-got_spare}
 use Rattle.board_face.specs.AppEvents.{app_saw, app_gist}
-use Rattle.board_face.specs.Sides.{app_at}
 use Rattle.board_face.specs.Looks.{AppTold}
 use Rattle.board_face.specs.NotNow.{HasUsedReserve}
 use Rattle.board_face.specs.declared.views.parts.Setting.{Setting}
 use Rattle.board_face.specs.declared.views.app.AppLook.TheVariants.{NoSpare}
 use Rattle.board_face.proofs.LookLemmas.{AppTold-one}
-use Rattle.word_board.specs.Hands.{AppKeeps}
-use Rattle.word_board.specs.Told.{AppTells, SawNoneListed, SawReserveHeld, IsFirstSeen}
-use Rattle.word_board.proofs.AppKept.{kept-saw, sits}
+use Rattle.word_board.specs.Told.{AppTells}
+use Rattle.word_board.proofs.AppKept.{kept-saw}
 use Rattle.word_board.proofs.Implied.{used-reserve}
 use Rattle.word_board.proofs.Telling.{told-spare, if-none}
 use Rattle.word_board.proofs.app_seat.AppSeatAppFace.spare.Goals as goal
@@ -28,62 +25,54 @@ new-requires c =
 pub put-requires : goal.put-requires
 put-requires c =
     let got = c.in_ok-buffer.ensures.event.got in
-    let same = ap (λ (b : TheBoard). b.setting.layout) c.board.view_is in
-    let sound : IsLayout c.self.inside.board.now.setting.layout = subst IsLayout same c.layout-layout.ensures.sound in
-    given-there _ _ _ _ _ _ _ _ c.self.invariant.2 c.in_ok-buffer.buffer got.apart got.buffer sound
+    let same = ap (λ (s : Setting). s.layout) c.map.ensures in
+    let sound : IsLayout c.self.inside.app.board.setting.layout = subst IsLayout same c.layout-layout.ensures.sound in
+    given-there _ _ _ _ _ _ _ c.self.invariant c.in_ok-buffer.buffer got.apart got.buffer sound
 
 pub invariant_of-self-2 : goal.invariant_of-self-2
 invariant_of-self-2 c =
     let did = c.in_ok-buffer.ensures in
     let got = did.event.got in
-    let same = ap (λ (b : TheBoard). b.setting.layout) c.board.view_is in
-    let sound : IsLayout c.self.inside.board.now.setting.layout = subst IsLayout same c.layout-layout.ensures.sound in (
-      did.table ∙ c.self.invariant.0,
-      did.app,
-      keeps-view _ _ (did.app ∙ ap (λ (a : AppSide). (app_view a, [])) did.event.event) _ _ _ _ _ _ _ _ _ refl c.put.ensures
-          (AppKeeps-got_spare _ _ _ _ _ _ _ _ c.self.invariant.2 c.in_ok-buffer.buffer got.apart got.buffer sound),
-    )
+    let same = ap (λ (s : Setting). s.layout) c.map.ensures in
+    let sound : IsLayout c.self.inside.app.board.setting.layout = subst IsLayout same c.layout-layout.ensures.sound in
+    rw (did.board, did.event.event, c.put.ensures) (AppKeeps-got_spare _ _ _ _ _ _ _ c.self.invariant c.in_ok-buffer.buffer got.apart got.buffer sound)
 
 -- no spare is there
 
 pub invariant_of-self : goal.invariant_of-self
 invariant_of-self c =
     let did = c.in_err-buffer.ensures in
-    let mine = app_of c.self.inside.seat.me.0 in
+    let mine = c.self.inside.app.side in
     let hand = c.self.inside.hand in
-    let setting = c.self.inside.board.now.setting in
-    let keeps = kept-saw setting mine hand.app hand.note hand.entry hand.raw hand.loans.items hand.filled.items c.self.invariant.2 NoSpare in
-    let searched = ap (λ ws. record { view = app_saw mine.view NoSpare; inside = record mine.inside { words_without = ws } })
-    (sym c.self.invariant.2.rests.searched.0) in
-    sits (λ app. AppKeeps setting app hand.app hand.note hand.entry hand.raw hand.loans.items hand.filled.items) c.take_spare.new.seat.table_id
-    c.self.inside.seat.table_id c.self.inside.board.now.table c.take_spare.new.seat.me (app_at mine (app_saw mine.view NoSpare))
-    did.table c.self.invariant.0 (did.app ∙ ap (λ (a : AppSide). (app_view a, [])) (did.event.event ∙ searched)) keeps
+    let setting = c.self.inside.app.board.setting in
+    let keeps = kept-saw setting mine hand.note hand.entry hand.raw hand.loans.items hand.filled.items c.self.invariant NoSpare in
+    let searched = ap {B = AppSide} (λ ws. record { view = app_saw mine.view NoSpare; inside = record mine.inside { words_without = ws } })
+    (sym c.self.invariant.rests.searched.0) in
+    rw (did.board, did.event.event, searched) keeps
 
 pub returns-in_err-buffer-clause-held : goal.returns-in_err-buffer-clause-held
 returns-in_err-buffer-clause-held c =
     if-none c.from_residual.result _
     (subst (λ (s : TheApp). HasUsedReserve s.side.view) c.self.view_is
-    (used-reserve _ (app_of c.self.inside.seat.me.0).view c.in_err-buffer.ensures.told.1))
+    (used-reserve _ c.self.inside.app.side.view c.in_err-buffer.ensures.told.1))
 
 pub returns-in_err-buffer-clause-told : goal.returns-in_err-buffer-clause-told
 returns-in_err-buffer-clause-told c =
-    let mine = app_of c.self.inside.seat.me.0 in
+    let mine = c.self.inside.app.side in
     let did = c.in_err-buffer.ensures in
-    let setting = ap (λ (b : TheBoard). b.setting) c.board.view_is in
-    subst (λ (s : TheApp). AppTold (λ look. AppTells look (app_gist s.side.view) s.board) s.side.view (app_of c.take_spare.new.seat.me.0).view)
+    subst (λ (s : TheApp). AppTold (λ look. AppTells look (app_gist s.side.view) s.board) s.side.view c.take_spare.new.app.side.view)
     c.self.view_is
-    (AppTold-one (λ look. AppTells look (app_gist mine.view) c.self.inside.board.now) mine.view (app_of c.take_spare.new.seat.me.0).view NoSpare
+    (AppTold-one (λ look. AppTells look (app_gist mine.view) c.self.inside.app.board) mine.view c.take_spare.new.app.side.view NoSpare
     (ap (λ (a : AppSide). a.view.looks) did.event.event)
-    (subst (λ (s : Setting). SawNoneListed s (app_gist mine.view) × SawReserveHeld s (app_gist mine.view)) setting did.told))
+    did.told)
 
 -- a spare is told of
 
 pub returns-clause-told : goal.returns-clause-told
 returns-clause-told c =
-    let mine = app_of c.self.inside.seat.me.0 in
+    let mine = c.self.inside.app.side in
     let did = c.in_ok-buffer.ensures in
-    let setting = ap (λ (b : TheBoard). b.setting) c.board.view_is in
-    subst (λ (s : TheApp). AppTold (λ look. AppTells look (app_gist s.side.view) s.board) s.side.view (app_of c.take_spare.new.seat.me.0).view)
+    subst (λ (s : TheApp). AppTold (λ look. AppTells look (app_gist s.side.view) s.board) s.side.view c.take_spare.new.app.side.view)
     c.self.view_is
-    (told-spare c.self.inside.board.now.setting c.self.inside.board.now mine (app_of c.take_spare.new.seat.me.0) c.in_ok-buffer.buffer refl
-    c.self.invariant.2.set did.event (subst (λ (s : Setting). IsFirstSeen s (app_gist mine.view) c.in_ok-buffer.buffer) setting did.told))
+    (told-spare c.self.inside.app.board.setting c.self.inside.app.board mine c.take_spare.new.app.side c.in_ok-buffer.buffer refl
+    c.self.invariant.set did.event did.told)

@@ -1,5 +1,5 @@
 -- The desk has the seat's hand until it is given; its seat tells the same of the role.
-use Rattle.std.proofs.Common.{◌≡◌, ℕ, ◌+◌, ◌<◌, Bool, true, false, List, [], ◌∷◌, length, map, set, get_or, ap, refl, sym, ◌∙◌, arith, subst}
+use Rattle.std.proofs.Common.{◌≡◌, ℕ, ◌+◌, ◌<◌, Bool, true, false, List, ◌∷◌, length, map, set, get_or, ap, sym, ◌∙◌, arith, subst}
 use Rattle.std.proofs.Common.{Option, is_none, IfSome}
 use Rattle.std.proofs.lemmas.List.{length-set, length-map}
 use Rattle.atomic_table.specs.Table.{Me}
@@ -7,13 +7,11 @@ use Rattle.atomic_table.specs.Seated.{TableId}
 use Rattle.board_face.specs.NicCalls.{apps_of}
 use Rattle.board_face.specs.Opened.{new_app}
 use Rattle.board_face.specs.declared.views.parts.Setting.{Setting}
-use Rattle.board_face.specs.declared.views.app.AppSide.{AppSide}
 use Rattle.ref_words.specs.declared.view.View.{View}
-use Rattle.ref_words.specs.Seated.{app_view, dealt_out}
+use Rattle.ref_words.specs.Seated.{dealt_out}
 use Rattle.word_board.specs.declared.hands.AppHand.{AppHand}
 use Rattle.word_board.specs.Board.{TheBoard, TheDesk, app_of, gave_role}
 use Rattle.word_board.specs.Hands.{IsNew}
-use Rattle.word_board.proofs.SparesKept.{keeps-view}
 use Rattle.word_board.proofs.Dealing.{HasDealt-given, undealt}
 use Rattle.word_board.proofs.HandsGiven.{given-set, given-before, none-left, at-some, not-given, rest-kept, AppKeeps-new}
 use Rattle.word_board.proofs.board.WordBoard.app.Goals as goal
@@ -59,20 +57,20 @@ deal_role-seat-requires-clause-fresh c =
     undealt (desk.nic_given ∷ map is_none hands) desk.seat.me.0 (1 + a) c.desk.invariant.2
     (not-given desk.nic_given hands a _ _ c.index_mut-kept.ensures.value some there)
 
-pub new-requires-clause-keeps : goal.new-requires-clause-keeps
-new-requires-clause-keeps c =
+pub new-requires-2 : goal.new-requires-2
+new-requires-2 c =
     let desk = c.desk.inside in
     let a : ℕ = c.args.app in
     let hands : List (Option AppHand) = desk.hands.items in
     let setting : desk.setting ≡ c.args.self.now.setting = ap (λ (d : TheDesk). d.board.setting) c.desk.view_is ∙ ap (λ (b : TheBoard). b.setting) c.requires.desk in
     let there = in-hands _ _ _ _ _ c.desk.view_is c.requires.desk c.desk.invariant.3 c.requires.app in
     let some = sym c.take.ensures.value ∙ c.in_ok-hand.was in
-    let IsOf : Setting → AppHand → Type 0 = λ s hand. IsNew s a hand.app hand.note hand.entry hand.raw hand.loans.items hand.filled.items in
+    let IsOf : Setting → AppHand → Type 0 = λ s hand. IsNew s hand.note hand.entry hand.raw hand.loans.items hand.filled.items in
     let new : IsOf desk.setting c.in_ok-hand.hand = subst (λ (k : Option AppHand). IfSome k (IsOf desk.setting))
     (at-some desk.nic_given hands a _ _ c.index_mut-kept.ensures.value some there) (c.desk.invariant.4 a) in
-    let sits = c.take_app_role.ensures.me ∙ ap (λ (b : TheBoard). (app_view (new_app b.setting a), [])) c.self.view_is in
-    keeps-view _ _ sits _ _ _ _ _ _ _ _ _ refl refl
-    (AppKeeps-new c.args.self.now.setting a _ _ _ _ _ _ c.requires.app (subst (λ s. IsOf s c.in_ok-hand.hand) setting new))
+    let own = ap (λ (b : TheBoard). b.setting) c.self.view_is in
+    rw (c.new.ensures, c.take_app_role.ensures.me, own)
+    (AppKeeps-new c.args.self.now.setting a _ _ _ _ _ c.requires.app (subst (λ s. IsOf s c.in_ok-hand.hand) setting new))
 
 pub invariant_of-desk-2 : goal.invariant_of-desk-2
 invariant_of-desk-2 c =
@@ -86,7 +84,7 @@ invariant_of-desk-2 c =
     let given : List Bool = desk.nic_given ∷ map is_none hands in
     let role-there : 1 + a < length given = omega (arith, there, length-map hands is_none) in
     let view : c.deal_role-seat.new.desk.me.0 ≡ dealt_out (1 + a) desk.seat.me.0 = ap (λ (me : Me (Unit {0}) View). me.0) did.desk in
-    let IsOf : ℕ → AppHand → Type 0 = λ b hand. IsNew desk.setting b hand.app hand.note hand.entry hand.raw hand.loans.items hand.filled.items in (
+    let IsOf : ℕ → AppHand → Type 0 = λ _ hand. IsNew desk.setting hand.note hand.entry hand.raw hand.loans.items hand.filled.items in (
       did.number ∙ was.0,
       ap (λ (me : Me (Unit {0}) View). me.1) did.desk ∙ was.1,
       rw (c.take.ensures.after, view, given-set desk.nic_given hands a)
@@ -116,6 +114,7 @@ returns c =
     let then : List Bool = desk.nic_given ∷ map is_none (set hands a c.take.new.self) in
     let given : then ≡ set (desk.nic_given ∷ map is_none hands) (1 + a) true = rw c.take.ensures.after (given-set desk.nic_given hands a) in
     let sits = c.take_app_role.ensures.me in
+    let board : TheBoard = record { table = c.self.inside.words.table.shared.table_id; setting = c.self.inside.words.map } in
     record {
       given = (
         ap (λ (d : TheDesk). get_or d.given (1 + a) false) (sym c.desk.view_is)
@@ -124,7 +123,7 @@ returns c =
             ∙ (ap (λ g. made desk.seat.table_id g c.deal_role-seat.new.desk.me.0) given
             ∙ (ap (λ (me : Me (Unit {0}) View). made desk.seat.table_id (set (desk.nic_given ∷ map is_none hands) (1 + a) true) me.0) did.desk
             ∙ ap (λ (d : TheDesk). gave_role d (1 + a)) c.desk.view_is)),
-        c.new.ensures ∙ ap (λ (s : AppSide). record { board = c.args.self.now; side = s })
-            (ap (λ (me : Me (Unit {0}) View). app_of me.0) sits ∙ ap (λ (b : TheBoard). new_app b.setting a) c.self.view_is),
+        c.new-2.ensures ∙ (c.new.ensures ∙ (ap (λ (me : Me (Unit {0}) View). record { board = board; side = app_of me.0 }) sits
+            ∙ ap (λ (b : TheBoard). record { board = b; side = new_app b.setting a }) c.self.view_is)),
       );
     }

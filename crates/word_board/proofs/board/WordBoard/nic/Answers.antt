@@ -1,10 +1,7 @@
 -- The desk's flag and its seat tell the same of the role that was given, and the rest of the desk is as it was.
-use Rattle.std.proofs.Common.{rules, ◌≡◌, true, false, [], ◌∷◌, replicate, map, ap, sym, ◌∙◌, arith, subst}
+use Rattle.std.proofs.Common.{rules, ◌≡◌, true, false, ◌∷◌, map, ap, sym, ◌∙◌, arith, subst}
 use Rattle.std.specs.Prelude.{is_none}
-use Rattle.board_face.specs.NicCalls.{apps_of}
-use Rattle.board_face.specs.Opened.{unseen}
-use Rattle.word_board.specs.Board.{HasDealt, card_of}
-use Rattle.word_board.specs.Hands.{KnowsLeft}
+use Rattle.word_board.specs.Board.{HasDealt}
 use Rattle.word_board.proofs.LeftKept.{KnowsLeft-new}
 use Rattle.word_board.specs.Desk.{AreOver, cache_back}
 use Rattle.word_board.proofs.Dealing.{HasDealt-given}
@@ -29,11 +26,6 @@ invariant_of-desk c =
       was.9,
     )
 
-pub new-requires-2-clause-left : goal.new-requires-2-clause-left
-new-requires-2-clause-left c =
-    let setting = c.args.self.now.setting in
-    let map = c.self.inside.words.map in
-    let none : KnowsLeft setting [] (replicate (apps_of map) unseen) (replicate 2048 0) =
-    subst (λ s. KnowsLeft s [] (replicate (apps_of map) unseen) (replicate 2048 0)) (ap (λ b. b.setting) c.self.view_is) (KnowsLeft-new map) in
-    subst (λ m. KnowsLeft setting (card_of m.0).view.sent (card_of m.0).inside.note_slots c.new.result.filled.counts) (sym c.take_card_role.ensures.me)
-    (subst (λ counts. KnowsLeft setting [] (replicate (apps_of map) unseen) counts) (sym c.new.ensures.filled) none)
+pub new-requires-3-clause-left : goal.new-requires-3-clause-left
+new-requires-3-clause-left c =
+    rw (c.new.ensures, c.take_card_role.ensures.me, c.new-2.ensures.filled) (KnowsLeft-new c.self.inside.words.map)

@@ -21,19 +21,18 @@ loop-app-preserved c =
     let h = c.loop-app.invariant in
     let hand = c.in_ok-new.field-0 in
     let made = c.in_ok-new.ensures in
-    let n = c.loop-app.app in
+    let n = c.loop-app._app in
     let setting = c.args.setting in
     let keeps : ℕ → Option AppHand → Type 0 = λ a o. IfSome o
-    (λ hand. IsNew setting a hand.app hand.note hand.entry hand.raw hand.loans.items hand.filled.items) in
-    let new : IsNew setting n hand.app hand.note hand.entry hand.raw hand.loans.items hand.filled.items = record {
-      is = made.slots.0;
-      slots = (made.slots.1, made.slots.2, made.slots.3);
+    (λ hand. IsNew setting hand.note hand.entry hand.raw hand.loans.items hand.filled.items) in
+    let new : IsNew setting hand.note hand.entry hand.raw hand.loans.items hand.filled.items = record {
+      slots = made.slots;
       none_out = made.loans;
       none_filled = made.filled;
     } in
     rw c.in_ok-push.ensures.items (record {
       many = omega (arith, length-append c.loop-app.hands.items (Some hand ∷ []), h.many);
-      fresh = hands-push keeps (λ a. tt) c.loop-app.hands.items hand h.fresh (subst (λ k. keeps k (Some hand)) (sym h.many) new);
+      fresh = hands-push keeps (λ a. tt) c.loop-app.hands.items hand h.fresh new;
       untaken = none-given c.loop-app.hands.items hand n h.untaken;
     })
 
@@ -42,11 +41,11 @@ invariant_of-result c =
     let h = c.loop-app.invariant in
     let setting = c.args.setting in
     let view = ap (λ me. me.0) c.requires.role in
-    let many : c.loop-app.app ≡ apps_of setting = omega (arith, c.buffers-buffers.ensures.value, c.total.ensures.value) in (
+    let many : c.loop-app._app ≡ apps_of setting = omega (arith, c.buffers-buffers.ensures.value, c.total.ensures.value) in (
       c.requires.number,
       ap (λ me. me.1) c.requires.role,
       (λ r. ap (λ (v : View). times_in {V = View} (λ v. v.dealt) (λ x. x) r v.dealt) view
-          ∙ sym (ap (λ bs. weight (get_or (false ∷ bs) r false)) h.untaken ∙ HasDealt-none (suc c.loop-app.app) r)),
+          ∙ sym (ap (λ bs. weight (get_or (false ∷ bs) r false)) h.untaken ∙ HasDealt-none (suc c.loop-app._app) r)),
       h.many ∙ many,
       h.fresh,
       subst AreOver (sym view) (record { card = All-nil CardIsOver; apps = All-nil AppIsOver; due = refl }),
@@ -59,5 +58,5 @@ invariant_of-result c =
 pub returns : goal.returns
 returns c =
     let h = c.loop-app.invariant in
-    let many : c.loop-app.app ≡ apps_of c.args.setting = omega (arith, c.buffers-buffers.ensures.value, c.total.ensures.value) in
+    let many : c.loop-app._app ≡ apps_of c.args.setting = omega (arith, c.buffers-buffers.ensures.value, c.total.ensures.value) in
     rw (ap (λ me. me.0) c.requires.role, h.untaken, many, none-more (apps_of c.args.setting)) refl

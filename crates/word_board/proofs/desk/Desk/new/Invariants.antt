@@ -6,8 +6,8 @@ use Rattle.word_board.proofs.desk.Desk.new.Given as goal
 
 abbrev pub invariant-loop-app : goal.invariant-loop-app
 invariant-loop-app l = record {
-  many : length l.hands.items ≡ l.app;
+  many : length l.hands.items ≡ l._app;
   fresh : (a : ℕ) → IfSome (slice_index_or l.hands.items a None)
-      (λ hand. IsNew l.setting a hand.app hand.note hand.entry hand.raw hand.loans.items hand.filled.items);
-  untaken : map is_none l.hands.items ≡ replicate l.app false;
+      (λ hand. IsNew l.setting hand.note hand.entry hand.raw hand.loans.items hand.filled.items);
+  untaken : map is_none l.hands.items ≡ replicate l._app false;
 }

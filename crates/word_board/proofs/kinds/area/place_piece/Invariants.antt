@@ -1,8 +1,6 @@
--- What the step leaves the seat, by the number that it found.
+-- The side after the step, by the number that it found.
 use Rattle.ref_words.specs.AreaSteps.{side_piece_placed}
-use Rattle.ref_words.specs.Seated.{card_view}
-use Rattle.word_board.specs.Board.{card_of}
 use Rattle.word_board.proofs.kinds.area.place_piece.Given as goal
 
-abbrev pub ghosts-swap_as : goal.ghosts-swap_as
-ghosts-swap_as a = record { after = λ n. card_view (side_piece_placed (card_of a.seat.now.me.0) a.about.0 a.about.1.now); told = λ _. Unit {0} }
+abbrev pub ghosts-swap : goal.ghosts-swap
+ghosts-swap a = record { after = λ n. side_piece_placed a.self.now.side a.about.0 a.about.1.now; told = λ _. Unit {0} }

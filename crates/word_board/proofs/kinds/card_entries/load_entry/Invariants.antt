@@ -1,8 +1,6 @@
--- What the step leaves the seat, by the number that it found.
+-- The side after the step, by the number that it found.
 use Rattle.board_face.specs.SlotSteps.{side_entry_loaded}
-use Rattle.ref_words.specs.Seated.{card_view}
-use Rattle.word_board.specs.Board.{card_of}
 use Rattle.word_board.proofs.kinds.card_entries.load_entry.Given as goal
 
-abbrev pub ghosts-load_as : goal.ghosts-load_as
-ghosts-load_as a = record { after = λ n. card_view (side_entry_loaded (card_of a.seat.now.me.0) a.about n); told = λ _. Unit {0} }
+abbrev pub ghosts-load : goal.ghosts-load
+ghosts-load a = record { after = λ n. side_entry_loaded a.self.now.side a.about n; told = λ _. Unit {0} }

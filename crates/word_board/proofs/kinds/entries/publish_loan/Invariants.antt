@@ -1,8 +1,6 @@
--- What the step leaves the seat, by the number that it found.
+-- The side after the step, by the number that it found.
 use Rattle.board_face.specs.SlotSteps.{side_gave}
-use Rattle.ref_words.specs.Seated.{app_view}
-use Rattle.word_board.specs.Board.{app_of}
 use Rattle.word_board.proofs.kinds.entries.publish_loan.Given as goal
 
-abbrev pub ghosts-swap_as : goal.ghosts-swap_as
-ghosts-swap_as a = record { after = λ n. app_view (side_gave (app_of a.seat.now.me.0) a.about); told = λ _. Unit {0} }
+abbrev pub ghosts-swap : goal.ghosts-swap
+ghosts-swap a = record { after = λ n. side_gave a.self.now.side a.about; told = λ _. Unit {0} }

@@ -1,42 +1,23 @@
-use Rattle.std.proofs.Common.{◌≡◌, ◌+◌, ◌<◌, length, refl, ap, sym, ◌∙◌, subst}
-use Rattle.board_face.specs.NicCalls.{apps_of}
-use Rattle.board_face.specs.SlotSteps.{side_refill_stored}
-use Rattle.board_face.specs.declared.views.parts.Setting.{Setting}
+use Rattle.std.proofs.Common.{◌+◌, ◌<◌, length, refl, subst}
 use Rattle.word_rings.specs.Slots.{refill_width}
-use Rattle.ref_words.specs.Words.{refill_at}
 use Rattle.ref_words.specs.Rings.{writes_entry_at}
-use Rattle.ref_words.specs.Seated.{app_view}
-use Rattle.word_board.specs.Board.{app_of}
-use Rattle.word_board.proofs.Stepping.{app-step, stores-refill}
+use Rattle.word_board.proofs.Stepping.{stores-refill}
 use Rattle.word_board.proofs.kinds.entries.store_refill.Goals as goal
 
-pub swap_as-requires-clause-allows : goal.swap_as-requires-clause-allows
-swap_as-requires-clause-allows c =
-    let words = c.args.words.now in
-    let setting = words.table.shared.key in
-    let mine = app_of c.args.seat.now.me.0 in
+pub swap-requires-clause-may : goal.swap-requires-clause-may
+swap-requires-clause-may c =
+    let setting = c.args.app.now.board.setting in
+    let mine = c.args.app.now.side in
     let a = mine.view.app in
     let s = writes_entry_at setting mine in
     let i = 1 + length mine.inside.refill_slot.words in
-    let next_slot = subst (λ (k : Setting). c.args.slot ≡ writes_entry_at k mine) words.keyed c.requires.next in
-    let at : c.refill-word.result ≡ refill_at setting a s i = c.refill-word.ensures.value
-    ∙ (ap (λ k. refill_at k c.args.app c.args.slot c.args.at) words.keyed
-    ∙ (ap (λ k. refill_at setting k c.args.slot c.args.at) (sym c.requires.number)
-    ∙ (ap (λ k. refill_at setting a k c.args.at) next_slot ∙ ap (λ k. refill_at setting a s k) c.requires.so_far))) in
-    let few : a < apps_of setting = subst (λ k. k < apps_of setting) (sym c.requires.number) (subst
-    (λ k. c.args.app < apps_of k) words.keyed c.requires.few) in
-    let within : s < setting.places = subst (λ k. k < setting.places) next_slot (subst (λ
-    (k : Setting). c.args.slot < k.places) words.keyed c.requires.within) in
+    let within : s < setting.places = subst (λ k. k < setting.places) c.requires.next c.requires.within in
     let more = subst (λ k. k < refill_width) c.requires.so_far c.requires.more in
-    app-step setting words.table.shared.table_id.slots c.args.seat.now.id c.refill-word.result (λ _. c.args.n) (λ _. Unit {0}) mine
-    (λ _. side_refill_stored mine c.args.n) (λ n. refl)
-    (λ ws nic apps rule here small.
-    let law = c.k14.ensures.entry setting ws nic apps mine c.args.n rule here c.requires.seen more in (
-      stores-refill setting ws a s i c.refill-word.result at few within more rule c.args.n law,
-      tt,
-    ))
-    c.args.seat.now.me c.requires.app
-
-pub returns-clause-event : goal.returns-clause-event
-returns-clause-event c = c.swap_as.ensures.me
-    ∙ ap (λ xs. (app_view (side_refill_stored (app_of c.args.seat.now.me.0) c.args.n), xs)) (ap (λ me. me.1) c.requires.app)
+    record {
+      number = λ n. refl;
+      step = λ ws nic apps rule here small.
+          let law = c.k14.ensures.entry setting ws nic apps mine c.args.n rule here c.requires.seen more in (
+            stores-refill setting ws a s i c.refill-word.result (cc) c.number.ensures.here within more rule c.args.n law,
+            tt,
+          );
+    }

@@ -1,48 +1,43 @@
-use Rattle.std.proofs.Common.{rules, ◌≡◌, ℕ, ◌+◌, ◌*◌, ◌<◌, ◌≤◌, List, [], length, take, drop, get_or, map, max, refl, ap, sym, ◌∙◌, subst, arith}
+use Rattle.std.proofs.Common.{rules, ◌≡◌, ℕ, ◌+◌, ◌<◌, List, [], length, take, drop, get_or, max, refl, ap, sym, ◌∙◌, subst, arith}
 use Rattle.std.proofs.lemmas.List.{get_or_default}
-use Rattle.std.proofs.lemmas.List.Elements.{All-contains, All-map}
 use Rattle.zr_kinds.specs.declared.place.Note.{Note}
-use Rattle.zr_kinds.specs.declared.place.Place.{Place}
-use Rattle.area_layout.specs.Layout.{area_of_buffer, pool_buffers}
 use Rattle.board_face.specs.SlotSteps.{next_slot, at_note, seen_with, side_sent_linear}
-use Rattle.board_face.specs.declared.views.nic.PlacedText.{PlacedText}
 use Rattle.board_face.specs.declared.views.parts.Slot.{Slot}
 use Rattle.word_rings.specs.Slots.{note_body}
 use Rattle.word_rings.specs.Texts.{text_count}
 use Rattle.word_rings.proofs.NoteSlots.{note-blank, blank-later}
 use Rattle.ref_words.specs.Rings.{note_so_far}
-use Rattle.ref_words.specs.Seated.{card_view}
-use Rattle.word_board.specs.Board.{card_of}
+use Rattle.word_board.specs.Board.{TheNic}
 use Rattle.word_board.proofs.NoteFilled.{again, slot-is, filled-so, sent-linear-so}
 use Rattle.word_board.proofs.kinds.notes.send_linear.Goals as goal
 
 pub publish_linear-requires-clause-seen : goal.publish_linear-requires-clause-seen
 publish_linear-requires-clause-seen c =
-    let card = card_of c.args.seat.now.me.0 in
+    let card = c.args.card.now.side in
     let a : ℕ = c.args.app in
     let there : a < length card.inside.note_slots = subst (λ n. a < n) (sym c.if-not-look_note.ensures.slots) c.requires.app in
     let slot = seen_with (take (6 + c.max.result) (drop 1 c.note_words-body.result)) in
     let looked = c.if-not-look_note.ensures.event in
-    let stored = c.store_words.ensures.event
-    ∙ (ap (λ me. (card_view (at_note (card_of me.0) a slot), [])) looked ∙ ap (λ s. (card_view s, [])) (again card a there (seen_with []) slot)) in
-    ap (λ me. (next_slot (card_of me.0).inside.note_slots a).seen) stored ∙ ap (λ (s : Slot). s.seen) (slot-is card a there slot)
+    let stored = c.store_words.ensures
+    ∙ (ap (λ (me : TheNic). (record me { side = at_note me.side a slot })) looked ∙ ap (λ s. (record c.args.card.now { side = s })) (again card a there (seen_with []) slot)) in
+    ap (λ (me : TheNic). (next_slot me.side.inside.note_slots a).seen) stored ∙ ap (λ (s : Slot). s.seen) (slot-is card a there slot)
 
 pub publish_linear-requires-clause-words : goal.publish_linear-requires-clause-words
 publish_linear-requires-clause-words c =
-    let setting = c.args.words.now.map in
-    let card = card_of c.args.seat.now.me.0 in
+    let setting = c.args.card.now.board.setting in
+    let card = c.args.card.now.side in
     let a : ℕ = c.args.app in
     let there : a < length card.inside.note_slots = subst (λ n. a < n) (sym c.if-not-look_note.ensures.slots) c.requires.app in
     let slot = seen_with (take (6 + c.max.result) (drop 1 c.note_words-body.result)) in
     let looked = c.if-not-look_note.ensures.event in
-    let stored = c.store_words.ensures.event
-    ∙ (ap (λ me. (card_view (at_note (card_of me.0) a slot), [])) looked ∙ ap (λ s. (card_view s, [])) (again card a there (seen_with []) slot)) in
+    let stored = c.store_words.ensures
+    ∙ (ap (λ (me : TheNic). (record me { side = at_note me.side a slot })) looked ∙ ap (λ s. (record c.args.card.now { side = s })) (again card a there (seen_with []) slot)) in
     let body = note_body c.args.note c.args.bytes.now 0 in
     let is : drop 1 c.note_words-body.result ≡ body = ap (drop 1) c.note_words-body.ensures.words in
     let count : ℕ = text_count (length c.args.bytes.now) in
     let m : ℕ = c.max.result in
     let most : m ≡ max count c.args.left = c.max.ensures ∙ ap (λ n. max n c.args.left) c.payload_words.ensures in
-    ap (λ me. note_so_far setting (card_of me.0) a) stored
+    ap (λ (me : TheNic). note_so_far me.board.setting me.side a) stored
     ∙ (ap (λ ws. note_so_far setting (at_note card a (seen_with (take (6 + m) ws))) a) is
     ∙ filled-so card a there setting body (6 + m) m (long c.args.note c.args.bytes.now 0) refl
     (omega (arith, c.requires.left, c.requires.fields.few_bytes, c.requires.bytes)) (note-blank c.args.note c.args.bytes.now 0 m (omega arith))
@@ -53,16 +48,16 @@ publish_linear-requires-clause-words c =
 
 pub returns-clause-event : goal.returns-clause-event
 returns-clause-event c =
-    let card = card_of c.args.seat.now.me.0 in
+    let card = c.args.card.now.side in
     let a : ℕ = c.args.app in
     let there : a < length card.inside.note_slots = subst (λ n. a < n) (sym c.if-not-look_note.ensures.slots) c.requires.app in
     let slot = seen_with (take (6 + c.max.result) (drop 1 c.note_words-body.result)) in
     let looked = c.if-not-look_note.ensures.event in
-    let stored = c.store_words.ensures.event
-    ∙ (ap (λ me. (card_view (at_note (card_of me.0) a slot), [])) looked ∙ ap (λ s. (card_view s, [])) (again card a there (seen_with []) slot)) in
-    c.publish_linear.ensures.event
-    ∙ (ap (λ me. (card_view (side_sent_linear (card_of me.0) a c.args.note c.args.bytes.now), [])) stored
-    ∙ ap (λ side. (card_view side, [])) (sent-linear-so card a there slot c.args.note c.args.bytes.now))
+    let stored = c.store_words.ensures
+    ∙ (ap (λ (me : TheNic). (record me { side = at_note me.side a slot })) looked ∙ ap (λ s. (record c.args.card.now { side = s })) (again card a there (seen_with []) slot)) in
+    c.publish_linear.ensures
+    ∙ (ap (λ (me : TheNic). (record me { side = side_sent_linear me.side a c.args.note c.args.bytes.now })) stored
+    ∙ ap (λ side. (record c.args.card.now { side = side })) (sent-linear-so card a there slot c.args.note c.args.bytes.now))
 
 pub publish_linear-requires-clause-fits : goal.publish_linear-requires-clause-fits
 publish_linear-requires-clause-fits c = record {

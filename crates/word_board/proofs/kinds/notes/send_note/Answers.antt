@@ -1,5 +1,4 @@
-use Rattle.std.proofs.Common.{rules, ◌≡◌, ℕ, ◌+◌, ◌*◌, ◌<◌, ◌≤◌, List, [], length, take, drop, get_or, map, max, refl, ap, sym, ◌∙◌, subst, arith}
-use Rattle.std.proofs.lemmas.List.{get_or_default}
+use Rattle.std.proofs.Common.{◌≡◌, ℕ, ◌+◌, ◌<◌, List, [], length, take, drop, map, refl, ap, sym, ◌∙◌, subst, arith}
 use Rattle.std.proofs.lemmas.List.Elements.{All-contains, All-map}
 use Rattle.zr_kinds.specs.declared.place.Note.{Note}
 use Rattle.zr_kinds.specs.declared.place.Place.{Place}
@@ -7,67 +6,68 @@ use Rattle.area_layout.specs.Layout.{area_of_buffer, pool_buffers}
 use Rattle.board_face.specs.SlotSteps.{next_slot, at_note, seen_with, side_sent}
 use Rattle.board_face.specs.declared.views.nic.PlacedText.{PlacedText}
 use Rattle.board_face.specs.declared.views.parts.Slot.{Slot}
+use Rattle.board_face.specs.declared.views.parts.Setting.{Setting}
 use Rattle.word_rings.specs.Slots.{note_body}
-use Rattle.word_rings.specs.Texts.{text_count}
-use Rattle.word_rings.proofs.NoteSlots.{note-blank, blank-later}
+use Rattle.word_rings.proofs.NoteSlots.{note-blank}
 use Rattle.ref_words.specs.Rings.{note_so_far}
-use Rattle.ref_words.specs.Seated.{card_view}
-use Rattle.word_board.specs.Board.{card_of}
+use Rattle.word_board.specs.Board.{TheNic}
 use Rattle.word_board.proofs.NoteFilled.{again, slot-is, filled-so, sent-so}
 use Rattle.word_board.proofs.kinds.notes.send_note.Goals as goal
 
 -- its piece lies in a pool buffer
 pub area_of-area-requires : goal.area_of-area-requires
 area_of-area-requires c =
-    let card = card_of c.args.seat.now.me.0 in
-    let OfPool : Place → Type 0 = λ p. p.buffer < pool_buffers c.args.words.now.map.layout in
-    let mine : c.args.note.place.buffer < pool_buffers c.args.words.now.map.layout =
+    let card = c.args.card.now.side in
+    let OfPool : Place → Type 0 = λ p. p.buffer < pool_buffers c.args.card.now.board.setting.layout in
+    let mine : c.args.note.place.buffer < pool_buffers c.args.card.now.board.setting.layout =
     All-contains OfPool (map (λ (p : PlacedText). p.place) card.view.pieces) c.args.note.place
     (All-map OfPool (λ (p : PlacedText). p.place) card.view.pieces c.if-not-look_note.ensures.pieces) c.requires.out in
-    omega (arith, mine, ap pool_buffers c.layout.ensures.value)
+    omega (arith, mine, ap pool_buffers c.layout.ensures.value, ap (λ (s : Setting). pool_buffers s.layout) (c.map.ensures ∙ ap (λ (v : TheNic). v.board.setting) c.if-not-look_note.ensures.event))
 
 pub publish_note-requires-clause-seen : goal.publish_note-requires-clause-seen
 publish_note-requires-clause-seen c =
-    let card = card_of c.args.seat.now.me.0 in
+    let card = c.args.card.now.side in
     let a : ℕ = c.args.app in
     let there : a < length card.inside.note_slots = subst (λ n. a < n) (sym c.if-not-look_note.ensures.slots) c.requires.app in
     let slot = seen_with (take (6 + c.args.left) (drop 1 c.note_words-body.result)) in
     let looked = c.if-not-look_note.ensures.event in
-    let stored = c.store_words.ensures.event
-    ∙ (ap (λ me. (card_view (at_note (card_of me.0) a slot), [])) looked ∙ ap (λ s. (card_view s, [])) (again card a there (seen_with []) slot)) in
-    ap (λ me. (next_slot (card_of me.0).inside.note_slots a).seen) stored ∙ ap (λ (s : Slot). s.seen) (slot-is card a there slot)
+    let stored = c.store_words.ensures
+    ∙ (ap (λ (me : TheNic). (record me { side = at_note me.side a slot })) looked ∙ ap (λ s. (record c.args.card.now { side = s })) (again card a there (seen_with []) slot)) in
+    ap (λ (me : TheNic). (next_slot me.side.inside.note_slots a).seen) stored ∙ ap (λ (s : Slot). s.seen) (slot-is card a there slot)
 
 pub publish_note-requires-clause-words : goal.publish_note-requires-clause-words
 publish_note-requires-clause-words c =
-    let setting = c.args.words.now.map in
-    let card = card_of c.args.seat.now.me.0 in
+    let setting = c.args.card.now.board.setting in
+    let card = c.args.card.now.side in
     let a : ℕ = c.args.app in
     let there : a < length card.inside.note_slots = subst (λ n. a < n) (sym c.if-not-look_note.ensures.slots) c.requires.app in
     let slot = seen_with (take (6 + c.args.left) (drop 1 c.note_words-body.result)) in
     let looked = c.if-not-look_note.ensures.event in
-    let stored = c.store_words.ensures.event
-    ∙ (ap (λ me. (card_view (at_note (card_of me.0) a slot), [])) looked ∙ ap (λ s. (card_view s, [])) (again card a there (seen_with []) slot)) in
+    let stored = c.store_words.ensures
+    ∙ (ap (λ (me : TheNic). (record me { side = at_note me.side a slot })) looked ∙ ap (λ s. (record c.args.card.now { side = s })) (again card a there (seen_with []) slot)) in
     let area : c.area_of-area.result ≡ area_of_buffer setting.layout c.args.note.place.buffer =
-    c.area_of-area.ensures.value ∙ ap (λ l. area_of_buffer l c.args.note.place.buffer) c.layout.ensures.value in
+    c.area_of-area.ensures.value ∙ (ap (λ l. area_of_buffer l c.args.note.place.buffer) c.layout.ensures.value
+    ∙ ap (λ (s : Setting). area_of_buffer s.layout c.args.note.place.buffer) (c.map.ensures ∙ ap (λ (v : TheNic). v.board.setting) looked)) in
     let body = note_body c.args.note [] (area_of_buffer setting.layout c.args.note.place.buffer) in
     let is : drop 1 c.note_words-body.result ≡ body = ap (drop 1) c.note_words-body.ensures.words ∙ ap (note_body c.args.note []) area in
     let m : ℕ = c.args.left in
-    ap (λ me. note_so_far setting (card_of me.0) a) stored
+    ap (λ (me : TheNic). note_so_far me.board.setting me.side a) stored
     ∙ (ap (λ ws. note_so_far setting (at_note card a (seen_with (take (6 + m) ws))) a) is
-    ∙ filled-so card a there setting body (6 + m) m (long c.args.note [] (area_of_buffer setting.layout c.args.note.place.buffer)) refl c.requires.left (note-blank c.args.note [] (area_of_buffer setting.layout c.args.note.place.buffer) m (omega arith)) c.requires.blank)
+    ∙ filled-so card a there setting body (6 + m) m (long c.args.note [] (area_of_buffer setting.layout c.args.note.place.buffer)) refl c.requires.left (note-blank c.args.note [] (area_of_buffer setting.layout c.args.note.place.buffer) m (omega arith)) c.requires.blank
+    ∙ sym (ap (λ (me : TheNic). note_body c.args.note [] (area_of_buffer me.board.setting.layout c.args.note.place.buffer)) stored))
   where
     long : (n : Note) (linear : List ℕ) (area : ℕ) → length (note_body n linear area) ≡ 38
     long n linear area = refl
 
 pub returns-clause-event : goal.returns-clause-event
 returns-clause-event c =
-    let card = card_of c.args.seat.now.me.0 in
+    let card = c.args.card.now.side in
     let a : ℕ = c.args.app in
     let there : a < length card.inside.note_slots = subst (λ n. a < n) (sym c.if-not-look_note.ensures.slots) c.requires.app in
     let slot = seen_with (take (6 + c.args.left) (drop 1 c.note_words-body.result)) in
     let looked = c.if-not-look_note.ensures.event in
-    let stored = c.store_words.ensures.event
-    ∙ (ap (λ me. (card_view (at_note (card_of me.0) a slot), [])) looked ∙ ap (λ s. (card_view s, [])) (again card a there (seen_with []) slot)) in
-    c.publish_note.ensures.event
-    ∙ (ap (λ me. (card_view (side_sent (card_of me.0) a c.args.note), [])) stored
-    ∙ ap (λ side. (card_view side, [])) (sent-so card a there slot c.args.note))
+    let stored = c.store_words.ensures
+    ∙ (ap (λ (me : TheNic). (record me { side = at_note me.side a slot })) looked ∙ ap (λ s. (record c.args.card.now { side = s })) (again card a there (seen_with []) slot)) in
+    c.publish_note.ensures
+    ∙ (ap (λ (me : TheNic). (record me { side = side_sent me.side a c.args.note })) stored
+    ∙ ap (λ side. (record c.args.card.now { side = side })) (sent-so card a there slot c.args.note))

@@ -1,4 +1,4 @@
-use Rattle.std.proofs.Common.{◌≡◌, ℕ, ◌+◌, ◌-◌, ◌%◌, ◌≤◌, List, []}
+use Rattle.std.proofs.Common.{◌≡◌, ℕ, ◌+◌, ◌-◌, ◌%◌, ◌≤◌, List}
 use Rattle.std.proofs.Common.{◌++◌, length, take, drop, refl, ap, sym, ◌∙◌, subst, arith}
 use borrow.Rule.Slice.PartMut.{put_mid}
 use Rattle.std.proofs.lemmas.Slice.{take-put_mid}
@@ -8,18 +8,16 @@ use Rattle.board_face.specs.AppEvents.{loan_origin, has_read}
 use Rattle.board_face.specs.Sides.{app_at}
 use Rattle.ref_words.specs.AreaLaws.{part_of}
 use Rattle.ref_words.specs.AreaSteps.{side_loaded}
-use Rattle.ref_words.specs.Seated.{app_view}
 use Rattle.ref_words.proofs.TextsRead.{loaded-is}
-use Rattle.word_rings.specs.Texts.{word_bytes}
-use Rattle.word_board.specs.Board.{app_of}
+use Rattle.word_board.specs.Board.{TheApp}
 use Rattle.word_board.specs.Reads.{HasReadSoFar}
 use Rattle.word_board.proofs.kinds.reads.read_text.Goals as goal
 
 pub load_word-word-requires-clause-reads : goal.load_word-word-requires-clause-reads
 load_word-word-requires-clause-reads c =
-    let mine = app_of c.args.seat.now.me.0 in
+    let mine = c.args.app.now.side in
     let so_far : List ℕ = take c.loop-done.done c.loop-done.into in
-    subst (λ me. HasReadSoFar (app_of me.0).view c.args.loan c.args.from so_far) (sym c.loop-done.invariant.1)
+    subst (λ (me : TheApp). HasReadSoFar me.side.view c.args.loan c.args.from so_far) (sym c.loop-done.invariant.0)
     (record { before = mine.view.reads; is = refl })
 
 -- a slice of which a part is written is as long
@@ -38,15 +36,15 @@ length-put_mid a k xs ys long fits =
 
 pub loop-done-preserved : goal.loop-done-preserved
 loop-done-preserved c =
-    let mine = app_of c.args.seat.now.me.0 in
+    let mine = c.args.app.now.side in
     let loan = c.args.loan in
     let from : ℕ = c.args.from in
     let done : ℕ = c.loop-done.done in
     let more : ℕ = c.min-more.result in
     let so_far : List ℕ = take done c.loop-done.into in
-    let long : length so_far ≡ done = length-take-le done c.loop-done.into c.loop-done.invariant.3 in
+    let long : length so_far ≡ done = length-take-le done c.loop-done.into c.loop-done.invariant.2 in
     let part : List ℕ = part_of c.load_word-word.result ((loan.offset + (from + length so_far)) % 8) more in
-    let fits : done + more ≤ length c.loop-done.into = omega (arith, c.min-more.ensures, c.loop-done.invariant.3) in
+    let fits : done + more ≤ length c.loop-done.into = omega (arith, c.min-more.ensures, c.loop-done.invariant.2) in
     let first : ℕ = (loan.offset + from + done) % 8 in
     let there : first ≡ (loan.offset + (from + length so_far)) % 8 = omega (arith, long) in
     let size : length (take (done + more - done) (drop done c.loop-done.into)) ≡ more =
@@ -58,14 +56,13 @@ loop-done-preserved c =
     length-put_mid done (done + more - done) c.loop-done.into c.copy_part.new.into (omega (arith, many)) (omega (arith, fits)) in
     let bytes : so_far ++ part ≡ take (done + more) (put_mid done (done + more - done) c.loop-done.into c.copy_part.new.into) =
     sym (take-put_mid done (done + more - done) c.loop-done.into c.copy_part.new.into (done + more) (omega (arith, many))
-    c.loop-done.invariant.3 ∙ ap (λ xs. so_far ++ xs) same) in (
-      c.load_word-word.ensures.table ∙ c.loop-done.invariant.0,
+    c.loop-done.invariant.2 ∙ ap (λ xs. so_far ++ xs) same) in (
       c.load_word-word.ensures.event
-          ∙ (ap (λ me. (app_view (side_loaded (app_of me.0) loan from (length so_far) part), [])) c.loop-done.invariant.1
-          ∙ (ap (λ x. (app_view x, [])) (loaded-is (app_at mine (has_read mine.view loan from so_far)) loan from mine.view.reads so_far part refl)
-          ∙ ap (λ xs. (app_view (app_at mine (has_read mine.view loan from xs)), [])) bytes)),
+          ∙ (ap (λ (me : TheApp). (record me { side = side_loaded me.side loan from (length so_far) part })) c.loop-done.invariant.0
+          ∙ (ap (λ x. (record c.args.app.now { side = x })) (loaded-is (app_at mine (has_read mine.view loan from so_far)) loan from mine.view.reads so_far part refl)
+          ∙ ap (λ xs. (record c.args.app.now { side = app_at mine (has_read mine.view loan from xs) })) bytes)),
       subst (ShowsCopy (loan_origin mine.view loan) from) bytes
-          (subst (λ me. ShowsCopy (loan_origin (app_of me.0).view loan) from (so_far ++ part)) c.loop-done.invariant.1 c.load_word-word.ensures.copied),
+          (subst (λ (me : TheApp). ShowsCopy (loan_origin me.side.view loan) from (so_far ++ part)) c.loop-done.invariant.0 c.load_word-word.ensures.copied),
       omega (arith, whole, fits),
-      whole ∙ c.loop-done.invariant.4,
+      whole ∙ c.loop-done.invariant.3,
     )

@@ -1,11 +1,9 @@
--- What the step leaves the seat, by the number that it found.
+-- The side after the step, by the number that it found.
 use Rattle.std.specs.Prelude.{◌==◌, ◌≡◌, false}
 use Rattle.ref_words.specs.RestSteps.{side_raw_looked}
-use Rattle.ref_words.specs.Seated.{app_view}
 use Rattle.board_face.specs.AppEvents.{app_gist}
 use Rattle.word_board.specs.Told.{IsRawInUse, IsToldToApp}
-use Rattle.word_board.specs.Board.{app_of}
 use Rattle.word_board.proofs.kinds.rests.look_raw.Given as goal
 
-abbrev pub ghosts-load_as : goal.ghosts-load_as
-ghosts-load_as a = record { after = λ n. app_view (side_raw_looked (app_of a.seat.now.me.0) (n == 0)); told = λ n. (n == 0) ≡ false → IsToldToApp a.words.now.shared.key (app_gist (app_of a.seat.now.me.0).view) (IsRawInUse a.words.now.shared.key) }
+abbrev pub ghosts-load : goal.ghosts-load
+ghosts-load a = record { after = λ n. side_raw_looked a.self.now.side (n == 0); told = λ n. (n == 0) ≡ false → IsToldToApp a.self.now.board.setting (app_gist a.self.now.side.view) (IsRawInUse a.self.now.board.setting) }

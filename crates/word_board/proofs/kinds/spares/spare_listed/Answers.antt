@@ -3,17 +3,17 @@ use Rattle.std.proofs.Common.{[], false, ap, ◌∙◌, subst}
 use Rattle.board_face.specs.AppCalls.{HasNoneIn}
 use Rattle.board_face.specs.AppEvents.{got_spare}
 use Rattle.board_face.specs.Steps.{side_spare_begun}
-use Rattle.word_board.specs.Board.{app_of}
+use Rattle.word_board.specs.Board.{TheApp}
 use Rattle.word_board.proofs.Searching.{hands-once}
 use Rattle.word_board.proofs.kinds.spares.spare_listed.Goals as goal
 
 pub returns-clause-event : goal.returns-clause-event
 returns-clause-event c =
-    let old = app_of c.args.seat.now.me.0 in
+    let old = c.args.app.now.side in
     let b = c.in_ok-buffer.buffer in
     let found = c.in_ok-buffer.ensures.event in
     let apart = subst (λ x. HasNoneIn x.view b) found.event c.take_picked.ensures.apart in record {
-      event = ap (λ me. app_of me.0) c.take_picked.ensures.event
+      event = ap (λ (me : TheApp). me.side) c.take_picked.ensures.event
           ∙ (ap (λ x. side_spare_begun x b) found.event
           ∙ ap (λ hs. record {
             view = got_spare old.view b;

@@ -1,6 +1,6 @@
 use Rattle.std.proofs.Common.{sym, subst, ap, arith}
 use Rattle.board_face.specs.Steps.{HasSearched}
-use Rattle.word_board.specs.Board.{app_of}
+use Rattle.word_board.specs.Board.{TheApp}
 use Rattle.area_layout.specs.Layout.{pool_buffers}
 use Rattle.board_face.specs.NicCalls.{free_words_of}
 use Rattle.board_face.specs.declared.views.parts.Setting.{Setting}
@@ -8,13 +8,13 @@ use Rattle.word_board.proofs.kinds.spares.take_spare.Goals as goal
 
 pub take_reserve-requires-clause-searched : goal.take_reserve-requires-clause-searched
 take_reserve-requires-clause-searched c =
-    subst (λ me. HasSearched (app_of me.0)) (sym c.if-not-look_reserve.ensures.event)
+    subst (λ (me : TheApp). HasSearched me.side) (sym c.if-not-look_reserve.ensures.event)
     (record { words = c.in_default.ensures.event.searched.words })
 
 pub returns-clause-told : goal.returns-clause-told
 returns-clause-told c =
     let set = ap (λ (s : Setting). pool_buffers s.layout) c.requires.set in record {
-      word = free_words_of c.args.words.now.map;
+      word = free_words_of c.args.app.now.board.setting;
       before = c.in_default.ensures.told;
       there = λ inside. absurd (omega (arith, inside, c.requires.own, set));
       nowhere = λ _. omega arith;

@@ -1,13 +1,10 @@
 -- So many words behind the fields are loaded.
-use Rattle.std.specs.Prelude.{◌≡◌, [], ◌++◌, length, take}
+use Rattle.std.specs.Prelude.{◌≡◌, ◌++◌, length, take}
 use Rattle.board_face.specs.SlotSteps.{seen_with, at_slot}
-use Rattle.ref_words.specs.Seated.{app_view}
-use Rattle.word_board.specs.Board.{app_of}
 use Rattle.word_board.proofs.kinds.taken_notes.load_payload.Given as goal
 
 abbrev pub invariant-loop-k : goal.invariant-loop-k
 invariant-loop-k l =
-    let app = app_of l.fn.seat.me.0 in
-    (l.seat.table_id ≡ l.fn.seat.table_id)
-    × (l.seat.me ≡ (app_view (at_slot app (seen_with (app.inside.note_slot.words ++ take l.k l.payload))), []))
+    let app = l.fn.app.side in
+    (l.app ≡ (record l.fn.app { side = at_slot app (seen_with (app.inside.note_slot.words ++ take l.k l.payload)) }))
     × (length l.payload ≡ 32)

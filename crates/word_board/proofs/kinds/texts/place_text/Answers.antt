@@ -13,8 +13,7 @@ use Rattle.board_face.specs.declared.views.nic.NicSide.{NicSide}
 use Rattle.word_rings.specs.Texts.{text_count, text_words}
 use Rattle.word_rings.proofs.TextWords.{length-words_of}
 use Rattle.ref_words.specs.AreaSteps.{made_words, side_piece_stored, side_piece_placed}
-use Rattle.ref_words.specs.Seated.{card_view}
-use Rattle.word_board.specs.Board.{card_of}
+use Rattle.word_board.specs.Board.{TheNic}
 use Rattle.word_board.proofs.TextPlaced.{word-more}
 use Rattle.word_board.proofs.kinds.texts.place_text.Goals as goal
 
@@ -26,12 +25,12 @@ pub store_piece-requires-clause-so_far : goal.store_piece-requires-clause-so_far
 store_piece-requires-clause-so_far c =
     let bytes = c.args.bytes.now in
     let k : ℕ = c.loop-k.k in
-    sym (ap (λ me. length (made_words (card_of me.0).inside.making)) c.loop-k.invariant.1
+    sym (ap (λ (me : TheNic). length (made_words me.side.inside.making)) c.loop-k.invariant
     ∙ length-take-le k (text_words bytes) (omega (arith, many bytes, c.loop-k-test.true, c.requires.some)))
 
 pub loop-k-preserved : goal.loop-k-preserved
 loop-k-preserved c =
-    let mine = card_of c.args.seat.now.me.0 in
+    let mine = c.args.card.now.side in
     let bytes = c.args.bytes.now in
     let own = c.args.own in
     let k : ℕ = c.loop-k.k in
@@ -41,24 +40,22 @@ loop-k-preserved c =
       inside = record mine.inside { making = Some (record { place = place; words = ws }) };
     } in
     let more : take k words ++ c.text_word.result ∷ [] ≡ take (k + 1) words = ap (λ n. take k words ++ n ∷ []) c.text_word.ensures
-    ∙ word-more words k (omega (arith, many bytes, c.loop-k-test.true, c.requires.some)) in (
-      c.store_piece.ensures.table ∙ c.loop-k.invariant.0,
-      c.store_piece.ensures.event
-          ∙ (ap (λ me. (card_view (side_piece_stored (card_of me.0) place c.text_word.result), [])) c.loop-k.invariant.1
-          ∙ ap (λ ws. (card_view (stored ws), [])) more),
-    )
+    ∙ word-more words k (omega (arith, many bytes, c.loop-k-test.true, c.requires.some)) in
+    c.store_piece.ensures
+    ∙ (ap (λ (me : TheNic). (record me { side = side_piece_stored me.side place c.text_word.result })) c.loop-k.invariant
+    ∙ ap (λ ws. (record c.args.card.now { side = stored ws })) more)
 
 pub place_piece-requires-clause-out : goal.place_piece-requires-clause-out
 place_piece-requires-clause-out c =
-    let owns = (card_of c.args.seat.now.me.0).view.owns in
+    let owns = c.args.card.now.side.view.owns in
     let filled : Filling = filled_by c.args.own (length c.args.bytes.now) in
-    subst (λ me. HasOwn (card_of me.0).view filled) (sym c.loop-k.invariant.1) (Contains-push (without (same_filling c.args.own) owns) filled)
+    subst (λ (me : TheNic). HasOwn me.side.view filled) (sym c.loop-k.invariant) (Contains-push (without (same_filling c.args.own) owns) filled)
 
 pub place_piece-requires-clause-so_far : goal.place_piece-requires-clause-so_far
 place_piece-requires-clause-so_far c =
     let bytes = c.args.bytes.now in
     let k : ℕ = c.loop-k.k in
-    let there = ap (λ me. length (made_words (card_of me.0).inside.making)) c.loop-k.invariant.1
+    let there = ap (λ (me : TheNic). length (made_words me.side.inside.making)) c.loop-k.invariant
     ∙ length-take-le k (text_words bytes) (omega (arith, many bytes, c.loop-k.auto.k-end, c.requires.some)) in
     omega (arith, there, c.loop-k-test.false, c.loop-k.auto.k-end)
 
@@ -68,14 +65,14 @@ place_piece-requires-clause-last c =
     let k : ℕ = c.loop-k.k in
     let words = text_words bytes in
     let same : (length bytes - 1) / 8 ≡ k = omega (arith, c.loop-k-test.false, c.loop-k.auto.k-end) in
-    ap (λ me. made_words (card_of me.0).inside.making ++ c.text_word-n.result ∷ []) c.loop-k.invariant.1
+    ap (λ (me : TheNic). made_words me.side.inside.making ++ c.text_word-n.result ∷ []) c.loop-k.invariant
     ∙ (ap (λ n. take k words ++ n ∷ []) (c.text_word-n.ensures ∙ ap (λ j. get_or words j 0) same)
     ∙ (word-more words k (omega (arith, many bytes, same, c.requires.some)) ∙ take_all (k + 1) words (omega (arith, many bytes, same, c.requires.some))))
 
-pub returns-clause-event : goal.returns-clause-event
-returns-clause-event c =
-    let mine = card_of c.args.seat.now.me.0 in
+pub returns : goal.returns
+returns c =
+    let mine = c.args.card.now.side in
     let bytes = c.args.bytes.now in
-    c.place_piece.ensures.event
-    ∙ (ap (λ me. (card_view (side_piece_placed (card_of me.0) c.args.own bytes), [])) c.loop-k.invariant.1
-    ∙ ap (λ m. (card_view (record { view = placed mine.view c.args.own bytes; inside = record mine.inside { making = m } }), [])) (sym c.requires.idle))
+    c.place_piece.ensures
+    ∙ (ap (λ (me : TheNic). (record me { side = side_piece_placed me.side c.args.own bytes })) c.loop-k.invariant
+    ∙ ap (λ m. (record c.args.card.now { side = record { view = placed mine.view c.args.own bytes; inside = record mine.inside { making = m } } })) (sym c.requires.idle))

@@ -1,29 +1,9 @@
-use Rattle.std.proofs.Common.{ℕ, ◌+◌, ◌-◌, ◌%◌, ◌^◌, ◌<◌, ap, ◌∙◌, subst}
-use Rattle.area_layout.specs.Layout.{total}
-use Rattle.board_face.specs.NicCalls.{apps_of}
-use Rattle.board_face.specs.declared.views.nic.NicSide.{NicSide}
-use Rattle.board_face.specs.Steps.{side_user_lowered}
-use Rattle.ref_words.specs.Words.{user_at}
-use Rattle.ref_words.specs.Seated.{card_view}
-use Rattle.word_board.specs.Board.{card_of}
-use Rattle.word_board.proofs.Stepping.{card-step, lowers-user}
+use Rattle.word_board.proofs.Stepping.{lowers-user}
 use Rattle.word_board.proofs.kinds.users.lower_user.Goals as goal
 
-pub sub_as-requires-clause-allows : goal.sub_as-requires-clause-allows
-sub_as-requires-clause-allows c =
-    let words = c.args.words.now in
-    let setting = words.table.shared.key in
-    let mine = card_of c.args.seat.now.me.0 in
-    let next : ℕ → NicSide = λ n. side_user_lowered mine c.args.app c.args.entry c.args.buffer in
-    let at = c.user-word.ensures.value ∙ ap (λ s. user_at s c.args.app c.args.buffer) words.keyed in
-    let few = subst (λ s. c.args.app < apps_of s) words.keyed c.requires.app in
-    let within = subst (λ s. c.args.buffer < total s.layout) words.keyed c.requires.within in
-    card-step setting words.table.shared.table_id.slots c.args.seat.now.id c.user-word.result (λ n. (n + (2 ^ 64 - 1)) % 2 ^ 64) (λ _. Unit {0}) mine next
-    (λ ws apps rule small.
+pub sub-requires-clause-may : goal.sub-requires-clause-may
+sub-requires-clause-may c ws apps rule small =
+    let setting = c.args.card.now.board.setting in
+    let mine = c.args.card.now.side in
     let law = c.k9.ensures setting ws mine apps c.args.app c.args.entry c.args.buffer rule c.requires.in_hand in
-    (lowers-user setting ws c.args.app c.args.buffer c.user-word.result at few within rule law.owed small law.rule, tt))
-    c.args.seat.now.me c.requires.card
-
-pub returns-clause-event : goal.returns-clause-event
-returns-clause-event c = c.sub_as.ensures.me
-    ∙ ap (λ xs. (card_view (side_user_lowered (card_of c.args.seat.now.me.0) c.args.app c.args.entry c.args.buffer), xs)) (ap (λ me. me.1) c.requires.card)
+    (lowers-user setting ws c.args.app c.args.buffer c.user-word.result (cc) c.requires.app c.requires.within rule law.owed small law.rule, tt)

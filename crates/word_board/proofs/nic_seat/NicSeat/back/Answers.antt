@@ -4,7 +4,7 @@ use Rattle.std.specs.Prelude.{is_none}
 use Rattle.ref_words.specs.Over.{CardIsOver}
 use Rattle.ref_words.specs.Seated.{both_sides, card_view}
 use Rattle.ref_words.specs.declared.view.View.{View}
-use Rattle.word_board.specs.Board.{HasDealt, card_of}
+use Rattle.word_board.specs.Board.{HasDealt, TheNic}
 use Rattle.word_board.specs.Desk.{AreOver, AreServed, cache_back}
 use Rattle.word_board.proofs.AtDesk.{HasDealt-both, AreOver-card, cache-back}
 use Rattle.word_board.proofs.nic_seat.NicSeat.back.Goals as goal
@@ -12,27 +12,27 @@ use Rattle.word_board.proofs.nic_seat.NicSeat.back.Goals as goal
 pub look_served-requires-clause-over : goal.look_served-requires-clause-over
 look_served-requires-clause-over c =
     let desk = c.desk.inside in
-    let mine = card_of c.self.inside.seat.me.0 in
+    let mine = c.self.inside.card.side in
     let view : c.join_seats.new.desk.me.0 ≡ both_sides desk.seat.me.0 (card_view mine) = ap (λ me. me.0) c.join_seats.ensures.desk
-    ∙ ap (both_sides desk.seat.me.0) (ap (λ me. me.0) c.self.invariant.1) in
+    ∙ ap (both_sides desk.seat.me.0) (ap (λ me. me.0) c.card.invariant.1 ∙ ap (λ (v : TheNic). card_view v.side) c.card.view_is) in
     subst AreOver (sym view) (AreOver-card desk.seat.me.0 mine c.desk.invariant.5 (record {
       ended = ap (λ s. s.side.view.ended) c.self.view_is ∙ c.requires.ended;
-      hands = c.self.invariant.2.rests.hands;
+      hands = c.self.invariant.1.rests.hands;
     }))
 
 pub invariant_of-desk : goal.invariant_of-desk
 invariant_of-desk c =
     let desk = c.desk.inside in
     let was = c.desk.invariant in
-    let seat = c.self.inside.seat in
-    let mine = card_of seat.me.0 in
+    let seat = c.card.inside.seat in
+    let mine = c.self.inside.card.side in
     let joined = c.join_seats.ensures in
     let looked = c.look_served.ensures in
-    let card : seat.me.0 ≡ card_view mine = ap (λ me. me.0) c.self.invariant.1 in
+    let card : seat.me.0 ≡ card_view mine = ap (λ me. me.0) c.card.invariant.1 ∙ ap (λ (v : TheNic). card_view v.side) c.card.view_is in
     let before : c.join_seats.new.desk.me.0 ≡ both_sides desk.seat.me.0 (card_view mine) = ap (λ me. me.0) joined.desk
     ∙ ap (both_sides desk.seat.me.0) card in
     let view : c.look_served.new.desk.me.0 ≡ both_sides desk.seat.me.0 (card_view mine) = ap (λ me. me.0) looked.me ∙ before in
-    let keeps = c.self.invariant.2 in
+    let keeps = c.self.invariant.1 in
     let given = desk.nic_given ∷ map is_none desk.hands.items in
     let over : CardIsOver mine = record {
       ended = ap (λ s. s.side.view.ended) c.self.view_is ∙ c.requires.ended;

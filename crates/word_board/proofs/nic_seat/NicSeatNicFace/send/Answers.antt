@@ -1,74 +1,56 @@
 -- Behind the note the next slot is the one after it.
-use Rattle.std.proofs.Common.{◌≡◌, ◌<◌, ◌≤◌, ◌+◌, ◌*◌, ◌%◌, false, [], length, get_or, set as set_at, refl, ap, sym, ◌∙◌, subst, arith}
-use Rattle.board_face.specs.Holders.{sent_to}
-use Rattle.std.specs.Prelude.{if◌then◌else◌}
-use Rattle.board_face.specs.NicEvents.{sent, text_at, nic_gist}
-use Rattle.board_face.specs.SlotSteps.{side_sent, side_note_looked}
-use Rattle.ref_words.specs.Seated.{card_view}
-use Rattle.word_board.specs.Board.{TheNic, card_of, IsSetting}
-use Rattle.word_board.specs.Hands.{NicKeeps, KnowsLeft}
-use Rattle.word_board.proofs.LeftKept.{KnowsLeft-sent}
-use Rattle.word_board.proofs.CardKeeps.{NicKeeps-sent, note-within, few-apps, own-app}
+use Rattle.std.proofs.Common.{◌≡◌, ◌≤◌, ◌+◌, ◌*◌, ◌%◌, [], length, get_or, set as set_at, refl, ap, sym, ◌∙◌, subst, arith}
+use Rattle.std.specs.Prelude.{if◌then◌else◌, false}
+use Rattle.board_face.specs.NicEvents.{sent, text_at}
 use Rattle.board_face.specs.NotNow.{HasSentRingful}
+use Rattle.board_face.specs.SlotSteps.{side_sent, side_note_looked}
+use Rattle.board_face.specs.declared.views.nic.SentNote.{SentNote}
 use Rattle.board_face.specs.declared.views.parts.Setting.{Setting}
-use Rattle.word_board.specs.Told.{SawNoteInUse}
+use Rattle.word_board.specs.Board.{TheNic}
+use Rattle.word_board.proofs.CardKeeps.{NicKeeps-sent, note-within, few-apps, own-app}
 use Rattle.word_board.proofs.Implied.{full-sent}
+use Rattle.word_board.proofs.LeftKept.{KnowsLeft-sent}
 use Rattle.word_board.proofs.nic_seat.NicSeatNicFace.send.Goals as goal
 
 pub bounds-self-inside-app : goal.bounds-self-inside-app
-bounds-self-inside-app c =
-    let setting = c.self.inside.board.now.setting in
-    let here = own-app _ _ _ _ c.args.app c.self.invariant.2.set c.self.view_is c.requires.app in
-    few-apps setting c.args.app (subst IsSetting (ap (λ b. b.setting) c.board.view_is) c.board.invariant) here
+bounds-self-inside-app c = few-apps _ _ c.self.invariant.0 (own-app _ _ _ c.args.app c.self.invariant.1.set c.self.view_is c.requires.app)
 
 pub send_note-requires-clause-within : goal.send_note-requires-clause-within
 send_note-requires-clause-within c =
     let me = c.self.inside in
-    let here = own-app _ _ _ _ c.args.app c.self.invariant.2.set c.self.view_is c.requires.app in
-    let set = ap (λ b. b.setting) c.board.view_is in
-    subst (λ s. get_or me.hand.notes c.args.app 0 < s.places) (sym set)
-    (note-within me.board.now.setting (card_of me.seat.me.0) me.hand.cache.items me.hand.notes me.hand.entries c.self.invariant.2 c.args.app
-    (subst IsSetting set c.board.invariant) here)
+    note-within me.card.board.setting me.card.side me.hand.cache.items me.hand.notes me.hand.entries c.self.invariant.1 c.args.app c.self.invariant.0
+    (own-app _ _ _ c.args.app c.self.invariant.1.set c.self.view_is c.requires.app)
 
 pub bounds-self-inside-app-2 : goal.bounds-self-inside-app-2
-bounds-self-inside-app-2 c =
-    let setting = c.self.inside.board.now.setting in
-    let here = own-app _ _ _ _ c.args.app c.self.invariant.2.set c.self.view_is c.requires.app in
-    few-apps setting c.args.app (subst IsSetting (ap (λ b. b.setting) c.board.view_is) c.board.invariant) here
+bounds-self-inside-app-2 c = few-apps _ _ c.self.invariant.0 (own-app _ _ _ c.args.app c.self.invariant.1.set c.self.view_is c.requires.app)
 
 pub invariant_of-self-2 : goal.invariant_of-self-2
 invariant_of-self-2 c =
     let me = c.self.inside in
-    let nic = card_of me.seat.me.0 in
+    let nic = me.card.side in
+    let setting = me.card.board.setting in
     let app = c.args.app in
-    let here = own-app _ _ _ _ app c.self.invariant.2.set c.self.view_is c.requires.app in
-    let set = ap (λ b. b.setting) c.board.view_is in
-    let setting = me.board.now.setting in
     let filled = me.hand.filled.counts in
-    let sound = subst IsSetting set c.board.invariant in
-    let few : setting.places ≤ 256 = subst (λ n. n ≤ 256) (c.places-places.ensures.value ∙ ap (λ s. s.places) set) c.places-places.ensures.few in
-    let did : c.send_note.new.seat.me ≡ (card_view (side_sent nic app c.args.note), []) =
-    c.send_note.ensures.event
-    ∙ ap (λ went. (card_view (if went then side_sent nic app c.args.note else side_note_looked nic app false), [])) c.if-not-send_note.false in
-    let slot = c.slot_after.ensures ∙ ap (λ p. (get_or me.hand.notes app 0 + 1) % p) (c.places-places.ensures.value ∙ ap (λ s. s.places) set) in (
-      c.send_note.ensures.table ∙ c.self.invariant.0,
-      did ∙ ap (λ m. (card_view (card_of m.0), [])) (sym did),
-      subst (λ m. NicKeeps me.board.now.setting (card_of m.0) me.hand.cache.items (set_at me.hand.notes app c.slot_after.result) me.hand.entries) (sym did)
-          (NicKeeps-sent me.board.now.setting nic me.hand.cache.items me.hand.notes me.hand.entries c.self.invariant.2 (sent nic.view app c.args.note) _
-          (record { app = app; note = c.args.note; bytes = text_at nic.view c.args.note.place }) c.slot_after.result
-          (subst IsSetting set c.board.invariant) here refl refl refl refl refl slot),
-      subst (λ counts. KnowsLeft setting (card_of c.send_note.new.seat.me.0).view.sent (card_of c.send_note.new.seat.me.0).inside.note_slots counts)
-          (sym (c.note.ensures ∙ ap (λ n. set_at filled (256 * app + n) 0) (c.self.invariant.2.next_notes app here)))
-          (subst (λ m. KnowsLeft setting (card_of m.0).view.sent (card_of m.0).inside.note_slots
-          (set_at filled (256 * app + length (sent_to app nic) % setting.places) 0)) (sym did)
-          (KnowsLeft-sent setting nic.view.sent nic.inside.note_slots filled c.self.invariant.3 (record { app = app; note = c.args.note; bytes = text_at nic.view c.args.note.place }) 0
-          (few-apps setting app sound here, sound.places, few) (omega arith) (subst (λ split. length (if split then [] else text_at nic.view c.args.note.place) ≤ 8 * 0) (sym c.requires.fields.split) (omega arith)))),
+    let note : SentNote = record { app = app; note = c.args.note; bytes = text_at nic.view c.args.note.place } in
+    let here = own-app _ _ _ app c.self.invariant.1.set c.self.view_is c.requires.app in
+    let places = c.places-places.ensures.value ∙ ap (λ (s : Setting). s.places) c.map.ensures in
+    let few : setting.places ≤ 256 = subst (λ n. n ≤ 256) places c.places-places.ensures.few in
+    let did : c.send_note.new.card ≡ record me.card { side = side_sent nic app c.args.note } = c.send_note.ensures.event
+    ∙ ap (λ went. record me.card { side = if went then side_sent nic app c.args.note else side_note_looked nic app false }) c.if-not-send_note.false in
+    let slot = c.slot_after.ensures ∙ ap (λ p. (get_or me.hand.notes app 0 + 1) % p) places in
+    let counts = c.note.ensures ∙ ap (λ n. set_at filled (256 * app + n) 0) (c.self.invariant.1.next_notes app here) in
+    rw (did, counts) (
+      c.self.invariant.0,
+      NicKeeps-sent setting nic me.hand.cache.items me.hand.notes me.hand.entries c.self.invariant.1 (sent nic.view app c.args.note) _
+          note c.slot_after.result c.self.invariant.0 here refl refl refl refl refl slot,
+      KnowsLeft-sent setting nic.view.sent nic.inside.note_slots filled c.self.invariant.2 note 0
+          (few-apps setting app c.self.invariant.0 here, c.self.invariant.0.places, few) (omega arith)
+          (subst (λ split. length (if split then [] else text_at nic.view c.args.note.place) ≤ 8 * 0) (sym c.requires.fields.split) (omega arith)),
     )
 
 pub returns-then-not-send_note-clause-full : goal.returns-then-not-send_note-clause-full
 returns-then-not-send_note-clause-full c =
-    let setting = ap (λ b. b.setting) c.board.view_is in
-    let here = own-app _ _ _ _ c.args.app c.self.invariant.2.set c.self.view_is c.requires.app in
+    let me = c.self.inside in
+    let here = own-app _ _ _ c.args.app c.self.invariant.1.set c.self.view_is c.requires.app in
     subst (λ (s : TheNic). HasSentRingful s.side.view c.args.app) c.self.view_is
-    (full-sent c.self.inside.board.now.setting (card_of c.self.inside.seat.me.0).view c.args.app here
-    (subst (λ (s : Setting). SawNoteInUse s (nic_gist (card_of c.self.inside.seat.me.0).view) c.args.app) setting (c.if-not-send_note.ensures.told refl)))
+    (full-sent me.card.board.setting me.card.side.view c.args.app here (c.if-not-send_note.ensures.told refl))
