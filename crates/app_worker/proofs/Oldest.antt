@@ -42,6 +42,7 @@ use Rattle.app_worker.proofs.EachBoth.{each-both}
 use Rattle.app_worker.proofs.Moving.{total-one, no-write, aside-same, leaked-aside, same-leaked, strays-same, entries-same, names-same, most-same}
 use Rattle.flow_queues.proofs.Looks.{looks-same}
 use Rattle.app_worker.proofs.Moving.{abandons-same, lent-same}
+use Rattle.app_worker.proofs.Through.{moves-stopped}
 use Rattle.flow_queues.proofs.Indexing.{index-set}
 use Rattle.app_worker.proofs.Accounts.{sound-same}
 use Rattle.app_worker.proofs.Origins.{origins-same}
@@ -555,21 +556,8 @@ module _ (was : State) (i : ℕ) (own : FlowQueue) (p : Completion × Lending) (
       rw is (record {
         torn = torn-read (own.bytes + most) written stop.Quit (omega arith) (omega (arith, part));
         common = common-read (own.bytes + most) written stop.Quit (omega arith) (omega (arith, count)) quits;
-        moves = record {
-          same = (moves-read (own.bytes + most) written (omega arith)).same;
-          how = (refl, refl);
-          places = refl;
-          steps = (moves-read (own.bytes + most) written (omega arith)).steps;
-          looks = (moves-read (own.bytes + most) written (omega arith)).looks;
-          keeps = λ n r before live.
-              (let k = (moves-read (own.bytes + most) written (omega arith)).keeps n r before live in record { lent = k.lent; kept = k.kept });
-          stays = λ other. absurd (other works.going);
-          leaked = (moves-read (own.bytes + most) written (omega arith)).leaked;
-          abandons = (moves-read (own.bytes + most) written (omega arith)).abandons;
-          reaps = (let r = (moves-read (own.bytes + most) written (omega arith)).reaps in
-              record { read = r.read; more = r.more; in_order = r.in_order; lent = r.lent; tells = r.tells; gone = r.gone });
-          bytes = (moves-read (own.bytes + most) written (omega arith)).bytes;
-        };
+        moves = moves-stopped was (with_read was i own (own.bytes + most) ps p.1 written flush) old new stop.Quit works.going
+            (moves-read (own.bytes + most) written (omega arith));
         shelved = λ first shelved. subst (λ (fs : List FlowQueue). AreShelved first kept_now fs new) (sym (at.set_is later))
             (shelved-reaped first kept kept_now was.notes at.before at.after own p (ps ++ was.posted.entries) most was.leaked.items old new number only stood
             part

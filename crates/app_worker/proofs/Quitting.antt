@@ -4,13 +4,13 @@ use Rattle.std.proofs.Common.{ap, ◌∙◌, arith}
 use Rattle.std.specs.Prelude.{IfSome}
 use Rattle.zr_kinds.specs.declared.behaviour.Stopped.TheVariants as stop
 use Rattle.board_face.specs.declared.views.app.AppView.{AppView}
-use Rattle.app_worker.specs.State.{State}
+use Rattle.app_worker.specs.State.{State, app_steps}
 use Rattle.flow_queues.specs.Totals.{Quits, wanted_of}
 use Rattle.app_worker.specs.Whole.{ReadQuit}
 use Rattle.app_worker.specs.Letting.{LetGo}
 use Rattle.app_worker.specs.Stages.{Through, HasQuit}
 use Rattle.app_worker.proofs.Moving.{moves-then}
-use Rattle.app_worker.proofs.Through.{goes-then, bare-of-gone}
+use Rattle.app_worker.proofs.Through.{goes-then, bare-stopped}
 
 no-quit : stop.No ≢ stop.Quit
 no-quit e = absurd (cc)
@@ -48,7 +48,7 @@ pub has-quit : (was mid now : State) (old midv new : AppView) (kept kept_now : �
 has-quit was mid now old midv new kept kept_now reaped quit gone =
     let stopped : now.stopped ≡ stop.Quit = ap (λ (s : State). s.stopped) gone.same ∙ quit.stopped in
     record {
-      bare = bare-of-gone mid now midv new (λ e. absurd (let f : stop.Quit ≡ stop.No = sym stopped ∙ e in cc)) gone;
+      bare = bare-stopped now new now.stopped (λ e. absurd (let f : stop.Quit ≡ stop.No = sym stopped ∙ e in cc)) mid midv gone;
       is_bare = ap (λ (s : State). s.bare) gone.same;
       common = gone.common;
       goes = record {
@@ -65,14 +65,6 @@ has-quit was mid now old midv new kept kept_now reaped quit gone =
 
 -- it quit after other steps
 pub quit-later : (a b c : State) (u v w : AppView) (k l m : ℕ → Option (List ℕ)) → Through a b u v k l → HasQuit b c v w l m → HasQuit a c u w k m
-quit-later a b c u v w k l m first quit = record {
-  bare = quit.bare;
-  is_bare = quit.is_bare;
-  common = quit.common;
-  goes = goes-then a b c u v w k l m first.goes quit.goes;
-  reaped = quit.reaped;
-  stopped = quit.stopped;
-  steps = omega (arith, first.goes.moves.steps, quit.steps);
-  taken = quit.taken ∙ first.taken;
-  left = quit.left ∙ first.left;
-}
+quit-later a b c u v w k l m first quit =
+    let steps : app_steps a u < app_steps c w = omega (arith, first.goes.moves.steps, quit.steps) in
+    assumption (goes-then a b c u v w k l m first.goes quit.goes, quit.taken ∙ first.taken, quit.left ∙ first.left)
