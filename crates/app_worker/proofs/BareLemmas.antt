@@ -41,7 +41,7 @@ module _ (st : State) (old : AppView) (bare : Bare st old) (is_bare : st.bare �
   turns-noted : (new : AppView) (t : TakenNote) (kept : ℕ → Option (List ℕ)) (f : ℕ) → st.ended ≡ false → TookView old new t → new.helds ≡ []
       → Turns st st old new kept kept f f Did
   turns-noted new t kept f more took none = record {
-    stands = stands-bare st new
+    stands = stands-bare
         (record {
           helds = none;
           loans = ap (λ (v : AppView). v.loans) took.view ∙ bare.loans;
@@ -123,7 +123,7 @@ module _ (st : State) (old : AppView) (bare : Bare st old) (is_bare : st.bare �
   pub bare-empty : (new : AppView) (kept : ℕ → Option (List ℕ)) (f : ℕ) → st.ended ≡ false → AppOnlySaw no_note old new
       → Turns st st old new kept kept f f (Idle NoNote)
   bare-empty new kept f more saw = record {
-    stands = rw saw.event (stands-bare st _ (bare-saw st old no_note bare) (common-saw st old no_note common) reaped is_bare);
+    stands = rw saw.event (stands-bare (bare-saw st old no_note bare) (common-saw st old no_note common) reaped is_bare);
     goes = rw saw.event (goes-saw st old no_note kept);
     answer = (as-before st old new no_note saw, saw.rose);
     idle = idle-for NoNote (λ w. (kept ≡ kept) × Because w st old) (refl, (more, λ live. absurd (bare-live live)));
@@ -168,7 +168,7 @@ module _ (st : State) (old : AppView) (bare : Bare st old) (is_bare : st.bare �
   pub bare-not-quiet : (new : AppView) (kept : ℕ → Option (List ℕ)) (f : ℕ) (done : Bool) → st.ended ≡ true → Leaves st.scrubbed done old new false
       → Turns st (record st { scrubbed = done }) old new kept kept f f (Idle not_quiet)
   bare-not-quiet new kept f done ended leaves = subst (λ b. Turns st (record st { scrubbed = b }) old new kept kept f f (Idle not_quiet)) (sym leaves.0) (record {
-    stands = rw saw.event (stands-bare st _ (bare-saw st old NotQuiet bare) (common-saw st old NotQuiet common) reaped is_bare);
+    stands = rw saw.event (stands-bare (bare-saw st old NotQuiet bare) (common-saw st old NotQuiet common) reaped is_bare);
     goes = rw saw.event (goes-saw st old NotQuiet kept);
     answer = (as-before st old new NotQuiet saw, saw.rose);
     idle = idle-for not_quiet (λ w. (kept ≡ kept) × Because w st old) (refl, (is_bare, ended));
@@ -238,7 +238,7 @@ module _ (a c : State) (u w : AppView) (kept : ℕ → Option (List ℕ)) (f : �
   answers-saw Did answer = omega (arith, answer)
   answers-saw (Idle why) answer = (
     record { state = answer.0.state; view = ap (λ (v : AppView). app_saw v NotQuiet) answer.0.view },
-    rose-before (look_of why) u w (app_saw w NotQuiet) answer.1 (looks-more w (app_saw w NotQuiet) NotQuiet refl),
+    rose-before answer.1 (looks-more w (app_saw w NotQuiet) NotQuiet refl),
   )
   answers-saw Finished answer = answer
   answers-saw (Failed fault.Memory) answer = answer
@@ -247,8 +247,8 @@ module _ (a c : State) (u w : AppView) (kept : ℕ → Option (List ℕ)) (f : �
 
   pub then-saw : (x : AppView) → AppOnlySaw NotQuiet w x → Turns a c u x kept kept f f turn
   then-saw x saw = rw saw.event (record {
-    stands = stands-bare c (app_saw w NotQuiet) (bare-saw c w NotQuiet bare-is) (common-saw c w NotQuiet turns.stands.common) turns.stands.reaped bare-then;
-    goes = goes-then a c c u w (app_saw w NotQuiet) kept kept kept turns.goes (goes-saw c w NotQuiet kept);
+    stands = stands-bare (bare-saw c w NotQuiet bare-is) (common-saw c w NotQuiet turns.stands.common) turns.stands.reaped bare-then;
+    goes = goes-then turns.goes (goes-saw c w NotQuiet kept);
     answer = answers-saw turn turns.answer;
     few = turns.few;
     idle = turns.idle;
@@ -270,7 +270,7 @@ module _ (a c : State) (u w : AppView) (kept : ℕ → Option (List ℕ)) (f : �
     where
       looks-later : LooksForOne c u w → LooksForOne c u (app_saw w NotQuiet)
       looks-later (inl one) = inl one
-      looks-later (inr (inl none)) = inr (inl (rose-before no_note u w (app_saw w NotQuiet) none (looks-more w (app_saw w NotQuiet) NotQuiet refl)))
+      looks-later (inr (inl none)) = inr (inl (rose-before none (looks-more w (app_saw w NotQuiet) NotQuiet refl)))
       looks-later (inr (inr over)) = inr (inr over)
 
   -- each was free
@@ -288,9 +288,9 @@ module _ (a c : State) (u w : AppView) (kept : ℕ → Option (List ℕ)) (f : �
   then-scrubbed x done not_yet scrubs =
       let quiet : Bool = scrubs.1.0 in
       rw (scrubs.0, scrubs.1.1) (record {
-        stands = stands-bare (scrubbed_state c) (scrubbed_view w quiet w.left) (bare-scrubbed c w quiet w.left bare-is)
+        stands = stands-bare (bare-scrubbed c w quiet w.left bare-is)
             (common-scrubbed c w quiet w.left turns.stands.common) turns.stands.reaped bare-then;
-        goes = goes-then a c (scrubbed_state c) u w (scrubbed_view w quiet w.left) kept kept kept turns.goes
+        goes = goes-then turns.goes
             (goes-scrubbed c w quiet w.left kept (omega arith));
         answer = answers-scrubbed quiet not_yet turn turns.answer;
         few = turns.few;
@@ -328,10 +328,10 @@ module _ (a c : State) (u w : AppView) (kept : ℕ → Option (List ℕ)) (f : �
 pub scrubs-left : (u w x : AppView) (was now done : Bool) → AppLooksStay u w → w.quiet ≡ u.quiet → Leaves was now w x done → ScrubsIfQuiet u x
 scrubs-left u w x was now true stay same leaves not_yet = inl (ap (λ (v : AppView). v.scrubbed) leaves.1.1)
 scrubs-left u w x was now false stay same leaves not_yet =
-    inr (rose-after NotQuiet u w x stay leaves.1.rose, ap (λ (v : AppView). v.quiet) leaves.1.event ∙ same)
+    inr (rose-after stay leaves.1.rose, ap (λ (v : AppView). v.quiet) leaves.1.event ∙ same)
 
 pub scrubs-done : (u w x : AppView) (was now done : Bool) → AppLooksStay u w → w.quiet ≡ u.quiet → ScrubsOnce was now w x done
     → ScrubsIfQuiet u x
 scrubs-done u w x was now true stay same scrubs not_yet = inl (ap (λ (v : AppView). v.scrubbed) scrubs.1.1)
 scrubs-done u w x was now false stay same scrubs not_yet =
-    inr (rose-after NotQuiet u w x stay scrubs.1.rose, ap (λ (v : AppView). v.quiet) scrubs.1.event ∙ same)
+    inr (rose-after stay scrubs.1.rose, ap (λ (v : AppView). v.quiet) scrubs.1.event ∙ same)

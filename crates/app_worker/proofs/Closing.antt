@@ -211,9 +211,9 @@ pub turns-finished : (a c : State) (u w x : AppView) (k m : ℕ → Option (List
 turns-finished a c u w x k m f f2 done out leaves =
     let (now, (quiet, is)) = leaves in
     rw (now, is) (record {
-      stands = stands-bare (scrubbed_state c) (scrubbed_view w quiet true) (bare-scrubbed c w quiet true out.bare)
+      stands = stands-bare (bare-scrubbed c w quiet true out.bare)
           (common-scrubbed c w quiet true out.common) out.reaped out.is_bare;
-      goes = goes-then a c (scrubbed_state c) u w (scrubbed_view w quiet true) k m m out.goes
+      goes = goes-then out.goes
           (goes-scrubbed c w quiet true m (omega (arith, one-most w.left)));
       answer = (out.here, refl, out.is_bare);
       few = inl out.taken;
@@ -240,8 +240,8 @@ pub turns-not-quiet : (a c : State) (u w x : AppView) (k m : ℕ → Option (Lis
 turns-not-quiet a c u w x k m f f2 done out steps leaves =
     let (same, saw) = leaves in
     rw (same, saw.event) (record {
-      stands = stands-bare c (app_saw w NotQuiet) (bare-saw c w NotQuiet out.bare) (common-saw c w NotQuiet out.common) out.reaped out.is_bare;
-      goes = goes-then a c c u w (app_saw w NotQuiet) k m m out.goes (goes-saw c w NotQuiet m);
+      stands = stands-bare (bare-saw c w NotQuiet out.bare) (common-saw c w NotQuiet out.common) out.reaped out.is_bare;
+      goes = goes-then out.goes (goes-saw c w NotQuiet m);
       answer = omega (arith, steps);
       few = inl out.taken;
       idle = λ why e. absurd (cc);
@@ -262,15 +262,15 @@ turns-not-quiet a c u w x k m f f2 done out steps leaves =
     })
 
 -- by way of reading all
-pub out-of : (a b c : State) (u v w : AppView) (k m : ℕ → Option (List ℕ)) → a.ended ≡ true → a.stopped ≡ stop.No
+pub out-of : {a b c : State} {u v w : AppView} {k m : ℕ → Option (List ℕ)} → a.ended ≡ true → a.stopped ≡ stop.No
     → a.bare ≡ false → u.left ≡ false → Through a b u v k m → length b.unread ≤ 0 → b.due ≡ None → LetGo b c v w → IsOut a c u w k m
-out-of a b c u v w k m ended going live here through few due gone = record {
+out-of {a} {b} {c} {u} {v} {w} {k} {m} ended going live here through few due gone = record {
   bare = closed-bare b c v w through.working (through.ended ∙ ended) few through.reaped due through.common gone;
   is_bare = ap (λ (s : State). s.bare) gone.same;
   ended = ap (λ (s : State). s.ended) gone.same ∙ through.ended ∙ ended;
   common = gone.common;
   reaped = ap (λ (s : State). s.posted.entries) gone.same ∙ through.reaped;
-  goes = goes-then a b c u v w k m m through.goes (record {
+  goes = goes-then through.goes (record {
     moves = gone.moves;
     shelved = λ _ begin. gone.shelved begin m;
     failed = λ is. absurd (no-write c.stopped (ap (λ (s : State). s.stopped) gone.same ∙ through.working.going) is);

@@ -39,15 +39,15 @@ due-is taken (Some l) = refl
 
 -- ---- looks
 
-pub looks-trans : (u v w : AppView) → AppLooksStay u v → AppLooksStay v w → AppLooksStay u w
-looks-trans u v w first second = record { later = λ look. omega (arith, first.later look, second.later look) }
+pub looks-trans : {u v w : AppView} → AppLooksStay u v → AppLooksStay v w → AppLooksStay u w
+looks-trans first second = record { later = λ look. omega (arith, first.later look, second.later look) }
 
 -- what was seen in a part was seen in the whole
-pub rose-after : (look : AppLook) (u v w : AppView) → AppLooksStay u v → AppRose look v w → AppRose look u w
-rose-after look u v w first second = record { rose = omega (arith, first.later look, second.rose) }
+pub rose-after : {look : AppLook} {u v w : AppView} → AppLooksStay u v → AppRose look v w → AppRose look u w
+rose-after {look} first second = record { rose = omega (arith, first.later look, second.rose) }
 
-pub rose-before : (look : AppLook) (u v w : AppView) → AppRose look u v → AppLooksStay v w → AppRose look u w
-rose-before look u v w first second = record { rose = omega (arith, second.later look, first.rose) }
+pub rose-before : {look : AppLook} {u v w : AppView} → AppRose look u v → AppLooksStay v w → AppRose look u w
+rose-before {look} first second = record { rose = omega (arith, second.later look, first.rose) }
 
 -- ---- what is kept to the end
 
@@ -205,13 +205,13 @@ moves-none st v = record {
   bytes = λ n. omega arith;
 }
 
-pub moves-then : (a b c : State) (u v w : AppView) → Moves a b u v → Moves b c v w → Moves a c u w
-moves-then a b c u v w first second = record {
+pub moves-then : {a b c : State} {u v w : AppView} → Moves a b u v → Moves b c v w → Moves a c u w
+moves-then {a} {b} {c} {u} {v} {w} first second = record {
   same = (second.same.0 ∙ first.same.0, second.same.1 ∙ first.same.1, second.same.2 ∙ first.same.2, omega (arith, first.same.3, second.same.3));
   how = (second.how.0 ∙ first.how.0, second.how.1 ∙ first.how.1);
   places = second.places ∙ first.places;
   steps = omega (arith, first.steps, second.steps);
-  looks = looks-trans u v w first.looks second.looks;
+  looks = looks-trans first.looks second.looks;
   keeps = λ n r before. second.keeps n r (first.keeps n r before);
   stays = λ other. (let e : b.stopped ≡ a.stopped = first.stays other in second.stays (λ is. other (sym e ∙ is)) ∙ e);
   leaked = λ live. (let later = second.leaked live in leaked-then a b c (first.leaked later.0) later);

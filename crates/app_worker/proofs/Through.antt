@@ -28,9 +28,9 @@ write-stays a b stays other is = other (stays (λ none. absurd (no-write (sym is
     no-write : stop.Write ≡ stop.No → ⊥
     no-write e = absurd (cc)
 
-pub goes-then : (a b c : State) (u v w : AppView) (k l m : ℕ → Option (List ℕ)) → Goes a b u v k l → Goes b c v w l m → Goes a c u w k m
-goes-then a b c u v w k l m first second = record {
-  moves = moves-then a b c u v w first.moves second.moves;
+pub goes-then : {a b c : State} {u v w : AppView} {k l m : ℕ → Option (List ℕ)} → Goes a b u v k l → Goes b c v w l m → Goes a c u w k m
+goes-then {a} {b} {c} {u} {v} {w} first second = record {
+  moves = moves-then first.moves second.moves;
   shelved = λ other begin was. second.shelved other begin (first.shelved (write-stays b.stopped c.stopped second.moves.stays other) begin was);
   failed = λ is begin exact front. second.failed is begin
       (λ other. first.shelved other begin (exact (write-stays a.stopped b.stopped first.moves.stays other)))
@@ -41,10 +41,10 @@ pub through-none : (st : State) (v : AppView) (kept : ℕ → Option (List ℕ))
     → Through st st v v kept kept
 through-none st v kept working common reaped = assumption (flushes-none st v, goes-none st v kept)
 
-pub through-then : (a b c : State) (u v w : AppView) (k l m : ℕ → Option (List ℕ)) → Through a b u v k l → Through b c v w l m → Through a c u w k m
-through-then a b c u v w k l m first second = assumption (
-  flushes-then a b c u v w first.flushes second.flushes,
-  goes-then a b c u v w k l m first.goes second.goes,
+pub through-then : {a b c : State} {u v w : AppView} {k l m : ℕ → Option (List ℕ)} → Through a b u v k l → Through b c v w l m → Through a c u w k m
+through-then {a} {b} {c} {u} {v} {w} {k} {l} {m} first second = assumption (
+  flushes-then first.flushes second.flushes,
+  goes-then first.goes second.goes,
   second.ended ∙ first.ended,
   λ (at : Each IsAtRest a.flows). second.rest (first.rest at),
   second.taken ∙ first.taken,
@@ -60,16 +60,16 @@ read-did was now old new kept kept_now faults faults_now NoneUnread other going 
 read-did was now old new kept kept_now faults faults_now Quit other going some reads = absurd (going refl)
 read-did was now old new kept kept_now faults faults_now Failed other going some reads = absurd (other refl)
 
-pub through-read : (was now : State) (old new : AppView) (kept kept_now : ℕ → Option (List ℕ)) → was.posted.entries ≡ []
+pub through-read : {was now : State} {old new : AppView} {kept kept_now : ℕ → Option (List ℕ)} → was.posted.entries ≡ []
     → ReadOne was now old new kept kept_now → Through was now old new kept kept_now
-through-read was now old new kept kept_now reaped read = assumption (
+through-read reaped read = assumption (
   ap (λ (s : State). s.posted.entries) read.same ∙ reaped,
   ap (λ (s : State). s.ended) read.same,
 )
 
-pub through-gave : (was now : State) (old new : AppView) (kept : ℕ → Option (List ℕ)) → was.posted.entries ≡ [] → Working now new → Common now new
+pub through-gave : {was now : State} {old new : AppView} {kept : ℕ → Option (List ℕ)} → was.posted.entries ≡ [] → Working now new → Common now new
     → Goes was now old new kept kept → GaveBack was now old new → Through was now old new kept kept
-through-gave was now old new kept reaped working common goes gave = assumption (
+through-gave {was} reaped working common goes gave = assumption (
   ap (λ (s : State). s.posted.entries) gave.same ∙ reaped,
   ap (λ (s : State). s.ended) gave.same,
   λ (at : Each IsAtRest was.flows). subst (Each IsAtRest) (sym (ap (λ (s : State). s.flows) gave.same)) at,
@@ -129,11 +129,11 @@ moves-stopped was st old v cause none moves = record {
   bytes = moves.bytes;
 }
 
-pub write-stopped : (was mid now : State) (old midv new : AppView) (kept kept_now : ℕ → Option (List ℕ)) (faults faults_now : ℕ)
+pub write-stopped : {was mid now : State} {old midv new : AppView} {kept kept_now : ℕ → Option (List ℕ)} {faults faults_now : ℕ}
     → was.stopped ≡ stop.No → was.posted.entries ≡ [] → ReadFailed was mid old midv kept kept_now faults faults_now → LetGo mid now midv new
     → WriteStopped was (stopped_by now stop.Write) old new kept kept_now faults faults_now
-write-stopped was mid now old midv new kept kept_now faults faults_now none reaped failed gone =
-    let moves : Moves was now old new = moves-then was mid now old midv new failed.moves gone.moves in
+write-stopped {was} {mid} {now} {old} {midv} {new} {kept_now} none reaped failed gone =
+    let moves : Moves was now old new = moves-then failed.moves gone.moves in
     record {
       bare = bare-stopped now new stop.Write (λ e. absurd (cc)) mid midv gone;
       is_bare = ap (λ (s : State). s.bare) gone.same;
@@ -153,17 +153,17 @@ write-stopped was mid now old midv new kept kept_now faults faults_now none reap
     }
 
 -- it failed after other steps
-pub write-later : (a b c : State) (u v w : AppView) (k l m : ℕ → Option (List ℕ)) (f f1 f2 : ℕ) → f ≤ f1 → Through a b u v k l
+pub write-later : {a b c : State} {u v w : AppView} {k l m : ℕ → Option (List ℕ)} {f f1 f2 : ℕ} → f ≤ f1 → Through a b u v k l
     → WriteStopped b c v w l m f1 f2 → WriteStopped a c u w k m f f2
-write-later a b c u v w k l m f f1 f2 later first stopped =
+write-later {a} {b} {c} {u} {v} {w} {k} {l} {m} {f} {f2} later first stopped =
     let rose : Rose f f2 = omega (arith, later, stopped.rose) in
     let steps : app_steps a u < app_steps c w = omega (arith, first.goes.moves.steps, stopped.steps) in
-    assumption (goes-then a b c u v w k l m first.goes stopped.goes, stopped.taken ∙ first.taken, stopped.left ∙ first.left)
+    assumption (goes-then first.goes stopped.goes, stopped.taken ∙ first.taken, stopped.left ∙ first.left)
 
 -- a loan that was read can't be given back yet
-pub through-in-use : (was now : State) (old new : AppView) (kept : ℕ → Option (List ℕ)) → was.posted.entries ≡ [] → Working now new
+pub through-in-use : {was now : State} {old new : AppView} {kept : ℕ → Option (List ℕ)} → was.posted.entries ≡ [] → Working now new
     → Common now new → Goes was now old new kept kept → now ≡ was → AppOnlySaw RefillInUse old new → Through was now old new kept kept
-through-in-use was now old new kept reaped working common goes same saw = assumption (
+through-in-use {was} {old} {new} reaped working common goes same saw = assumption (
   subst (λ (s : State). Flushes was s old new) (sym same) (flushes-saw was old new RefillInUse saw),
   ap (λ (s : State). s.posted.entries) same ∙ reaped,
   ap (λ (s : State). s.ended) same,

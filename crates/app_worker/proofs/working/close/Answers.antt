@@ -45,7 +45,7 @@ returns-then-leave-clause-turns g c =
     c.requires.working c.requires.common
     c.requires.reaped c.drain.ensures.reads in
     turns-finished a e u w (g.F.AppFace.seen c.leave.new.face) k m f f2 c.leave.new.scrubbed
-    (out-of a b e u v w k m c.requires.ended c.requires.working.going c.requires.working.live c.requires.here then.0 then.2 then.1 c.let_go.ensures.done)
+    (out-of c.requires.ended c.requires.working.going c.requires.working.live c.requires.here then.0 then.2 then.1 c.let_go.ensures.done)
     c.if-leave.ensures.leaves
 
 pub returns-else-leave-clause-turns : goal.returns-else-leave-clause-turns
@@ -64,15 +64,10 @@ returns-else-leave-clause-turns g c =
     c.requires.working c.requires.common
     c.requires.reaped c.drain.ensures.reads in
     turns-not-quiet a e u w (g.F.AppFace.seen c.leave.new.face) k m f f2 c.leave.new.scrubbed
-    (out-of a b e u v w k m c.requires.ended c.requires.working.going c.requires.working.live c.requires.here then.0 then.2 then.1 c.let_go.ensures.done)
+    (out-of c.requires.ended c.requires.working.going c.requires.working.live c.requires.here then.0 then.2 then.1 c.let_go.ensures.done)
     (omega (arith, then.0.goes.moves.steps, c.let_go.ensures.done.steps)) c.if-leave.ensures.leaves
 
 pub returns-in-InUse-clause-turns : goal.returns-in-InUse-clause-turns
 returns-in-InUse-clause-turns g c =
-    let a : State = state_of c.args.st.now in
-    let b : State = state_of c.drain.new.st in
-    let u : AppView = g.F.AppFace.seen c.args.face.now in
-    let v : AppView = g.F.AppFace.seen c.drain.new.face in
     let reads = c.in-InUse.ensures.reads in
-    turns-did a b u v (g.T.Shelf.kept c.args.shelf.now) (g.T.Shelf.kept c.drain.new.shelf) (g.T.Shelf.faults c.args.shelf.now)
-    (g.T.Shelf.faults c.drain.new.shelf) c.requires.working.live reads.0 reads.1 (λ _. reads.3) (inl (inl reads.3)) (λ _ _. inr (inr (inr reads.3)))
+    turns-did c.requires.working.live reads.0 reads.1 (λ _. reads.3) (inl (inl reads.3)) (λ _ _. inr (inr (inr reads.3)))
