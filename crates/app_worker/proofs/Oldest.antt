@@ -197,65 +197,6 @@ module _ (was : State) (i : ℕ) (own : FlowQueue) (p : Completion × Lending) (
   same_taken : new.taken ≡ old.taken
   same_taken = ap (λ (v : AppView). v.taken) only.view
 
-  common-read : (bytes written : ℕ) (stopped : Stopped) → own.bytes ≤ bytes → written ≡ min (was.written + (bytes - own.bytes)) (2 ^ 64 - 1)
-      → Quits was.how.quit written stopped → Common (record (with_read was i own bytes ps p.1 written flush) { stopped = stopped }) new
-  common-read bytes written stopped more count quits =
-      let f : FlowQueue → ℕ = λ o. o.bytes in
-      let later : FlowQueue = record own { bytes = bytes } in
-      let sum : total f (set was.flows i later) + own.bytes ≡ total f was.flows + bytes =
-      ap (λ n. n + own.bytes) (ap (total f) (at.set_is later)) ∙ total-changed at.before at.after own later f
-      ∙ ap (λ n. n + bytes) (sym (ap (total f) at.is)) in
-      let short : FlowQueue → ℕ = λ o. short_bytes o.queue in
-      let shorts : total short (set was.flows i later) ≡ total short was.flows =
-      ap (total short) (at.set_is later) ∙ omega (arith, total-changed at.before at.after own later short) ∙ sym (ap (total short) at.is) in
-      let left : new.left ≡ old.left = ap (λ (v : AppView). v.left) only.view in
-      let scrubbed : new.scrubbed ≡ old.scrubbed = ap (λ (v : AppView). v.scrubbed) only.view in
-      record {
-        app = ap (λ (v : AppView). v.app) only.view ∙ common.app;
-        ended = ap (λ (v : AppView). v.ended) only.view ∙ common.ended;
-        scrubbed = scrubbed ∙ common.scrubbed;
-        owns = ap (λ (v : AppView). v.owns) only.view ∙ common.owns;
-        copied = common.copied ∙ ap capped (sym (ap (λ (v : AppView). v.spares) only.view));
-        origins = origins-same old new same_returned same_taken common.origins;
-        copies = omega (
-          arith,
-          ap (λ (v : AppView). v.spares) only.view,
-          ap (total is_copy) (ap (λ (v : AppView). v.loans) only.view),
-          ap (total is_copy) (ap (λ (v : AppView). v.returned) only.view),
-          common.copies,
-        );
-        spares = omega (arith, ap (λ (v : AppView). v.spares) only.view, shorts, ap (total unsplit_len) same_taken, common.spares);
-        some_places = common.some_places;
-        within = common.within;
-        room = common.room;
-        loans = common.loans ∙ ap capped (sym (omega (
-          arith,
-          ap length (ap (λ (v : AppView). v.loans) only.view),
-          ap length (ap (λ (v : AppView). v.returned) only.view),
-        )));
-        written = omega (arith, count, common.written, sum, more);
-        quits = quits;
-        leaks = common.leaks;
-        leak_room = common.leak_room;
-        leak_aside = leaked-aside was.leaked.items old new same_setting (ap (λ (v : AppView). v.app) only.view) common.leak_aside;
-        strays = strays-same was.how.stray was.stray.left old new (ap (λ (v : AppView). v.written) only.view) common.strays;
-        entries = entries-same old new (ap (λ (v : AppView). v.written) only.view) same_returned common.entries;
-        gives_whole = gives-more old new only common.gives_whole;
-        names = names-same was.stray old new same_setting common.names;
-        sound = sound-same old new same_returned same_setting common.sound;
-        blocks = blocks-same was.how.stray old new was.stray (ap (λ (v : AppView). v.written) only.view) (ap (λ (v : AppView). v.setting) only.view)
-            (ap (λ (v : AppView). v.loans) only.view) (ap (λ (v : AppView). v.returned) only.view) common.entries common.blocks;
-        bound = omega (
-          arith,
-          ap length (ap (λ (v : AppView). v.loans) only.view),
-          ap length (ap (λ (v : AppView). v.returned) only.view),
-          ap (total held_len) (ap (λ (v : AppView). v.helds) only.view),
-          ap (total taken_len) same_taken,
-          shorts,
-          common.bound,
-        );
-      }
-
   sum-read : (bytes : ℕ) → total (λ o. o.bytes) (set was.flows i (record own { bytes = bytes })) + own.bytes ≡ total (λ o. o.bytes) was.flows + bytes
   sum-read bytes =
       let f : FlowQueue → ℕ = λ o. o.bytes in
@@ -263,21 +204,25 @@ module _ (was : State) (i : ℕ) (own : FlowQueue) (p : Completion × Lending) (
       ap (λ n. n + own.bytes) (ap (total f) (at.set_is later)) ∙ total-changed at.before at.after own later f
       ∙ ap (λ n. n + bytes) (sym (ap (total f) at.is))
 
+  common-read : (bytes written : ℕ) (stopped : Stopped) → own.bytes ≤ bytes → written ≡ min (was.written + (bytes - own.bytes)) (2 ^ 64 - 1)
+      → Quits was.how.quit written stopped → Common (record (with_read was i own bytes ps p.1 written flush) { stopped = stopped }) new
+  common-read bytes written stopped more count quits =
+      let later : FlowQueue = record own { bytes = bytes } in
+      let short : FlowQueue → ℕ = λ o. short_bytes o.queue in
+      let shorts : total short (set was.flows i later) ≡ total short was.flows =
+      ap (total short) (at.set_is later) ∙ omega (arith, total-changed at.before at.after own later short) ∙ sym (ap (total short) at.is) in
+      let spares : old.spares + total short (set was.flows i later) ≤ total unsplit_len old.taken = omega (arith, shorts, common.spares) in
+      let counted : written ≡ capped (total (λ o. o.bytes) (set was.flows i later)) = omega (arith, count, common.written, sum-read bytes, more) in
+      let bound : length old.loans + length old.returned + total held_len old.helds + total short (set was.flows i later) ≤ total taken_len old.taken =
+      omega (arith, shorts, common.bound) in
+      rw only.view (assumption (rw only.view at (gives-more old new only common.gives_whole)))
+
   gives-read : Gives new new.returned
   gives-read = subst (Gives new) (sym same_returned)
       (gives-same old new old.returned (ap (λ (v : AppView). v.written) only.view) same_setting works.given)
 
   steps-read : (bytes written : ℕ) → app_steps (with_read was i own bytes ps p.1 written flush) new ≡ app_steps was old + 1
-  steps-read bytes written = omega (
-    arith,
-    ap length same_taken,
-    ap length (ap (λ (v : AppView). v.loans) only.view),
-    ap length (ap (λ (v : AppView). v.returned) only.view),
-    ap due_one due,
-    most-same was.how.stray old new same_returned,
-    ap one_if (ap (λ (v : AppView). v.ended) only.view),
-    ap one_if (ap (λ (v : AppView). v.left) only.view),
-  )
+  steps-read bytes written = rw only.view (omega (arith, ap due_one due))
 
   same_lent : reserve_loans new ≡ reserve_loans old
   same_lent = rw only.view refl
