@@ -32,7 +32,7 @@ use Rattle.app_worker.specs.Flushing.{Flushes, loans_so_far}
 use Rattle.std.proofs.lemmas.Bool.{cases_Bool}
 use Rattle.app_worker.specs.Whole.{Torn, ReadOne, ReadQuit, ReadFailed, Appended}
 use Rattle.flow_queues.proofs.Standing.{At, split-at, each-right, each-changed, many-same, total-changed, parts-alike, is_number, number-is}
-use Rattle.app_worker.proofs.Standing2.{IsNext, is-next, stands-read, tokens-read, appended, own-stands, oldest-out}
+use Rattle.app_worker.proofs.LoansStand.{IsNext, is-next, stands-read, tokens-read, appended, own-stands, oldest-out}
 use Rattle.app_worker.proofs.Shelved.{shelved-reaped, shelved-other}
 use Rattle.flow_queues.proofs.Tokens.{total-append, in-left}
 use Rattle.flow_queues.proofs.Entering.{marks-length}

@@ -7,7 +7,7 @@ use Rattle.app_worker.specs.State.{State, read_of}
 use Rattle.app_worker.specs.StateOf.{state_of}
 use Rattle.flow_queues.proofs.Tokens.{total-append}
 use Rattle.flow_queues.proofs.Standing.{At, split-at, flow-out}
-use Rattle.app_worker.proofs.Standing2.{own-stands}
+use Rattle.app_worker.proofs.LoansStand.{own-stands}
 use Rattle.app_worker.proofs.Delivering.{lent-bundle, none-lent}
 use Rattle.app_worker.proofs.Moving.{no-write}
 use Rattle.flow_queues.proofs.Resting.{rest-none}

@@ -5,7 +5,7 @@ use Rattle.flow_queues.specs.declared.queues.Lending.{Lending}
 use Rattle.app_worker.specs.Steps.{KeptDue, NotKept, Given}
 use Rattle.app_worker.specs.State.{State}
 use Rattle.app_worker.specs.StateOf.{state_of}
-use Rattle.app_worker.proofs.Standing2.{due-out}
+use Rattle.app_worker.proofs.LoansStand.{due-out}
 use Rattle.app_worker.proofs.Giving.{given-left, kept-left}
 use Rattle.app_worker.proofs.turning.give_one.Goals as goal
 

@@ -13,7 +13,7 @@ use Rattle.zr_kinds.specs.declared.behaviour.Stopped.TheVariants as stop
 use Rattle.app_worker.specs.State.{State, read_of}
 use Rattle.flow_queues.specs.Totals.{Quits, wanted_of}
 use Rattle.app_worker.specs.StateOf.{state_of}
-use Rattle.app_worker.proofs.Standing2.{oldest-out}
+use Rattle.app_worker.proofs.LoansStand.{oldest-out}
 use Rattle.flow_queues.proofs.Indexing.{found-at}
 use Rattle.app_worker.proofs.Oldest.{front-of, oldest-read, oldest-quit, oldest-failed}
 use Rattle.app_worker.proofs.Quitting.{wanted-part, quits-short, quits-not, quits-now}
