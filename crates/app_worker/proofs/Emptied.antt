@@ -23,7 +23,6 @@ use Rattle.flow_queues.specs.Core.{held_len, unsplit_len}
 use Rattle.std.proofs.Math.Nat.{mul-le-mul_left}
 use Rattle.std.proofs.Common.{◌*◌, ◌-◌}
 use Rattle.board_face.specs.declared.views.app.WrittenEntry.{WrittenEntry}
-use Rattle.app_worker.proofs.Moving.{strays-same, names-same}
 use Rattle.app_worker.proofs.Accounts.{sound-gone}
 use Rattle.app_worker.proofs.Origins.{origins-more, gone-origins}
 use Rattle.app_worker.proofs.ReadWhole.{given-all, gives-still}

@@ -60,10 +60,6 @@ aside-same old new returned setting app =
     ap (λ ls. total (λ (l : LentPiece). if l.place.buffer == reserve_of new then 0 else 1) ls) returned
     ∙ ap (λ n. total (λ (l : LentPiece). if l.place.buffer == n then 0 else 1) old.returned) (reserve-same old new setting app)
 
-pub leaked-aside : (leaked : List Lending) (old new : AppView) → new.setting ≡ old.setting → new.app ≡ old.app
-    → Each (λ (l : Lending). l.loan.buffer ≢ reserve_of old) leaked → Each (λ (l : Lending). l.loan.buffer ≢ reserve_of new) leaked
-leaked-aside leaked old new setting app each = subst (λ n. Each (λ (l : Lending). l.loan.buffer ≢ n) leaked) (sym (reserve-same old new setting app)) each
-
 pub same-leaked : (was now : State) → now.bare ≡ was.bare → now.leaked.items ≡ was.leaked.items → now.bare ≡ false → KeepsLeaked was now
 same-leaked was now bare items live = (sym bare ∙ live, ([], items ∙ sym (append-nil was.leaked.items)))
 
@@ -74,22 +70,6 @@ leaked-then a b c (live, (more, are)) (_, (more_then, are_then)) = (
 )
 
 -- ---- what follows loans
-
-pub strays-same : (most left : ℕ) (old new : AppView) → new.written ≡ old.written → raw_entries old + left ≤ most * loan_entries old
-    → raw_entries new + left ≤ most * loan_entries new
-strays-same most left old new written few = subst
-    (λ ws. total (λ (w : WrittenEntry). if w.of_loan then 0 else 1) ws + left ≤ most * total (λ (w : WrittenEntry). if w.of_loan then 1 else 0) ws)
-    (sym written) few
-
-pub entries-same : (old new : AppView) → new.written ≡ old.written → new.returned ≡ old.returned → loan_entries old ≤ length old.returned
-    → loan_entries new ≤ length new.returned
-entries-same old new written returned few = subst (λ ws. total (λ (w : WrittenEntry). if w.of_loan then 1 else 0) ws ≤ length new.returned) (sym written)
-    (omega (arith, few, ap length returned))
-
-pub names-same : (stray : Stray) (old new : AppView) → new.setting ≡ old.setting
-    → (0 < stray.left → judged old.setting.layout stray.entry ≡ Some stray.buffer) → 0 < stray.left
-    → judged new.setting.layout stray.entry ≡ Some stray.buffer
-names-same stray old new setting names some = subst (λ (s : Setting). judged s.layout stray.entry ≡ Some stray.buffer) (sym setting) (names some)
 
 pub most-same : (most : ℕ) (old new : AppView) → new.returned ≡ old.returned → most * length new.returned ≡ most * length old.returned
 most-same most old new returned = ap (λ (ls : List LentPiece). most * length ls) returned

@@ -39,18 +39,15 @@ use Rattle.flow_queues.proofs.Entering.{marks-length}
 use Rattle.flow_queues.proofs.ReadLemmas.{all-grow, read-append, marks-split}
 use Rattle.flow_queues.proofs.Placing.{values-split, values-length}
 use Rattle.app_worker.proofs.EachBoth.{each-both}
-use Rattle.app_worker.proofs.Moving.{total-one, no-write, aside-same, leaked-aside, same-leaked, strays-same, entries-same, names-same, most-same}
+use Rattle.app_worker.proofs.Moving.{total-one, no-write, aside-same, same-leaked, most-same}
 use Rattle.flow_queues.proofs.Looks.{looks-same}
 use Rattle.app_worker.proofs.Moving.{abandons-same, lent-same}
 use Rattle.app_worker.proofs.Through.{moves-stopped}
 use Rattle.flow_queues.proofs.Indexing.{index-set}
-use Rattle.app_worker.proofs.Accounts.{sound-same}
-use Rattle.app_worker.proofs.Origins.{origins-same}
 use Rattle.app_worker.specs.ReadWhole.{IsReadWhole, AreReadWhole}
 use Rattle.app_worker.proofs.ReadWhole.{gives-more, read-more}
 use Rattle.flow_queues.specs.Entries.{Gives}
 use Rattle.flow_queues.proofs.GivenBack.{gives-same}
-use Rattle.app_worker.proofs.Written.{blocks-same}
 use Rattle.flow_queues.proofs.Resting.{rest-same, each-same}
 
 pub front-of : {A : Type 0} (xs : List A) (x : A) → slice_get xs 0 ≡ Some x → xs ≡ x ∷ drop 1 xs

@@ -12,11 +12,6 @@ use Rattle.flow_queues.proofs.Tokens.{in-total, is_that_loan, that-loan, is-lent
 use Rattle.flow_queues.proofs.Standing.{each-map, each-join}
 use Rattle.flow_queues.proofs.NotesStay.{lent-still}
 
-pub origins-same : (old new : AppView) → new.returned ≡ old.returned → new.taken ≡ old.taken → Each (IsOfTaken old.taken) old.returned
-    → Each (IsOfTaken new.taken) new.returned
-origins-same old new returned taken origins = subst (λ ts. Each (IsOfTaken ts) new.returned) (sym taken)
-    (subst (Each (IsOfTaken old.taken)) (sym returned) origins)
-
 -- one more note was taken
 pub origins-noted : (v : AppView) (t : TakenNote) → Each (IsOfTaken v.taken) v.returned → Each (IsOfTaken (v.taken ++ t ∷ [])) v.returned
 origins-noted v t origins = each-map (IsOfTaken v.taken) (IsOfTaken (v.taken ++ t ∷ [])) v.returned (λ x _ of. record {
