@@ -1,4 +1,4 @@
-use Rattle.std.proofs.Common.{◌≡◌, ℕ, true, [], List, Option, sym, ap, subst, ◌∙◌}
+use Rattle.std.proofs.Common.{◌≡◌, ℕ, true, [], List, Option, sym, ap, subst, ◌∙◌, refl}
 use Rattle.board_face.specs.declared.views.app.AppView.{AppView}
 use Rattle.app_worker.specs.State.{State, Working, Common}
 use Rattle.app_worker.specs.StateOf.{state_of}
@@ -6,7 +6,6 @@ use Rattle.app_worker.specs.Whole.{TookOne, TookNone}
 use Rattle.app_worker.specs.Turns.{MayPoll, Turns}
 use Rattle.app_worker.proofs.Looking.{took-failed, took-did, ended-working, ended-common, turns-ended, turns-memory}
 use Rattle.app_worker.proofs.TurnLemmas.{turns-saw}
-use Rattle.app_worker.specs.declared.turn.Turn.TheVariants.{Idle}
 use Rattle.app_worker.specs.declared.turn.Why.TheVariants.{NoNote}
 use Rattle.app_worker.proofs.LentAll.{none-in-reserve, leaves-none}
 use Rattle.app_worker.proofs.working.look.Goals.{After-take_note}
@@ -84,13 +83,8 @@ returns-in-Memory-clause-turns g c =
 
 pub returns-in-NoNote-clause-turns : goal.returns-in-NoNote-clause-turns
 returns-in-NoNote-clause-turns g c =
-    let a : State = state_of c.args.st.now in
-    let u : AppView = g.F.AppFace.seen c.args.face.now in
-    let v : AppView = g.F.AppFace.seen c.take_note.new.face in
-    let k : ℕ → Option (List ℕ) = g.T.Shelf.kept c.args.shelf.now in
-    let f : ℕ = g.T.Shelf.faults c.args.shelf.now in
-    let may = may-poll g (goal.at.returns-in-NoNote-clause-turns g c).After-take_note in
     let takes = c.in-NoNote.ensures.takes in
-    subst (λ (s : State). Turns a s u v k k f f (Idle NoNote)) (sym takes.0)
-    (turns-saw NoNote takes.1 c.requires.working c.requires.common c.requires.reaped (c.requires.more, λ _. may)
-    (leaves-none a u v c.requires.due c.requires.pushed c.requires.flush))
+    turns-saw NoNote takes.0 refl takes.1 c.requires.working c.requires.common c.requires.reaped
+    (c.requires.more, λ _. may-poll g (goal.at.returns-in-NoNote-clause-turns g c).After-take_note)
+    (leaves-none (state_of c.args.st.now) (g.F.AppFace.seen c.args.face.now) (g.F.AppFace.seen c.take_note.new.face) c.requires.due
+    c.requires.pushed c.requires.flush)

@@ -9,19 +9,9 @@ use Rattle.app_worker.proofs.working.work.Goals as goal
 
 pub returns-in-Did-clause-turns : goal.returns-in-Did-clause-turns
 returns-in-Did-clause-turns g c =
-    let a : State = state_of c.args.st.now in
-    let e : State = state_of c.go_on-turn.new.st in
-    let u : AppView = g.F.AppFace.seen c.args.face.now in
-    let w : AppView = g.F.AppFace.seen c.go_on-turn.new.face in
-    let k : ℕ → Option (List ℕ) = g.T.Shelf.kept c.args.shelf.now in
-    let m : ℕ → Option (List ℕ) = g.T.Shelf.kept c.go_on-turn.new.shelf in
-    let f : ℕ = g.T.Shelf.faults c.args.shelf.now in
-    let f2 : ℕ = g.T.Shelf.faults c.go_on-turn.new.shelf in
     let reads = c.in-Did.ensures.reads in
     let is : c.after.result ≡ turn_after true c.go_on-turn.result = search rules in
-    subst (Turns a e u w k m f f2) (sym is)
-    (turns-later
-    (begins-through c.requires.working c.requires.here reads.0 reads.1 c.drain.ensures.later) c.go_on-turn.ensures.turns)
+    rw is (turns-later (begins-through c.requires.working c.requires.here reads.0 reads.1 c.drain.ensures.later) c.go_on-turn.ensures.turns)
 
 pub returns-in-Nothing-clause-turns : goal.returns-in-Nothing-clause-turns
 returns-in-Nothing-clause-turns g c =
