@@ -39,7 +39,7 @@ use Rattle.app_worker.proofs.Seeing.{common-saw, goes-saw, goes-still}
 use Rattle.app_worker.proofs.Measure.{one-most}
 use Rattle.flow_queues.proofs.Tokens.{total-append}
 use Rattle.app_worker.proofs.Through.{goes-then}
-use Rattle.app_worker.proofs.TurnLemmas.{stands-bare, no-poll, no-rest, bare-over, bare-flushes, bare-stops, bare-polls}
+use Rattle.app_worker.proofs.TurnLemmas.{turns-bare, no-poll, no-rest}
 
 -- all of the flow was appended
 abbrev pub IsWhole : List TakenNote → FlowQueue → Type 0
@@ -210,56 +210,30 @@ pub turns-finished : (a c : State) (u w x : AppView) (k m : ℕ → Option (List
     → Leaves c.scrubbed done w x true → Turns a (record c { scrubbed = done }) u x k m f f2 Finished
 turns-finished a c u w x k m f f2 done out leaves =
     let (now, (quiet, is)) = leaves in
-    rw (now, is) (record {
-      stands = stands-bare (bare-scrubbed c w quiet true out.bare)
-          (common-scrubbed c w quiet true out.common) out.reaped out.is_bare;
-      goes = goes-then out.goes
-          (goes-scrubbed c w quiet true m (omega (arith, one-most w.left)));
-      answer = (out.here, refl, out.is_bare);
-      few = inl out.taken;
-      idle = λ why e. absurd (cc);
-      left_over = bare-over (scrubbed_state c) u _ out.is_bare;
-      flushes = bare-flushes a (scrubbed_state c) u _ out.is_bare;
-      stops = bare-stops (scrubbed_state c) u _ out.is_bare;
-      polls = bare-polls a (scrubbed_state c) u _ out.is_bare;
-      here = λ other. absurd (other refl);
-      polled = no-poll a (scrubbed_state c) u (scrubbed_view w quiet true) out.taken;
-      cause = λ other is. absurd (other (sym out.same ∙ is));
-      memory = λ other is. absurd (other (sym out.same ∙ is));
-      rests = λ bare. (let r = out.rests bare in record {
-        state = ap scrubbed_state r.state;
-        view = ap (λ (v : AppView). scrubbed_view v quiet true) r.view;
-        kept_is = r.kept_is;
-      });
-      looks = λ _ _. inr (inr out.ended);
-    })
+    rw (now, is) (turns-bare (bare-scrubbed c w quiet true out.bare) out.is_bare (common-scrubbed c w quiet true out.common) out.reaped
+    (goes-then out.goes (goes-scrubbed c w quiet true m (omega (arith, one-most w.left)))) (out.here, refl, out.is_bare) (inl out.taken)
+    (λ why e. absurd (cc)) (λ other. absurd (other refl)) (no-poll a (scrubbed_state c) u (scrubbed_view w quiet true) out.taken) out.same
+    (λ bare. (let r = out.rests bare in record {
+      state = ap scrubbed_state r.state;
+      view = ap (λ (v : AppView). scrubbed_view v quiet true) r.view;
+      kept_is = r.kept_is;
+    }))
+    (λ _ _. inr (inr out.ended)))
 
 pub turns-not-quiet : (a c : State) (u w x : AppView) (k m : ℕ → Option (List ℕ)) (f f2 : ℕ) (done : Bool) → IsOut a c u w k m
     → app_steps a u < app_steps c w
     → Leaves c.scrubbed done w x false → Turns a (record c { scrubbed = done }) u x k m f f2 Did
 turns-not-quiet a c u w x k m f f2 done out steps leaves =
     let (same, saw) = leaves in
-    rw (same, saw.event) (record {
-      stands = stands-bare (bare-saw c w NotQuiet out.bare) (common-saw c w NotQuiet out.common) out.reaped out.is_bare;
-      goes = goes-then out.goes (goes-saw c w NotQuiet m);
-      answer = omega (arith, steps);
-      few = inl out.taken;
-      idle = λ why e. absurd (cc);
-      left_over = bare-over c u _ out.is_bare;
-      flushes = bare-flushes a c u _ out.is_bare;
-      stops = bare-stops c u _ out.is_bare;
-      polls = bare-polls a c u _ out.is_bare;
-      here = λ _. out.left;
-      polled = no-poll a c u (app_saw w NotQuiet) out.taken;
-      cause = λ other is. absurd (other (sym out.same ∙ is));
-      memory = λ other is. absurd (other (sym out.same ∙ is));
-      rests = λ bare. (let r = out.rests bare in record {
-        state = r.state;
-        view = ap (λ (v : AppView). app_saw v NotQuiet) r.view;
-        kept_is = r.kept_is;
-      });
-      looks = λ _ _. inr (inr out.ended);
-    })
+    rw (same, saw.event) (turns-bare (bare-saw c w NotQuiet out.bare) out.is_bare (common-saw c w NotQuiet out.common) out.reaped
+    (goes-then out.goes (goes-saw c w NotQuiet m)) (omega (arith, steps)) (inl out.taken) (λ why e. absurd (cc)) (λ _. out.left)
+    (no-poll a c u (app_saw w NotQuiet) out.taken) out.same
+    (λ bare. (let r = out.rests bare in record {
+      state = r.state;
+      view = ap (λ (v : AppView). app_saw v NotQuiet) r.view;
+      kept_is = r.kept_is;
+    }))
+    (λ _ _. inr (inr out.ended)))
 
 -- by way of reading all
 pub out-of : {a b c : State} {u v w : AppView} {k m : ℕ → Option (List ℕ)} → a.ended ≡ true → a.stopped ≡ stop.No
