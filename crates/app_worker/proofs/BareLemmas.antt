@@ -1,6 +1,5 @@
 -- Turns of an application that has nothing out.
-use Rattle.std.proofs.Common.{◌≡◌, ℕ, ◌<◌, Bool, true, false, List, [], ◌∷◌, ◌++◌, Option, length, take, refl, sym, ap, subst, ◌∙◌}
-use Rattle.std.proofs.Common.{arith, inl, inr}
+use Rattle.std.proofs.Common.{◌≡◌, ℕ, ◌<◌, Bool, true, false, List, [], ◌∷◌, ◌++◌, Option, length, take, refl, sym, ap, subst, ◌∙◌, arith, inl, inr}
 use Rattle.zr_kinds.specs.declared.behaviour.Stopped.TheVariants as stop
 use Rattle.zr_kinds.specs.declared.place.Place.{Place}
 use Rattle.zr_kinds.specs.declared.place.Note.{Note}
@@ -17,11 +16,10 @@ use Rattle.app_worker.specs.declared.turn.Turn.{Turn}
 use Rattle.app_worker.specs.declared.turn.Turn.TheVariants.{Did, Idle, Finished, Failed}
 use Rattle.zr_kinds.specs.declared.fault.Fault.TheVariants as fault
 use Rattle.app_worker.specs.declared.turn.Why.TheVariants.{NoNote, NotQuiet as not_quiet}
-use Rattle.flow_queues.specs.Core.{total, Each, many, own_notes, placed_of}
+use Rattle.flow_queues.specs.Core.{total, Each, many, own_notes, placed_of, held_len}
 use Rattle.zr_kinds.specs.CopyingReceiver.{next_missing}
 use Rattle.app_worker.specs.State.{State, Common, Working, Bare, app_steps, one_if}
 use Rattle.flow_queues.specs.Totals.{lent_bytes, lent_len, loan_entries}
-use Rattle.flow_queues.specs.Core.{held_len}
 use Rattle.app_worker.specs.Stages.{Leaves, ScrubsOnce}
 use Rattle.board_face.specs.Looks.{AppLooksStay}
 use Rattle.std.specs.Prelude.{MatchBool}

@@ -1,8 +1,6 @@
 -- The end of an application.
-use Rattle.std.proofs.Common.{◌≡◌, ◌≢◌, ℕ, ◌+◌, ◌<◌, ◌≤◌, ◌-◌, min, Bool, true, false, List, [], ◌∷◌, ◌++◌, Option}
-use Rattle.std.proofs.Common.{None, length, drop, refl}
-use Rattle.std.proofs.Common.{sym, ap, subst}
-use Rattle.std.proofs.Common.{◌∙◌, arith, inl, inr, ⊎_elim}
+use Rattle.std.proofs.Common.{◌≡◌, ◌≢◌, ℕ, ◌+◌, ◌<◌, ◌≤◌, ◌-◌, min, Bool, true, false, List, [], ◌∷◌, ◌++◌, Option, None, length, drop, refl, sym, ap}
+use Rattle.std.proofs.Common.{subst, ◌∙◌, arith, inl, inr, ⊎_elim}
 use Rattle.std.proofs.Math.Seq.{drop-append_seam}
 use Rattle.std.proofs.lemmas.Bool.{cases_lt, ne_eqb}
 use Rattle.std.specs.Prelude.{◌==◌, if◌then◌else◌}
@@ -22,9 +20,8 @@ use Rattle.flow_queues.specs.Core.{total, Each, own_notes, received_notes, place
 use Rattle.flow_queues.specs.Entries.{lies_in, returned_aside}
 use Rattle.app_worker.specs.State.{State, Working, Common, Bare, app_steps, one_if}
 use Rattle.flow_queues.specs.Totals.{lent_len, loan_entries}
-use Rattle.flow_queues.specs.Flows.{IsAtRest}
+use Rattle.flow_queues.specs.Flows.{IsAtRest, FlowFacts, facts_of}
 use Rattle.app_worker.specs.Moves.{Goes}
-use Rattle.flow_queues.specs.Flows.{FlowFacts, facts_of}
 use Rattle.app_worker.specs.Letting.{LetGo}
 use Rattle.app_worker.specs.Stages.{Through, Leaves}
 use Rattle.zr_kinds.specs.declared.behaviour.Stopped.TheVariants as stop

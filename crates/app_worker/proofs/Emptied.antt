@@ -1,6 +1,6 @@
 -- All that an application has out is given up: what is left.
-use Rattle.std.proofs.Common.{zero, suc, get_or, ◌∷◌, ◌≡◌, ℕ, ◌+◌, ◌<◌, ◌≤◌, true, false, List, [], Option, None, IsSome}
-use Rattle.std.proofs.Common.{map, length, take, drop, refl, sym, ap, subst, ◌≢◌, ◌∙◌, arith, ◌++◌, append-nil, append_assoc}
+use Rattle.std.proofs.Common.{zero, suc, get_or, ◌∷◌, ◌≡◌, ℕ, ◌+◌, ◌<◌, ◌≤◌, true, false, List, [], Option, None, IsSome, map, length, take, drop}
+use Rattle.std.proofs.Common.{refl, sym, ap, subst, ◌≢◌, ◌∙◌, arith, ◌++◌, append-nil, append_assoc, ◌*◌, ◌-◌}
 use Rattle.std.specs.Prelude.{◌==◌, if◌then◌else◌}
 use Rattle.zr_kinds.specs.declared.ring.Completion.{Completion}
 use Rattle.zr_kinds.specs.CopyingReceiver.{nothing_placed, values_from}
@@ -13,15 +13,13 @@ use Rattle.board_face.specs.declared.views.app.AppView.{AppView}
 use Rattle.flow_queues.specs.declared.queues.Lending.{Lending}
 use Rattle.flow_queues.specs.declared.queues.FlowQueue.{FlowQueue}
 use Rattle.flow_queues.specs.Core.{total, many, Each, over_due, over_read, read_out, short_bytes, lent_piece, own_notes, BeginAt, received_notes}
-use Rattle.flow_queues.specs.Core.{AreReadAt, most_at_once, is_copy, IsIn}
+use Rattle.flow_queues.specs.Core.{AreReadAt, most_at_once, is_copy, IsIn, held_len, unsplit_len}
 use Rattle.flow_queues.proofs.Indexing.{by-place}
 use Rattle.app_worker.specs.State.{State, Common, due_one, app_steps, one_if, read_of}
 use Rattle.flow_queues.specs.Shelves.{FlowEnds, kept_loans, IsShelved, AreShelved, AreOfOneLoan, ReadsFront, IsFrontShelved, AreFronts}
 use Rattle.flow_queues.specs.Totals.{capped, taken_len, lent_len, loan_entries}
-use Rattle.flow_queues.specs.Flows.{IsIndex, place_in}
-use Rattle.flow_queues.specs.Core.{held_len, unsplit_len}
+use Rattle.flow_queues.specs.Flows.{IsIndex, place_in, FlowFacts, facts_of}
 use Rattle.std.proofs.Math.Nat.{mul-le-mul_left}
-use Rattle.std.proofs.Common.{◌*◌, ◌-◌}
 use Rattle.board_face.specs.declared.views.app.WrittenEntry.{WrittenEntry}
 use Rattle.app_worker.proofs.Accounts.{sound-gone}
 use Rattle.app_worker.proofs.Origins.{origins-more, gone-origins}
@@ -32,7 +30,6 @@ use Rattle.zr_kinds.specs.declared.place.Place.{Place}
 use Rattle.std.proofs.Math.Seq.{drop-append_seam, drop-length}
 use Rattle.app_worker.specs.Moves.{over_leaked}
 use Rattle.app_worker.specs.Whole.{Torn}
-use Rattle.flow_queues.specs.Flows.{FlowFacts, facts_of}
 use Rattle.app_worker.specs.Letting.{Abandons, LetGo}
 use Rattle.circular_buffer.specs.Buffer.{buffer}
 use Rattle.app_worker.proofs.Measure.{read-one, read-parts, due-most}

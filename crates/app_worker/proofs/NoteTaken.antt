@@ -1,6 +1,6 @@
 -- A note is taken: by each way that it goes.
-use Rattle.std.proofs.Common.{◌≡◌, ℕ, ◌+◌, ◌<◌, ◌≤◌, true, false, List, [], ◌∷◌, ◌++◌, length, set, get_or}
-use Rattle.std.proofs.Common.{refl, sym, ap, subst, ◌∙◌, arith, inl, inr, take, length-append}
+use Rattle.std.proofs.Common.{◌≡◌, ℕ, ◌+◌, ◌<◌, ◌≤◌, true, false, List, [], ◌∷◌, ◌++◌, length, set, get_or, refl, sym, ap, subst, ◌∙◌, arith, inl}
+use Rattle.std.proofs.Common.{inr, take, length-append}
 use Rattle.zr_kinds.specs.declared.place.Place.{Place}
 use Rattle.zr_kinds.specs.declared.place.Note.{Note}
 use Rattle.tcp_reorder.specs.Queue.{Queue}
@@ -11,20 +11,18 @@ use Rattle.board_face.specs.declared.views.app.TakenNote.{TakenNote}
 use Rattle.board_face.specs.declared.views.app.AppView.{AppView}
 use Rattle.flow_queues.specs.declared.queues.Waiting.{Waiting}
 use Rattle.flow_queues.specs.declared.queues.FlowQueue.{FlowQueue}
-use Rattle.flow_queues.specs.Core.{total, Each, LieApart, Stands, FlowStands, many, short_bytes, held_piece}
-use Rattle.flow_queues.specs.Core.{own_notes}
+use Rattle.flow_queues.specs.Core.{total, Each, LieApart, Stands, FlowStands, many, short_bytes, held_piece, own_notes, held_len, unsplit_len}
+use Rattle.flow_queues.specs.Core.{HasTokens}
 use Rattle.app_worker.proofs.Moving.{aside-same}
 use Rattle.app_worker.specs.State.{State, read_of, loan_len, TellsOf, LiesOutside, Working, Common}
 use Rattle.flow_queues.specs.Shelves.{FlowEnds}
 use Rattle.flow_queues.specs.Totals.{lent_bytes, lent_len}
-use Rattle.flow_queues.specs.Flows.{IsAtRest, RestBut, IsIndex}
-use Rattle.flow_queues.specs.Core.{held_len, unsplit_len}
+use Rattle.flow_queues.specs.Flows.{IsAtRest, RestBut, IsIndex, fresh_flow, IsChosen}
 use Rattle.board_face.specs.declared.views.app.HeldPiece.{HeldPiece}
 use Rattle.flow_queues.specs.Pieces.{whole_piece}
 use Rattle.app_worker.specs.Moves.{reads_of, reserve_loans}
 use Rattle.app_worker.specs.Flushing.{loans_so_far}
 use Rattle.app_worker.proofs.Flushing.{flushes-same}
-use Rattle.flow_queues.specs.Flows.{fresh_flow, IsChosen}
 use Rattle.app_worker.specs.Whole.{TookOne, TookNone, Torn}
 use Rattle.zr_kinds.specs.declared.ring.Completion.{Completion}
 use Rattle.flow_queues.specs.declared.queues.Lending.{Lending}
@@ -38,11 +36,9 @@ use Rattle.app_worker.proofs.ReadWhole.{read-noted}
 use Rattle.flow_queues.proofs.Indexing.{index-set}
 use Rattle.flow_queues.proofs.Resting.{rest-all, rest-set, rest-push}
 use Rattle.flow_queues.proofs.Choosing.{Chosen, is-chosen, bytes-noted, total-noted, many-noted}
-use Rattle.app_worker.proofs.Noting.{TookView, TookBytes, with_note, grow-noted}
-use Rattle.app_worker.proofs.Noting.{common-noted, steps-noted, moves-noted, ends-kept}
-use Rattle.app_worker.proofs.Noting.{shelves-kept, ends-noted, shelves-noted}
+use Rattle.app_worker.proofs.Noting.{TookView, TookBytes, with_note, grow-noted, common-noted, steps-noted, moves-noted, ends-kept, shelves-kept}
+use Rattle.app_worker.proofs.Noting.{ends-noted, shelves-noted}
 use Rattle.flow_queues.specs.Taking.{Changes, EntersPiece, EntersPayload, LosesPiece, LosesPayload}
-use Rattle.flow_queues.specs.Core.{HasTokens}
 
 -- what was appended of each flow has its place
 pub all-end : (st : State) (v : AppView) → Working st v → Each (FlowEnds v.taken) st.flows

@@ -1,9 +1,7 @@
 -- The oldest loan is read: all that is kept then.
-use Rattle.std.proofs.Common.{◌≡◌, ◌≢◌, ℕ, ◌+◌, ◌-◌, ◌^◌, ◌<◌, ◌≤◌, min, Bool, true, false, List, [], ◌∷◌}
-use Rattle.std.proofs.Common.{◌++◌, Option, Some, None}
+use Rattle.std.proofs.Common.{◌≡◌, ◌≢◌, ℕ, ◌+◌, ◌-◌, ◌^◌, ◌<◌, ◌≤◌, min, Bool, true, false, List, [], ◌∷◌, ◌++◌, Option, Some, None, IsSome, length}
+use Rattle.std.proofs.Common.{drop, set, get_or, refl, sym, ap, subst, ◌∙◌, arith, ◌⊎◌, ⊎_elim, append-nil, length-append, inl, inr}
 use Rattle.board_face.specs.declared.views.app.LentPiece.{LentPiece}
-use Rattle.std.proofs.Common.{IsSome, length, drop, set, get_or, refl, sym, ap, subst, ◌∙◌, arith, ◌⊎◌, ⊎_elim, append-nil, length-append}
-use Rattle.std.proofs.Common.{inl, inr}
 use Rattle.std.specs.Prelude.{slice_get, ◌==◌, if◌then◌else◌}
 use Rattle.std.specs.Io.KnownBytes.{Keeps}
 use Rattle.zr_kinds.specs.declared.ring.Completion.{Completion}
@@ -17,15 +15,13 @@ use Rattle.board_face.specs.declared.views.app.TakenNote.{TakenNote}
 use Rattle.board_face.specs.declared.views.app.AppView.{AppView}
 use Rattle.flow_queues.specs.declared.queues.Lending.{Lending}
 use Rattle.flow_queues.specs.declared.queues.FlowQueue.{FlowQueue}
-use Rattle.flow_queues.specs.Core.{total, is_copy, Each, Stands, FlowStands, HasTokens, OnlyReads, IsReadOf, AreReadAt, placed_of, marks_of_loan, many}
-use Rattle.flow_queues.specs.Core.{short_bytes, IsIn, lent_piece}
-use Rattle.flow_queues.specs.Core.{read_out}
+use Rattle.flow_queues.specs.Core.{total, is_copy, Each, Stands, FlowStands, HasTokens, OnlyReads, IsReadOf, AreReadAt, placed_of, marks_of_loan}
+use Rattle.flow_queues.specs.Core.{many, short_bytes, IsIn, lent_piece, read_out, held_len, unsplit_len}
 use Rattle.zr_kinds.specs.declared.behaviour.Stopped.{Stopped}
 use Rattle.zr_kinds.specs.declared.behaviour.Stopped.TheVariants as stop
 use Rattle.app_worker.specs.State.{State, read_of, TellsOf, LiesOutside, Working, Common, due_one, loan_len, app_steps, one_if}
 use Rattle.flow_queues.specs.Totals.{Quits, capped, taken_len, lent_len, bytes_if, bytes_of, loan_entries}
 use Rattle.flow_queues.specs.Shelves.{FlowEnds, kept_loans, IsShelved, AreShelved, AreOfOneLoan, ReadsFront, IsFrontShelved, AreFronts}
-use Rattle.flow_queues.specs.Core.{held_len, unsplit_len}
 use Rattle.board_face.specs.AppEvents.{reserve_of}
 use Rattle.app_worker.specs.Moves.{Moves, KeptSince, reads_of, reserve_loans}
 use Rattle.app_worker.specs.Flushing.{Flushes, loans_so_far}
@@ -39,9 +35,8 @@ use Rattle.flow_queues.proofs.Entering.{marks-length}
 use Rattle.flow_queues.proofs.ReadLemmas.{all-grow, read-append, marks-split}
 use Rattle.flow_queues.proofs.Placing.{values-split, values-length}
 use Rattle.app_worker.proofs.EachBoth.{each-both}
-use Rattle.app_worker.proofs.Moving.{total-one, no-write, aside-same, same-leaked, most-same}
+use Rattle.app_worker.proofs.Moving.{total-one, no-write, aside-same, same-leaked, most-same, abandons-same, lent-same}
 use Rattle.flow_queues.proofs.Looks.{looks-same}
-use Rattle.app_worker.proofs.Moving.{abandons-same, lent-same}
 use Rattle.app_worker.proofs.Through.{moves-stopped}
 use Rattle.flow_queues.proofs.Indexing.{index-set}
 use Rattle.app_worker.specs.ReadWhole.{IsReadWhole, AreReadWhole}
@@ -264,42 +259,30 @@ module _ (was : State) (i : ℕ) (own : FlowQueue) (p : Completion × Lending) (
   no-flush off = ⊎_elim (λ (on : flush ≡ true). absurd (let e = (flush_on on).0 in cc)) (λ (not : flush ≡ false). not) (cases_Bool flush)
 
   moves-read : (bytes written : ℕ) → own.bytes ≤ bytes → Moves was (with_read was i own bytes ps p.1 written flush) old new
-  moves-read bytes written more = record {
-    same = (
-      same_setting,
-      ap (λ (v : AppView). v.app) only.view,
-      ap (λ (v : AppView). v.owns) only.view,
-      omega (arith, ap (λ (v : AppView). v.spares) only.view),
-    );
+  moves-read bytes written more = rw only.view (record {
+    same = (refl, refl, refl, omega arith);
     how = (refl, refl);
     places = refl;
-    steps = omega (arith, steps-read bytes written);
-    looks = looks-same old new (ap (λ (v : AppView). v.looks) only.view);
+    steps = omega (arith, ap due_one due);
+    looks = looks-same old _ refl;
     keeps = λ n r before live.
         let k : KeptSince n r was old = before live in
         record {
-          lent = omega (arith, k.lent, same_lent);
+          lent = k.lent;
           kept = λ notes same.
-              let kept = k.kept notes (sym same_lent ∙ same) in (
-                no-flush kept.0,
-                λ _. omega (arith, more_kept notes kept.0, ap length unread, length-append ps was.posted.entries),
-              );
+              let kept = k.kept notes same in
+              (no-flush kept.0, λ _. omega (arith, more_kept notes kept.0, ap length unread, length-append ps was.posted.entries));
         };
     stays = λ _. refl;
     leaked = same-leaked was (with_read was i own bytes ps p.1 written flush) refl refl;
-    abandons = abandons-same was (with_read was i own bytes ps p.1 written flush) old new refl refl
-        (ap (λ (v : AppView). v.written) only.view) same_returned;
+    abandons = λ f. omega arith;
     reaps = record {
       read = p ∷ [];
       more = [];
       in_order = append-nil (was.unread ++ was.posted.entries) ∙ all;
-      lent = λ f. omega (arith, lent-same old new (ap (λ (v : AppView). v.loans) only.view) same_returned f);
+      lent = λ f. omega arith;
       tells = tt;
-      gone = λ f. omega (
-        arith,
-        ap (total (λ (l : LentPiece). f l.place)) same_returned,
-        ap (λ d. total (λ (l : Lending). f l.loan) (read_out d was.leaked.items)) due,
-      );
+      gone = λ f. omega (arith, ap (λ d. total (λ (l : Lending). f l.loan) (read_out d was.leaked.items)) due);
     };
     bytes = λ n. (let later : FlowQueue = record own { bytes = bytes } in omega (
       arith,
@@ -308,7 +291,7 @@ module _ (was : State) (i : ℕ) (own : FlowQueue) (p : Completion × Lending) (
       ap (bytes_of n) at.is,
       still-more (own.number == n),
     ));
-  }
+  })
     where
       still-more : (b : Bool) → (if b then own.bytes else 0) ≤ (if b then bytes else 0)
       still-more true = more
@@ -339,34 +322,26 @@ module _ (was : State) (i : ℕ) (own : FlowQueue) (p : Completion × Lending) (
       let told : Each (TellsOf old.setting.layout) (p ∷ (ps ++ was.posted.entries)) = subst (Each (TellsOf old.setting.layout)) all works.completions in
       let added : Appended own old.taken new p.1.loan.len kept kept_now = appended old.taken p (ps ++ was.posted.entries) own p.1.loan.len new kept
       kept_now number (own-stands was.notes at.before at.after own (p ∷ (ps ++ was.posted.entries)) was.leaked.items old stood) (omega arith) gained others in
+      let waits : 0 < was.stray.left → Some p.1 ≡ None = λ some. absurd (omega (arith, some, pushed)) in
+      let appended : total lent_len old.returned + (loan_len p.1 + total loan_len was.leaked.items) ≡ total (λ o. o.bytes) (set was.flows i later) = omega (
+        arith,
+        ap (λ d. total loan_len (read_out d was.leaked.items)) due,
+        works.appended,
+        sum-read (own.bytes + p.1.loan.len),
+      ) in
       rw is (record {
-        working = record {
-          stands = subst (λ (fs : List FlowQueue). Stands was.notes fs (ps ++ was.posted.entries) (p.1 ∷ was.leaked.items) new)
-              (sym (at.set_is later)) stands;
-          completions = subst (λ (s : Setting). Each (TellsOf s.layout) (ps ++ was.posted.entries)) (sym same_setting) told.1;
-          rest = rest-same was.active i was.flows own later within (sym value) refl works.rest;
-          index = index-set was.index was.flows i own later within value refl works.index;
-          over = λ over. each-same i was.flows own later within (sym value) refl (works.over over);
-          going = works.going;
-          outside = still-outside;
-          flush = λ on none. (flush_on on).1 (rest_all none);
-          live = works.live;
-          keeps_first = λ some. works.keeps_first
-              (omega (arith, some, aside-same old new same_returned same_setting (ap (λ (v : AppView). v.app) only.view)));
-          waits = λ some. absurd (omega (arith, some, pushed));
-          given = gives-read;
-          read_whole = (
-            subst (λ ts. IsReadWhole new.reads (lent_piece ts p.1)) (sym same_taken) whole,
-            read-more old new was.leaked.items only (subst (λ d. AreReadWhole old (read_out d was.leaked.items)) due works.read_whole),
-          );
-          appended = omega (
-            arith,
-            ap (total lent_len) same_returned,
-            ap (λ d. total loan_len (read_out d was.leaked.items)) due,
-            works.appended,
-            sum-read (own.bytes + p.1.loan.len),
-          );
-        };
+        working = rw only.view (assumption (
+          rw only.view at (subst (λ (fs : List FlowQueue). Stands was.notes fs (ps ++ was.posted.entries) (p.1 ∷ was.leaked.items) new)
+              (sym (at.set_is later)) stands),
+          told.1,
+          rest-same was.active i was.flows own later within (sym value) refl works.rest,
+          index-set was.index was.flows i own later within value refl works.index,
+          λ (over : was.ended ≡ true). each-same i was.flows own later within (sym value) refl (works.over over),
+          rw only.view at still-outside,
+          λ (on : flush ≡ true) (none : ps ++ was.posted.entries ≡ []). (flush_on on).1 (rest_all none),
+          rw only.view at (read-more old new was.leaked.items only (subst (λ d. AreReadWhole old (read_out d was.leaked.items)) due works.read_whole)),
+          works,
+        ));
         common = common-read (own.bytes + p.1.loan.len) written was.stopped (omega arith) (omega (arith, count)) quits;
         goes = record {
           moves = moves-read (own.bytes + p.1.loan.len) written (omega arith);
