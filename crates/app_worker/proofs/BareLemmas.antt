@@ -19,18 +19,16 @@ use Rattle.app_worker.specs.declared.turn.Why.TheVariants.{NoNote, NotQuiet as n
 use Rattle.flow_queues.specs.Core.{total, Each, many, own_notes, placed_of, held_len}
 use Rattle.zr_kinds.specs.CopyingReceiver.{next_missing}
 use Rattle.app_worker.specs.State.{State, Common, Working, Bare, app_steps, one_if}
-use Rattle.flow_queues.specs.Totals.{lent_bytes, lent_len, loan_entries}
 use Rattle.app_worker.specs.Stages.{Leaves, ScrubsOnce}
 use Rattle.board_face.specs.Looks.{AppLooksStay}
 use Rattle.std.specs.Prelude.{MatchBool}
-use Rattle.app_worker.specs.Turns.{Answers, Because, Turns, LooksForOne, ScrubsIfQuiet, look_of, turn_after}
+use Rattle.app_worker.specs.Turns.{Answers, Because, Turns, LooksForOne, ScrubsIfQuiet, turn_after}
 use Rattle.flow_queues.proofs.Looks.{looks-more}
 use Rattle.app_worker.proofs.Moving.{rose-before, rose-after}
 use Rattle.app_worker.proofs.Seeing.{goes-none, goes-saw, goes-still, common-saw}
 use Rattle.app_worker.proofs.Noting.{TookView, common-noted, steps-noted, moves-noted, ends-kept, shelves-kept, fronts-kept}
 use Rattle.app_worker.proofs.TurnLemmas.{turns-bare, as-before, idle-for, after-busy, after-none}
 use Rattle.app_worker.proofs.Through.{goes-then}
-use Rattle.flow_queues.proofs.GivenBack.{front-same}
 use Rattle.app_worker.proofs.Closing.{IsOut, bare-saw, turns-finished, scrubbed_state, scrubbed_view, bare-scrubbed, common-scrubbed, goes-scrubbed}
 
 module _ (st : State) (old : AppView) (bare : Bare st old) (is_bare : st.bare ≡ true) (common : Common st old) (reaped : st.posted.entries ≡ []) where

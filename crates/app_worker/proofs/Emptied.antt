@@ -1,6 +1,6 @@
 -- All that an application has out is given up: what is left.
 use Rattle.std.proofs.Common.{zero, suc, get_or, ◌∷◌, ◌≡◌, ℕ, ◌+◌, ◌<◌, ◌≤◌, true, false, List, [], Option, None, IsSome, map, length, take, drop}
-use Rattle.std.proofs.Common.{refl, sym, ap, subst, ◌≢◌, ◌∙◌, arith, ◌++◌, append-nil, append_assoc, ◌*◌, ◌-◌}
+use Rattle.std.proofs.Common.{refl, sym, ap, subst, ◌≢◌, ◌∙◌, arith, ◌++◌, append-nil, append_assoc, ◌-◌}
 use Rattle.std.specs.Prelude.{◌==◌, if◌then◌else◌}
 use Rattle.zr_kinds.specs.declared.ring.Completion.{Completion}
 use Rattle.zr_kinds.specs.CopyingReceiver.{nothing_placed, values_from}
@@ -12,19 +12,18 @@ use Rattle.board_face.specs.declared.views.app.LentPiece.{LentPiece}
 use Rattle.board_face.specs.declared.views.app.AppView.{AppView}
 use Rattle.flow_queues.specs.declared.queues.Lending.{Lending}
 use Rattle.flow_queues.specs.declared.queues.FlowQueue.{FlowQueue}
-use Rattle.flow_queues.specs.Core.{total, many, Each, over_due, over_read, read_out, short_bytes, lent_piece, own_notes, BeginAt, received_notes}
-use Rattle.flow_queues.specs.Core.{AreReadAt, most_at_once, is_copy, IsIn, held_len, unsplit_len}
+use Rattle.flow_queues.specs.Core.{total, many, Each, over_due, over_read, short_bytes, lent_piece, own_notes, BeginAt, received_notes}
+use Rattle.flow_queues.specs.Core.{AreReadAt, most_at_once, is_copy, IsIn, unsplit_len}
 use Rattle.flow_queues.proofs.Indexing.{by-place}
 use Rattle.app_worker.specs.State.{State, Common, due_one, app_steps, one_if, read_of}
 use Rattle.flow_queues.specs.Shelves.{FlowEnds, kept_loans, IsShelved, AreShelved, AreOfOneLoan, ReadsFront, IsFrontShelved, AreFronts}
 use Rattle.flow_queues.specs.Totals.{capped, taken_len, lent_len, loan_entries}
 use Rattle.flow_queues.specs.Flows.{IsIndex, place_in, FlowFacts, facts_of}
 use Rattle.std.proofs.Math.Nat.{mul-le-mul_left}
-use Rattle.board_face.specs.declared.views.app.WrittenEntry.{WrittenEntry}
 use Rattle.app_worker.proofs.Accounts.{sound-gone}
 use Rattle.app_worker.proofs.Origins.{origins-more, gone-origins}
 use Rattle.app_worker.proofs.ReadWhole.{given-all, gives-still}
-use Rattle.flow_queues.proofs.GivenBack.{gives-gone, gives-same, gives-count, front-gone}
+use Rattle.flow_queues.proofs.GivenBack.{gives-gone, gives-count, front-gone}
 use Rattle.app_worker.proofs.Written.{blocks-moved}
 use Rattle.zr_kinds.specs.declared.place.Place.{Place}
 use Rattle.std.proofs.Math.Seq.{drop-append_seam, drop-length}

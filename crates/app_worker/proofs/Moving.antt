@@ -1,10 +1,9 @@
 -- From one moment to a later one.
-use Rattle.std.proofs.Common.{◌≡◌, ◌≢◌, ℕ, ◌*◌, ◌<◌, ◌≤◌, ◌+◌, true, false, ⊎_elim, Option, Some, None, List, [], ◌∷◌, ◌++◌, drop, length, refl, sym}
+use Rattle.std.proofs.Common.{◌≡◌, ℕ, ◌*◌, ◌≤◌, ◌+◌, true, false, ⊎_elim, Option, Some, None, List, [], ◌∷◌, ◌++◌, drop, length, refl, sym}
 use Rattle.std.proofs.Common.{ap, subst, ◌∙◌, arith, append-nil, append_assoc}
 use Rattle.std.specs.Prelude.{◌==◌, if◌then◌else◌}
-use Rattle.area_layout.specs.Layout.{pool_buffers, judged}
+use Rattle.area_layout.specs.Layout.{pool_buffers}
 use Rattle.board_face.specs.declared.views.app.WrittenEntry.{WrittenEntry}
-use Rattle.app_worker.specs.declared.stack.Stray.{Stray}
 use Rattle.board_face.specs.AppEvents.{reserve_of}
 use Rattle.board_face.specs.declared.views.parts.Setting.{Setting}
 use Rattle.board_face.specs.declared.views.app.LentPiece.{LentPiece}
@@ -19,7 +18,7 @@ use Rattle.flow_queues.specs.Core.{total, Each, over_due, read_out}
 use Rattle.zr_kinds.specs.declared.place.Place.{Place}
 use Rattle.zr_kinds.specs.declared.ring.Completion.{Completion}
 use Rattle.app_worker.specs.State.{State, TellsOf, due_one}
-use Rattle.flow_queues.specs.Totals.{raw_entries, loan_entries}
+use Rattle.flow_queues.specs.Totals.{loan_entries}
 use Rattle.flow_queues.specs.Entries.{lies_in, returned_aside}
 use Rattle.app_worker.specs.Moves.{Moves, Reaps, KeepsLeaked, KeptSince, reads_of, reserve_loans, over_lent, over_gone, over_leaked}
 use Rattle.std.proofs.lemmas.Bool.{cases_Bool}

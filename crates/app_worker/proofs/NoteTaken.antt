@@ -5,16 +5,14 @@ use Rattle.zr_kinds.specs.declared.place.Place.{Place}
 use Rattle.zr_kinds.specs.declared.place.Note.{Note}
 use Rattle.tcp_reorder.specs.Queue.{Queue}
 use Rattle.board_face.specs.AppCalls.{TookNote, TookLinear}
-use Rattle.board_face.specs.AppEvents.{released, reserve_of}
-use Rattle.board_face.specs.declared.views.parts.Setting.{Setting}
+use Rattle.board_face.specs.AppEvents.{released}
 use Rattle.board_face.specs.declared.views.app.TakenNote.{TakenNote}
 use Rattle.board_face.specs.declared.views.app.AppView.{AppView}
 use Rattle.flow_queues.specs.declared.queues.Waiting.{Waiting}
 use Rattle.flow_queues.specs.declared.queues.FlowQueue.{FlowQueue}
 use Rattle.flow_queues.specs.Core.{total, Each, LieApart, Stands, FlowStands, many, short_bytes, held_piece, own_notes, held_len, unsplit_len}
 use Rattle.flow_queues.specs.Core.{HasTokens}
-use Rattle.app_worker.proofs.Moving.{aside-same}
-use Rattle.app_worker.specs.State.{State, read_of, loan_len, TellsOf, LiesOutside, Working, Common}
+use Rattle.app_worker.specs.State.{State, read_of, loan_len, Working, Common}
 use Rattle.flow_queues.specs.Shelves.{FlowEnds}
 use Rattle.flow_queues.specs.Totals.{lent_bytes, lent_len}
 use Rattle.flow_queues.specs.Flows.{IsAtRest, RestBut, IsIndex, fresh_flow, IsChosen}

@@ -2,16 +2,12 @@ use Rattle.std.proofs.Common.{rules, ◌≡◌, ◌≢◌, ℕ, ◌<◌, ◌≤�
 use Rattle.std.proofs.Common.{◌∙◌, arith, ⊎_elim, ◌⊎◌, inl, inr}
 use Rattle.std.specs.Prelude.{if◌then◌else◌}
 use Rattle.std.proofs.lemmas.Bool.{cases_Bool}
-use Rattle.board_face.specs.declared.views.app.AppView.{AppView}
-use Rattle.app_worker.specs.declared.turning.Read.TheVariants.{Quit, Failed}
-use Rattle.zr_kinds.specs.declared.behaviour.Stopped.TheVariants.{Write}
 use Rattle.app_worker.specs.State.{State}
 use Rattle.app_worker.specs.StateOf.{state_of}
-use Rattle.app_worker.specs.Whole.{ReadOne, GaveBack}
+use Rattle.app_worker.specs.Whole.{ReadOne}
 use Rattle.app_worker.proofs.Pushing.{back-did}
 use Rattle.app_worker.proofs.Moving.{looks-trans, rose-after}
-use Rattle.board_face.specs.declared.views.app.AppLook.TheVariants.{RefillInUse}
-use Rattle.app_worker.specs.Stages.{Through, kept_of}
+use Rattle.app_worker.specs.Stages.{kept_of}
 use Rattle.app_worker.proofs.Through.{write-stopped, write-later, read-did, through-none, through-then, through-read, through-gave, through-in-use}
 use Rattle.app_worker.proofs.Quitting.{has-quit, quit-later}
 use Rattle.app_worker.proofs.stages.drain.Goals.{After-give_back}

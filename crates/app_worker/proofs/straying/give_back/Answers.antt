@@ -1,8 +1,4 @@
-use Rattle.std.proofs.Common.{rules, ◌≢◌, None, inl, inr, refl}
-use Rattle.board_face.specs.declared.views.app.AppView.{AppView}
-use Rattle.app_worker.specs.State.{State}
-use Rattle.app_worker.specs.StateOf.{state_of}
-use Rattle.app_worker.specs.Whole.{GaveOne}
+use Rattle.std.proofs.Common.{rules, None, inl, inr, refl}
 use Rattle.app_worker.proofs.Pushing.{gave-whole, gave-part}
 use Rattle.app_worker.specs.declared.reading.Pushed.TheVariants as pushed
 use Rattle.app_worker.proofs.Through.{goes-then}

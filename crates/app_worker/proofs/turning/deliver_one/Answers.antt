@@ -1,8 +1,7 @@
 use Rattle.std.proofs.Common.{rules, ◌≡◌, ◌≢◌, ◌<◌, ◌+◌, ◌-◌, ◌^◌, min, List, length, refl, subst, ap, arith, ◌++◌, ◌∷◌}
-use Rattle.board_face.specs.declared.views.app.AppView.{AppView}
 use Rattle.app_worker.specs.declared.stack.Delivery.TheVariants.{Did}
 use Rattle.flow_queues.specs.declared.queues.FlowQueue.{FlowQueue}
-use Rattle.flow_queues.specs.Core.{Stands, FlowStands, short_bytes, total}
+use Rattle.flow_queues.specs.Core.{Stands, short_bytes, total}
 use Rattle.app_worker.specs.State.{State, read_of}
 use Rattle.app_worker.specs.StateOf.{state_of}
 use Rattle.flow_queues.proofs.Tokens.{total-append}

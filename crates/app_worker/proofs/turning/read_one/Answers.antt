@@ -1,4 +1,4 @@
-use Rattle.std.proofs.Common.{Bool, true, false, [], ◌⊎◌, rules, ◌≡◌, ◌≢◌, ◌<◌, ◌+◌, ◌-◌, ◌^◌, min, ℕ, List, drop, length, get_or, sym, ap, subst, ◌∙◌}
+use Rattle.std.proofs.Common.{Bool, true, false, [], ◌⊎◌, rules, ◌≡◌, ◌≢◌, ◌<◌, ◌+◌, ◌-◌, ◌^◌, min, ℕ, List, drop, length, sym, ap, subst, ◌∙◌}
 use Rattle.std.proofs.Common.{arith, ◌++◌, ◌∷◌, ◌≤◌, Some}
 use Rattle.zr_kinds.specs.declared.ring.Completion.{Completion}
 use Rattle.zr_io.specs.Moved.{Gained}

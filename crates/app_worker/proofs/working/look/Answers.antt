@@ -2,7 +2,7 @@ use Rattle.std.proofs.Common.{◌≡◌, ℕ, true, [], List, Option, sym, ap, s
 use Rattle.board_face.specs.declared.views.app.AppView.{AppView}
 use Rattle.app_worker.specs.State.{State, Working, Common}
 use Rattle.app_worker.specs.StateOf.{state_of}
-use Rattle.app_worker.specs.Whole.{TookOne, TookNone}
+use Rattle.app_worker.specs.Whole.{TookOne}
 use Rattle.app_worker.specs.Turns.{MayPoll, Turns}
 use Rattle.app_worker.proofs.Looking.{took-failed, took-did, ended-working, ended-common, turns-ended, turns-memory}
 use Rattle.app_worker.proofs.TurnLemmas.{turns-saw}

@@ -1,10 +1,8 @@
-use Rattle.std.proofs.Common.{rules, true, ◌≡◌, ℕ, List, Option, sym, ap, ◌∙◌, subst, refl}
-use Rattle.board_face.specs.declared.views.app.AppView.{AppView}
-use Rattle.app_worker.specs.State.{State, Working}
+use Rattle.std.proofs.Common.{rules, true, ◌≡◌, ap, ◌∙◌, refl}
+use Rattle.app_worker.specs.State.{Working}
 use Rattle.app_worker.specs.StateOf.{state_of}
-use Rattle.app_worker.specs.declared.turn.Turn.TheVariants.{Idle}
 use Rattle.app_worker.specs.declared.turn.Why.TheVariants.{RefillFull}
-use Rattle.app_worker.specs.Turns.{Turns, turn_after}
+use Rattle.app_worker.specs.Turns.{turn_after}
 use Rattle.app_worker.proofs.TurnLemmas.{turns-saw, turns-gave, turns-later, begins-gave}
 use Rattle.app_worker.proofs.working.turn.Goals as goal
 
