@@ -2,6 +2,7 @@
 use Rattle.std.proofs.Common.{◌≡◌, ◌≢◌, ℕ, ◌+◌, ◌<◌, ◌≤◌, ◌-◌, min, Bool, true, false, List, [], ◌∷◌, ◌++◌, Option, None, length, drop, refl, sym, ap}
 use Rattle.std.proofs.Common.{subst, ◌∙◌, arith, inl, inr, ⊎_elim}
 use Rattle.std.proofs.Math.Seq.{drop-append_seam}
+use Rattle.std.proofs.lemmas.List.{nil_from_length}
 use Rattle.std.proofs.lemmas.Bool.{cases_lt, ne_eqb}
 use Rattle.std.specs.Prelude.{◌==◌, if◌then◌else◌}
 use Rattle.zr_kinds.specs.CopyingReceiver.{nothing_placed, next_missing, values_from}
@@ -55,10 +56,6 @@ whole-flow taken f stands rest =
     let none : 0 ≡ length (values_from (placed_of f taken).at (f.queue.popped - f.bytes) f.bytes) = ap length stands.lent in
     let all : f.bytes ≡ f.queue.popped = omega (arith, size, none, stands.counted) in
     all ∙ rest ∙ sym (next_missing-held marks_of_waiting f.queue (placed_of f taken) stands.holds)
-
-empty-list : {A : Type 0} (xs : List A) → length xs ≤ 0 → xs ≡ []
-empty-list [] few = refl
-empty-list (x ∷ xs) few = absurd (omega arith)
 
 -- each that is kept to the end lies outside the reserve
 abbrev outside : ℕ → LentPiece → ℕ
@@ -127,7 +124,7 @@ closed-abandoned b c v w works none due common gone =
 pub closed-bare : (b c : State) (v w : AppView) → Working b v → b.ended ≡ true → length b.unread ≤ 0 → b.posted.entries ≡ [] → b.due ≡ None
     → Common b v → LetGo b c v w → Bare c w
 closed-bare b c v w works ended few reaped due common gone =
-    let none : b.unread ++ b.posted.entries ≡ [] = ap (λ es. es ++ b.posted.entries) (empty-list b.unread few) ∙ reaped in
+    let none : b.unread ++ b.posted.entries ≡ [] = ap (λ es. es ++ b.posted.entries) (nil_from_length b.unread (omega (arith, few))) ∙ reaped in
     let flows : Each (FlowStands v.taken []) b.flows = subst (λ es. Each (FlowStands v.taken es) b.flows) none works.stands.flows in
     let whole : Each (IsWhole v.taken) b.flows =
     each-map (λ f. FlowStands v.taken [] f × IsAtRest f) (IsWhole v.taken) b.flows (λ f _ p. whole-flow v.taken f p.0 p.1)

@@ -173,12 +173,6 @@ total-take h [] i d within = absurd (omega arith)
 total-take h (x ∷ xs) zero d within = omega arith
 total-take h (x ∷ xs) (suc i) d within = let e : suc i + 1 ≡ suc (i + 1) = omega arith in rw e (omega (arith, total-take h xs i d (omega arith)))
 
-pub none-until : (n : ℕ) (xs : List FlowQueue) (i : ℕ) (d : FlowQueue) → i < length xs → total (is_number n) (take i xs) ≡ 0
-    → (get_or xs i d).number ≢ n → total (is_number n) (take (i + 1) xs) ≡ 0
-none-until n xs i d within none other =
-    let not : is_number n (get_or xs i d) ≡ 0 = (let no : ((get_or xs i d).number == n) ≡ false = not-eqb (get_or xs i d).number n other in rw no refl) in
-    omega (arith, total-take (is_number n) xs i d within, none, not)
-
 pub get-same : {A : Type 0} (xs : List A) (i : ℕ) (d e : A) → i < length xs → get_or xs i d ≡ get_or xs i e
 get-same [] i d e within = absurd (omega arith)
 get-same (x ∷ xs) zero d e within = refl

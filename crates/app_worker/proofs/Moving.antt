@@ -52,12 +52,6 @@ rose-before {look} first second = record { rose = omega (arith, second.later loo
 pub reserve-same : (old new : AppView) → new.setting ≡ old.setting → new.app ≡ old.app → reserve_of new ≡ reserve_of old
 reserve-same old new setting app = ap (λ (s : Setting). pool_buffers s.layout + new.app) setting ∙ ap (λ n. pool_buffers old.setting.layout + n) app
 
-pub aside-same : (old new : AppView) → new.returned ≡ old.returned → new.setting ≡ old.setting → new.app ≡ old.app
-    → returned_aside new ≡ returned_aside old
-aside-same old new returned setting app =
-    ap (λ ls. total (λ (l : LentPiece). if l.place.buffer == reserve_of new then 0 else 1) ls) returned
-    ∙ ap (λ n. total (λ (l : LentPiece). if l.place.buffer == n then 0 else 1) old.returned) (reserve-same old new setting app)
-
 pub same-leaked : (was now : State) → now.bare ≡ was.bare → now.leaked.items ≡ was.leaked.items → now.bare ≡ false → KeepsLeaked was now
 same-leaked was now bare items live = (sym bare ∙ live, ([], items ∙ sym (append-nil was.leaked.items)))
 
@@ -68,9 +62,6 @@ leaked-then a b c (live, (more, are)) (_, (more_then, are_then)) = (
 )
 
 -- ---- what follows loans
-
-pub most-same : (most : ℕ) (old new : AppView) → new.returned ≡ old.returned → most * length new.returned ≡ most * length old.returned
-most-same most old new returned = ap (λ (ls : List LentPiece). most * length ls) returned
 
 -- ---- what is kept unread
 

@@ -2,6 +2,7 @@ use Rattle.std.proofs.Common.{rules, ◌≡◌, ◌≢◌, ℕ, ◌<◌, ◌≤�
 use Rattle.std.proofs.Common.{◌∙◌, arith, ⊎_elim, ◌⊎◌, inl, inr}
 use Rattle.std.specs.Prelude.{if◌then◌else◌}
 use Rattle.std.proofs.lemmas.Bool.{cases_Bool}
+use Rattle.std.proofs.lemmas.List.{nil_from_length}
 use Rattle.app_worker.specs.State.{State}
 use Rattle.app_worker.specs.StateOf.{state_of}
 use Rattle.app_worker.specs.Whole.{ReadOne}
@@ -152,13 +153,9 @@ done-flush least keep was now is few flushes = ⊎_elim
     (λ (on : now.flush ≡ true).
     let both = flushes on in
     let none : least ≡ 0 = is ∙ ap (λ b. if b then 0 else keep) both.0 in
-    absurd (both.1 (empty now.unread (omega (arith, few, none)))))
+    absurd (both.1 (nil_from_length now.unread (omega (arith, few, none)))))
     (λ (off : now.flush ≡ false). off)
     (cases_Bool now.flush)
-  where
-    empty : {A : Type 0} (xs : List A) → length xs ≤ 0 → xs ≡ []
-    empty [] none = refl
-    empty (y ∷ ys) none = absurd (omega arith)
 
 pub returns-then-did-clause-reads : goal.returns-then-did-clause-reads
 returns-then-did-clause-reads g c =
