@@ -83,12 +83,4 @@ returns-in_default g c =
     c.deliver-delivery.new.flush (g.F.AppFace.seen c.args.face.now)
     (g.F.AppFace.seen c.deliver-delivery.new.face) c.deliver-delivery.result other within c.index_mut-own.ensures.value c.deliver-delivery.ensures.delivered
     c.requires.working c.requires.common in
-    record {
-      working = none.0.working;
-      common = none.0.common;
-      goes = none.0.goes;
-      lends = none.1;
-      told = c.deliver-delivery.ensures.told;
-      no_spare = c.deliver-delivery.ensures.no_spare;
-      beside = c.deliver-delivery.ensures.beside;
-    }
+    assumption none
