@@ -11,11 +11,6 @@ use Rattle.flow_queues.proofs.Tokens.{total-append, some-bytes}
 
 -- ---- each had a byte
 
-pub sound-same : (old new : AppView) → new.returned ≡ old.returned → new.setting ≡ old.setting → odd_loans old.setting.layout old.returned ≡ 0
-    → odd_loans new.setting.layout new.returned ≡ 0
-sound-same old new returned setting sound = ap (λ (s : Setting). odd_loans s.layout new.returned) setting
-    ∙ ap (odd_loans old.setting.layout) returned ∙ sound
-
 -- one that was out went
 pub sound-gave : (old new : AppView) (x : LentPiece) → new.returned ≡ old.returned ++ x ∷ [] → new.setting ≡ old.setting → LieApart old
     → ((f : LentPiece → ℕ) → total f new.loans + f x ≡ total f old.loans) → odd_loans old.setting.layout old.returned ≡ 0

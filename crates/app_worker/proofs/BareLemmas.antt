@@ -1,6 +1,5 @@
 -- Turns of an application that has nothing out.
-use Rattle.std.proofs.Common.{◌≡◌, ℕ, ◌<◌, Bool, true, false, List, [], ◌∷◌, ◌++◌, Option, length, take, refl, sym, ap, subst, ◌∙◌}
-use Rattle.std.proofs.Common.{arith, inl, inr}
+use Rattle.std.proofs.Common.{◌≡◌, ℕ, ◌<◌, Bool, true, false, List, [], ◌∷◌, ◌++◌, Option, length, take, refl, sym, ap, subst, ◌∙◌, arith, inl, inr}
 use Rattle.zr_kinds.specs.declared.behaviour.Stopped.TheVariants as stop
 use Rattle.zr_kinds.specs.declared.place.Place.{Place}
 use Rattle.zr_kinds.specs.declared.place.Note.{Note}
@@ -17,21 +16,19 @@ use Rattle.app_worker.specs.declared.turn.Turn.{Turn}
 use Rattle.app_worker.specs.declared.turn.Turn.TheVariants.{Did, Idle, Finished, Failed}
 use Rattle.zr_kinds.specs.declared.fault.Fault.TheVariants as fault
 use Rattle.app_worker.specs.declared.turn.Why.TheVariants.{NoNote, NotQuiet as not_quiet}
-use Rattle.flow_queues.specs.Core.{total}
+use Rattle.flow_queues.specs.Core.{total, Each, many, own_notes, placed_of, held_len}
+use Rattle.zr_kinds.specs.CopyingReceiver.{next_missing}
 use Rattle.app_worker.specs.State.{State, Common, Working, Bare, app_steps, one_if}
-use Rattle.flow_queues.specs.Totals.{lent_bytes, lent_len, loan_entries}
-use Rattle.flow_queues.specs.Core.{held_len}
 use Rattle.app_worker.specs.Stages.{Leaves, ScrubsOnce}
 use Rattle.board_face.specs.Looks.{AppLooksStay}
 use Rattle.std.specs.Prelude.{MatchBool}
-use Rattle.app_worker.specs.Turns.{Answers, Because, Turns, LooksForOne, ScrubsIfQuiet, look_of, turn_after}
+use Rattle.app_worker.specs.Turns.{Answers, Because, Turns, LooksForOne, ScrubsIfQuiet, turn_after}
 use Rattle.flow_queues.proofs.Looks.{looks-more}
-use Rattle.app_worker.proofs.Moving.{same-leaked, reaps-same, rose-before, rose-after}
-use Rattle.app_worker.proofs.Seeing.{goes-none, goes-saw, common-saw}
+use Rattle.app_worker.proofs.Moving.{rose-before, rose-after}
+use Rattle.app_worker.proofs.Seeing.{goes-none, goes-saw, goes-still, common-saw}
 use Rattle.app_worker.proofs.Noting.{TookView, common-noted, steps-noted, moves-noted, ends-kept, shelves-kept, fronts-kept}
-use Rattle.app_worker.proofs.TurnLemmas.{stands-bare, as-before, idle-for, bare-over, bare-flushes, bare-stops, bare-polls, after-busy, after-none}
+use Rattle.app_worker.proofs.TurnLemmas.{turns-bare, as-before, idle-for, after-busy, after-none}
 use Rattle.app_worker.proofs.Through.{goes-then}
-use Rattle.flow_queues.proofs.GivenBack.{front-same}
 use Rattle.app_worker.proofs.Closing.{IsOut, bare-saw, turns-finished, scrubbed_state, scrubbed_view, bare-scrubbed, common-scrubbed, goes-scrubbed}
 
 module _ (st : State) (old : AppView) (bare : Bare st old) (is_bare : st.bare ≡ true) (common : Common st old) (reaped : st.posted.entries ≡ []) where
@@ -40,48 +37,19 @@ module _ (st : State) (old : AppView) (bare : Bare st old) (is_bare : st.bare �
   -- it took a note and has nothing out again
   turns-noted : (new : AppView) (t : TakenNote) (kept : ℕ → Option (List ℕ)) (f : ℕ) → st.ended ≡ false → TookView old new t → new.helds ≡ []
       → Turns st st old new kept kept f f Did
-  turns-noted new t kept f more took none = record {
-    stands = stands-bare st new
-        (record {
-          helds = none;
-          loans = ap (λ (v : AppView). v.loans) took.view ∙ bare.loans;
-          due = bare.due;
-          leaked = bare.leaked;
-          none_left = bare.none_left;
-          given = front-same old new (ap (λ (v : AppView). v.written) took.view) (ap (λ (v : AppView). v.setting) took.view)
-              (ap (λ (v : AppView). v.returned) took.view) bare.given;
-          abandoned = λ going. absurd (over going);
-          unread = bare.unread;
-          flows = ends-kept st.flows old new t took bare.flows;
-          distinct = bare.distinct;
-          index = bare.index;
-          whole = λ going. absurd (over going);
-          appended = λ going. absurd (over going);
-          within_lent = omega (arith, bare.within_lent, ap lent_bytes took.view);
-          whole_given = omega (arith, bare.whole_given, ap (λ (v : AppView). total lent_len (take (loan_entries v) v.returned)) took.view);
-          known = λ going. absurd (over going);
-        })
-        (common-noted st old new t took st.notes st.active st.index st.flows refl
-        (record { kept = omega (arith, ap (total held_len) none); short = omega arith }) common) reaped is_bare;
-    goes = record {
-      moves = moves-noted st old new t took st.notes st.active st.index st.flows (λ n. omega arith);
-      shelved = λ _ begin. shelves-kept st.flows old new t took bare.flows begin kept;
-      failed = λ is begin exact front. fronts-kept st.flows old new t took bare.flows begin kept (front is);
-    };
-    answer = omega (arith, steps-noted st old new t took st.notes st.active st.index st.flows);
-    few = inr (t, ap (λ (v : AppView). v.taken) took.view);
-    idle = λ why e. absurd (cc);
-    left_over = λ live. absurd (bare-live live);
-    flushes = λ live. absurd (bare-live live);
-    stops = λ live. absurd (bare-live live);
-    polls = λ live. absurd (bare-live live);
-    here = λ _. ap (λ (v : AppView). v.left) took.view;
-    polled = λ live. absurd (bare-live live);
-    cause = λ other is. absurd (other is);
-    memory = λ other is. absurd (other is);
-    rests = λ _. record { state = refl; view = took.view ∙ held-same; kept_is = refl };
-    looks = λ _ _. inl (t, ap (λ (v : AppView). v.taken) took.view);
-  }
+  turns-noted new t kept f more took none = turns-bare bare-noted is_bare
+      (common-noted st old new t took st.notes st.active st.index st.flows refl
+      (record { kept = omega (arith, ap (total held_len) none); short = omega arith }) common)
+      reaped
+      (record {
+        moves = moves-noted st old new t took st.notes st.active st.index st.flows (λ n. omega arith);
+        shelved = λ _ begin. shelves-kept st.flows old new t took bare.flows begin kept;
+        failed = λ is begin exact front. fronts-kept st.flows old new t took bare.flows begin kept (front is);
+      })
+      (omega (arith, steps-noted st old new t took st.notes st.active st.index st.flows)) (inr (t, ap (λ (v : AppView). v.taken) took.view))
+      (λ why e. absurd (cc)) (λ _. ap (λ (v : AppView). v.left) took.view) (λ live. absurd (cc)) refl
+      (λ _. record { state = refl; view = took.view ∙ held-same; kept_is = refl })
+      (λ _ _. inl (t, ap (λ (v : AppView). v.taken) took.view))
     where
       held-same : record old { taken = old.taken ++ t ∷ []; helds = new.helds } ≡ record old {
         left = new.left;
@@ -99,8 +67,12 @@ module _ (st : State) (old : AppView) (bare : Bare st old) (is_bare : st.bare �
       over : st.stopped ≡ stop.No → ⊥
       over going = let ended : st.ended ≡ true = (bare.whole going).0 in absurd (cc)
 
-      bare-live : st.bare ≡ false → ⊥
-      bare-live live = absurd (cc)
+      bare-noted : Bare st new
+      bare-noted =
+          let whole : st.stopped ≡ stop.No → (st.ended ≡ true) × Each (λ f. f.bytes ≡ next_missing (placed_of f (old.taken ++ t ∷ []))) st.flows =
+          λ going. absurd (over going) in
+          let known : st.stopped ≡ stop.No → (n : ℕ) → many n st.flows ≡ 0 → own_notes n (old.taken ++ t ∷ []) ≡ [] = λ going. absurd (over going) in
+          rw took.view (assumption (none, rw took.view at (ends-kept st.flows old new t took bare.flows)))
 
   pub bare-note : (mid new : AppView) (note : Note) (held : Place) (kept : ℕ → Option (List ℕ)) (f : ℕ) → st.ended ≡ false
       → TookNote old mid note held → new ≡ released mid held → Turns st st old new kept kept f f Did
@@ -122,26 +94,10 @@ module _ (st : State) (old : AppView) (bare : Bare st old) (is_bare : st.bare �
 
   pub bare-empty : (new : AppView) (kept : ℕ → Option (List ℕ)) (f : ℕ) → st.ended ≡ false → AppOnlySaw no_note old new
       → Turns st st old new kept kept f f (Idle NoNote)
-  bare-empty new kept f more saw = record {
-    stands = rw saw.event (stands-bare st _ (bare-saw st old no_note bare) (common-saw st old no_note common) reaped is_bare);
-    goes = rw saw.event (goes-saw st old no_note kept);
-    answer = (as-before st old new no_note saw, saw.rose);
-    idle = idle-for NoNote (λ w. (kept ≡ kept) × Because w st old) (refl, (more, λ live. absurd (bare-live live)));
-    left_over = λ live. absurd (bare-live live);
-    flushes = λ live. absurd (bare-live live);
-    stops = λ live. absurd (bare-live live);
-    polls = λ live. absurd (bare-live live);
-    few = inl (ap (λ (v : AppView). v.taken) saw.event);
-    here = λ _. ap (λ (v : AppView). v.left) saw.event;
-    polled = λ live. absurd (bare-live live);
-    cause = λ other is. absurd (other is);
-    memory = λ other is. absurd (other is);
-    rests = λ _. rw saw.event (record { state = refl; view = refl; kept_is = refl });
-    looks = λ _ _. inr (inl saw.rose);
-  }
-    where
-      bare-live : st.bare ≡ false → ⊥
-      bare-live live = absurd (cc)
+  bare-empty new kept f more saw = rw saw.event (turns-bare (bare-saw st old no_note bare) is_bare (common-saw st old no_note common) reaped
+      (goes-saw st old no_note kept) (rw saw.event at (as-before st old new no_note saw), rw saw.event at saw.rose) (inl refl)
+      (idle-for NoNote (λ w. (kept ≡ kept) × Because w st old) (refl, (more, λ live. absurd (cc)))) (λ _. refl) (λ live. absurd (cc)) refl
+      (λ _. record { state = refl; view = refl; kept_is = refl }) (λ _ _. inr (inl (rw saw.event at saw.rose))))
 
   -- ---- leaving
 
@@ -167,29 +123,12 @@ module _ (st : State) (old : AppView) (bare : Bare st old) (is_bare : st.bare �
 
   pub bare-not-quiet : (new : AppView) (kept : ℕ → Option (List ℕ)) (f : ℕ) (done : Bool) → st.ended ≡ true → Leaves st.scrubbed done old new false
       → Turns st (record st { scrubbed = done }) old new kept kept f f (Idle not_quiet)
-  bare-not-quiet new kept f done ended leaves = subst (λ b. Turns st (record st { scrubbed = b }) old new kept kept f f (Idle not_quiet)) (sym leaves.0) (record {
-    stands = rw saw.event (stands-bare st _ (bare-saw st old NotQuiet bare) (common-saw st old NotQuiet common) reaped is_bare);
-    goes = rw saw.event (goes-saw st old NotQuiet kept);
-    answer = (as-before st old new NotQuiet saw, saw.rose);
-    idle = idle-for not_quiet (λ w. (kept ≡ kept) × Because w st old) (refl, (is_bare, ended));
-    left_over = λ live. absurd (bare-live live);
-    flushes = λ live. absurd (bare-live live);
-    stops = λ live. absurd (bare-live live);
-    polls = λ live. absurd (bare-live live);
-    few = inl (ap (λ (v : AppView). v.taken) saw.event);
-    here = λ _. ap (λ (v : AppView). v.left) saw.event;
-    polled = λ live. absurd (bare-live live);
-    cause = λ other is. absurd (other is);
-    memory = λ other is. absurd (other is);
-    rests = λ _. rw saw.event (record { state = refl; view = refl; kept_is = refl });
-    looks = λ _ more. absurd (let over = ended in cc);
-  })
-    where
-      saw : AppOnlySaw NotQuiet old new
-      saw = leaves.1
-
-      bare-live : st.bare ≡ false → ⊥
-      bare-live live = absurd (cc)
+  bare-not-quiet new kept f done ended leaves =
+      let saw = leaves.1 in
+      rw (leaves.0, saw.event) (turns-bare (bare-saw st old NotQuiet bare) is_bare (common-saw st old NotQuiet common) reaped
+      (goes-saw st old NotQuiet kept) (rw saw.event at (as-before st old new NotQuiet saw), rw saw.event at saw.rose) (inl refl)
+      (idle-for not_quiet (λ w. (kept ≡ kept) × Because w st old) (refl, (is_bare, ended))) (λ _. refl) (λ live. absurd (cc)) refl
+      (λ _. record { state = refl; view = refl; kept_is = refl }) (λ _ more. absurd (let over = ended in cc)))
 
   -- ---- the end is seen
 
@@ -197,70 +136,13 @@ module _ (st : State) (old : AppView) (bare : Bare st old) (is_bare : st.bare �
       → IsOut st (record st { ended = true }) old mid kept kept × (app_steps st old < app_steps (record st { ended = true }) mid)
   out-ended mid kept here more told = rw told.event (
     record {
-      bare = record {
-        helds = bare.helds;
-        loans = bare.loans;
-        due = bare.due;
-        leaked = bare.leaked;
-        none_left = bare.none_left;
-        given = bare.given;
-        abandoned = bare.abandoned;
-        unread = bare.unread;
-        flows = bare.flows;
-        distinct = bare.distinct;
-        index = bare.index;
-        whole = λ going. (refl, (bare.whole going).1);
-        appended = bare.appended;
-        within_lent = bare.within_lent;
-        whole_given = bare.whole_given;
-        known = bare.known;
-      };
+      bare = search (λ (going : st.stopped ≡ stop.No). (bare.whole going).1);
       is_bare = is_bare;
       ended = refl;
-      common = record {
-        app = common.app;
-        ended = refl;
-        scrubbed = common.scrubbed;
-        owns = common.owns;
-        copied = common.copied;
-        origins = common.origins;
-        copies = common.copies;
-        spares = common.spares;
-        some_places = common.some_places;
-        within = common.within;
-        room = common.room;
-        loans = common.loans;
-        written = common.written;
-        quits = common.quits;
-        leaks = common.leaks;
-        leak_room = common.leak_room;
-        leak_aside = common.leak_aside;
-        strays = common.strays;
-        entries = common.entries;
-        names = common.names;
-        sound = common.sound;
-        blocks = common.blocks;
-        bound = common.bound;
-        gives_whole = common.gives_whole;
-      };
+      common = assumption;
       reaped = reaped;
-      goes = record {
-        moves = record {
-          same = (refl, refl, refl, omega arith);
-          how = (refl, refl);
-          places = refl;
-          steps = omega (arith, not_yet);
-          looks = looks-more old (told_end old) CardEnded refl;
-          keeps = λ n r before live. record { lent = (before live).lent; kept = λ notes. absurd (cc) };
-          stays = λ _. refl;
-          leaked = same-leaked st (record st { ended = true }) refl refl;
-          abandons = λ f. omega arith;
-          reaps = reaps-same st (record st { ended = true }) old (told_end old) refl refl refl refl refl;
-          bytes = λ n. omega arith;
-        };
-        shelved = λ _ begin shelved. record { flows = shelved.flows; others = shelved.others };
-        failed = λ is begin exact front. (let f = front is in record { flows = f.flows; others = f.others; torn = f.torn; exact = f.exact });
-      };
+      goes = goes-still st old (told_end old) true st.scrubbed kept (omega (arith, not_yet)) (looks-more old (told_end old) CardEnded refl)
+          (λ notes. absurd (cc));
       taken = refl;
       left = refl;
       here = here;
@@ -280,6 +162,9 @@ module _ (a c : State) (u w : AppView) (kept : ℕ → Option (List ℕ)) (f : �
   bare-then : c.bare ≡ true
   bare-then = ap (λ (s : State). s.bare) (turns.rests is_bare).state ∙ is_bare
 
+  still : c.stopped ≡ a.stopped
+  still = ap (λ (s : State). s.stopped) (turns.rests is_bare).state
+
   bare-is : Bare c w
   bare-is = subst (λ b. MatchBool b (Bare c w) (Working c w)) bare-then turns.stands.mode
 
@@ -290,15 +175,12 @@ module _ (a c : State) (u w : AppView) (kept : ℕ → Option (List ℕ)) (f : �
   pub then-loans : w.loans ≡ []
   then-loans = bare-is.loans
 
-  pub then-known : w.scrubbed ≡ c.scrubbed
-  then-known = turns.stands.common.scrubbed
-
   -- one was in use
   answers-saw : (t : Turn) → Answers a c u w f f t → Answers a c u (app_saw w NotQuiet) f f t
   answers-saw Did answer = omega (arith, answer)
   answers-saw (Idle why) answer = (
     record { state = answer.0.state; view = ap (λ (v : AppView). app_saw v NotQuiet) answer.0.view },
-    rose-before (look_of why) u w (app_saw w NotQuiet) answer.1 (looks-more w (app_saw w NotQuiet) NotQuiet refl),
+    rose-before answer.1 (looks-more w (app_saw w NotQuiet) NotQuiet refl),
   )
   answers-saw Finished answer = answer
   answers-saw (Failed fault.Memory) answer = answer
@@ -306,31 +188,19 @@ module _ (a c : State) (u w : AppView) (kept : ℕ → Option (List ℕ)) (f : �
   answers-saw (Failed other) answer = absurd answer
 
   pub then-saw : (x : AppView) → AppOnlySaw NotQuiet w x → Turns a c u x kept kept f f turn
-  then-saw x saw = rw saw.event (record {
-    stands = stands-bare c (app_saw w NotQuiet) (bare-saw c w NotQuiet bare-is) (common-saw c w NotQuiet turns.stands.common) turns.stands.reaped bare-then;
-    goes = goes-then a c c u w (app_saw w NotQuiet) kept kept kept turns.goes (goes-saw c w NotQuiet kept);
-    answer = answers-saw turn turns.answer;
-    few = turns.few;
-    idle = turns.idle;
-    left_over = bare-over c u _ bare-then;
-    flushes = bare-flushes a c u _ bare-then;
-    stops = bare-stops c u _ bare-then;
-    polls = bare-polls a c u _ bare-then;
-    here = turns.here;
-    polled = λ live. not-live live;
-    cause = turns.cause;
-    memory = turns.memory;
-    rests = λ bare. (let r = turns.rests bare in record {
-      state = r.state;
-      view = ap (λ (v : AppView). app_saw v NotQuiet) r.view;
-      kept_is = r.kept_is;
-    });
-    looks = λ bare more. looks-later (turns.looks bare more);
-  })
+  then-saw x saw = rw saw.event (turns-bare (bare-saw c w NotQuiet bare-is) bare-then (common-saw c w NotQuiet turns.stands.common)
+      turns.stands.reaped (goes-then turns.goes (goes-saw c w NotQuiet kept)) (answers-saw turn turns.answer) turns.few turns.idle turns.here
+      (λ live. not-live live) still
+      (λ bare. (let r = turns.rests bare in record {
+        state = r.state;
+        view = ap (λ (v : AppView). app_saw v NotQuiet) r.view;
+        kept_is = r.kept_is;
+      }))
+      (λ bare more. looks-later (turns.looks bare more)))
     where
       looks-later : LooksForOne c u w → LooksForOne c u (app_saw w NotQuiet)
       looks-later (inl one) = inl one
-      looks-later (inr (inl none)) = inr (inl (rose-before no_note u w (app_saw w NotQuiet) none (looks-more w (app_saw w NotQuiet) NotQuiet refl)))
+      looks-later (inr (inl none)) = inr (inl (rose-before none (looks-more w (app_saw w NotQuiet) NotQuiet refl)))
       looks-later (inr (inr over)) = inr (inr over)
 
   -- each was free
@@ -347,29 +217,15 @@ module _ (a c : State) (u w : AppView) (kept : ℕ → Option (List ℕ)) (f : �
       → Turns a (record c { scrubbed = done }) u x kept kept f f (turn_after true turn)
   then-scrubbed x done not_yet scrubs =
       let quiet : Bool = scrubs.1.0 in
-      rw (scrubs.0, scrubs.1.1) (record {
-        stands = stands-bare (scrubbed_state c) (scrubbed_view w quiet w.left) (bare-scrubbed c w quiet w.left bare-is)
-            (common-scrubbed c w quiet w.left turns.stands.common) turns.stands.reaped bare-then;
-        goes = goes-then a c (scrubbed_state c) u w (scrubbed_view w quiet w.left) kept kept kept turns.goes
-            (goes-scrubbed c w quiet w.left kept (omega arith));
-        answer = answers-scrubbed quiet not_yet turn turns.answer;
-        few = turns.few;
-        idle = λ why e. absurd (after-busy turn why e);
-        left_over = bare-over (scrubbed_state c) u _ bare-then;
-        flushes = bare-flushes a (scrubbed_state c) u _ bare-then;
-        stops = bare-stops (scrubbed_state c) u _ bare-then;
-        polls = bare-polls a (scrubbed_state c) u _ bare-then;
-        here = λ other. turns.here (λ e. other (ap (turn_after true) e));
-        polled = λ live. not-live live;
-        cause = turns.cause;
-        memory = λ other is. ap (turn_after true) (turns.memory other is);
-        rests = λ bare. (let r = turns.rests bare in record {
-          state = ap scrubbed_state r.state;
-          view = ap (λ (v : AppView). scrubbed_view v quiet v.left) r.view;
-          kept_is = r.kept_is;
-        });
-        looks = λ bare more. looks-later (turns.looks bare more);
-      })
+      rw (scrubs.0, scrubs.1.1) (turns-bare (bare-scrubbed c w quiet w.left bare-is) bare-then (common-scrubbed c w quiet w.left turns.stands.common)
+      turns.stands.reaped (goes-then turns.goes (goes-scrubbed c w quiet w.left kept (omega arith))) (answers-scrubbed quiet not_yet turn turns.answer)
+      turns.few (λ why e. absurd (after-busy turn why e)) (λ other. turns.here (λ e. other (ap (turn_after true) e))) (λ live. not-live live) still
+      (λ bare. (let r = turns.rests bare in record {
+        state = ap scrubbed_state r.state;
+        view = ap (λ (v : AppView). scrubbed_view v quiet v.left) r.view;
+        kept_is = r.kept_is;
+      }))
+      (λ bare more. looks-later (turns.looks bare more)))
     where
       looks-later : LooksForOne c u w → LooksForOne (scrubbed_state c) u (scrubbed_view w scrubs.1.0 w.left)
       looks-later (inl one) = inl one
@@ -388,10 +244,10 @@ module _ (a c : State) (u w : AppView) (kept : ℕ → Option (List ℕ)) (f : �
 pub scrubs-left : (u w x : AppView) (was now done : Bool) → AppLooksStay u w → w.quiet ≡ u.quiet → Leaves was now w x done → ScrubsIfQuiet u x
 scrubs-left u w x was now true stay same leaves not_yet = inl (ap (λ (v : AppView). v.scrubbed) leaves.1.1)
 scrubs-left u w x was now false stay same leaves not_yet =
-    inr (rose-after NotQuiet u w x stay leaves.1.rose, ap (λ (v : AppView). v.quiet) leaves.1.event ∙ same)
+    inr (rose-after stay leaves.1.rose, ap (λ (v : AppView). v.quiet) leaves.1.event ∙ same)
 
 pub scrubs-done : (u w x : AppView) (was now done : Bool) → AppLooksStay u w → w.quiet ≡ u.quiet → ScrubsOnce was now w x done
     → ScrubsIfQuiet u x
 scrubs-done u w x was now true stay same scrubs not_yet = inl (ap (λ (v : AppView). v.scrubbed) scrubs.1.1)
 scrubs-done u w x was now false stay same scrubs not_yet =
-    inr (rose-after NotQuiet u w x stay scrubs.1.rose, ap (λ (v : AppView). v.quiet) scrubs.1.event ∙ same)
+    inr (rose-after stay scrubs.1.rose, ap (λ (v : AppView). v.quiet) scrubs.1.event ∙ same)

@@ -1,9 +1,8 @@
 -- The end of an application.
-use Rattle.std.proofs.Common.{◌≡◌, ◌≢◌, ℕ, ◌+◌, ◌<◌, ◌≤◌, ◌-◌, min, Bool, true, false, List, [], ◌∷◌, ◌++◌, Option}
-use Rattle.std.proofs.Common.{None, length, drop, refl}
-use Rattle.std.proofs.Common.{sym, ap, subst}
-use Rattle.std.proofs.Common.{◌∙◌, arith, inl, inr, ⊎_elim}
+use Rattle.std.proofs.Common.{◌≡◌, ◌≢◌, ℕ, ◌+◌, ◌<◌, ◌≤◌, ◌-◌, min, Bool, true, false, List, [], ◌∷◌, ◌++◌, Option, None, length, drop, refl, sym, ap}
+use Rattle.std.proofs.Common.{subst, ◌∙◌, arith, inl, inr, ⊎_elim}
 use Rattle.std.proofs.Math.Seq.{drop-append_seam}
+use Rattle.std.proofs.lemmas.List.{nil_from_length}
 use Rattle.std.proofs.lemmas.Bool.{cases_lt, ne_eqb}
 use Rattle.std.specs.Prelude.{◌==◌, if◌then◌else◌}
 use Rattle.zr_kinds.specs.CopyingReceiver.{nothing_placed, next_missing, values_from}
@@ -22,9 +21,8 @@ use Rattle.flow_queues.specs.Core.{total, Each, own_notes, received_notes, place
 use Rattle.flow_queues.specs.Entries.{lies_in, returned_aside}
 use Rattle.app_worker.specs.State.{State, Working, Common, Bare, app_steps, one_if}
 use Rattle.flow_queues.specs.Totals.{lent_len, loan_entries}
-use Rattle.flow_queues.specs.Flows.{IsAtRest}
+use Rattle.flow_queues.specs.Flows.{IsAtRest, FlowFacts, facts_of}
 use Rattle.app_worker.specs.Moves.{Goes}
-use Rattle.flow_queues.specs.Flows.{FlowFacts, facts_of}
 use Rattle.app_worker.specs.Letting.{LetGo}
 use Rattle.app_worker.specs.Stages.{Through, Leaves}
 use Rattle.zr_kinds.specs.declared.behaviour.Stopped.TheVariants as stop
@@ -33,13 +31,13 @@ use Rattle.flow_queues.proofs.Placing.{values-length}
 use Rattle.flow_queues.proofs.Standing.{each-map}
 use Rattle.app_worker.proofs.EachBoth.{each-both}
 use Rattle.flow_queues.proofs.Releasing.{each-facts, total-facts}
-use Rattle.app_worker.proofs.Moving.{total-one, same-leaked, reaps-same, reserve-same, no-write}
+use Rattle.app_worker.proofs.Moving.{total-one, reserve-same, no-write}
 use Rattle.flow_queues.proofs.Looks.{looks-same}
-use Rattle.app_worker.proofs.Seeing.{common-saw, goes-saw}
+use Rattle.app_worker.proofs.Seeing.{common-saw, goes-saw, goes-still}
 use Rattle.app_worker.proofs.Measure.{one-most}
 use Rattle.flow_queues.proofs.Tokens.{total-append}
 use Rattle.app_worker.proofs.Through.{goes-then}
-use Rattle.app_worker.proofs.TurnLemmas.{stands-bare, no-poll, no-rest, bare-over, bare-flushes, bare-stops, bare-polls}
+use Rattle.app_worker.proofs.TurnLemmas.{turns-bare, no-poll, no-rest}
 
 -- all of the flow was appended
 abbrev pub IsWhole : List TakenNote → FlowQueue → Type 0
@@ -58,10 +56,6 @@ whole-flow taken f stands rest =
     let none : 0 ≡ length (values_from (placed_of f taken).at (f.queue.popped - f.bytes) f.bytes) = ap length stands.lent in
     let all : f.bytes ≡ f.queue.popped = omega (arith, size, none, stands.counted) in
     all ∙ rest ∙ sym (next_missing-held marks_of_waiting f.queue (placed_of f taken) stands.holds)
-
-empty-list : {A : Type 0} (xs : List A) → length xs ≤ 0 → xs ≡ []
-empty-list [] few = refl
-empty-list (x ∷ xs) few = absurd (omega arith)
 
 -- each that is kept to the end lies outside the reserve
 abbrev outside : ℕ → LentPiece → ℕ
@@ -130,7 +124,7 @@ closed-abandoned b c v w works none due common gone =
 pub closed-bare : (b c : State) (v w : AppView) → Working b v → b.ended ≡ true → length b.unread ≤ 0 → b.posted.entries ≡ [] → b.due ≡ None
     → Common b v → LetGo b c v w → Bare c w
 closed-bare b c v w works ended few reaped due common gone =
-    let none : b.unread ++ b.posted.entries ≡ [] = ap (λ es. es ++ b.posted.entries) (empty-list b.unread few) ∙ reaped in
+    let none : b.unread ++ b.posted.entries ≡ [] = ap (λ es. es ++ b.posted.entries) (nil_from_length b.unread (omega (arith, few))) ∙ reaped in
     let flows : Each (FlowStands v.taken []) b.flows = subst (λ es. Each (FlowStands v.taken es) b.flows) none works.stands.flows in
     let whole : Each (IsWhole v.taken) b.flows =
     each-map (λ f. FlowStands v.taken [] f × IsAtRest f) (IsWhole v.taken) b.flows (λ f _ p. whole-flow v.taken f p.0 p.1)
@@ -169,24 +163,7 @@ closed-bare b c v w works ended few reaped due common gone =
 -- ---- the last look
 
 pub bare-saw : (st : State) (v : AppView) (look : AppLook) → Bare st v → Bare st (app_saw v look)
-bare-saw st v look bare = record {
-  helds = bare.helds;
-  loans = bare.loans;
-  due = bare.due;
-  leaked = bare.leaked;
-  none_left = bare.none_left;
-  given = bare.given;
-  abandoned = bare.abandoned;
-  unread = bare.unread;
-  flows = bare.flows;
-  distinct = bare.distinct;
-  index = bare.index;
-  whole = bare.whole;
-  appended = bare.appended;
-  within_lent = bare.within_lent;
-  whole_given = bare.whole_given;
-  known = bare.known;
-}
+bare-saw st v look bare = assumption
 
 -- ---- it has scrubbed, and perhaps left
 
@@ -198,73 +175,16 @@ abbrev pub scrubbed_view : AppView → Bool → Bool → AppView
 scrubbed_view v quiet left = record v { scrubbed = true; quiet = quiet; left = left }
 
 pub bare-scrubbed : (st : State) (v : AppView) (quiet left : Bool) → Bare st v → Bare (scrubbed_state st) (scrubbed_view v quiet left)
-bare-scrubbed st v quiet left bare = record {
-  helds = bare.helds;
-  loans = bare.loans;
-  due = bare.due;
-  leaked = bare.leaked;
-  none_left = bare.none_left;
-  given = bare.given;
-  abandoned = bare.abandoned;
-  unread = bare.unread;
-  flows = bare.flows;
-  distinct = bare.distinct;
-  index = bare.index;
-  whole = bare.whole;
-  appended = bare.appended;
-  within_lent = bare.within_lent;
-  whole_given = bare.whole_given;
-  known = bare.known;
-}
+bare-scrubbed st v quiet left bare = assumption
 
 pub common-scrubbed : (st : State) (v : AppView) (quiet left : Bool) → Common st v → Common (scrubbed_state st) (scrubbed_view v quiet left)
-common-scrubbed st v quiet left common = record {
-  app = common.app;
-  ended = common.ended;
-  scrubbed = refl;
-  owns = common.owns;
-  copied = common.copied;
-  origins = common.origins;
-  copies = common.copies;
-  spares = common.spares;
-  some_places = common.some_places;
-  within = common.within;
-  room = common.room;
-  loans = common.loans;
-  written = common.written;
-  quits = common.quits;
-  leaks = common.leaks;
-  leak_room = common.leak_room;
-  leak_aside = common.leak_aside;
-  strays = common.strays;
-  entries = common.entries;
-  names = common.names;
-  sound = common.sound;
-  blocks = common.blocks;
-  bound = common.bound;
-  gives_whole = common.gives_whole;
-}
+common-scrubbed st v quiet left common = assumption
 
 -- it comes no less far by that
 pub goes-scrubbed : (st : State) (v : AppView) (quiet left : Bool) (kept : ℕ → Option (List ℕ)) → one_if v.left ≤ one_if left
     → Goes st (scrubbed_state st) v (scrubbed_view v quiet left) kept kept
-goes-scrubbed st v quiet left kept stays = record {
-  moves = record {
-    same = (refl, refl, refl, omega arith);
-    how = (refl, refl);
-    places = refl;
-    steps = omega (arith, stays, one-most st.scrubbed);
-    looks = looks-same v (scrubbed_view v quiet left) refl;
-    keeps = λ n r before live. (let k = before live in record { lent = k.lent; kept = k.kept });
-    stays = λ _. refl;
-    leaked = same-leaked st (scrubbed_state st) refl refl;
-    abandons = λ f. omega arith;
-    reaps = reaps-same st (scrubbed_state st) v (scrubbed_view v quiet left) refl refl refl refl refl;
-    bytes = λ n. omega arith;
-  };
-  shelved = λ _ begin shelved. record { flows = shelved.flows; others = shelved.others };
-  failed = λ is begin exact front. (let f = front is in record { flows = f.flows; others = f.others; torn = f.torn; exact = f.exact });
-}
+goes-scrubbed st v quiet left kept stays = goes-still st v (scrubbed_view v quiet left) st.ended true kept (omega (arith, stays, one-most st.scrubbed))
+    (looks-same v (scrubbed_view v quiet left) refl) (λ more. more)
 
 -- what is known once it has nothing out
 pub record IsOut (a c : State) (u w : AppView) (k m : ℕ → Option (List ℕ)) : Type 0 where
@@ -284,67 +204,41 @@ pub turns-finished : (a c : State) (u w x : AppView) (k m : ℕ → Option (List
     → Leaves c.scrubbed done w x true → Turns a (record c { scrubbed = done }) u x k m f f2 Finished
 turns-finished a c u w x k m f f2 done out leaves =
     let (now, (quiet, is)) = leaves in
-    rw (now, is) (record {
-      stands = stands-bare (scrubbed_state c) (scrubbed_view w quiet true) (bare-scrubbed c w quiet true out.bare)
-          (common-scrubbed c w quiet true out.common) out.reaped out.is_bare;
-      goes = goes-then a c (scrubbed_state c) u w (scrubbed_view w quiet true) k m m out.goes
-          (goes-scrubbed c w quiet true m (omega (arith, one-most w.left)));
-      answer = (out.here, refl, out.is_bare);
-      few = inl out.taken;
-      idle = λ why e. absurd (cc);
-      left_over = bare-over (scrubbed_state c) u _ out.is_bare;
-      flushes = bare-flushes a (scrubbed_state c) u _ out.is_bare;
-      stops = bare-stops (scrubbed_state c) u _ out.is_bare;
-      polls = bare-polls a (scrubbed_state c) u _ out.is_bare;
-      here = λ other. absurd (other refl);
-      polled = no-poll a (scrubbed_state c) u (scrubbed_view w quiet true) out.taken;
-      cause = λ other is. absurd (other (sym out.same ∙ is));
-      memory = λ other is. absurd (other (sym out.same ∙ is));
-      rests = λ bare. (let r = out.rests bare in record {
-        state = ap scrubbed_state r.state;
-        view = ap (λ (v : AppView). scrubbed_view v quiet true) r.view;
-        kept_is = r.kept_is;
-      });
-      looks = λ _ _. inr (inr out.ended);
-    })
+    rw (now, is) (turns-bare (bare-scrubbed c w quiet true out.bare) out.is_bare (common-scrubbed c w quiet true out.common) out.reaped
+    (goes-then out.goes (goes-scrubbed c w quiet true m (omega (arith, one-most w.left)))) (out.here, refl, out.is_bare) (inl out.taken)
+    (λ why e. absurd (cc)) (λ other. absurd (other refl)) (no-poll a (scrubbed_state c) u (scrubbed_view w quiet true) out.taken) out.same
+    (λ bare. (let r = out.rests bare in record {
+      state = ap scrubbed_state r.state;
+      view = ap (λ (v : AppView). scrubbed_view v quiet true) r.view;
+      kept_is = r.kept_is;
+    }))
+    (λ _ _. inr (inr out.ended)))
 
 pub turns-not-quiet : (a c : State) (u w x : AppView) (k m : ℕ → Option (List ℕ)) (f f2 : ℕ) (done : Bool) → IsOut a c u w k m
     → app_steps a u < app_steps c w
     → Leaves c.scrubbed done w x false → Turns a (record c { scrubbed = done }) u x k m f f2 Did
 turns-not-quiet a c u w x k m f f2 done out steps leaves =
     let (same, saw) = leaves in
-    rw (same, saw.event) (record {
-      stands = stands-bare c (app_saw w NotQuiet) (bare-saw c w NotQuiet out.bare) (common-saw c w NotQuiet out.common) out.reaped out.is_bare;
-      goes = goes-then a c c u w (app_saw w NotQuiet) k m m out.goes (goes-saw c w NotQuiet m);
-      answer = omega (arith, steps);
-      few = inl out.taken;
-      idle = λ why e. absurd (cc);
-      left_over = bare-over c u _ out.is_bare;
-      flushes = bare-flushes a c u _ out.is_bare;
-      stops = bare-stops c u _ out.is_bare;
-      polls = bare-polls a c u _ out.is_bare;
-      here = λ _. out.left;
-      polled = no-poll a c u (app_saw w NotQuiet) out.taken;
-      cause = λ other is. absurd (other (sym out.same ∙ is));
-      memory = λ other is. absurd (other (sym out.same ∙ is));
-      rests = λ bare. (let r = out.rests bare in record {
-        state = r.state;
-        view = ap (λ (v : AppView). app_saw v NotQuiet) r.view;
-        kept_is = r.kept_is;
-      });
-      looks = λ _ _. inr (inr out.ended);
-    })
+    rw (same, saw.event) (turns-bare (bare-saw c w NotQuiet out.bare) out.is_bare (common-saw c w NotQuiet out.common) out.reaped
+    (goes-then out.goes (goes-saw c w NotQuiet m)) (omega (arith, steps)) (inl out.taken) (λ why e. absurd (cc)) (λ _. out.left)
+    (no-poll a c u (app_saw w NotQuiet) out.taken) out.same
+    (λ bare. (let r = out.rests bare in record {
+      state = r.state;
+      view = ap (λ (v : AppView). app_saw v NotQuiet) r.view;
+      kept_is = r.kept_is;
+    }))
+    (λ _ _. inr (inr out.ended)))
 
 -- by way of reading all
-pub out-of : (a b c : State) (u v w : AppView) (k m : ℕ → Option (List ℕ)) → a.ended ≡ true → a.stopped ≡ stop.No
+pub out-of : {a b c : State} {u v w : AppView} {k m : ℕ → Option (List ℕ)} → a.ended ≡ true → a.stopped ≡ stop.No
     → a.bare ≡ false → u.left ≡ false → Through a b u v k m → length b.unread ≤ 0 → b.due ≡ None → LetGo b c v w → IsOut a c u w k m
-out-of a b c u v w k m ended going live here through few due gone = record {
+out-of {a} {b} {c} {u} {v} {w} {k} {m} ended going live here through few due gone = record {
   bare = closed-bare b c v w through.working (through.ended ∙ ended) few through.reaped due through.common gone;
   is_bare = ap (λ (s : State). s.bare) gone.same;
   ended = ap (λ (s : State). s.ended) gone.same ∙ through.ended ∙ ended;
   common = gone.common;
   reaped = ap (λ (s : State). s.posted.entries) gone.same ∙ through.reaped;
-  goes = goes-then a b c u v w k m m through.goes (record {
+  goes = goes-then through.goes (record {
     moves = gone.moves;
     shelved = λ _ begin. gone.shelved begin m;
     failed = λ is. absurd (no-write c.stopped (ap (λ (s : State). s.stopped) gone.same ∙ through.working.going) is);

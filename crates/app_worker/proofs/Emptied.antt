@@ -1,6 +1,6 @@
 -- All that an application has out is given up: what is left.
-use Rattle.std.proofs.Common.{zero, suc, get_or, ◌∷◌, ◌≡◌, ℕ, ◌+◌, ◌<◌, ◌≤◌, true, false, List, [], Option, None, IsSome}
-use Rattle.std.proofs.Common.{map, length, drop, refl, sym, ap, subst, ◌≢◌, ◌∙◌, arith, ◌++◌, append-nil, append_assoc}
+use Rattle.std.proofs.Common.{zero, suc, get_or, ◌∷◌, ◌≡◌, ℕ, ◌+◌, ◌<◌, ◌≤◌, true, false, List, [], Option, None, IsSome, map, length, take, drop}
+use Rattle.std.proofs.Common.{refl, sym, ap, subst, ◌≢◌, ◌∙◌, arith, ◌++◌, append-nil, append_assoc, ◌-◌}
 use Rattle.std.specs.Prelude.{◌==◌, if◌then◌else◌}
 use Rattle.zr_kinds.specs.declared.ring.Completion.{Completion}
 use Rattle.zr_kinds.specs.CopyingReceiver.{nothing_placed, values_from}
@@ -12,28 +12,23 @@ use Rattle.board_face.specs.declared.views.app.LentPiece.{LentPiece}
 use Rattle.board_face.specs.declared.views.app.AppView.{AppView}
 use Rattle.flow_queues.specs.declared.queues.Lending.{Lending}
 use Rattle.flow_queues.specs.declared.queues.FlowQueue.{FlowQueue}
-use Rattle.flow_queues.specs.Core.{total, many, Each, over_due, over_read, read_out, short_bytes, lent_piece, own_notes, BeginAt, received_notes}
-use Rattle.flow_queues.specs.Core.{AreReadAt, most_at_once, is_copy, IsIn}
+use Rattle.flow_queues.specs.Core.{total, many, Each, over_due, over_read, short_bytes, lent_piece, own_notes, BeginAt, received_notes}
+use Rattle.flow_queues.specs.Core.{AreReadAt, most_at_once, is_copy, IsIn, unsplit_len}
 use Rattle.flow_queues.proofs.Indexing.{by-place}
 use Rattle.app_worker.specs.State.{State, Common, due_one, app_steps, one_if, read_of}
 use Rattle.flow_queues.specs.Shelves.{FlowEnds, kept_loans, IsShelved, AreShelved, AreOfOneLoan, ReadsFront, IsFrontShelved, AreFronts}
 use Rattle.flow_queues.specs.Totals.{capped, taken_len, lent_len, loan_entries}
-use Rattle.flow_queues.specs.Flows.{IsIndex, place_in}
-use Rattle.flow_queues.specs.Core.{held_len, unsplit_len}
+use Rattle.flow_queues.specs.Flows.{IsIndex, place_in, FlowFacts, facts_of}
 use Rattle.std.proofs.Math.Nat.{mul-le-mul_left}
-use Rattle.std.proofs.Common.{◌*◌, ◌-◌}
-use Rattle.board_face.specs.declared.views.app.WrittenEntry.{WrittenEntry}
-use Rattle.app_worker.proofs.Moving.{strays-same, names-same}
 use Rattle.app_worker.proofs.Accounts.{sound-gone}
 use Rattle.app_worker.proofs.Origins.{origins-more, gone-origins}
 use Rattle.app_worker.proofs.ReadWhole.{given-all, gives-still}
-use Rattle.flow_queues.proofs.GivenBack.{gives-gone, gives-same, gives-count, front-gone}
+use Rattle.flow_queues.proofs.GivenBack.{gives-gone, gives-count, front-gone}
 use Rattle.app_worker.proofs.Written.{blocks-moved}
 use Rattle.zr_kinds.specs.declared.place.Place.{Place}
 use Rattle.std.proofs.Math.Seq.{drop-append_seam, drop-length}
 use Rattle.app_worker.specs.Moves.{over_leaked}
 use Rattle.app_worker.specs.Whole.{Torn}
-use Rattle.flow_queues.specs.Flows.{FlowFacts, facts_of}
 use Rattle.app_worker.specs.Letting.{Abandons, LetGo}
 use Rattle.circular_buffer.specs.Buffer.{buffer}
 use Rattle.app_worker.proofs.Measure.{read-one, read-parts, due-most}
@@ -211,151 +206,119 @@ gone-all was now old v1 v2 v3 new reaped not_yet pushed torn common first second
     let tokens : v3 ≡ record old { helds = v3.helds; loans = v3.loans; returned = v3.returned } = third.only.view
     ∙ ap (λ (x : AppView). record x { helds = v3.helds; loans = v3.loans; returned = v3.returned }) second.only.view
     ∙ ap (λ (x : AppView). record x { helds = v3.helds; loans = v3.loans; returned = v3.returned }) first.only.view in
-    let view : new ≡ record old { helds = []; loans = v3.loans; returned = v3.returned } = released
-    ∙ ap (λ (x : AppView). record x { helds = [] }) tokens in
-    let taken : new.taken ≡ old.taken = ap (λ (v : AppView). v.taken) view in
-    let reads : new.reads ≡ old.reads = ap (λ (v : AppView). v.reads) view in
-    let left : new.left ≡ old.left = ap (λ (v : AppView). v.left) view in
-    let ended : new.ended ≡ old.ended = ap (λ (v : AppView). v.ended) view in
-    let scrubbed : new.scrubbed ≡ old.scrubbed = ap (λ (v : AppView). v.scrubbed) view in
-    let helds : new.helds ≡ [] = ap (λ (v : AppView). v.helds) view in
-    let lent : new.loans ≡ v3.loans = ap (λ (v : AppView). v.loans) view in
-    let returned : new.returned ≡ v3.returned = ap (λ (v : AppView). v.returned) view in
     let one : LentPiece → ℕ = λ _. 1 in
     let due : ℕ = due_one was.due in
     let kept : ℕ = length was.leaked.items in
-    let due_old : over_read old.taken one (read_out was.due was.leaked.items) ≡ due + kept = read-one old.taken was.due was.leaked.items in
-    let due_then : over_due v1.taken one was.due ≡ due = due-is v1.taken was.due in
-    let kept_then : over_read v2.taken one was.leaked.items ≡ kept = total-one was.leaked.items in
-    let unread : ℕ = total (λ (p : Completion × Lending). one (lent_piece old.taken p.1)) was.unread in
-    let posted : total (λ (p : Completion × Lending). one (lent_piece old.taken p.1)) was.posted.entries
-    ≡ 0 = ap (total (λ (p : Completion × Lending). one (lent_piece old.taken p.1))) reaped in
-    let all : total one old.loans ≡ unread + (due + kept) =
-    omega (
+    let all : total one old.loans ≡ length was.unread + (due + kept) = omega (
       arith,
       torn.tokens.loans one,
       total-append (λ (p : Completion × Lending). one (lent_piece old.taken p.1)) was.unread was.posted.entries,
-      posted,
-      due_old,
+      total-one was.unread,
+      ap (total (λ (p : Completion × Lending). one (lent_piece old.taken p.1))) reaped,
+      read-one old.taken was.due was.leaked.items,
     ) in
-    let none : total one v3.loans ≡ 0 = omega (arith, first.loans one, second.loans one, third.loans one, all, due_then, kept_then) in
-    let no_loan : new.loans ≡ [] = lent ∙ total-none v3.loans none in
-    let count : length new.returned ≡ length old.returned + length old.loans =
-    omega (arith, ap length returned, first.returned, second.returned, third.returned, all, due_then, kept_then, total-one old.loans) in
-    let no_more : length new.loans ≡ 0 = ap length no_loan in
-    let written : new.written ≡ old.written = ap (λ (v : AppView). v.written) view in
-    let setting : new.setting ≡ old.setting = ap (λ (v : AppView). v.setting) view in
+    let none : v3.loans ≡ [] = total-none v3.loans (omega (
+      arith,
+      first.loans one,
+      second.loans one,
+      third.loans one,
+      all,
+      total-one was.unread,
+      due-is v1.taken was.due,
+      total-one was.leaked.items,
+    )) in
     let more : List LentPiece = first.behind.0 ++ second.behind.0 ++ third.behind.0 in
-    let behind : new.returned ≡ old.returned ++ more = returned ∙ third.behind.1
+    let behind : v3.returned ≡ old.returned ++ more = third.behind.1
     ∙ ap (λ ls. ls ++ third.behind.0) (second.behind.1 ∙ ap (λ ls. ls ++ second.behind.0) first.behind.1
     ∙ append_assoc old.returned first.behind.0 second.behind.0)
     ∙ append_assoc old.returned (first.behind.0 ++ second.behind.0) third.behind.0 in
-    let back : (f : LentPiece → ℕ) → total f new.returned ≡ total f old.returned + total f old.loans = λ f. omega (
+    let gone : AppView = record old { helds = []; loans = []; returned = old.returned ++ more } in
+    let view : new ≡ gone = released ∙ ap (λ (x : AppView). record x { helds = [] }) tokens
+    ∙ ap (λ ls. record old { helds = []; loans = ls; returned = v3.returned }) none ∙ ap (λ ls. record gone { returned = ls }) behind in
+    let went : (f : LentPiece → ℕ) → total f more ≡ total f old.loans = λ f. omega (
       arith,
-      ap (total f) returned,
       first.back f,
       second.back f,
       third.back f,
       first.loans f,
       second.loans f,
       third.loans f,
-      ap (total f) (total-none v3.loans none),
+      ap (total f) none,
+      ap (total f) behind,
+      total-append f old.returned more,
     ) in
-    let count_entries : loan_entries new ≡ length old.returned = gives-count new old.returned
-    (gives-same old new old.returned written setting torn.given) in
-    let rest : drop (loan_entries new) new.returned ≡ more = ap (λ n. drop n new.returned) count_entries ∙ ap (drop (length old.returned)) behind
-    ∙ drop-append_seam old.returned more in
-    let went : (f : LentPiece → ℕ) → total f more ≡ total f old.loans =
-    λ f. omega (arith, back f, ap (total f) behind, total-append f old.returned more) in
-    let read_still : (f : LentPiece → ℕ) → over_read old.taken f (read_of was) ≡ over_due old.taken f was.due
-    + over_read old.taken f was.leaked.items = λ f. read-parts old.taken f was.due was.leaked.items in
-    let all_leaked : (f : Place → ℕ) → over_leaked f was old ≤ total (λ l. f l.place) (drop (loan_entries new) new.returned) = λ f. omega (
+    let back : (f : LentPiece → ℕ) → total f gone.returned ≡ total f old.returned + total f old.loans =
+    λ f. omega (arith, went f, total-append f old.returned more) in
+    let count : length gone.returned ≡ length old.returned + length old.loans =
+    omega (arith, back one, total-one gone.returned, total-one old.returned, total-one old.loans) in
+    let all_given : loan_entries old ≡ length old.returned = gives-count old old.returned torn.given in
+    let rest : drop (loan_entries old) gone.returned ≡ more = ap (λ n. drop n gone.returned) all_given ∙ drop-append_seam old.returned more in
+    let front : take (loan_entries old) gone.returned ≡ old.returned = front-gone old gone more refl refl refl torn.given in
+    let all_leaked : (f : Place → ℕ) → over_leaked f was old ≤ total (λ l. f l.place) (drop (loan_entries old) gone.returned) = λ f. omega (
       arith,
       ap (λ b. if b then total (λ (l : LentPiece). f l.place) (drop (loan_entries old) old.returned) else total (λ (l : Lending). f l.loan) was.leaked.items)
           not_yet,
       ap (total (λ (l : LentPiece). f l.place)) rest,
-      back (λ l. f l.place),
-      ap (total (λ (l : LentPiece). f l.place)) behind,
-      total-append (λ (l : LentPiece). f l.place) old.returned more,
+      went (λ l. f l.place),
       torn.tokens.loans (λ l. f l.place),
-      read_still (λ l. f l.place),
+      read-parts old.taken (λ l. f l.place) was.due was.leaked.items,
     ) in
     let all_gone : (f : Place → ℕ) → total (λ l. f l.place) old.returned + total (λ l. f l.loan) (read_of was)
-    + total (λ (p : Completion × Lending). f p.1.loan) was.unread ≡ total (λ l. f l.place) new.returned + 0 = λ f. omega (
+    + total (λ (p : Completion × Lending). f p.1.loan) was.unread ≡ total (λ l. f l.place) gone.returned + 0 = λ f. omega (
       arith,
       back (λ l. f l.place),
       torn.tokens.loans (λ l. f l.place),
       total-append (λ (p : Completion × Lending). f p.1.loan) was.unread was.posted.entries,
       ap (total (λ (p : Completion × Lending). f p.1.loan)) reaped,
     ) in
-    let bare : one_if was.bare ≡ 0 = ap one_if not_yet in
-    let few : due + kept ≤ length old.loans = omega (arith, all, total-one old.loans) in
-    let due_few : due ≤ 1 = due-most was.due in
-    let further : was.how.stray * length old.returned ≤ was.how.stray * length new.returned = mul-le-mul_left was.how.stray (omega (arith, count)) in
+    let longer : length old.returned ≤ length gone.returned = omega (arith, count) in
     let steps : app_steps was old
-    < app_steps (record was { flows = now; unread = []; due = None; leaked = buffer [] was.leaked.capacity; bare = true }) new =
-    omega (arith, ap length taken, count, no_more, bare, few, due_few, further, ap one_if ended, ap one_if left) in
-    record {
-      helds = helds;
-      loans = no_loan;
+    < app_steps (record was { flows = now; unread = []; due = None; leaked = buffer [] was.leaked.capacity; bare = true }) gone = omega (
+      arith,
+      count,
+      ap one_if not_yet,
+      all,
+      total-one old.loans,
+      due-most was.due,
+      mul-le-mul_left was.how.stray longer,
+    ) in
+    let bytes : total (λ f. f.bytes) now ≡ total (λ f. f.bytes) was.flows = total-facts (λ x. x.bytes) was.flows now facts in
+    let copies : old.spares ≡ 0 + total is_copy gone.returned = omega (arith, back is_copy, common.copies) in
+    let spares : old.spares + total (λ f. short_bytes f.queue) now ≤ total unsplit_len old.taken = omega (arith, no_bytes, common.spares) in
+    let loans : was.loans ≡ capped (0 + length gone.returned) = common.loans ∙ ap capped (omega (arith, count)) in
+    let leaks : 0 ≤ was.how.leak = omega arith in
+    let entries : loan_entries old ≤ length gone.returned = omega (arith, common.entries, count) in
+    let bound : 0 + length gone.returned + 0 + total (λ f. short_bytes f.queue) now ≤ total taken_len old.taken = omega (arith, count, no_bytes, common.bound) in
+    rw view (record {
+      helds = refl;
+      loans = refl;
       back = back;
-      behind = (more, behind);
-      given = gives-gone old new more written setting behind torn.given;
-      entries = gives-count new old.returned (gives-same old new old.returned written setting torn.given);
+      behind = (more, refl);
+      given = gives-gone old gone more refl refl refl torn.given;
+      entries = all_given;
       same = refl;
       facts = facts;
-      ends = subst (λ ts. Each (FlowEnds ts) now) (sym taken)
-          (each-facts (FlowEnds old.taken) (FlowEnds old.taken) (ends-facts old.taken) was.flows now facts torn.flows);
+      ends = each-facts (FlowEnds old.taken) (FlowEnds old.taken) (ends-facts old.taken) was.flows now facts torn.flows;
       distinct = λ n. omega (arith, total-facts (λ x. if x.number == n then 1 else 0) was.flows now facts, torn.distinct n);
       index = index-facts was.index was.flows now facts torn.index;
-      within_lent = omega (arith, back lent_len, ap (total lent_len) no_loan, total-facts (λ x. x.bytes) was.flows now facts, torn.within_lent);
-      whole_given = omega (
-        arith,
-        ap (total lent_len) (front-gone old new more written setting behind torn.given),
-        total-facts (λ x. x.bytes) was.flows now facts,
-        torn.whole_given,
+      within_lent = omega (arith, back lent_len, bytes, torn.within_lent);
+      whole_given = omega (arith, ap (total lent_len) front, bytes, torn.whole_given);
+      common = assumption (
+        common.written ∙ ap capped (sym bytes),
+        origins-more old gone more refl refl common.origins (gone-origins old.taken more (was.unread ++ was.posted.entries) (read_of was)
+            (λ f. omega (arith, went f, torn.tokens.loans f)) torn.lent torn.due_lent),
+        gives-still old gone refl (front ∙ sym (given-all old torn.given)) common.gives_whole,
+        sound-gone old gone refl torn.tokens.apart back common.sound,
+        blocks-moved was.how.stray old gone was.stray more refl refl refl (λ f. omega (arith, went f)) common.entries common.blocks,
+        tt,
+        common,
       );
-      common = record {
-        app = ap (λ (v : AppView). v.app) view ∙ common.app;
-        ended = ended ∙ common.ended;
-        scrubbed = scrubbed ∙ common.scrubbed;
-        owns = ap (λ (v : AppView). v.owns) view ∙ common.owns;
-        copied = common.copied ∙ ap capped (sym (ap (λ (v : AppView). v.spares) view));
-        origins = origins-more old new more behind taken common.origins (gone-origins old.taken more (was.unread ++ was.posted.entries) (read_of was)
-            (λ f. omega (arith, back f, ap (total f) behind, total-append f old.returned more, torn.tokens.loans f)) torn.lent torn.due_lent);
-        copies = omega (arith, ap (λ (v : AppView). v.spares) view, back is_copy, ap (total is_copy) no_loan, common.copies);
-        spares = omega (arith, ap (λ (v : AppView). v.spares) view, no_bytes, common.spares, ap (total unsplit_len) taken);
-        some_places = common.some_places;
-        within = common.within;
-        room = common.room;
-        loans = common.loans ∙ ap capped (omega (arith, count, no_more));
-        written = common.written ∙ ap capped (sym (total-facts (λ x. x.bytes) was.flows now facts));
-        quits = common.quits;
-        leaks = omega arith;
-        leak_room = common.leak_room;
-        leak_aside = tt;
-        strays = strays-same was.how.stray was.stray.left old new (ap (λ (v : AppView). v.written) view) common.strays;
-        entries = subst (λ ws. total (λ (w : WrittenEntry). if w.of_loan then 1 else 0) ws ≤ length new.returned)
-            (sym (ap (λ (v : AppView). v.written) view)) (omega (arith, common.entries, count));
-        gives_whole = gives-still old new reads
-            (front-gone old new more written setting behind torn.given ∙ sym (given-all old torn.given)) common.gives_whole;
-        names = names-same was.stray old new (ap (λ (v : AppView). v.setting) view) common.names;
-        sound = sound-gone old new (ap (λ (v : AppView). v.setting) view) torn.tokens.apart back common.sound;
-        blocks = blocks-moved was.how.stray old new was.stray more (ap (λ (v : AppView). v.written) view) setting behind
-            (λ f. omega (arith, back f, ap (total f) behind, total-append f old.returned more)) common.entries common.blocks;
-        bound = omega (arith, count, no_more, ap (total held_len) helds, no_bytes, common.bound, ap (total taken_len) taken);
-      };
       moves = record {
-        same = (
-          ap (λ (v : AppView). v.setting) view,
-          ap (λ (v : AppView). v.app) view,
-          ap (λ (v : AppView). v.owns) view,
-          omega (arith, ap (λ (v : AppView). v.spares) view),
-        );
+        same = (refl, refl, refl, omega arith);
         how = (refl, refl);
         places = refl;
         steps = omega (arith, steps);
-        looks = looks-same old new (ap (λ (v : AppView). v.looks) view);
+        looks = looks-same old gone refl;
         keeps = λ n r before live. absurd (cc);
         stays = λ _. refl;
         leaked = λ live. absurd (cc);
@@ -364,17 +327,17 @@ gone-all was now old v1 v2 v3 new reaped not_yet pushed torn common first second
           read = was.unread;
           more = [];
           in_order = append-nil (was.unread ++ was.posted.entries);
-          lent = λ f. omega (arith, back (λ l. f l.place), ap (total (λ (l : LentPiece). f l.place)) no_loan);
+          lent = λ f. omega (arith, back (λ l. f l.place));
           tells = tt;
           gone = λ f. all_gone f;
         };
         bytes = λ n. omega (arith, total-facts (λ x. if x.number == n then x.bytes else 0) was.flows now facts);
       };
       steps = steps;
-      shelved = λ begin kept shelved. shelves-facts begin kept was.flows now old new facts taken reads shelved;
-      fronts = λ begin kept shelved. all-fronts-facts begin kept was.flows now old new facts taken reads
-          (still-kept old new more (gives-count old old.returned torn.given) rest went) shelved;
+      shelved = λ begin kept shelved. shelves-facts begin kept was.flows now old gone facts refl refl shelved;
+      fronts = λ begin kept shelved. all-fronts-facts begin kept was.flows now old gone facts refl refl
+          (still-kept old gone more all_given rest went) shelved;
       none_left = pushed;
-      taken = taken;
-      left = left;
-    }
+      taken = refl;
+      left = refl;
+    })

@@ -29,8 +29,8 @@ flushes-same was now old new reads lent reserve flush = record {
 pub flushes-none : (st : State) (v : AppView) → Flushes st st v v
 flushes-none st v = flushes-same st st v v refl refl refl refl
 
-pub flushes-then : (a b c : State) (u v w : AppView) → Flushes a b u v → Flushes b c v w → Flushes a c u w
-flushes-then a b c u v w first second = record {
+pub flushes-then : {a b c : State} {u v w : AppView} → Flushes a b u v → Flushes b c v w → Flushes a c u w
+flushes-then {a} {b} {c} {u} {v} {w} first second = record {
   reads = omega (arith, first.reads, second.reads);
   lent = omega (arith, first.lent, second.lent);
   reserve = omega (arith, first.reserve, second.reserve);

@@ -1,4 +1,4 @@
-pub mod Standing2
+pub mod LoansStand
 pub mod Shelved
 pub mod StreamLemmas
 pub mod Accounts

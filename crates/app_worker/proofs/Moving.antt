@@ -1,11 +1,9 @@
 -- From one moment to a later one.
-use Rattle.std.proofs.Common.{◌≡◌, ◌≢◌, ℕ, ◌*◌, ◌<◌, ◌≤◌, ◌+◌, true, false, ⊎_elim, Option, Some, None, List, []}
-use Rattle.std.proofs.Common.{◌∷◌, ◌++◌, drop, length, refl, sym, ap, subst}
-use Rattle.std.proofs.Common.{◌∙◌, arith, append-nil, append_assoc}
+use Rattle.std.proofs.Common.{◌≡◌, ℕ, ◌*◌, ◌≤◌, ◌+◌, true, false, ⊎_elim, Option, Some, None, List, [], ◌∷◌, ◌++◌, drop, length, refl, sym}
+use Rattle.std.proofs.Common.{ap, subst, ◌∙◌, arith, append-nil, append_assoc}
 use Rattle.std.specs.Prelude.{◌==◌, if◌then◌else◌}
-use Rattle.area_layout.specs.Layout.{pool_buffers, judged}
+use Rattle.area_layout.specs.Layout.{pool_buffers}
 use Rattle.board_face.specs.declared.views.app.WrittenEntry.{WrittenEntry}
-use Rattle.app_worker.specs.declared.stack.Stray.{Stray}
 use Rattle.board_face.specs.AppEvents.{reserve_of}
 use Rattle.board_face.specs.declared.views.parts.Setting.{Setting}
 use Rattle.board_face.specs.declared.views.app.LentPiece.{LentPiece}
@@ -20,7 +18,7 @@ use Rattle.flow_queues.specs.Core.{total, Each, over_due, read_out}
 use Rattle.zr_kinds.specs.declared.place.Place.{Place}
 use Rattle.zr_kinds.specs.declared.ring.Completion.{Completion}
 use Rattle.app_worker.specs.State.{State, TellsOf, due_one}
-use Rattle.flow_queues.specs.Totals.{raw_entries, loan_entries}
+use Rattle.flow_queues.specs.Totals.{loan_entries}
 use Rattle.flow_queues.specs.Entries.{lies_in, returned_aside}
 use Rattle.app_worker.specs.Moves.{Moves, Reaps, KeepsLeaked, KeptSince, reads_of, reserve_loans, over_lent, over_gone, over_leaked}
 use Rattle.std.proofs.lemmas.Bool.{cases_Bool}
@@ -39,30 +37,20 @@ due-is taken (Some l) = refl
 
 -- ---- looks
 
-pub looks-trans : (u v w : AppView) → AppLooksStay u v → AppLooksStay v w → AppLooksStay u w
-looks-trans u v w first second = record { later = λ look. omega (arith, first.later look, second.later look) }
+pub looks-trans : {u v w : AppView} → AppLooksStay u v → AppLooksStay v w → AppLooksStay u w
+looks-trans first second = record { later = λ look. omega (arith, first.later look, second.later look) }
 
 -- what was seen in a part was seen in the whole
-pub rose-after : (look : AppLook) (u v w : AppView) → AppLooksStay u v → AppRose look v w → AppRose look u w
-rose-after look u v w first second = record { rose = omega (arith, first.later look, second.rose) }
+pub rose-after : {look : AppLook} {u v w : AppView} → AppLooksStay u v → AppRose look v w → AppRose look u w
+rose-after {look} first second = record { rose = omega (arith, first.later look, second.rose) }
 
-pub rose-before : (look : AppLook) (u v w : AppView) → AppRose look u v → AppLooksStay v w → AppRose look u w
-rose-before look u v w first second = record { rose = omega (arith, second.later look, first.rose) }
+pub rose-before : {look : AppLook} {u v w : AppView} → AppRose look u v → AppLooksStay v w → AppRose look u w
+rose-before {look} first second = record { rose = omega (arith, second.later look, first.rose) }
 
 -- ---- what is kept to the end
 
 pub reserve-same : (old new : AppView) → new.setting ≡ old.setting → new.app ≡ old.app → reserve_of new ≡ reserve_of old
 reserve-same old new setting app = ap (λ (s : Setting). pool_buffers s.layout + new.app) setting ∙ ap (λ n. pool_buffers old.setting.layout + n) app
-
-pub aside-same : (old new : AppView) → new.returned ≡ old.returned → new.setting ≡ old.setting → new.app ≡ old.app
-    → returned_aside new ≡ returned_aside old
-aside-same old new returned setting app =
-    ap (λ ls. total (λ (l : LentPiece). if l.place.buffer == reserve_of new then 0 else 1) ls) returned
-    ∙ ap (λ n. total (λ (l : LentPiece). if l.place.buffer == n then 0 else 1) old.returned) (reserve-same old new setting app)
-
-pub leaked-aside : (leaked : List Lending) (old new : AppView) → new.setting ≡ old.setting → new.app ≡ old.app
-    → Each (λ (l : Lending). l.loan.buffer ≢ reserve_of old) leaked → Each (λ (l : Lending). l.loan.buffer ≢ reserve_of new) leaked
-leaked-aside leaked old new setting app each = subst (λ n. Each (λ (l : Lending). l.loan.buffer ≢ n) leaked) (sym (reserve-same old new setting app)) each
 
 pub same-leaked : (was now : State) → now.bare ≡ was.bare → now.leaked.items ≡ was.leaked.items → now.bare ≡ false → KeepsLeaked was now
 same-leaked was now bare items live = (sym bare ∙ live, ([], items ∙ sym (append-nil was.leaked.items)))
@@ -74,25 +62,6 @@ leaked-then a b c (live, (more, are)) (_, (more_then, are_then)) = (
 )
 
 -- ---- what follows loans
-
-pub strays-same : (most left : ℕ) (old new : AppView) → new.written ≡ old.written → raw_entries old + left ≤ most * loan_entries old
-    → raw_entries new + left ≤ most * loan_entries new
-strays-same most left old new written few = subst
-    (λ ws. total (λ (w : WrittenEntry). if w.of_loan then 0 else 1) ws + left ≤ most * total (λ (w : WrittenEntry). if w.of_loan then 1 else 0) ws)
-    (sym written) few
-
-pub entries-same : (old new : AppView) → new.written ≡ old.written → new.returned ≡ old.returned → loan_entries old ≤ length old.returned
-    → loan_entries new ≤ length new.returned
-entries-same old new written returned few = subst (λ ws. total (λ (w : WrittenEntry). if w.of_loan then 1 else 0) ws ≤ length new.returned) (sym written)
-    (omega (arith, few, ap length returned))
-
-pub names-same : (stray : Stray) (old new : AppView) → new.setting ≡ old.setting
-    → (0 < stray.left → judged old.setting.layout stray.entry ≡ Some stray.buffer) → 0 < stray.left
-    → judged new.setting.layout stray.entry ≡ Some stray.buffer
-names-same stray old new setting names some = subst (λ (s : Setting). judged s.layout stray.entry ≡ Some stray.buffer) (sym setting) (names some)
-
-pub most-same : (most : ℕ) (old new : AppView) → new.returned ≡ old.returned → most * length new.returned ≡ most * length old.returned
-most-same most old new returned = ap (λ (ls : List LentPiece). most * length ls) returned
 
 -- ---- what is kept unread
 
@@ -205,13 +174,13 @@ moves-none st v = record {
   bytes = λ n. omega arith;
 }
 
-pub moves-then : (a b c : State) (u v w : AppView) → Moves a b u v → Moves b c v w → Moves a c u w
-moves-then a b c u v w first second = record {
+pub moves-then : {a b c : State} {u v w : AppView} → Moves a b u v → Moves b c v w → Moves a c u w
+moves-then {a} {b} {c} {u} {v} {w} first second = record {
   same = (second.same.0 ∙ first.same.0, second.same.1 ∙ first.same.1, second.same.2 ∙ first.same.2, omega (arith, first.same.3, second.same.3));
   how = (second.how.0 ∙ first.how.0, second.how.1 ∙ first.how.1);
   places = second.places ∙ first.places;
   steps = omega (arith, first.steps, second.steps);
-  looks = looks-trans u v w first.looks second.looks;
+  looks = looks-trans first.looks second.looks;
   keeps = λ n r before. second.keeps n r (first.keeps n r before);
   stays = λ other. (let e : b.stopped ≡ a.stopped = first.stays other in second.stays (λ is. other (sym e ∙ is)) ∙ e);
   leaked = λ live. (let later = second.leaked live in leaked-then a b c (first.leaked later.0) later);

@@ -1,30 +1,26 @@
 -- A note is taken: by each way that it goes.
-use Rattle.std.proofs.Common.{◌≡◌, ℕ, ◌+◌, ◌<◌, ◌≤◌, false, List, [], ◌∷◌, ◌++◌, length, set, get_or}
-use Rattle.std.proofs.Common.{refl, sym, ap, subst, ◌∙◌, arith, inl, inr, take, length-append}
+use Rattle.std.proofs.Common.{◌≡◌, ℕ, ◌+◌, ◌<◌, ◌≤◌, true, false, List, [], ◌∷◌, ◌++◌, length, set, get_or, refl, sym, ap, subst, ◌∙◌, arith, inl}
+use Rattle.std.proofs.Common.{inr, take, length-append}
 use Rattle.zr_kinds.specs.declared.place.Place.{Place}
 use Rattle.zr_kinds.specs.declared.place.Note.{Note}
 use Rattle.tcp_reorder.specs.Queue.{Queue}
 use Rattle.board_face.specs.AppCalls.{TookNote, TookLinear}
-use Rattle.board_face.specs.AppEvents.{released, reserve_of}
-use Rattle.board_face.specs.declared.views.parts.Setting.{Setting}
+use Rattle.board_face.specs.AppEvents.{released}
 use Rattle.board_face.specs.declared.views.app.TakenNote.{TakenNote}
 use Rattle.board_face.specs.declared.views.app.AppView.{AppView}
 use Rattle.flow_queues.specs.declared.queues.Waiting.{Waiting}
 use Rattle.flow_queues.specs.declared.queues.FlowQueue.{FlowQueue}
-use Rattle.flow_queues.specs.Core.{total, Each, LieApart, Stands, FlowStands, many, short_bytes, held_piece}
-use Rattle.flow_queues.specs.Core.{own_notes}
-use Rattle.app_worker.proofs.Moving.{aside-same}
-use Rattle.app_worker.specs.State.{State, read_of, TellsOf, LiesOutside, Working, Common}
+use Rattle.flow_queues.specs.Core.{total, Each, LieApart, Stands, FlowStands, many, short_bytes, held_piece, own_notes, held_len, unsplit_len}
+use Rattle.flow_queues.specs.Core.{HasTokens}
+use Rattle.app_worker.specs.State.{State, read_of, loan_len, Working, Common}
 use Rattle.flow_queues.specs.Shelves.{FlowEnds}
 use Rattle.flow_queues.specs.Totals.{lent_bytes, lent_len}
-use Rattle.flow_queues.specs.Flows.{IsAtRest, RestBut, IsIndex}
-use Rattle.flow_queues.specs.Core.{held_len, unsplit_len}
+use Rattle.flow_queues.specs.Flows.{IsAtRest, RestBut, IsIndex, fresh_flow, IsChosen}
 use Rattle.board_face.specs.declared.views.app.HeldPiece.{HeldPiece}
 use Rattle.flow_queues.specs.Pieces.{whole_piece}
 use Rattle.app_worker.specs.Moves.{reads_of, reserve_loans}
 use Rattle.app_worker.specs.Flushing.{loans_so_far}
 use Rattle.app_worker.proofs.Flushing.{flushes-same}
-use Rattle.flow_queues.specs.Flows.{fresh_flow, IsChosen}
 use Rattle.app_worker.specs.Whole.{TookOne, TookNone, Torn}
 use Rattle.zr_kinds.specs.declared.ring.Completion.{Completion}
 use Rattle.flow_queues.specs.declared.queues.Lending.{Lending}
@@ -38,11 +34,9 @@ use Rattle.app_worker.proofs.ReadWhole.{read-noted}
 use Rattle.flow_queues.proofs.Indexing.{index-set}
 use Rattle.flow_queues.proofs.Resting.{rest-all, rest-set, rest-push}
 use Rattle.flow_queues.proofs.Choosing.{Chosen, is-chosen, bytes-noted, total-noted, many-noted}
-use Rattle.app_worker.proofs.Noting.{TookView, TookBytes, with_note, grow-noted}
-use Rattle.app_worker.proofs.Noting.{common-noted, steps-noted, moves-noted, ends-kept}
-use Rattle.app_worker.proofs.Noting.{shelves-kept, ends-noted, shelves-noted}
+use Rattle.app_worker.proofs.Noting.{TookView, TookBytes, with_note, grow-noted, common-noted, steps-noted, moves-noted, ends-kept, shelves-kept}
+use Rattle.app_worker.proofs.Noting.{ends-noted, shelves-noted}
 use Rattle.flow_queues.specs.Taking.{Changes, EntersPiece, EntersPayload, LosesPiece, LosesPayload}
-use Rattle.flow_queues.specs.Core.{HasTokens}
 
 -- what was appended of each flow has its place
 pub all-end : (st : State) (v : AppView) → Working st v → Each (FlowEnds v.taken) st.flows
@@ -167,30 +161,17 @@ module _ (was : State) (old new : AppView) (t : TakenNote) (works : Working was 
     entered-taken notes is_index count rest more stands =
         let x : FlowQueue = record own { queue = q } in
         let now : List FlowQueue = set flows i x in
-        let setting : new.setting ≡ old.setting = ap (λ (v : AppView). v.setting) view in
+        let over : was.ended ≡ true → Each IsAtRest now = λ over. absurd (cc) in
+        let appended : total lent_len old.returned + total loan_len (read_of was) ≡ total (λ f. f.bytes) now = omega (arith, works.appended, bytes-in) in
         record {
-          working = record {
-            stands = subst (λ n. Stands n now (was.unread ++ was.posted.entries) (read_of was) new) (sym count) stands;
-            completions = subst (λ (s : Setting). Each (TellsOf s.layout) (was.unread ++ was.posted.entries)) (sym setting) works.completions;
-            rest = resting chosen x;
-            index = index-set index flows i own x within value refl is_index;
-            over = λ over. absurd (cc);
-            going = works.going;
-            outside = λ off. subst (λ b. Each (LiesOutside b) (was.unread ++ was.posted.entries)) (sym (ap reserve_of view)) (works.outside off);
-            flush = works.flush;
-            live = works.live;
-            keeps_first = λ some. works.keeps_first (omega (
-              arith,
-              some,
-              aside-same old new (ap (λ (v : AppView). v.returned) view) setting
-                  (ap (λ (v : AppView). v.app) view),
-            ));
-            waits = works.waits;
-            given = gives-taken;
-            read_whole = read-noted old new t (read_of was) (ap (λ (v : AppView). v.reads) view) (ap (λ (v : AppView). v.taken) view)
-                works.stands.due_lent works.read_whole;
-            appended = omega (arith, ap (total lent_len) (ap (λ (v : AppView). v.returned) view), works.appended, bytes-in);
-          };
+          working = rw view (assumption (
+            rw view at (subst (λ n. Stands n now (was.unread ++ was.posted.entries) (read_of was) new) (sym count) stands),
+            resting chosen x,
+            index-set index flows i own x within value refl is_index,
+            rw view at (read-noted old new t (read_of was) (ap (λ (v : AppView). v.reads) view) (ap (λ (v : AppView). v.taken) view)
+                works.stands.due_lent works.read_whole),
+            works,
+          ));
           common = common-noted was old new t view-in notes i index now bytes-in few-in common;
           moves = moves-noted was old new t view-in notes i index now (grow-noted was.flows t.note own (λ x. set flows i x) q base put-in);
           shelved = shelves-noted was.flows old new t view-in (all-end was old works) known-in own (λ x. set flows i x) put-in q base;

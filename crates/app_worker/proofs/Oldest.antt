@@ -1,9 +1,7 @@
 -- The oldest loan is read: all that is kept then.
-use Rattle.std.proofs.Common.{◌≡◌, ◌≢◌, ℕ, ◌+◌, ◌-◌, ◌^◌, ◌<◌, ◌≤◌, min, Bool, true, false, List, [], ◌∷◌}
-use Rattle.std.proofs.Common.{◌++◌, Option, Some, None}
+use Rattle.std.proofs.Common.{◌≡◌, ◌≢◌, ℕ, ◌+◌, ◌-◌, ◌^◌, ◌<◌, ◌≤◌, min, Bool, true, false, List, [], ◌∷◌, ◌++◌, Option, Some, None, IsSome, length}
+use Rattle.std.proofs.Common.{drop, set, get_or, refl, sym, ap, subst, ◌∙◌, arith, ◌⊎◌, ⊎_elim, append-nil, length-append, inl, inr}
 use Rattle.board_face.specs.declared.views.app.LentPiece.{LentPiece}
-use Rattle.std.proofs.Common.{IsSome, length, drop, set, get_or, refl, sym, ap, subst, ◌∙◌, arith, ◌⊎◌, ⊎_elim, append-nil, length-append}
-use Rattle.std.proofs.Common.{inl, inr}
 use Rattle.std.specs.Prelude.{slice_get, ◌==◌, if◌then◌else◌}
 use Rattle.std.specs.Io.KnownBytes.{Keeps}
 use Rattle.zr_kinds.specs.declared.ring.Completion.{Completion}
@@ -12,44 +10,38 @@ use Rattle.zr_kinds.specs.CopyingReceiver.{values_from}
 use Rattle.zr_io.specs.Moved.{Gained, Rose}
 use Rattle.zr_io.proofs.Moved.{Gained-weaker, Gained-then}
 use Rattle.flow_queues.specs.Marks.{Mark, marks_from}
-use Rattle.board_face.specs.declared.views.parts.Setting.{Setting}
 use Rattle.board_face.specs.declared.views.app.TakenNote.{TakenNote}
 use Rattle.board_face.specs.declared.views.app.AppView.{AppView}
 use Rattle.flow_queues.specs.declared.queues.Lending.{Lending}
 use Rattle.flow_queues.specs.declared.queues.FlowQueue.{FlowQueue}
-use Rattle.flow_queues.specs.Core.{total, is_copy, Each, Stands, FlowStands, HasTokens, OnlyReads, IsReadOf, AreReadAt, placed_of, marks_of_loan, many}
-use Rattle.flow_queues.specs.Core.{short_bytes, IsIn, lent_piece}
-use Rattle.flow_queues.specs.Core.{read_out}
+use Rattle.flow_queues.specs.Core.{total, Each, Stands, FlowStands, HasTokens, OnlyReads, IsReadOf, AreReadAt, placed_of, marks_of_loan}
+use Rattle.flow_queues.specs.Core.{many, short_bytes, IsIn, lent_piece, read_out, held_len, unsplit_len}
 use Rattle.zr_kinds.specs.declared.behaviour.Stopped.{Stopped}
 use Rattle.zr_kinds.specs.declared.behaviour.Stopped.TheVariants as stop
-use Rattle.app_worker.specs.State.{State, read_of, TellsOf, LiesOutside, Working, Common, due_one, loan_len, app_steps, one_if}
+use Rattle.app_worker.specs.State.{State, read_of, TellsOf, LiesOutside, Working, Common, due_one, loan_len, app_steps}
 use Rattle.flow_queues.specs.Totals.{Quits, capped, taken_len, lent_len, bytes_if, bytes_of, loan_entries}
 use Rattle.flow_queues.specs.Shelves.{FlowEnds, kept_loans, IsShelved, AreShelved, AreOfOneLoan, ReadsFront, IsFrontShelved, AreFronts}
-use Rattle.flow_queues.specs.Core.{held_len, unsplit_len}
 use Rattle.board_face.specs.AppEvents.{reserve_of}
 use Rattle.app_worker.specs.Moves.{Moves, KeptSince, reads_of, reserve_loans}
 use Rattle.app_worker.specs.Flushing.{Flushes, loans_so_far}
 use Rattle.std.proofs.lemmas.Bool.{cases_Bool}
 use Rattle.app_worker.specs.Whole.{Torn, ReadOne, ReadQuit, ReadFailed, Appended}
 use Rattle.flow_queues.proofs.Standing.{At, split-at, each-right, each-changed, many-same, total-changed, parts-alike, is_number, number-is}
-use Rattle.app_worker.proofs.Standing2.{IsNext, is-next, stands-read, tokens-read, appended, own-stands, oldest-out}
+use Rattle.app_worker.proofs.LoansStand.{IsNext, is-next, stands-read, tokens-read, appended, own-stands, oldest-out}
 use Rattle.app_worker.proofs.Shelved.{shelved-reaped, shelved-other}
 use Rattle.flow_queues.proofs.Tokens.{total-append, in-left}
 use Rattle.flow_queues.proofs.Entering.{marks-length}
 use Rattle.flow_queues.proofs.ReadLemmas.{all-grow, read-append, marks-split}
 use Rattle.flow_queues.proofs.Placing.{values-split, values-length}
 use Rattle.app_worker.proofs.EachBoth.{each-both}
-use Rattle.app_worker.proofs.Moving.{total-one, no-write, aside-same, leaked-aside, same-leaked, strays-same, entries-same, names-same, most-same}
+use Rattle.app_worker.proofs.Moving.{total-one, no-write, same-leaked}
 use Rattle.flow_queues.proofs.Looks.{looks-same}
-use Rattle.app_worker.proofs.Moving.{abandons-same, lent-same}
+use Rattle.app_worker.proofs.Through.{moves-stopped}
 use Rattle.flow_queues.proofs.Indexing.{index-set}
-use Rattle.app_worker.proofs.Accounts.{sound-same}
-use Rattle.app_worker.proofs.Origins.{origins-same}
 use Rattle.app_worker.specs.ReadWhole.{IsReadWhole, AreReadWhole}
 use Rattle.app_worker.proofs.ReadWhole.{gives-more, read-more}
 use Rattle.flow_queues.specs.Entries.{Gives}
 use Rattle.flow_queues.proofs.GivenBack.{gives-same}
-use Rattle.app_worker.proofs.Written.{blocks-same}
 use Rattle.flow_queues.proofs.Resting.{rest-same, each-same}
 
 pub front-of : {A : Type 0} (xs : List A) (x : A) → slice_get xs 0 ≡ Some x → xs ≡ x ∷ drop 1 xs
@@ -196,65 +188,6 @@ module _ (was : State) (i : ℕ) (own : FlowQueue) (p : Completion × Lending) (
   same_taken : new.taken ≡ old.taken
   same_taken = ap (λ (v : AppView). v.taken) only.view
 
-  common-read : (bytes written : ℕ) (stopped : Stopped) → own.bytes ≤ bytes → written ≡ min (was.written + (bytes - own.bytes)) (2 ^ 64 - 1)
-      → Quits was.how.quit written stopped → Common (record (with_read was i own bytes ps p.1 written flush) { stopped = stopped }) new
-  common-read bytes written stopped more count quits =
-      let f : FlowQueue → ℕ = λ o. o.bytes in
-      let later : FlowQueue = record own { bytes = bytes } in
-      let sum : total f (set was.flows i later) + own.bytes ≡ total f was.flows + bytes =
-      ap (λ n. n + own.bytes) (ap (total f) (at.set_is later)) ∙ total-changed at.before at.after own later f
-      ∙ ap (λ n. n + bytes) (sym (ap (total f) at.is)) in
-      let short : FlowQueue → ℕ = λ o. short_bytes o.queue in
-      let shorts : total short (set was.flows i later) ≡ total short was.flows =
-      ap (total short) (at.set_is later) ∙ omega (arith, total-changed at.before at.after own later short) ∙ sym (ap (total short) at.is) in
-      let left : new.left ≡ old.left = ap (λ (v : AppView). v.left) only.view in
-      let scrubbed : new.scrubbed ≡ old.scrubbed = ap (λ (v : AppView). v.scrubbed) only.view in
-      record {
-        app = ap (λ (v : AppView). v.app) only.view ∙ common.app;
-        ended = ap (λ (v : AppView). v.ended) only.view ∙ common.ended;
-        scrubbed = scrubbed ∙ common.scrubbed;
-        owns = ap (λ (v : AppView). v.owns) only.view ∙ common.owns;
-        copied = common.copied ∙ ap capped (sym (ap (λ (v : AppView). v.spares) only.view));
-        origins = origins-same old new same_returned same_taken common.origins;
-        copies = omega (
-          arith,
-          ap (λ (v : AppView). v.spares) only.view,
-          ap (total is_copy) (ap (λ (v : AppView). v.loans) only.view),
-          ap (total is_copy) (ap (λ (v : AppView). v.returned) only.view),
-          common.copies,
-        );
-        spares = omega (arith, ap (λ (v : AppView). v.spares) only.view, shorts, ap (total unsplit_len) same_taken, common.spares);
-        some_places = common.some_places;
-        within = common.within;
-        room = common.room;
-        loans = common.loans ∙ ap capped (sym (omega (
-          arith,
-          ap length (ap (λ (v : AppView). v.loans) only.view),
-          ap length (ap (λ (v : AppView). v.returned) only.view),
-        )));
-        written = omega (arith, count, common.written, sum, more);
-        quits = quits;
-        leaks = common.leaks;
-        leak_room = common.leak_room;
-        leak_aside = leaked-aside was.leaked.items old new same_setting (ap (λ (v : AppView). v.app) only.view) common.leak_aside;
-        strays = strays-same was.how.stray was.stray.left old new (ap (λ (v : AppView). v.written) only.view) common.strays;
-        entries = entries-same old new (ap (λ (v : AppView). v.written) only.view) same_returned common.entries;
-        gives_whole = gives-more old new only common.gives_whole;
-        names = names-same was.stray old new same_setting common.names;
-        sound = sound-same old new same_returned same_setting common.sound;
-        blocks = blocks-same was.how.stray old new was.stray (ap (λ (v : AppView). v.written) only.view) (ap (λ (v : AppView). v.setting) only.view)
-            (ap (λ (v : AppView). v.loans) only.view) (ap (λ (v : AppView). v.returned) only.view) common.entries common.blocks;
-        bound = omega (
-          arith,
-          ap length (ap (λ (v : AppView). v.loans) only.view),
-          ap length (ap (λ (v : AppView). v.returned) only.view),
-          ap (total held_len) (ap (λ (v : AppView). v.helds) only.view),
-          ap (total taken_len) same_taken,
-          shorts,
-          common.bound,
-        );
-      }
-
   sum-read : (bytes : ℕ) → total (λ o. o.bytes) (set was.flows i (record own { bytes = bytes })) + own.bytes ≡ total (λ o. o.bytes) was.flows + bytes
   sum-read bytes =
       let f : FlowQueue → ℕ = λ o. o.bytes in
@@ -262,21 +195,25 @@ module _ (was : State) (i : ℕ) (own : FlowQueue) (p : Completion × Lending) (
       ap (λ n. n + own.bytes) (ap (total f) (at.set_is later)) ∙ total-changed at.before at.after own later f
       ∙ ap (λ n. n + bytes) (sym (ap (total f) at.is))
 
+  common-read : (bytes written : ℕ) (stopped : Stopped) → own.bytes ≤ bytes → written ≡ min (was.written + (bytes - own.bytes)) (2 ^ 64 - 1)
+      → Quits was.how.quit written stopped → Common (record (with_read was i own bytes ps p.1 written flush) { stopped = stopped }) new
+  common-read bytes written stopped more count quits =
+      let later : FlowQueue = record own { bytes = bytes } in
+      let short : FlowQueue → ℕ = λ o. short_bytes o.queue in
+      let shorts : total short (set was.flows i later) ≡ total short was.flows =
+      ap (total short) (at.set_is later) ∙ omega (arith, total-changed at.before at.after own later short) ∙ sym (ap (total short) at.is) in
+      let spares : old.spares + total short (set was.flows i later) ≤ total unsplit_len old.taken = omega (arith, shorts, common.spares) in
+      let counted : written ≡ capped (total (λ o. o.bytes) (set was.flows i later)) = omega (arith, count, common.written, sum-read bytes, more) in
+      let bound : length old.loans + length old.returned + total held_len old.helds + total short (set was.flows i later) ≤ total taken_len old.taken =
+      omega (arith, shorts, common.bound) in
+      rw only.view (assumption (rw only.view at (gives-more old new only common.gives_whole)))
+
   gives-read : Gives new new.returned
   gives-read = subst (Gives new) (sym same_returned)
       (gives-same old new old.returned (ap (λ (v : AppView). v.written) only.view) same_setting works.given)
 
   steps-read : (bytes written : ℕ) → app_steps (with_read was i own bytes ps p.1 written flush) new ≡ app_steps was old + 1
-  steps-read bytes written = omega (
-    arith,
-    ap length same_taken,
-    ap length (ap (λ (v : AppView). v.loans) only.view),
-    ap length (ap (λ (v : AppView). v.returned) only.view),
-    ap due_one due,
-    most-same was.how.stray old new same_returned,
-    ap one_if (ap (λ (v : AppView). v.ended) only.view),
-    ap one_if (ap (λ (v : AppView). v.left) only.view),
-  )
+  steps-read bytes written = rw only.view (omega (arith, ap due_one due))
 
   same_lent : reserve_loans new ≡ reserve_loans old
   same_lent = rw only.view refl
@@ -321,42 +258,30 @@ module _ (was : State) (i : ℕ) (own : FlowQueue) (p : Completion × Lending) (
   no-flush off = ⊎_elim (λ (on : flush ≡ true). absurd (let e = (flush_on on).0 in cc)) (λ (not : flush ≡ false). not) (cases_Bool flush)
 
   moves-read : (bytes written : ℕ) → own.bytes ≤ bytes → Moves was (with_read was i own bytes ps p.1 written flush) old new
-  moves-read bytes written more = record {
-    same = (
-      same_setting,
-      ap (λ (v : AppView). v.app) only.view,
-      ap (λ (v : AppView). v.owns) only.view,
-      omega (arith, ap (λ (v : AppView). v.spares) only.view),
-    );
+  moves-read bytes written more = rw only.view (record {
+    same = (refl, refl, refl, omega arith);
     how = (refl, refl);
     places = refl;
-    steps = omega (arith, steps-read bytes written);
-    looks = looks-same old new (ap (λ (v : AppView). v.looks) only.view);
+    steps = omega (arith, ap due_one due);
+    looks = looks-same old _ refl;
     keeps = λ n r before live.
         let k : KeptSince n r was old = before live in
         record {
-          lent = omega (arith, k.lent, same_lent);
+          lent = k.lent;
           kept = λ notes same.
-              let kept = k.kept notes (sym same_lent ∙ same) in (
-                no-flush kept.0,
-                λ _. omega (arith, more_kept notes kept.0, ap length unread, length-append ps was.posted.entries),
-              );
+              let kept = k.kept notes same in
+              (no-flush kept.0, λ _. omega (arith, more_kept notes kept.0, ap length unread, length-append ps was.posted.entries));
         };
     stays = λ _. refl;
     leaked = same-leaked was (with_read was i own bytes ps p.1 written flush) refl refl;
-    abandons = abandons-same was (with_read was i own bytes ps p.1 written flush) old new refl refl
-        (ap (λ (v : AppView). v.written) only.view) same_returned;
+    abandons = λ f. omega arith;
     reaps = record {
       read = p ∷ [];
       more = [];
       in_order = append-nil (was.unread ++ was.posted.entries) ∙ all;
-      lent = λ f. omega (arith, lent-same old new (ap (λ (v : AppView). v.loans) only.view) same_returned f);
+      lent = λ f. omega arith;
       tells = tt;
-      gone = λ f. omega (
-        arith,
-        ap (total (λ (l : LentPiece). f l.place)) same_returned,
-        ap (λ d. total (λ (l : Lending). f l.loan) (read_out d was.leaked.items)) due,
-      );
+      gone = λ f. omega (arith, ap (λ d. total (λ (l : Lending). f l.loan) (read_out d was.leaked.items)) due);
     };
     bytes = λ n. (let later : FlowQueue = record own { bytes = bytes } in omega (
       arith,
@@ -365,7 +290,7 @@ module _ (was : State) (i : ℕ) (own : FlowQueue) (p : Completion × Lending) (
       ap (bytes_of n) at.is,
       still-more (own.number == n),
     ));
-  }
+  })
     where
       still-more : (b : Bool) → (if b then own.bytes else 0) ≤ (if b then bytes else 0)
       still-more true = more
@@ -396,34 +321,26 @@ module _ (was : State) (i : ℕ) (own : FlowQueue) (p : Completion × Lending) (
       let told : Each (TellsOf old.setting.layout) (p ∷ (ps ++ was.posted.entries)) = subst (Each (TellsOf old.setting.layout)) all works.completions in
       let added : Appended own old.taken new p.1.loan.len kept kept_now = appended old.taken p (ps ++ was.posted.entries) own p.1.loan.len new kept
       kept_now number (own-stands was.notes at.before at.after own (p ∷ (ps ++ was.posted.entries)) was.leaked.items old stood) (omega arith) gained others in
+      let waits : 0 < was.stray.left → Some p.1 ≡ None = λ some. absurd (omega (arith, some, pushed)) in
+      let appended : total lent_len old.returned + (loan_len p.1 + total loan_len was.leaked.items) ≡ total (λ o. o.bytes) (set was.flows i later) = omega (
+        arith,
+        ap (λ d. total loan_len (read_out d was.leaked.items)) due,
+        works.appended,
+        sum-read (own.bytes + p.1.loan.len),
+      ) in
       rw is (record {
-        working = record {
-          stands = subst (λ (fs : List FlowQueue). Stands was.notes fs (ps ++ was.posted.entries) (p.1 ∷ was.leaked.items) new)
-              (sym (at.set_is later)) stands;
-          completions = subst (λ (s : Setting). Each (TellsOf s.layout) (ps ++ was.posted.entries)) (sym same_setting) told.1;
-          rest = rest-same was.active i was.flows own later within (sym value) refl works.rest;
-          index = index-set was.index was.flows i own later within value refl works.index;
-          over = λ over. each-same i was.flows own later within (sym value) refl (works.over over);
-          going = works.going;
-          outside = still-outside;
-          flush = λ on none. (flush_on on).1 (rest_all none);
-          live = works.live;
-          keeps_first = λ some. works.keeps_first
-              (omega (arith, some, aside-same old new same_returned same_setting (ap (λ (v : AppView). v.app) only.view)));
-          waits = λ some. absurd (omega (arith, some, pushed));
-          given = gives-read;
-          read_whole = (
-            subst (λ ts. IsReadWhole new.reads (lent_piece ts p.1)) (sym same_taken) whole,
-            read-more old new was.leaked.items only (subst (λ d. AreReadWhole old (read_out d was.leaked.items)) due works.read_whole),
-          );
-          appended = omega (
-            arith,
-            ap (total lent_len) same_returned,
-            ap (λ d. total loan_len (read_out d was.leaked.items)) due,
-            works.appended,
-            sum-read (own.bytes + p.1.loan.len),
-          );
-        };
+        working = rw only.view (assumption (
+          rw only.view at (subst (λ (fs : List FlowQueue). Stands was.notes fs (ps ++ was.posted.entries) (p.1 ∷ was.leaked.items) new)
+              (sym (at.set_is later)) stands),
+          told.1,
+          rest-same was.active i was.flows own later within (sym value) refl works.rest,
+          index-set was.index was.flows i own later within value refl works.index,
+          λ (over : was.ended ≡ true). each-same i was.flows own later within (sym value) refl (works.over over),
+          rw only.view at still-outside,
+          λ (on : flush ≡ true) (none : ps ++ was.posted.entries ≡ []). (flush_on on).1 (rest_all none),
+          rw only.view at (read-more old new was.leaked.items only (subst (λ d. AreReadWhole old (read_out d was.leaked.items)) due works.read_whole)),
+          works,
+        ));
         common = common-read (own.bytes + p.1.loan.len) written was.stopped (omega arith) (omega (arith, count)) quits;
         goes = record {
           moves = moves-read (own.bytes + p.1.loan.len) written (omega arith);
@@ -555,21 +472,8 @@ module _ (was : State) (i : ℕ) (own : FlowQueue) (p : Completion × Lending) (
       rw is (record {
         torn = torn-read (own.bytes + most) written stop.Quit (omega arith) (omega (arith, part));
         common = common-read (own.bytes + most) written stop.Quit (omega arith) (omega (arith, count)) quits;
-        moves = record {
-          same = (moves-read (own.bytes + most) written (omega arith)).same;
-          how = (refl, refl);
-          places = refl;
-          steps = (moves-read (own.bytes + most) written (omega arith)).steps;
-          looks = (moves-read (own.bytes + most) written (omega arith)).looks;
-          keeps = λ n r before live.
-              (let k = (moves-read (own.bytes + most) written (omega arith)).keeps n r before live in record { lent = k.lent; kept = k.kept });
-          stays = λ other. absurd (other works.going);
-          leaked = (moves-read (own.bytes + most) written (omega arith)).leaked;
-          abandons = (moves-read (own.bytes + most) written (omega arith)).abandons;
-          reaps = (let r = (moves-read (own.bytes + most) written (omega arith)).reaps in
-              record { read = r.read; more = r.more; in_order = r.in_order; lent = r.lent; tells = r.tells; gone = r.gone });
-          bytes = (moves-read (own.bytes + most) written (omega arith)).bytes;
-        };
+        moves = moves-stopped was (with_read was i own (own.bytes + most) ps p.1 written flush) old new stop.Quit works.going
+            (moves-read (own.bytes + most) written (omega arith));
         shelved = λ first shelved. subst (λ (fs : List FlowQueue). AreShelved first kept_now fs new) (sym (at.set_is later))
             (shelved-reaped first kept kept_now was.notes at.before at.after own p (ps ++ was.posted.entries) most was.leaked.items old new number only stood
             part

@@ -1,6 +1,5 @@
 -- Where the bytes of the loans came from that an application doesn't have any more.
-use Rattle.std.proofs.Common.{◌≡◌, ℕ, ◌+◌, ◌<◌, ◌≤◌, List, [], ◌∷◌, ◌++◌, length, refl, sym, subst, ◌∙◌}
-use Rattle.std.proofs.Common.{arith, ⊎_elim, inl, inr, length-append}
+use Rattle.std.proofs.Common.{◌≡◌, ℕ, ◌+◌, ◌<◌, ◌≤◌, List, [], ◌∷◌, ◌++◌, length, refl, sym, subst, ◌∙◌, arith, ⊎_elim, inl, inr, length-append}
 use Rattle.std.proofs.lemmas.Bool.{cases_lt}
 use Rattle.zr_kinds.specs.declared.ring.Completion.{Completion}
 use Rattle.board_face.specs.declared.views.app.LentPiece.{LentPiece}
@@ -12,21 +11,13 @@ use Rattle.flow_queues.proofs.Tokens.{in-total, is_that_loan, that-loan, is-lent
 use Rattle.flow_queues.proofs.Standing.{each-map, each-join}
 use Rattle.flow_queues.proofs.NotesStay.{lent-still}
 
-pub origins-same : (old new : AppView) → new.returned ≡ old.returned → new.taken ≡ old.taken → Each (IsOfTaken old.taken) old.returned
-    → Each (IsOfTaken new.taken) new.returned
-origins-same old new returned taken origins = subst (λ ts. Each (IsOfTaken ts) new.returned) (sym taken)
-    (subst (Each (IsOfTaken old.taken)) (sym returned) origins)
-
 -- one more note was taken
-pub origins-noted : (old new : AppView) (t : TakenNote) → new.returned ≡ old.returned → new.taken ≡ old.taken ++ t ∷ []
-    → Each (IsOfTaken old.taken) old.returned → Each (IsOfTaken new.taken) new.returned
-origins-noted old new t returned taken origins = subst (λ ts. Each (IsOfTaken ts) new.returned) (sym taken)
-    (subst (Each (IsOfTaken (old.taken ++ t ∷ []))) (sym returned)
-    (each-map (IsOfTaken old.taken) (IsOfTaken (old.taken ++ t ∷ [])) old.returned (λ x _ of. record {
-      lending = of.lending;
-      known = omega (arith, of.known, length-append old.taken (t ∷ []));
-      is = of.is ∙ sym (lent-still old.taken t of.lending of.known);
-    }) origins))
+pub origins-noted : (v : AppView) (t : TakenNote) → Each (IsOfTaken v.taken) v.returned → Each (IsOfTaken (v.taken ++ t ∷ [])) v.returned
+origins-noted v t origins = each-map (IsOfTaken v.taken) (IsOfTaken (v.taken ++ t ∷ [])) v.returned (λ x _ of. record {
+  lending = of.lending;
+  known = omega (arith, of.known, length-append v.taken (t ∷ []));
+  is = of.is ∙ sym (lent-still v.taken t of.lending of.known);
+}) origins
 
 -- more went
 pub origins-more : (old new : AppView) (more : List LentPiece) → new.returned ≡ old.returned ++ more → new.taken ≡ old.taken

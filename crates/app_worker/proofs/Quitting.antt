@@ -1,16 +1,15 @@
 -- When an application quits.
-use Rattle.std.proofs.Common.{◌≡◌, ◌≢◌, ℕ, ◌+◌, ◌-◌, ◌^◌, ◌<◌, ◌≤◌, min, List, [], Option, Some, None, refl, sym}
-use Rattle.std.proofs.Common.{ap, ◌∙◌, arith}
+use Rattle.std.proofs.Common.{◌≡◌, ◌≢◌, ℕ, ◌+◌, ◌-◌, ◌^◌, ◌<◌, ◌≤◌, min, List, [], Option, Some, None, refl, sym, ap, ◌∙◌, arith}
 use Rattle.std.specs.Prelude.{IfSome}
 use Rattle.zr_kinds.specs.declared.behaviour.Stopped.TheVariants as stop
 use Rattle.board_face.specs.declared.views.app.AppView.{AppView}
-use Rattle.app_worker.specs.State.{State}
+use Rattle.app_worker.specs.State.{State, app_steps}
 use Rattle.flow_queues.specs.Totals.{Quits, wanted_of}
 use Rattle.app_worker.specs.Whole.{ReadQuit}
 use Rattle.app_worker.specs.Letting.{LetGo}
 use Rattle.app_worker.specs.Stages.{Through, HasQuit}
 use Rattle.app_worker.proofs.Moving.{moves-then}
-use Rattle.app_worker.proofs.Through.{goes-then, bare-of-gone}
+use Rattle.app_worker.proofs.Through.{goes-then, bare-stopped}
 
 no-quit : stop.No ≢ stop.Quit
 no-quit e = absurd (cc)
@@ -43,16 +42,16 @@ quits-now None written then is = absurd (cc)
 quits-now (Some n) written then is = let e : n ≡ then = cc in (omega (arith, e), ((λ _. sym e), (λ _. refl)))
 
 -- the oldest loan was appended in part, and all was given up
-pub has-quit : (was mid now : State) (old midv new : AppView) (kept kept_now : ℕ → Option (List ℕ))
+pub has-quit : {was mid now : State} {old midv new : AppView} {kept kept_now : ℕ → Option (List ℕ)}
     → was.posted.entries ≡ [] → ReadQuit was mid old midv kept kept_now → LetGo mid now midv new → HasQuit was now old new kept kept_now
-has-quit was mid now old midv new kept kept_now reaped quit gone =
+has-quit {was} {mid} {now} {old} {midv} {new} {kept_now} reaped quit gone =
     let stopped : now.stopped ≡ stop.Quit = ap (λ (s : State). s.stopped) gone.same ∙ quit.stopped in
     record {
-      bare = bare-of-gone mid now midv new (λ e. absurd (let f : stop.Quit ≡ stop.No = sym stopped ∙ e in cc)) gone;
+      bare = bare-stopped now new now.stopped (λ e. absurd (let f : stop.Quit ≡ stop.No = sym stopped ∙ e in cc)) mid midv gone;
       is_bare = ap (λ (s : State). s.bare) gone.same;
       common = gone.common;
       goes = record {
-        moves = moves-then was mid now old midv new quit.moves gone.moves;
+        moves = moves-then quit.moves gone.moves;
         shelved = λ _ first begin. gone.shelved first kept_now (quit.shelved first begin);
         failed = λ is. absurd (let f : stop.Quit ≡ stop.Write = sym stopped ∙ is in cc);
       };
@@ -64,15 +63,7 @@ has-quit was mid now old midv new kept kept_now reaped quit gone =
     }
 
 -- it quit after other steps
-pub quit-later : (a b c : State) (u v w : AppView) (k l m : ℕ → Option (List ℕ)) → Through a b u v k l → HasQuit b c v w l m → HasQuit a c u w k m
-quit-later a b c u v w k l m first quit = record {
-  bare = quit.bare;
-  is_bare = quit.is_bare;
-  common = quit.common;
-  goes = goes-then a b c u v w k l m first.goes quit.goes;
-  reaped = quit.reaped;
-  stopped = quit.stopped;
-  steps = omega (arith, first.goes.moves.steps, quit.steps);
-  taken = quit.taken ∙ first.taken;
-  left = quit.left ∙ first.left;
-}
+pub quit-later : {a b c : State} {u v w : AppView} {k l m : ℕ → Option (List ℕ)} → Through a b u v k l → HasQuit b c v w l m → HasQuit a c u w k m
+quit-later {a} {b} {c} {u} {v} {w} {k} {l} {m} first quit =
+    let steps : app_steps a u < app_steps c w = omega (arith, first.goes.moves.steps, quit.steps) in
+    assumption (goes-then first.goes quit.goes, quit.taken ∙ first.taken, quit.left ∙ first.left)

@@ -59,11 +59,6 @@ read-on taken v lie l done (b ∷ bs) out shows read byte below =
 
 -- ---- those that wait to be given back
 
-pub read-same : (old new : AppView) (loans : List Lending) → new.reads ≡ old.reads → new.taken ≡ old.taken → AreReadWhole old loans
-    → AreReadWhole new loans
-read-same old new loans reads taken are = subst (λ ts. Each (λ l. IsReadWhole new.reads (lent_piece ts l)) loans) (sym taken)
-    (subst (λ rs. Each (λ l. IsReadWhole rs (lent_piece old.taken l)) loans) (sym reads) are)
-
 pub read-more : (old new : AppView) (loans : List Lending) → OnlyReads old new → AreReadWhole old loans → AreReadWhole new loans
 read-more old new loans only are =
     let taken : new.taken ≡ old.taken = ap (λ (v : AppView). v.taken) only.view in

@@ -1,7 +1,5 @@
 -- What the shelf has since the first step.
-use Rattle.std.proofs.Common.{◌≤◌, ◌≡◌, ℕ, ◌+◌, ◌<◌, List, ◌∷◌, ◌++◌, Option, Some, None, IsSome, refl, sym, ap}
-use Rattle.std.proofs.Common.{subst, ◌∙◌}
-use Rattle.std.proofs.Common.{arith}
+use Rattle.std.proofs.Common.{◌≤◌, ◌≡◌, ℕ, ◌+◌, ◌<◌, List, ◌∷◌, ◌++◌, Option, Some, None, IsSome, refl, sym, ap, subst, ◌∙◌, arith}
 use Rattle.std.specs.Io.KnownBytes.{Keeps}
 use Rattle.std.proofs.KnownBytes.{Keeps-trans}
 use Rattle.zr_kinds.specs.declared.ring.Completion.{Completion}
@@ -20,7 +18,7 @@ use Rattle.flow_queues.proofs.Tokens.{total-append}
 use Rattle.flow_queues.proofs.ReadLemmas.{all-grow, read-append}
 use Rattle.flow_queues.proofs.Placing.{values-split}
 use Rattle.flow_queues.proofs.Standing.{is_number, each-right, each-changed, many-same, number-is}
-use Rattle.app_worker.proofs.Standing2.{IsNext, is-next, own-stands}
+use Rattle.app_worker.proofs.LoansStand.{IsNext, is-next, own-stands}
 
 gained-kept : (a b c : Option (List ℕ)) (P : List ℕ → Type 0) → Gained a b P → Keeps b c → Gained a c P
 gained-kept None b c P gained kept = tt

@@ -1,6 +1,5 @@
 -- What the shelf has stands at the first of the marks of the frames.
-use Rattle.std.proofs.Common.{◌≡◌, ℕ, ◌≤◌, Bool, true, false, List, []}
-use Rattle.std.proofs.Common.{Option, refl, sym, subst}
+use Rattle.std.proofs.Common.{◌≡◌, ℕ, ◌≤◌, Bool, true, false, List, [], Option, refl, sym, subst}
 use Rattle.std.specs.Prelude.{MatchBool}
 use Rattle.zr_io.specs.Moved.{Gained}
 use Rattle.zr_io.proofs.Moved.{Gained-weaker}
@@ -8,8 +7,7 @@ use Rattle.zr_kinds.specs.CopyingReceiver.{next_missing, values_from}
 use Rattle.zr_kinds.specs.declared.behaviour.Stopped.TheVariants as stop
 use Rattle.board_face.specs.declared.views.app.AppView.{AppView}
 use Rattle.flow_queues.specs.declared.queues.FlowQueue.{FlowQueue}
-use Rattle.flow_queues.specs.Marks.{marks_of}
-use Rattle.flow_queues.specs.Marks.{FramesStandTogether}
+use Rattle.flow_queues.specs.Marks.{marks_of, FramesStandTogether}
 use Rattle.flow_queues.specs.Core.{Each, many, own_notes, placed_of, AreReadAt}
 use Rattle.app_worker.specs.State.{State, Working, Bare, AppStands, app_steps, furthest}
 use Rattle.flow_queues.specs.Shelves.{FlowEnds, kept_loans, IsShelved, AreShelved, ReadsFront, IsFrontShelved, AreFronts}

@@ -7,11 +7,12 @@ use Rattle.board_face.specs.declared.views.app.AppLook.TheVariants.{RefillInUse}
 use Rattle.board_face.specs.declared.views.app.AppView.{AppView}
 use Rattle.app_worker.specs.declared.turning.Read.{Read}
 use Rattle.app_worker.specs.declared.turning.Read.TheVariants.{Did, NoneUnread, Quit, Failed}
-use Rattle.app_worker.specs.State.{State, Working, Common, Bare}
+use Rattle.app_worker.specs.State.{State, Working, Common, Bare, app_steps}
 use Rattle.flow_queues.specs.Core.{Each}
 use Rattle.flow_queues.specs.Flows.{IsAtRest}
 use Rattle.flow_queues.specs.Totals.{Quits}
 use Rattle.app_worker.specs.Moves.{Moves, Goes}
+use Rattle.zr_io.specs.Moved.{Rose}
 use Rattle.app_worker.specs.Whole.{GaveBack, ReadOne, ReadFailed, Reads}
 use Rattle.app_worker.specs.Letting.{LetGo}
 use Rattle.app_worker.specs.Stages.{Through, WriteStopped}
@@ -27,9 +28,9 @@ write-stays a b stays other is = other (stays (λ none. absurd (no-write (sym is
     no-write : stop.Write ≡ stop.No → ⊥
     no-write e = absurd (cc)
 
-pub goes-then : (a b c : State) (u v w : AppView) (k l m : ℕ → Option (List ℕ)) → Goes a b u v k l → Goes b c v w l m → Goes a c u w k m
-goes-then a b c u v w k l m first second = record {
-  moves = moves-then a b c u v w first.moves second.moves;
+pub goes-then : {a b c : State} {u v w : AppView} {k l m : ℕ → Option (List ℕ)} → Goes a b u v k l → Goes b c v w l m → Goes a c u w k m
+goes-then {a} {b} {c} {u} {v} {w} first second = record {
+  moves = moves-then first.moves second.moves;
   shelved = λ other begin was. second.shelved other begin (first.shelved (write-stays b.stopped c.stopped second.moves.stays other) begin was);
   failed = λ is begin exact front. second.failed is begin
       (λ other. first.shelved other begin (exact (write-stays a.stopped b.stopped first.moves.stays other)))
@@ -38,30 +39,17 @@ goes-then a b c u v w k l m first second = record {
 
 pub through-none : (st : State) (v : AppView) (kept : ℕ → Option (List ℕ)) → Working st v → Common st v → st.posted.entries ≡ []
     → Through st st v v kept kept
-through-none st v kept working common reaped = record {
-  working = working;
-  common = common;
-  flushes = flushes-none st v;
-  goes = goes-none st v kept;
-  reaped = reaped;
-  ended = refl;
-  rest = λ at. at;
-  taken = refl;
-  left = refl;
-}
+through-none st v kept working common reaped = assumption (flushes-none st v, goes-none st v kept)
 
-pub through-then : (a b c : State) (u v w : AppView) (k l m : ℕ → Option (List ℕ)) → Through a b u v k l → Through b c v w l m → Through a c u w k m
-through-then a b c u v w k l m first second = record {
-  working = second.working;
-  common = second.common;
-  flushes = flushes-then a b c u v w first.flushes second.flushes;
-  goes = goes-then a b c u v w k l m first.goes second.goes;
-  reaped = second.reaped;
-  ended = second.ended ∙ first.ended;
-  rest = λ at. second.rest (first.rest at);
-  taken = second.taken ∙ first.taken;
-  left = second.left ∙ first.left;
-}
+pub through-then : {a b c : State} {u v w : AppView} {k l m : ℕ → Option (List ℕ)} → Through a b u v k l → Through b c v w l m → Through a c u w k m
+through-then {a} {b} {c} {u} {v} {w} {k} {l} {m} first second = assumption (
+  flushes-then first.flushes second.flushes,
+  goes-then first.goes second.goes,
+  second.ended ∙ first.ended,
+  λ (at : Each IsAtRest a.flows). second.rest (first.rest at),
+  second.taken ∙ first.taken,
+  second.left ∙ first.left,
+)
 
 -- ---- one loan
 
@@ -72,61 +60,28 @@ read-did was now old new kept kept_now faults faults_now NoneUnread other going 
 read-did was now old new kept kept_now faults faults_now Quit other going some reads = absurd (going refl)
 read-did was now old new kept kept_now faults faults_now Failed other going some reads = absurd (other refl)
 
-pub through-read : (was now : State) (old new : AppView) (kept kept_now : ℕ → Option (List ℕ)) → was.posted.entries ≡ []
+pub through-read : {was now : State} {old new : AppView} {kept kept_now : ℕ → Option (List ℕ)} → was.posted.entries ≡ []
     → ReadOne was now old new kept kept_now → Through was now old new kept kept_now
-through-read was now old new kept kept_now reaped read = record {
-  flushes = read.flushes;
-  working = read.working;
-  common = read.common;
-  goes = read.goes;
-  reaped = ap (λ (s : State). s.posted.entries) read.same ∙ reaped;
-  ended = ap (λ (s : State). s.ended) read.same;
-  rest = read.rest;
-  taken = read.taken;
-  left = read.left;
-}
+through-read reaped read = assumption (
+  ap (λ (s : State). s.posted.entries) read.same ∙ reaped,
+  ap (λ (s : State). s.ended) read.same,
+)
 
-pub through-gave : (was now : State) (old new : AppView) (kept : ℕ → Option (List ℕ)) → was.posted.entries ≡ [] → Working now new → Common now new
+pub through-gave : {was now : State} {old new : AppView} {kept : ℕ → Option (List ℕ)} → was.posted.entries ≡ [] → Working now new → Common now new
     → Goes was now old new kept kept → GaveBack was now old new → Through was now old new kept kept
-through-gave was now old new kept reaped working common goes gave = record {
-  flushes = gave.flushes;
-  working = working;
-  common = common;
-  goes = goes;
-  reaped = ap (λ (s : State). s.posted.entries) gave.same ∙ reaped;
-  ended = ap (λ (s : State). s.ended) gave.same;
-  rest = λ at. subst (Each IsAtRest) (sym (ap (λ (s : State). s.flows) gave.same)) at;
-  taken = gave.taken;
-  left = gave.left;
-}
-
--- it has nothing out once all is given up, where something stopped it
-pub bare-of-gone : (was st : State) (old v : AppView) → st.stopped ≢ stop.No → LetGo was st old v → Bare st v
-bare-of-gone was st old v other gone = record {
-  helds = gone.helds;
-  loans = gone.loans;
-  due = ap (λ (s : State). s.due) gone.same;
-  leaked = ap (λ (s : State). s.leaked.items) gone.same;
-  none_left = gone.none_left;
-  given = gone.given;
-  abandoned = λ none. absurd (other none);
-  unread = ap (λ (s : State). s.unread) gone.same;
-  flows = gone.ends;
-  distinct = gone.distinct;
-  index = gone.index;
-  whole = λ none. absurd (other none);
-  appended = λ none. absurd (other none);
-  within_lent = gone.within_lent;
-  whole_given = gone.whole_given;
-  known = λ none. absurd (other none);
-}
+through-gave {was} reaped working common goes gave = assumption (
+  ap (λ (s : State). s.posted.entries) gave.same ∙ reaped,
+  ap (λ (s : State). s.ended) gave.same,
+  λ (at : Each IsAtRest was.flows). subst (Each IsAtRest) (sym (ap (λ (s : State). s.flows) gave.same)) at,
+)
 
 -- ---- the shelf failed
 
--- all is given up for this cause
+-- for this cause
 abbrev pub stopped_by : State → Stopped → State
 stopped_by st cause = record st { stopped = cause }
 
+-- it has nothing out once all is given up
 pub bare-stopped : (st : State) (v : AppView) (cause : Stopped) → cause ≢ stop.No → (was : State) (old : AppView) → LetGo was st old v
     → Bare (stopped_by st cause) v
 bare-stopped st v cause other was old gone = record {
@@ -155,32 +110,8 @@ quits-by (Some n) written cause other quits = (quits.0, ((λ is. absurd (other i
 
 pub common-stopped : (st : State) (v : AppView) (cause : Stopped) → st.stopped ≡ stop.No → cause ≢ stop.Quit → Common st v
     → Common (stopped_by st cause) v
-common-stopped st v cause none other common = record {
-  app = common.app;
-  ended = common.ended;
-  scrubbed = common.scrubbed;
-  owns = common.owns;
-  copied = common.copied;
-  origins = common.origins;
-  copies = common.copies;
-  spares = common.spares;
-  some_places = common.some_places;
-  within = common.within;
-  room = common.room;
-  loans = common.loans;
-  written = common.written;
-  quits = quits-by st.how.quit st.written cause other (subst (Quits st.how.quit st.written) none common.quits);
-  leaks = common.leaks;
-  leak_room = common.leak_room;
-  leak_aside = common.leak_aside;
-  strays = common.strays;
-  entries = common.entries;
-  names = common.names;
-  sound = common.sound;
-  blocks = common.blocks;
-  bound = common.bound;
-  gives_whole = common.gives_whole;
-}
+common-stopped st v cause none other common =
+    assumption (quits-by st.how.quit st.written cause other (subst (Quits st.how.quit st.written) none common.quits), common)
 
 pub moves-stopped : (was st : State) (old v : AppView) (cause : Stopped) → was.stopped ≡ stop.No → Moves was st old v
     → Moves was (stopped_by st cause) old v
@@ -198,11 +129,11 @@ moves-stopped was st old v cause none moves = record {
   bytes = moves.bytes;
 }
 
-pub write-stopped : (was mid now : State) (old midv new : AppView) (kept kept_now : ℕ → Option (List ℕ)) (faults faults_now : ℕ)
+pub write-stopped : {was mid now : State} {old midv new : AppView} {kept kept_now : ℕ → Option (List ℕ)} {faults faults_now : ℕ}
     → was.stopped ≡ stop.No → was.posted.entries ≡ [] → ReadFailed was mid old midv kept kept_now faults faults_now → LetGo mid now midv new
     → WriteStopped was (stopped_by now stop.Write) old new kept kept_now faults faults_now
-write-stopped was mid now old midv new kept kept_now faults faults_now none reaped failed gone =
-    let moves : Moves was now old new = moves-then was mid now old midv new failed.moves gone.moves in
+write-stopped {was} {mid} {now} {old} {midv} {new} {kept_now} none reaped failed gone =
+    let moves : Moves was now old new = moves-then failed.moves gone.moves in
     record {
       bare = bare-stopped now new stop.Write (λ e. absurd (cc)) mid midv gone;
       is_bare = ap (λ (s : State). s.bare) gone.same;
@@ -222,32 +153,21 @@ write-stopped was mid now old midv new kept kept_now faults faults_now none reap
     }
 
 -- it failed after other steps
-pub write-later : (a b c : State) (u v w : AppView) (k l m : ℕ → Option (List ℕ)) (f f1 f2 : ℕ) → f ≤ f1 → Through a b u v k l
+pub write-later : {a b c : State} {u v w : AppView} {k l m : ℕ → Option (List ℕ)} {f f1 f2 : ℕ} → f ≤ f1 → Through a b u v k l
     → WriteStopped b c v w l m f1 f2 → WriteStopped a c u w k m f f2
-write-later a b c u v w k l m f f1 f2 later first stopped = record {
-  bare = stopped.bare;
-  is_bare = stopped.is_bare;
-  common = stopped.common;
-  goes = goes-then a b c u v w k l m first.goes stopped.goes;
-  reaped = stopped.reaped;
-  stopped = stopped.stopped;
-  rose = omega (arith, later, stopped.rose);
-  steps = omega (arith, first.goes.moves.steps, stopped.steps);
-  taken = stopped.taken ∙ first.taken;
-  left = stopped.left ∙ first.left;
-}
+write-later {a} {b} {c} {u} {v} {w} {k} {l} {m} {f} {f2} later first stopped =
+    let rose : Rose f f2 = omega (arith, later, stopped.rose) in
+    let steps : app_steps a u < app_steps c w = omega (arith, first.goes.moves.steps, stopped.steps) in
+    assumption (goes-then first.goes stopped.goes, stopped.taken ∙ first.taken, stopped.left ∙ first.left)
 
 -- a loan that was read can't be given back yet
-pub through-in-use : (was now : State) (old new : AppView) (kept : ℕ → Option (List ℕ)) → was.posted.entries ≡ [] → Working now new
+pub through-in-use : {was now : State} {old new : AppView} {kept : ℕ → Option (List ℕ)} → was.posted.entries ≡ [] → Working now new
     → Common now new → Goes was now old new kept kept → now ≡ was → AppOnlySaw RefillInUse old new → Through was now old new kept kept
-through-in-use was now old new kept reaped working common goes same saw = record {
-  flushes = subst (λ (s : State). Flushes was s old new) (sym same) (flushes-saw was old new RefillInUse saw);
-  working = working;
-  common = common;
-  goes = goes;
-  reaped = ap (λ (s : State). s.posted.entries) same ∙ reaped;
-  ended = ap (λ (s : State). s.ended) same;
-  rest = λ at. subst (Each IsAtRest) (sym (ap (λ (s : State). s.flows) same)) at;
-  taken = ap (λ (v : AppView). v.taken) saw.event;
-  left = ap (λ (v : AppView). v.left) saw.event;
-}
+through-in-use {was} {old} {new} reaped working common goes same saw = assumption (
+  subst (λ (s : State). Flushes was s old new) (sym same) (flushes-saw was old new RefillInUse saw),
+  ap (λ (s : State). s.posted.entries) same ∙ reaped,
+  ap (λ (s : State). s.ended) same,
+  λ (at : Each IsAtRest was.flows). subst (Each IsAtRest) (sym (ap (λ (s : State). s.flows) same)) at,
+  ap (λ (v : AppView). v.taken) saw.event,
+  ap (λ (v : AppView). v.left) saw.event,
+)

@@ -1,6 +1,5 @@
 -- The entries that were written, once more were.
-use Rattle.std.proofs.Common.{◌≡◌, ℕ, zero, suc, ◌+◌, ◌<◌, ◌≤◌, true, false, List, [], ◌∷◌}
-use Rattle.std.proofs.Common.{◌++◌, drop, length, refl, sym, ap, subst, ◌∙◌, arith}
+use Rattle.std.proofs.Common.{◌≡◌, ℕ, zero, suc, ◌+◌, ◌<◌, ◌≤◌, true, false, List, [], ◌∷◌, ◌++◌, drop, length, refl, sym, ap, subst, ◌∙◌, arith}
 use Rattle.std.proofs.Common.{append_assoc, append-nil, length-append}
 use Rattle.std.proofs.lemmas.List.{drop-append-le}
 use Rattle.zr_kinds.specs.declared.ring.Rqe.{Rqe}
@@ -77,12 +76,6 @@ pub blocks-moved : (most : ℕ) (old new : AppView) (stray : Stray) (more : List
 blocks-moved most old new stray more written setting returned loans few blocks =
     subst (λ ws. AreBlocks most (WasLive new) ws stray.entry stray.left) (sym written)
     (blocks-later most old new more stray.entry stray.left setting returned loans few blocks)
-
-pub blocks-same : (most : ℕ) (old new : AppView) (stray : Stray) → new.written ≡ old.written → new.setting ≡ old.setting → new.loans ≡ old.loans
-    → new.returned ≡ old.returned → loan_entries old ≤ length old.returned → AreBlocks most (WasLive old) old.written stray.entry stray.left
-    → AreBlocks most (WasLive new) new.written stray.entry stray.left
-blocks-same most old new stray written setting loans returned few blocks =
-    blocks-moved most old new stray [] written setting (returned ∙ sym (append-nil old.returned)) (λ f. omega (arith, ap (total f) loans)) few blocks
 
 -- entries were dropped
 drop-to : (most gone rest : ℕ) (P : ℕ → Rqe → Type 0) (ws : List WrittenEntry) (e : Rqe) → (0 < gone → P (length (loans_of ws)) e)

@@ -1,9 +1,8 @@
 -- What an application keeps between its turns, as plain data, and how that stands to what its face has seen.
 use mir.Syntax.{w32}
 use Rattle.std.specs.Int.{cast_signed}
-use Rattle.std.specs.Prelude.{◌≡◌, ◌≢◌, ℕ, ◌+◌, ◌-◌, ◌*◌, ◌<◌, ◌≤◌, min}
-use Rattle.std.specs.Prelude.{Bool, true, false, if◌then◌else◌}
-use Rattle.std.specs.Prelude.{List, [], ◌++◌, length, take, drop, Option, Some, None, MatchBool}
+use Rattle.std.specs.Prelude.{◌≡◌, ◌≢◌, ℕ, ◌+◌, ◌-◌, ◌*◌, ◌<◌, ◌≤◌, min, Bool, true, false, if◌then◌else◌, List, [], ◌++◌, length, take, drop, Option}
+use Rattle.std.specs.Prelude.{Some, None, MatchBool}
 use Rattle.zr_kinds.specs.declared.behaviour.Behaviour.{Behaviour}
 use Rattle.zr_kinds.specs.declared.behaviour.Stopped.{Stopped}
 use Rattle.zr_kinds.specs.declared.behaviour.Stopped.TheVariants.{No}
@@ -19,9 +18,9 @@ use Rattle.flow_queues.specs.declared.queues.Lending.{Lending}
 use Rattle.app_worker.specs.declared.stack.Stray.{Stray}
 use Rattle.flow_queues.specs.declared.queues.FlowQueue.{FlowQueue}
 use Rattle.flow_queues.specs.Entries.{Gives, lies_in, returned_aside, WasLive, AreBlocks}
-use Rattle.flow_queues.specs.Core.{total, is_odd, is_copy, IsOfTaken, Each, many, read_out, own_notes, placed_of, short_bytes, Stands}
+use Rattle.flow_queues.specs.Core.{total, is_odd, is_copy, IsOfTaken, Each, many, read_out, own_notes, placed_of, short_bytes, Stands, unsplit_len}
+use Rattle.flow_queues.specs.Core.{held_len}
 use Rattle.flow_queues.specs.Flows.{IsAtRest, RestBut, IsIndex}
-use Rattle.flow_queues.specs.Core.{unsplit_len, held_len}
 use Rattle.flow_queues.specs.Shelves.{FlowEnds}
 use Rattle.flow_queues.specs.Totals.{Quits, capped, lent_len, lent_bytes, loan_entries, raw_entries, taken_len}
 use Rattle.app_worker.specs.ReadWhole.{AreReadWhole, GivesWhole}

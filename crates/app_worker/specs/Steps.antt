@@ -1,6 +1,6 @@
 -- What each step of the core does.
-use Rattle.std.specs.Prelude.{List, zero, suc, ◌≡◌, ◌≢◌, ℕ, ◌+◌, ◌-◌, ◌^◌, ◌<◌, ◌≤◌, min, Bool, true, false}
-use Rattle.std.specs.Prelude.{◌||◌, ◌==◌, [], ◌∷◌, ◌++◌, Option, Some, None, length}
+use Rattle.std.specs.Prelude.{List, zero, suc, ◌≡◌, ◌≢◌, ℕ, ◌+◌, ◌-◌, ◌^◌, ◌<◌, ◌≤◌, min, Bool, true, false, ◌||◌, ◌==◌, [], ◌∷◌, ◌++◌, Option, Some}
+use Rattle.std.specs.Prelude.{None, length}
 use Rattle.board_face.specs.declared.views.app.LentPiece.{LentPiece}
 use Rattle.board_face.specs.declared.views.app.AppView.{AppView}
 use Rattle.flow_queues.specs.declared.queues.Lending.{Lending}
@@ -10,11 +10,10 @@ use Rattle.zr_kinds.specs.declared.ring.Completion.{Completion}
 use Rattle.tcp_reorder.specs.Queue.{next_of}
 use mir.Syntax.{w32}
 use Rattle.std.specs.Int.{cast_signed}
-use Rattle.area_layout.specs.Layout.{Shape, off_of}
+use Rattle.area_layout.specs.Layout.{Shape, off_of, judged}
 use Rattle.circular_buffer.specs.Buffer.{Buffer, buffer}
 use Rattle.completion_ring.specs.Ring.{Ring, ring, IsFull}
 use Rattle.board_face.specs.AppCalls.{IsLive, AppOnlySaw}
-use Rattle.area_layout.specs.Layout.{judged}
 use Rattle.zr_kinds.specs.declared.ring.Rqe.{Rqe}
 use Rattle.board_face.specs.declared.views.app.WrittenEntry.{WrittenEntry}
 use Rattle.board_face.specs.AppEvents.{gave, entry_of, reserve_of}

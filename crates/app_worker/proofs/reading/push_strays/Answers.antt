@@ -15,7 +15,7 @@ returns-then-did-clause-pushes g c =
     let w : AppView = g.F.AppFace.seen c.push_stray.new.face in
     let saw : AppOnlySaw RefillInUse v w = search rules in
     let fewer : c.loop-stray.stray.left < c.args.stray.now.left = search rules in
-    let rose : AppRose RefillInUse u w = rose-after RefillInUse u v w c.loop-stray.invariant.0.looks saw.rose in
+    let rose : AppRose RefillInUse u w = rose-after c.loop-stray.invariant.0.looks saw.rose in
     (pushed-saw u v w c.args.stray.now c.loop-stray.stray c.loop-stray.invariant.0 saw, fewer, rose)
 
 pub loop-stray-init : goal.loop-stray-init

@@ -2,18 +2,16 @@ use Rattle.std.proofs.Common.{rules, ◌≡◌, ◌≢◌, ℕ, ◌<◌, ◌≤�
 use Rattle.std.proofs.Common.{◌∙◌, arith, ⊎_elim, ◌⊎◌, inl, inr}
 use Rattle.std.specs.Prelude.{if◌then◌else◌}
 use Rattle.std.proofs.lemmas.Bool.{cases_Bool}
-use Rattle.board_face.specs.declared.views.app.AppView.{AppView}
-use Rattle.app_worker.specs.declared.turning.Read.TheVariants.{Quit, Failed}
-use Rattle.zr_kinds.specs.declared.behaviour.Stopped.TheVariants.{Write}
+use Rattle.std.proofs.lemmas.List.{nil_from_length}
 use Rattle.app_worker.specs.State.{State}
 use Rattle.app_worker.specs.StateOf.{state_of}
-use Rattle.app_worker.specs.Whole.{ReadOne, GaveBack}
+use Rattle.app_worker.specs.Whole.{ReadOne}
 use Rattle.app_worker.proofs.Pushing.{back-did}
 use Rattle.app_worker.proofs.Moving.{looks-trans, rose-after}
-use Rattle.board_face.specs.declared.views.app.AppLook.TheVariants.{RefillInUse}
-use Rattle.app_worker.specs.Stages.{Through, kept_of}
+use Rattle.app_worker.specs.Stages.{kept_of}
 use Rattle.app_worker.proofs.Through.{write-stopped, write-later, read-did, through-none, through-then, through-read, through-gave, through-in-use}
 use Rattle.app_worker.proofs.Quitting.{has-quit, quit-later}
+use Rattle.app_worker.proofs.stages.drain.Goals.{After-give_back}
 use Rattle.app_worker.proofs.stages.drain.Goals as goal
 
 pub loop-face-init : goal.loop-face-init
@@ -34,39 +32,14 @@ loop-face-init g c = (
 
 pub returns-in-Failed-clause-reads : goal.returns-in-Failed-clause-reads
 returns-in-Failed-clause-reads g c =
-    let a : State = state_of c.args.st.now in
-    let b : State = state_of c.loop-face.st in
-    let d : State = state_of c.read_one.new.st in
-    let e : State = state_of c.let_go.new.st in
-    let u : AppView = g.F.AppFace.seen c.args.face.now in
-    let v : AppView = g.F.AppFace.seen c.loop-face.face in
-    let w : AppView = g.F.AppFace.seen c.read_one.new.face in
-    let x : AppView = g.F.AppFace.seen c.let_go.new.face in
-    let k : ℕ → Option (List ℕ) = g.T.Shelf.kept c.args.shelf.now in
-    let l : ℕ → Option (List ℕ) = g.T.Shelf.kept c.loop-face.shelf in
-    let m : ℕ → Option (List ℕ) = g.T.Shelf.kept c.read_one.new.shelf in
-    let f : ℕ = g.T.Shelf.faults c.args.shelf.now in
-    let f1 : ℕ = g.T.Shelf.faults c.loop-face.shelf in
-    let f2 : ℕ = g.T.Shelf.faults c.read_one.new.shelf in
     let inv = c.loop-face.invariant in
-    write-later a b (record e { stopped = Write }) u v x k l m f f1 f2 (omega (arith, inv.4)) inv.0
-    (write-stopped b d e v w x l m f1 f2 inv.0.working.going inv.0.reaped c.in-Failed.ensures.reads c.let_go.ensures.done)
+    write-later (omega (arith, inv.4)) inv.0
+    (write-stopped inv.0.working.going inv.0.reaped c.in-Failed.ensures.reads c.let_go.ensures.done)
 
 pub returns-in-Quit-clause-reads : goal.returns-in-Quit-clause-reads
 returns-in-Quit-clause-reads g c =
-    let a : State = state_of c.args.st.now in
-    let b : State = state_of c.loop-face.st in
-    let d : State = state_of c.read_one.new.st in
-    let e : State = state_of c.let_go-in-Quit.new.st in
-    let u : AppView = g.F.AppFace.seen c.args.face.now in
-    let v : AppView = g.F.AppFace.seen c.loop-face.face in
-    let w : AppView = g.F.AppFace.seen c.read_one.new.face in
-    let x : AppView = g.F.AppFace.seen c.let_go-in-Quit.new.face in
-    let k : ℕ → Option (List ℕ) = g.T.Shelf.kept c.args.shelf.now in
-    let l : ℕ → Option (List ℕ) = g.T.Shelf.kept c.loop-face.shelf in
-    let m : ℕ → Option (List ℕ) = g.T.Shelf.kept c.read_one.new.shelf in
     let inv = c.loop-face.invariant in
-    quit-later a b e u v x k l m inv.0 (has-quit b d e v w x l m inv.0.reaped c.in-Quit.ensures.reads c.let_go-in-Quit.ensures.done)
+    quit-later inv.0 (has-quit inv.0.reaped c.in-Quit.ensures.reads c.let_go-in-Quit.ensures.done)
 
 pub read_one-requires-clause-pushed : goal.read_one-requires-clause-pushed
 read_one-requires-clause-pushed g c = c.loop-face.invariant.10
@@ -77,65 +50,40 @@ let_go-requires-clause-pushed g c = ap (λ (s : State). s.stray.left) c.in-Faile
 pub let_go-requires-in-Quit-clause-pushed : goal.let_go-requires-in-Quit-clause-pushed
 let_go-requires-in-Quit-clause-pushed g c = ap (λ (s : State). s.stray.left) c.in-Quit.ensures.reads.same ∙ c.loop-face.invariant.10
 
+-- a loan was read
+read-one : (g : _) (c : After-give_back g)
+    → ReadOne (state_of c.loop-face.st) (state_of c.read_one.new.st) (g.F.AppFace.seen c.loop-face.face) (g.F.AppFace.seen c.read_one.new.face)
+    (g.T.Shelf.kept c.loop-face.shelf) (g.T.Shelf.kept c.read_one.new.shelf)
+read-one g c =
+    let some : 0 < length c.loop-face.st.unread.items = omega (arith, c.loop-face-test.true, c.len.ensures.len) in
+    read-did _ _ _ _ _ _ _ _ c.read_one.result c.in_default.not-Failed c.in_default.not-Quit some c.read_one.ensures.reads
+
 pub returns-in-Part-clause-reads : goal.returns-in-Part-clause-reads
 returns-in-Part-clause-reads g c =
-    let a : State = state_of c.args.st.now in
-    let b : State = state_of c.loop-face.st in
-    let d : State = state_of c.read_one.new.st in
-    let e : State = state_of c.give_back.new.st in
-    let u : AppView = g.F.AppFace.seen c.args.face.now in
-    let v : AppView = g.F.AppFace.seen c.loop-face.face in
-    let w : AppView = g.F.AppFace.seen c.read_one.new.face in
-    let x : AppView = g.F.AppFace.seen c.give_back.new.face in
-    let k : ℕ → Option (List ℕ) = g.T.Shelf.kept c.args.shelf.now in
-    let l : ℕ → Option (List ℕ) = g.T.Shelf.kept c.loop-face.shelf in
     let m : ℕ → Option (List ℕ) = g.T.Shelf.kept c.read_one.new.shelf in
-    let f1 : ℕ = g.T.Shelf.faults c.loop-face.shelf in
-    let f2 : ℕ = g.T.Shelf.faults c.read_one.new.shelf in
     let inv = c.loop-face.invariant in
-    let some : 0 < length b.unread = omega (arith, c.loop-face-test.true, c.len.ensures.len) in
-    let other : c.read_one.result ≢ Failed = c.in_default.not-Failed in
-    let going : c.read_one.result ≢ Quit = c.in_default.not-Quit in
-    let read : ReadOne b d v w l m = read-did b d v w l m f1 f2 c.read_one.result other going some c.read_one.ensures.reads in
-    let first : Through b d v w l m = through-read b d v w l m inv.0.reaped read in
+    let read = read-one g (goal.at.returns-in-Part-clause-reads g c).After-give_back in
+    let first = through-read inv.0.reaped read in
     let gives = c.in-Part.ensures.gives in
-    let gave : GaveBack d e w x = gives.0 in
-    let second : Through d e w x m m = through-gave d e w x m first.reaped c.give_back.ensures.working c.give_back.ensures.common
-    (c.give_back.ensures.goes m) gave in (
-      through-then a b e u v x k l m inv.0 (through-then b d e v w x l m m first second),
+    let second = through-gave first.reaped c.give_back.ensures.working c.give_back.ensures.common (c.give_back.ensures.goes m) gives.0 in (
+      through-then inv.0 (through-then first second),
       omega (arith, inv.0.goes.moves.steps, read.steps, (c.give_back.ensures.goes m).moves.steps),
-      omega (arith, inv.6, c.loop-face-test.true, c.len.ensures.len, read.unread, ap (λ (s : State). length s.unread) gave.same),
-      rose-after RefillInUse u w x (looks-trans u v w inv.0.goes.moves.looks read.goes.moves.looks) gives.1,
+      omega (arith, inv.6, c.loop-face-test.true, c.len.ensures.len, read.unread, ap (λ (s : State). length s.unread) gives.0.same),
+      rose-after (looks-trans inv.0.goes.moves.looks read.goes.moves.looks) gives.1,
     )
 
 pub returns-in-InUse-clause-reads : goal.returns-in-InUse-clause-reads
 returns-in-InUse-clause-reads g c =
-    let a : State = state_of c.args.st.now in
-    let b : State = state_of c.loop-face.st in
-    let d : State = state_of c.read_one.new.st in
-    let e : State = state_of c.give_back.new.st in
-    let u : AppView = g.F.AppFace.seen c.args.face.now in
-    let v : AppView = g.F.AppFace.seen c.loop-face.face in
-    let w : AppView = g.F.AppFace.seen c.read_one.new.face in
-    let x : AppView = g.F.AppFace.seen c.give_back.new.face in
-    let k : ℕ → Option (List ℕ) = g.T.Shelf.kept c.args.shelf.now in
-    let l : ℕ → Option (List ℕ) = g.T.Shelf.kept c.loop-face.shelf in
     let m : ℕ → Option (List ℕ) = g.T.Shelf.kept c.read_one.new.shelf in
-    let f1 : ℕ = g.T.Shelf.faults c.loop-face.shelf in
-    let f2 : ℕ = g.T.Shelf.faults c.read_one.new.shelf in
     let inv = c.loop-face.invariant in
-    let some : 0 < length b.unread = omega (arith, c.loop-face-test.true, c.len.ensures.len) in
-    let other : c.read_one.result ≢ Failed = c.in_default.not-Failed in
-    let going : c.read_one.result ≢ Quit = c.in_default.not-Quit in
-    let read : ReadOne b d v w l m = read-did b d v w l m f1 f2 c.read_one.result other going some c.read_one.ensures.reads in
-    let first : Through b d v w l m = through-read b d v w l m inv.0.reaped read in
+    let read = read-one g (goal.at.returns-in-InUse-clause-reads g c).After-give_back in
+    let first = through-read inv.0.reaped read in
     let gives = c.in-InUse.ensures.gives in
-    let second : Through d e w x m m = through-in-use d e w x m first.reaped c.give_back.ensures.working c.give_back.ensures.common
-    (c.give_back.ensures.goes m) gives.0 gives.1 in (
-      through-then a b e u v x k l m inv.0 (through-then b d e v w x l m m first second),
+    let second = through-in-use first.reaped c.give_back.ensures.working c.give_back.ensures.common (c.give_back.ensures.goes m) gives.0 gives.1 in (
+      through-then inv.0 (through-then first second),
       omega (arith, inv.0.goes.moves.steps, read.steps, (c.give_back.ensures.goes m).moves.steps),
       omega (arith, inv.6, c.loop-face-test.true, c.len.ensures.len, read.unread, ap (λ (s : State). length s.unread) gives.0),
-      rose-after RefillInUse u w x (looks-trans u v w inv.0.goes.moves.looks read.goes.moves.looks) gives.1.rose,
+      rose-after (looks-trans inv.0.goes.moves.looks read.goes.moves.looks) gives.1.rose,
     )
 
 -- where not all is to be read, that was so, or nothing is unread
@@ -174,29 +122,18 @@ loop-face-preserved g c =
     let b : State = state_of c.loop-face.st in
     let d : State = state_of c.read_one.new.st in
     let e : State = state_of c.give_back.new.st in
-    let u : AppView = g.F.AppFace.seen c.args.face.now in
-    let v : AppView = g.F.AppFace.seen c.loop-face.face in
-    let w : AppView = g.F.AppFace.seen c.read_one.new.face in
-    let x : AppView = g.F.AppFace.seen c.give_back.new.face in
-    let k : ℕ → Option (List ℕ) = g.T.Shelf.kept c.args.shelf.now in
-    let l : ℕ → Option (List ℕ) = g.T.Shelf.kept c.loop-face.shelf in
     let m : ℕ → Option (List ℕ) = g.T.Shelf.kept c.read_one.new.shelf in
-    let f1 : ℕ = g.T.Shelf.faults c.loop-face.shelf in
-    let f2 : ℕ = g.T.Shelf.faults c.read_one.new.shelf in
     let inv = c.loop-face.invariant in
-    let some : 0 < length b.unread = omega (arith, c.loop-face-test.true, c.len.ensures.len) in
-    let other : c.read_one.result ≢ Failed = c.in_default.not-Failed in
-    let going : c.read_one.result ≢ Quit = c.in_default.not-Quit in
-    let read : ReadOne b d v w l m = read-did b d v w l m f1 f2 c.read_one.result other going some c.read_one.ensures.reads in
-    let first : Through b d v w l m = through-read b d v w l m inv.0.reaped read in
-    let gave = back-did d e w x c.give_back.result c.in_default-give_back.not-Part c.in_default-give_back.not-InUse read.due c.give_back.ensures.gives in
-    let second : Through d e w x m m = through-gave d e w x m first.reaped c.give_back.ensures.working c.give_back.ensures.common
-    (c.give_back.ensures.goes m) gave.0 in (
-      through-then a b e u v x k l m inv.0 (through-then b d e v w x l m m first second),
+    let read = read-one g (goal.at.loop-face-preserved g c).After-give_back in
+    let first = through-read inv.0.reaped read in
+    let gave = back-did d e (g.F.AppFace.seen c.read_one.new.face) (g.F.AppFace.seen c.give_back.new.face) c.give_back.result
+    c.in_default-give_back.not-Part c.in_default-give_back.not-InUse read.due c.give_back.ensures.gives in
+    let second = through-gave first.reaped c.give_back.ensures.working c.give_back.ensures.common (c.give_back.ensures.goes m) gave.0 in (
+      through-then inv.0 (through-then first second),
       gave.1,
       λ _. omega (arith, inv.0.goes.moves.steps, read.steps, (c.give_back.ensures.goes m).moves.steps),
       λ no. absurd (cc),
-      c.read_one.ensures.still other ∙ inv.4,
+      c.read_one.ensures.still c.in_default.not-Failed ∙ inv.4,
       c.give_back.ensures.beside ∙ c.read_one.ensures.beside ∙ inv.5,
       inv.6,
       λ _. omega (arith, c.loop-face-test.true, c.len.ensures.len, read.unread, ap (λ (s : State). length s.unread) gave.0.same),
@@ -205,7 +142,7 @@ loop-face-preserved g c =
           let both = read.flush flushes in
           ((inv.8 both.0).0, λ _ none. both.1 (sym (ap (λ (s : State). s.unread) gave.0.same) ∙ none))),
       λ off. off-too a b d e (sym (ap (λ (s : State). s.flush) gave.0.same) ∙ off) (ap (λ (s : State). s.unread) gave.0.same) inv.9 read.flushed
-          (λ none. absurd (omega (arith, some, ap length none))),
+          (λ none. absurd (omega (arith, c.loop-face-test.true, c.len.ensures.len, ap length none))),
       gave.2,
     )
 
@@ -216,13 +153,9 @@ done-flush least keep was now is few flushes = ⊎_elim
     (λ (on : now.flush ≡ true).
     let both = flushes on in
     let none : least ≡ 0 = is ∙ ap (λ b. if b then 0 else keep) both.0 in
-    absurd (both.1 (empty now.unread (omega (arith, few, none)))))
+    absurd (both.1 (nil_from_length now.unread (omega (arith, few, none)))))
     (λ (off : now.flush ≡ false). off)
     (cases_Bool now.flush)
-  where
-    empty : {A : Type 0} (xs : List A) → length xs ≤ 0 → xs ≡ []
-    empty [] none = refl
-    empty (y ∷ ys) none = absurd (omega arith)
 
 pub returns-then-did-clause-reads : goal.returns-then-did-clause-reads
 returns-then-did-clause-reads g c =
@@ -241,24 +174,8 @@ returns-then-did-clause-reads g c =
 
 pub loop-face-smaller : goal.loop-face-smaller
 loop-face-smaller g c =
-    let a : State = state_of c.args.st.now in
-    let b : State = state_of c.loop-face.st in
-    let d : State = state_of c.read_one.new.st in
-    let e : State = state_of c.give_back.new.st in
-    let u : AppView = g.F.AppFace.seen c.args.face.now in
-    let v : AppView = g.F.AppFace.seen c.loop-face.face in
-    let w : AppView = g.F.AppFace.seen c.read_one.new.face in
-    let x : AppView = g.F.AppFace.seen c.give_back.new.face in
-    let k : ℕ → Option (List ℕ) = g.T.Shelf.kept c.args.shelf.now in
-    let l : ℕ → Option (List ℕ) = g.T.Shelf.kept c.loop-face.shelf in
-    let m : ℕ → Option (List ℕ) = g.T.Shelf.kept c.read_one.new.shelf in
-    let f1 : ℕ = g.T.Shelf.faults c.loop-face.shelf in
-    let f2 : ℕ = g.T.Shelf.faults c.read_one.new.shelf in
-    let inv = c.loop-face.invariant in
-    let some : 0 < length b.unread = omega (arith, c.loop-face-test.true, c.len.ensures.len) in
-    let other : c.read_one.result ≢ Failed = c.in_default.not-Failed in
-    let going : c.read_one.result ≢ Quit = c.in_default.not-Quit in
-    let read : ReadOne b d v w l m = read-did b d v w l m f1 f2 c.read_one.result other going some c.read_one.ensures.reads in
-    let first : Through b d v w l m = through-read b d v w l m inv.0.reaped read in
-    let gave = back-did d e w x c.give_back.result c.in_default-give_back.not-Part c.in_default-give_back.not-InUse read.due c.give_back.ensures.gives in
+    let read = read-one g (goal.at.loop-face-smaller g c).After-give_back in
+    let gave = back-did (state_of c.read_one.new.st) (state_of c.give_back.new.st) (g.F.AppFace.seen c.read_one.new.face)
+    (g.F.AppFace.seen c.give_back.new.face) c.give_back.result c.in_default-give_back.not-Part c.in_default-give_back.not-InUse read.due
+    c.give_back.ensures.gives in
     omega (arith, read.unread, ap (λ (s : State). length s.unread) gave.0.same)

@@ -8,21 +8,18 @@ loop-did-init g c = (lent-none (state_of c.args.st.now) (g.F.AppFace.seen c.args
 
 pub loop-did-preserved : goal.loop-did-preserved
 loop-did-preserved g c = (
-  lent-more (state_of c.args.st.now) (state_of c.loop-did.st) (state_of c.deliver_one.new.st) (g.F.AppFace.seen c.args.face.now)
-      (g.F.AppFace.seen c.loop-did.face) (g.F.AppFace.seen c.deliver_one.new.face) c.loop-did.did
+  lent-more
       c.loop-did.invariant.0 c.deliver_one.ensures.working c.deliver_one.ensures.common c.deliver_one.ensures.goes c.in-Did.ensures.lends,
   c.deliver_one.ensures.beside ∙ c.loop-did.invariant.1,
 )
 
 pub loop-did-smaller : goal.loop-did-smaller
-loop-did-smaller g c = lent-further (state_of c.args.st.now) (state_of c.loop-did.st) (state_of c.deliver_one.new.st) (g.F.AppFace.seen c.args.face.now)
-    (g.F.AppFace.seen c.loop-did.face) (g.F.AppFace.seen c.deliver_one.new.face) c.loop-did.did
+loop-did-smaller g c = lent-further
     c.loop-did.invariant.0 c.deliver_one.ensures.working c.deliver_one.ensures.common c.in-Did.ensures.lends
 
 pub returns-in_default : goal.returns-in_default
 returns-in_default g c = record {
-  lends = lent-end (state_of c.args.st.now) (state_of c.loop-did.st) (state_of c.deliver_one.new.st) (g.F.AppFace.seen c.args.face.now)
-      (g.F.AppFace.seen c.loop-did.face) (g.F.AppFace.seen c.deliver_one.new.face) c.loop-did.did c.deliver_one.result
+  lends = lent-end c.deliver_one.result
       c.loop-did.invariant.0 c.in_default.not-Did c.deliver_one.ensures.working c.deliver_one.ensures.common c.deliver_one.ensures.goes
       c.deliver_one.ensures.lends;
   told = c.deliver_one.ensures.told;

@@ -1,8 +1,4 @@
-use Rattle.std.proofs.Common.{rules, ◌≢◌, None, inl, inr, refl}
-use Rattle.board_face.specs.declared.views.app.AppView.{AppView}
-use Rattle.app_worker.specs.State.{State}
-use Rattle.app_worker.specs.StateOf.{state_of}
-use Rattle.app_worker.specs.Whole.{GaveOne}
+use Rattle.std.proofs.Common.{rules, None, inl, inr, refl}
 use Rattle.app_worker.proofs.Pushing.{gave-whole, gave-part}
 use Rattle.app_worker.specs.declared.reading.Pushed.TheVariants as pushed
 use Rattle.app_worker.proofs.Through.{goes-then}
@@ -10,97 +6,37 @@ use Rattle.app_worker.proofs.straying.give_back.Goals as goal
 
 pub returns-then-not-give_one-clause-goes : goal.returns-then-not-give_one-clause-goes
 returns-then-not-give_one-clause-goes g c = λ kept.
-    let a : State = state_of c.args.st.now in
-    let b : State = state_of c.push_left.new.st in
-    let d : State = state_of c.give_one.new.st in
-    let u : AppView = g.F.AppFace.seen c.args.face.now in
-    let v : AppView = g.F.AppFace.seen c.push_left.new.face in
-    let w : AppView = g.F.AppFace.seen c.give_one.new.face in
-    goes-then a b d u v w kept kept kept (c.push_left.ensures.goes kept) (c.give_one.ensures.goes kept)
+    goes-then (c.push_left.ensures.goes kept) (c.give_one.ensures.goes kept)
 
 pub returns-in-Part-push_left-clause-goes : goal.returns-in-Part-push_left-clause-goes
 returns-in-Part-push_left-clause-goes g c = λ kept.
-    let a : State = state_of c.args.st.now in
-    let b : State = state_of c.push_left.new.st in
-    let d : State = state_of c.give_one.new.st in
-    let e : State = state_of c.push_left-2.new.st in
-    let u : AppView = g.F.AppFace.seen c.args.face.now in
-    let v : AppView = g.F.AppFace.seen c.push_left.new.face in
-    let w : AppView = g.F.AppFace.seen c.give_one.new.face in
-    let x : AppView = g.F.AppFace.seen c.push_left-2.new.face in
-    goes-then a b e u v x kept kept kept (c.push_left.ensures.goes kept)
-    (goes-then b d e v w x kept kept kept (c.give_one.ensures.goes kept) (c.push_left-2.ensures.goes kept))
+    goes-then (c.push_left.ensures.goes kept)
+    (goes-then (c.give_one.ensures.goes kept) (c.push_left-2.ensures.goes kept))
 
 pub returns-in-InUse-push_left-clause-goes : goal.returns-in-InUse-push_left-clause-goes
 returns-in-InUse-push_left-clause-goes g c = λ kept.
-    let a : State = state_of c.args.st.now in
-    let b : State = state_of c.push_left.new.st in
-    let d : State = state_of c.give_one.new.st in
-    let e : State = state_of c.push_left-2.new.st in
-    let u : AppView = g.F.AppFace.seen c.args.face.now in
-    let v : AppView = g.F.AppFace.seen c.push_left.new.face in
-    let w : AppView = g.F.AppFace.seen c.give_one.new.face in
-    let x : AppView = g.F.AppFace.seen c.push_left-2.new.face in
-    goes-then a b e u v x kept kept kept (c.push_left.ensures.goes kept)
-    (goes-then b d e v w x kept kept kept (c.give_one.ensures.goes kept) (c.push_left-2.ensures.goes kept))
+    goes-then (c.push_left.ensures.goes kept)
+    (goes-then (c.give_one.ensures.goes kept) (c.push_left-2.ensures.goes kept))
 
 pub returns-in_default-clause-goes : goal.returns-in_default-clause-goes
 returns-in_default-clause-goes g c = λ kept.
-    let a : State = state_of c.args.st.now in
-    let b : State = state_of c.push_left.new.st in
-    let d : State = state_of c.give_one.new.st in
-    let e : State = state_of c.push_left-2.new.st in
-    let u : AppView = g.F.AppFace.seen c.args.face.now in
-    let v : AppView = g.F.AppFace.seen c.push_left.new.face in
-    let w : AppView = g.F.AppFace.seen c.give_one.new.face in
-    let x : AppView = g.F.AppFace.seen c.push_left-2.new.face in
-    goes-then a b e u v x kept kept kept (c.push_left.ensures.goes kept)
-    (goes-then b d e v w x kept kept kept (c.give_one.ensures.goes kept) (c.push_left-2.ensures.goes kept))
+    goes-then (c.push_left.ensures.goes kept)
+    (goes-then (c.give_one.ensures.goes kept) (c.push_left-2.ensures.goes kept))
 
 pub returns-in_default-clause-gives : goal.returns-in_default-clause-gives
 returns-in_default-clause-gives g c =
-    let a : State = state_of c.args.st.now in
-    let b : State = state_of c.push_left.new.st in
-    let d : State = state_of c.give_one.new.st in
-    let e : State = state_of c.push_left-2.new.st in
-    let u : AppView = g.F.AppFace.seen c.args.face.now in
-    let v : AppView = g.F.AppFace.seen c.push_left.new.face in
-    let w : AppView = g.F.AppFace.seen c.give_one.new.face in
-    let x : AppView = g.F.AppFace.seen c.push_left-2.new.face in
     let nothing = c.in-Nothing.ensures.pushes in
-    let some : b.due ≢ None = search rules in
-    let one : GaveOne b d v w = search rules in
-    gave-whole a b d e u v w x c.push_left-2.result c.in_default.not-Part c.in_default.not-InUse nothing.0 nothing.1 some one
+    gave-whole c.push_left-2.result c.in_default.not-Part c.in_default.not-InUse nothing.0 nothing.1 (search rules) (search rules)
     (c.push_left-2.ensures.goes (λ _. None)).moves c.push_left-2.ensures.pushes
 
 pub returns-in-Part-push_left-clause-gives : goal.returns-in-Part-push_left-clause-gives
 returns-in-Part-push_left-clause-gives g c =
-    let a : State = state_of c.args.st.now in
-    let b : State = state_of c.push_left.new.st in
-    let d : State = state_of c.give_one.new.st in
-    let e : State = state_of c.push_left-2.new.st in
-    let u : AppView = g.F.AppFace.seen c.args.face.now in
-    let v : AppView = g.F.AppFace.seen c.push_left.new.face in
-    let w : AppView = g.F.AppFace.seen c.give_one.new.face in
-    let x : AppView = g.F.AppFace.seen c.push_left-2.new.face in
     let nothing = c.in-Nothing.ensures.pushes in
-    let some : b.due ≢ None = search rules in
-    let one : GaveOne b d v w = search rules in
-    gave-part a b d e u v w x pushed.Part (inl refl) nothing.0 nothing.1 some one (c.give_one.ensures.goes (λ _. None)).moves
+    gave-part pushed.Part (inl refl) nothing.0 nothing.1 (search rules) (search rules) (c.give_one.ensures.goes (λ _. None)).moves
     (c.push_left-2.ensures.goes (λ _. None)).moves c.in-Part-push_left.ensures.pushes
 
 pub returns-in-InUse-push_left-clause-gives : goal.returns-in-InUse-push_left-clause-gives
 returns-in-InUse-push_left-clause-gives g c =
-    let a : State = state_of c.args.st.now in
-    let b : State = state_of c.push_left.new.st in
-    let d : State = state_of c.give_one.new.st in
-    let e : State = state_of c.push_left-2.new.st in
-    let u : AppView = g.F.AppFace.seen c.args.face.now in
-    let v : AppView = g.F.AppFace.seen c.push_left.new.face in
-    let w : AppView = g.F.AppFace.seen c.give_one.new.face in
-    let x : AppView = g.F.AppFace.seen c.push_left-2.new.face in
     let nothing = c.in-Nothing.ensures.pushes in
-    let some : b.due ≢ None = search rules in
-    let one : GaveOne b d v w = search rules in
-    gave-part a b d e u v w x pushed.InUse (inr refl) nothing.0 nothing.1 some one (c.give_one.ensures.goes (λ _. None)).moves
+    gave-part pushed.InUse (inr refl) nothing.0 nothing.1 (search rules) (search rules) (c.give_one.ensures.goes (λ _. None)).moves
     (c.push_left-2.ensures.goes (λ _. None)).moves c.in-InUse-push_left.ensures.pushes

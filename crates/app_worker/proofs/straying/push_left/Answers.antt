@@ -8,11 +8,4 @@ returns g c =
     let st : State = state_of c.args.st.now in
     let pushed = push-left st c.push_strays.new.stray (g.F.AppFace.seen c.args.face.now) (g.F.AppFace.seen c.push_strays.new.face) c.push_strays.result
     c.push_strays.ensures.pushes c.requires.working c.requires.common in
-    record {
-      working = pushed.0.working;
-      common = pushed.0.common;
-      goes = pushed.0.goes;
-      pushes = pushed.1;
-      told = c.push_strays.ensures.told;
-      beside = c.push_strays.ensures.beside;
-    }
+    assumption pushed

@@ -1,59 +1,48 @@
 use Rattle.std.proofs.Common.{rules, ◌≡◌, ◌≢◌, ◌<◌, ◌+◌, ◌-◌, ◌^◌, min, List, length, refl, subst, ap, arith, ◌++◌, ◌∷◌}
-use Rattle.board_face.specs.declared.views.app.AppView.{AppView}
 use Rattle.app_worker.specs.declared.stack.Delivery.TheVariants.{Did}
 use Rattle.flow_queues.specs.declared.queues.FlowQueue.{FlowQueue}
-use Rattle.flow_queues.specs.Core.{Stands, FlowStands, short_bytes, total}
+use Rattle.flow_queues.specs.Core.{Stands, short_bytes, total}
 use Rattle.app_worker.specs.State.{State, read_of}
 use Rattle.app_worker.specs.StateOf.{state_of}
 use Rattle.flow_queues.proofs.Tokens.{total-append}
 use Rattle.flow_queues.proofs.Standing.{At, split-at, flow-out}
-use Rattle.app_worker.proofs.Standing2.{own-stands}
+use Rattle.app_worker.proofs.LoansStand.{own-stands}
 use Rattle.app_worker.proofs.Delivering.{lent-bundle, none-lent}
 use Rattle.app_worker.proofs.Moving.{no-write}
 use Rattle.flow_queues.proofs.Resting.{rest-none}
 use Rattle.app_worker.proofs.Seeing.{goes-none}
+use Rattle.app_worker.proofs.turning.deliver_one.Goals.{After-index_mut-own}
 use Rattle.app_worker.proofs.turning.deliver_one.Goals as goal
+
+-- the active flow stands
+active : (g : _) (c : After-index_mut-own g) → (at : At c.args.st.now.flows.items c.args.st.now.active c.index_mut-own.result.now)
+    × Stands c.args.st.now.notes (at.before ++ c.index_mut-own.result.now ∷ at.after) (c.args.st.now.unread.items ++ c.args.st.now.posted.entries)
+    (read_of (state_of c.args.st.now)) (g.F.AppFace.seen c.args.face.now)
+active g c =
+    let st : State = state_of c.args.st.now in
+    let at : At st.flows st.active c.index_mut-own.result.now = split-at st.flows st.active c.index_mut-own.result.now (search rules)
+    c.index_mut-own.ensures.value in (
+      at,
+      subst (λ (fs : List FlowQueue). Stands st.notes fs (st.unread ++ st.posted.entries) (read_of st) (g.F.AppFace.seen c.args.face.now)) at.is
+          c.requires.working.stands,
+    )
 
 pub deliver-delivery-requires-clause-out : goal.deliver-delivery-requires-clause-out
 deliver-delivery-requires-clause-out g c =
-    let st : State = state_of c.args.st.now in
-    let own : FlowQueue = c.index_mut-own.result.now in
-    let v : AppView = g.F.AppFace.seen c.args.face.now in
-    let within : st.active < length st.flows = search rules in
-    let at : At st.flows st.active own = split-at st.flows st.active own within c.index_mut-own.ensures.value in
-    flow-out st.notes at.before at.after own (st.unread ++ st.posted.entries) (read_of st) v
-    (subst (λ (fs : List FlowQueue). Stands st.notes fs (st.unread ++ st.posted.entries) (read_of st) v) at.is c.requires.working.stands)
+    flow-out _ _ _ _ _ _ _ (active g (goal.at.deliver-delivery-requires-clause-out g c).After-index_mut-own).1
 
 pub deliver-delivery-requires-clause-notes : goal.deliver-delivery-requires-clause-notes
 deliver-delivery-requires-clause-notes g c =
-    let st : State = state_of c.args.st.now in
-    let own : FlowQueue = c.index_mut-own.result.now in
-    let v : AppView = g.F.AppFace.seen c.args.face.now in
-    let within : st.active < length st.flows = search rules in
-    let at : At st.flows st.active own = split-at st.flows st.active own within c.index_mut-own.ensures.value in
-    let stands : FlowStands v.taken (st.unread ++ st.posted.entries) own = own-stands st.notes at.before at.after own
-    (st.unread ++ st.posted.entries) (read_of st) v
-    (subst (λ (fs : List FlowQueue). Stands st.notes fs (st.unread ++ st.posted.entries) (read_of st) v) at.is c.requires.working.stands) in
-    stands.notes
+    (own-stands _ _ _ _ _ _ _ (active g (goal.at.deliver-delivery-requires-clause-notes g c).After-index_mut-own).1).notes
 
 pub deliver-delivery-requires-clause-sized : goal.deliver-delivery-requires-clause-sized
 deliver-delivery-requires-clause-sized g c =
-    let st : State = state_of c.args.st.now in
-    let own : FlowQueue = c.index_mut-own.result.now in
-    let v : AppView = g.F.AppFace.seen c.args.face.now in
-    let within : st.active < length st.flows = search rules in
-    let at : At st.flows st.active own = split-at st.flows st.active own within c.index_mut-own.ensures.value in
-    let stands : FlowStands v.taken (st.unread ++ st.posted.entries) own = own-stands st.notes at.before at.after own
-    (st.unread ++ st.posted.entries) (read_of st) v
-    (subst (λ (fs : List FlowQueue). Stands st.notes fs (st.unread ++ st.posted.entries) (read_of st) v) at.is c.requires.working.stands) in
-    stands.holds.sized
+    (own-stands _ _ _ _ _ _ _ (active g (goal.at.deliver-delivery-requires-clause-sized g c).After-index_mut-own).1).holds.sized
 
 pub deliver-delivery-requires-clause-spare : goal.deliver-delivery-requires-clause-spare
 deliver-delivery-requires-clause-spare g c =
-    let st : State = state_of c.args.st.now in
     let own : FlowQueue = c.index_mut-own.result.now in
-    let within : st.active < length st.flows = search rules in
-    let at : At st.flows st.active own = split-at st.flows st.active own within c.index_mut-own.ensures.value in
+    let (at, _) = active g (goal.at.deliver-delivery-requires-clause-spare g c).After-index_mut-own in
     omega (arith, c.requires.common.spares, ap (total (λ f. short_bytes f.queue)) at.is, total-append (λ f. short_bytes f.queue) at.before (own ∷ at.after))
 
 pub returns-then-st-len-clause-goes : goal.returns-then-st-len-clause-goes
@@ -94,12 +83,4 @@ returns-in_default g c =
     c.deliver-delivery.new.flush (g.F.AppFace.seen c.args.face.now)
     (g.F.AppFace.seen c.deliver-delivery.new.face) c.deliver-delivery.result other within c.index_mut-own.ensures.value c.deliver-delivery.ensures.delivered
     c.requires.working c.requires.common in
-    record {
-      working = none.0.working;
-      common = none.0.common;
-      goes = none.0.goes;
-      lends = none.1;
-      told = c.deliver-delivery.ensures.told;
-      no_spare = c.deliver-delivery.ensures.no_spare;
-      beside = c.deliver-delivery.ensures.beside;
-    }
+    assumption none

@@ -5,7 +5,7 @@ use Rattle.flow_queues.specs.declared.queues.Lending.{Lending}
 use Rattle.app_worker.specs.Steps.{KeptDue, NotKept, Given}
 use Rattle.app_worker.specs.State.{State}
 use Rattle.app_worker.specs.StateOf.{state_of}
-use Rattle.app_worker.proofs.Standing2.{due-out}
+use Rattle.app_worker.proofs.LoansStand.{due-out}
 use Rattle.app_worker.proofs.Giving.{given-left, kept-left}
 use Rattle.app_worker.proofs.turning.give_one.Goals as goal
 
@@ -48,11 +48,4 @@ returns g c =
     let given = given-left st st.due c.give_due.new.due c.give_due.new.stray v (g.F.AppFace.seen c.give_due.new.face) c.give_due.result refl step enough
     c.requires.working
     c.requires.common in
-    rw not.same (record {
-      working = given.0.working;
-      common = given.0.common;
-      goes = given.0.goes;
-      gives = given.1;
-      told = c.give_due.ensures.told;
-      beside = c.give_due.ensures.beside;
-    })
+    rw not.same (assumption given)

@@ -1,7 +1,5 @@
-use Rattle.std.proofs.Common.{true, false, [], ◌⊎◌}
-use Rattle.std.proofs.Common.{rules, ◌≡◌, ◌≢◌, ◌<◌, ◌+◌, ◌-◌, ◌^◌, min, ℕ, List, drop, length, get_or, sym, ap, subst}
-use Rattle.std.proofs.Common.{◌∙◌, arith}
-use Rattle.std.proofs.Common.{◌++◌, ◌∷◌, ◌≤◌, Some}
+use Rattle.std.proofs.Common.{Bool, true, false, [], ◌⊎◌, rules, ◌≡◌, ◌≢◌, ◌<◌, ◌+◌, ◌-◌, ◌^◌, min, ℕ, List, drop, length, sym, ap, subst, ◌∙◌}
+use Rattle.std.proofs.Common.{arith, ◌++◌, ◌∷◌, ◌≤◌, Some}
 use Rattle.zr_kinds.specs.declared.ring.Completion.{Completion}
 use Rattle.zr_io.specs.Moved.{Gained}
 use Rattle.circular_buffer.specs.Buffer.{Buffer}
@@ -13,10 +11,11 @@ use Rattle.zr_kinds.specs.declared.behaviour.Stopped.TheVariants as stop
 use Rattle.app_worker.specs.State.{State, read_of}
 use Rattle.flow_queues.specs.Totals.{Quits, wanted_of}
 use Rattle.app_worker.specs.StateOf.{state_of}
-use Rattle.app_worker.proofs.Standing2.{oldest-out}
+use Rattle.app_worker.proofs.LoansStand.{oldest-out}
 use Rattle.flow_queues.proofs.Indexing.{found-at}
 use Rattle.app_worker.proofs.Oldest.{front-of, oldest-read, oldest-quit, oldest-failed}
 use Rattle.app_worker.proofs.Quitting.{wanted-part, quits-short, quits-not, quits-now}
+use Rattle.app_worker.proofs.turning.read_one.Goals.{After-read_loan-result}
 use Rattle.app_worker.proofs.turning.read_one.Goals as goal
 
 pub read_loan-result-requires-clause-out : goal.read_loan-result-requires-clause-out
@@ -27,41 +26,58 @@ read_loan-result-requires-clause-out g c =
     oldest-out st.notes st.flows p (drop 1 st.unread ++ st.posted.entries) (read_of st) (g.F.AppFace.seen c.args.face.now)
     (subst (λ es. Stands st.notes st.flows (es ++ st.posted.entries) (read_of st) (g.F.AppFace.seen c.args.face.now)) unread c.requires.working.stands)
 
+-- the flow of the oldest loan is found, and the others stay unread
+record IsFound (st : State) (p : Completion × Lending) (own : FlowQueue) (i : ℕ) (rest : Buffer (Completion × Lending)) (flush : Bool) (most : ℕ)
+    : Type 0 where
+  unread : st.unread ≡ p ∷ drop 1 st.unread
+  within : i < length st.flows
+  number : p.0.user_data ≡ own.number
+  items : rest.items ≡ drop 1 st.unread
+  capacity : rest.capacity ≡ st.room
+  flush_on : flush ≡ true → (st.flush ≡ true) × (drop 1 st.unread ≢ [])
+  flush_off : flush ≡ false → (st.flush ≡ false) ⊎ (drop 1 st.unread ≡ [])
+  is : most ≡ wanted_of st.how.quit st.written p.1.loan.len
+  part : most ≤ p.1.loan.len
+  going : Quits st.how.quit st.written stop.No
+
+found-oldest : (g : _) (c : After-read_loan-result g) → IsFound (state_of c.args.st.now) (c.in-Some.completion, c.in-Some.lending)
+    c.index_mut-own.result.now c.in-Some-find.i c.pop_front.new.self c.still_flushes-st.result c.wanted-most.result
+found-oldest g c =
+    let st : State = state_of c.args.st.now in
+    let at_place = found-at st.index st.flows c.in-Some.completion.user_data c.in-Some-find.i (search rules) c.requires.working.index in
+    let items : c.pop_front.new.self.items ≡ drop 1 st.unread = ap (λ (b : Buffer (Completion × Lending)). b.items) c.pop_front.ensures.items in
+    let is : c.wanted-most.result ≡ wanted_of st.how.quit st.written c.in-Some.lending.loan.len = search rules in
+    record {
+      unread = front-of st.unread (c.in-Some.completion, c.in-Some.lending) (search rules);
+      within = at_place.0;
+      number = sym (ap (λ (f : FlowQueue). f.number) c.index_mut-own.ensures.value ∙ at_place.1 c.index_mut-own.result.now);
+      items = items;
+      capacity = ap (λ (b : Buffer (Completion × Lending)). b.capacity) c.pop_front.ensures.items;
+      flush_on = subst (λ es. c.still_flushes-st.result ≡ true → (st.flush ≡ true) × (es ≢ [])) items c.still_flushes-st.ensures.on;
+      flush_off = subst (λ es. c.still_flushes-st.result ≡ false → (st.flush ≡ false) ⊎ (es ≡ [])) items c.still_flushes-st.ensures.off;
+      is = is;
+      part = wanted-part st.how.quit st.written c.in-Some.lending.loan.len c.wanted-most.result is;
+      going = subst (Quits st.how.quit st.written) c.requires.working.going c.requires.common.quits;
+    }
+
 pub returns-in-Err-clause-reads : goal.returns-in-Err-clause-reads
 returns-in-Err-clause-reads g c =
     let st : State = state_of c.args.st.now in
     let p : Completion × Lending = (c.in-Some.completion, c.in-Some.lending) in
-    let unread : st.unread ≡ p ∷ drop 1 st.unread = front-of st.unread p (search rules) in
     let own : FlowQueue = c.index_mut-own.result.now in
-    let i : ℕ = c.in-Some-find.i in
-    let at_place : (i < length st.flows) × ((d : FlowQueue)
-    → (get_or st.flows i d).number ≡ c.in-Some.completion.user_data) = found-at st.index st.flows c.in-Some.completion.user_data i
-    (search rules) c.requires.working.index in
-    let within : i < length st.flows = at_place.0 in
-    let value : own ≡ get_or st.flows i own = c.index_mut-own.ensures.value in
-    let found : (get_or st.flows i own).number ≡ c.in-Some.completion.user_data = at_place.1 own in
-    let number : own.number ≡ c.in-Some.completion.user_data = ap (λ (f : FlowQueue). f.number) value ∙ found in
-    let items : c.pop_front.new.self.items ≡ drop 1 st.unread = ap (λ (b : Buffer (Completion × Lending)). b.items) c.pop_front.ensures.items in
-    let flush_on : c.still_flushes-st.result ≡ true → (st.flush ≡ true) × (drop 1 st.unread ≢ []) = subst
-    (λ es. c.still_flushes-st.result ≡ true → (st.flush ≡ true) × (es ≢ [])) items c.still_flushes-st.ensures.on in
-    let flush_off : c.still_flushes-st.result ≡ false → (st.flush ≡ false) ⊎ (drop 1 st.unread ≡ []) = subst
-    (λ es. c.still_flushes-st.result ≡ false → (st.flush ≡ false) ⊎ (es ≡ [])) items c.still_flushes-st.ensures.off in
-    let capacity : c.pop_front.new.self.capacity ≡ st.room = ap (λ (b : Buffer (Completion × Lending)). b.capacity) c.pop_front.ensures.items in
     let most : ℕ = c.wanted-most.result in
-    let is : most ≡ wanted_of st.how.quit st.written c.in-Some.lending.loan.len = search rules in
-    let part : most ≤ c.in-Some.lending.loan.len = wanted-part st.how.quit st.written c.in-Some.lending.loan.len most is in
-    let going : Quits st.how.quit st.written stop.No = subst (Quits st.how.quit st.written) c.requires.working.going c.requires.common.quits in
+    let found = found-oldest g (goal.at.returns-in-Err-clause-reads g c).After-read_loan-result in
     let count : c.saturating_add-st.result ≡ min (st.written + (c.read_loan-result.new.bytes - own.bytes)) (2 ^ 64 - 1) = omega arith in
     let counted = c.read_loan-result.ensures.counted in
     let short : c.read_loan-result.new.bytes < own.bytes + most = search rules in
     let quits : Quits st.how.quit c.saturating_add-st.result stop.No = quits-short st.how.quit st.written (c.read_loan-result.new.bytes - own.bytes)
-    most c.saturating_add-st.result c.in-Some.lending.loan.len is (omega (arith, short, counted.0)) count going in
-    rw (items, capacity) (oldest-failed st i own p (drop 1 st.unread) (g.F.AppFace.seen c.args.face.now)
-    (g.F.AppFace.seen c.read_loan-result.new.face) unread c.requires.due c.requires.pushed within value
-    (sym number) c.read_loan-result.ensures.only c.requires.working c.requires.common c.requires.reaped
-    c.still_flushes-st.result flush_on flush_off c.requires.more
+    most c.saturating_add-st.result c.in-Some.lending.loan.len found.is (omega (arith, short, counted.0)) count found.going in
+    rw (found.items, found.capacity) (oldest-failed st c.in-Some-find.i own p (drop 1 st.unread) (g.F.AppFace.seen c.args.face.now)
+    (g.F.AppFace.seen c.read_loan-result.new.face) found.unread c.requires.due c.requires.pushed found.within
+    c.index_mut-own.ensures.value found.number c.read_loan-result.ensures.only c.requires.working c.requires.common c.requires.reaped
+    c.still_flushes-st.result found.flush_on found.flush_off c.requires.more
     c.read_loan-result.new.bytes c.saturating_add-st.result most (g.T.Shelf.faults c.args.shelf.now) (g.T.Shelf.faults c.read_loan-result.new.shelf)
-    (g.T.Shelf.kept c.args.shelf.now) (g.T.Shelf.kept c.read_loan-result.new.shelf) counted.0 part counted.1 count
+    (g.T.Shelf.kept c.args.shelf.now) (g.T.Shelf.kept c.read_loan-result.new.shelf) counted.0 found.part counted.1 count
     (subst (Quits st.how.quit c.saturating_add-st.result) (sym c.requires.working.going) quits)
     (search rules) c.read_loan-result.ensures.gained c.read_loan-result.ensures.others)
 
@@ -69,78 +85,44 @@ pub returns-then-eq-clause-reads : goal.returns-then-eq-clause-reads
 returns-then-eq-clause-reads g c =
     let st : State = state_of c.args.st.now in
     let p : Completion × Lending = (c.in-Some.completion, c.in-Some.lending) in
-    let unread : st.unread ≡ p ∷ drop 1 st.unread = front-of st.unread p (search rules) in
     let own : FlowQueue = c.index_mut-own.result.now in
-    let i : ℕ = c.in-Some-find.i in
-    let at_place : (i < length st.flows) × ((d : FlowQueue)
-    → (get_or st.flows i d).number ≡ c.in-Some.completion.user_data) = found-at st.index st.flows c.in-Some.completion.user_data i
-    (search rules) c.requires.working.index in
-    let within : i < length st.flows = at_place.0 in
-    let value : own ≡ get_or st.flows i own = c.index_mut-own.ensures.value in
-    let found : (get_or st.flows i own).number ≡ c.in-Some.completion.user_data = at_place.1 own in
-    let number : own.number ≡ c.in-Some.completion.user_data = ap (λ (f : FlowQueue). f.number) value ∙ found in
-    let items : c.pop_front.new.self.items ≡ drop 1 st.unread = ap (λ (b : Buffer (Completion × Lending)). b.items) c.pop_front.ensures.items in
-    let flush_on : c.still_flushes-st.result ≡ true → (st.flush ≡ true) × (drop 1 st.unread ≢ []) = subst
-    (λ es. c.still_flushes-st.result ≡ true → (st.flush ≡ true) × (es ≢ [])) items c.still_flushes-st.ensures.on in
-    let flush_off : c.still_flushes-st.result ≡ false → (st.flush ≡ false) ⊎ (drop 1 st.unread ≡ []) = subst
-    (λ es. c.still_flushes-st.result ≡ false → (st.flush ≡ false) ⊎ (es ≡ [])) items c.still_flushes-st.ensures.off in
-    let capacity : c.pop_front.new.self.capacity ≡ st.room = ap (λ (b : Buffer (Completion × Lending)). b.capacity) c.pop_front.ensures.items in
     let most : ℕ = c.wanted-most.result in
-    let is : most ≡ wanted_of st.how.quit st.written c.in-Some.lending.loan.len = search rules in
-    let part : most ≤ c.in-Some.lending.loan.len = wanted-part st.how.quit st.written c.in-Some.lending.loan.len most is in
-    let going : Quits st.how.quit st.written stop.No = subst (Quits st.how.quit st.written) c.requires.working.going c.requires.common.quits in
+    let found = found-oldest g (goal.at.returns-then-eq-clause-reads g c).After-read_loan-result in
     let bytes : c.read_loan-result.new.bytes ≡ own.bytes + most = search rules in
     let count : c.saturating_add-st.result ≡ min (st.written + most) (2 ^ 64 - 1) = omega (arith, bytes) in
     let all : st.how.quit ≡ Some c.saturating_add-st.result = search rules in
     let exact : Gained (g.T.Shelf.kept c.args.shelf.now own.number) (g.T.Shelf.kept c.read_loan-result.new.shelf own.number)
     (λ (read : List ℕ). IsReadOf (g.F.AppFace.seen c.args.face.now).taken (g.F.AppFace.seen c.read_loan-result.new.face).reads c.in-Some.lending most most
     read) = search rules in
-    rw (items, capacity) (oldest-quit st i own p (drop 1 st.unread) (g.F.AppFace.seen c.args.face.now)
-    (g.F.AppFace.seen c.read_loan-result.new.face) unread c.requires.due c.requires.pushed within value
-    (sym number) c.read_loan-result.ensures.only c.requires.working c.requires.common c.requires.reaped
-    c.still_flushes-st.result flush_on flush_off c.requires.more
+    rw (found.items, found.capacity) (oldest-quit st c.in-Some-find.i own p (drop 1 st.unread) (g.F.AppFace.seen c.args.face.now)
+    (g.F.AppFace.seen c.read_loan-result.new.face) found.unread c.requires.due c.requires.pushed found.within
+    c.index_mut-own.ensures.value found.number c.read_loan-result.ensures.only c.requires.working c.requires.common c.requires.reaped
+    c.still_flushes-st.result found.flush_on found.flush_off c.requires.more
     c.read_loan-result.new.bytes c.saturating_add-st.result most (g.T.Shelf.kept c.args.shelf.now)
-    (g.T.Shelf.kept c.read_loan-result.new.shelf) part bytes count (quits-now st.how.quit st.written c.saturating_add-st.result all) exact
+    (g.T.Shelf.kept c.read_loan-result.new.shelf) found.part bytes count (quits-now st.how.quit st.written c.saturating_add-st.result all) exact
     c.read_loan-result.ensures.others)
 
 pub returns-clause-reads : goal.returns-clause-reads
 returns-clause-reads g c =
     let st : State = state_of c.args.st.now in
     let p : Completion × Lending = (c.in-Some.completion, c.in-Some.lending) in
-    let unread : st.unread ≡ p ∷ drop 1 st.unread = front-of st.unread p (search rules) in
     let own : FlowQueue = c.index_mut-own.result.now in
-    let i : ℕ = c.in-Some-find.i in
-    let at_place : (i < length st.flows) × ((d : FlowQueue)
-    → (get_or st.flows i d).number ≡ c.in-Some.completion.user_data) = found-at st.index st.flows c.in-Some.completion.user_data i
-    (search rules) c.requires.working.index in
-    let within : i < length st.flows = at_place.0 in
-    let value : own ≡ get_or st.flows i own = c.index_mut-own.ensures.value in
-    let found : (get_or st.flows i own).number ≡ c.in-Some.completion.user_data = at_place.1 own in
-    let number : own.number ≡ c.in-Some.completion.user_data = ap (λ (f : FlowQueue). f.number) value ∙ found in
-    let items : c.pop_front.new.self.items ≡ drop 1 st.unread = ap (λ (b : Buffer (Completion × Lending)). b.items) c.pop_front.ensures.items in
-    let flush_on : c.still_flushes-st.result ≡ true → (st.flush ≡ true) × (drop 1 st.unread ≢ []) = subst
-    (λ es. c.still_flushes-st.result ≡ true → (st.flush ≡ true) × (es ≢ [])) items c.still_flushes-st.ensures.on in
-    let flush_off : c.still_flushes-st.result ≡ false → (st.flush ≡ false) ⊎ (drop 1 st.unread ≡ []) = subst
-    (λ es. c.still_flushes-st.result ≡ false → (st.flush ≡ false) ⊎ (es ≡ [])) items c.still_flushes-st.ensures.off in
-    let capacity : c.pop_front.new.self.capacity ≡ st.room = ap (λ (b : Buffer (Completion × Lending)). b.capacity) c.pop_front.ensures.items in
     let most : ℕ = c.wanted-most.result in
-    let is : most ≡ wanted_of st.how.quit st.written c.in-Some.lending.loan.len = search rules in
-    let part : most ≤ c.in-Some.lending.loan.len = wanted-part st.how.quit st.written c.in-Some.lending.loan.len most is in
-    let going : Quits st.how.quit st.written stop.No = subst (Quits st.how.quit st.written) c.requires.working.going c.requires.common.quits in
+    let found = found-oldest g (goal.at.returns-clause-reads g c).After-read_loan-result in
     let bytes : c.read_loan-result.new.bytes ≡ own.bytes + most = search rules in
     let count : c.saturating_add-st.result ≡ min (st.written + most) (2 ^ 64 - 1) = omega (arith, bytes) in
     let other : st.how.quit ≢ Some c.saturating_add-st.result = search rules in
-    let not = quits-not st.how.quit st.written most c.saturating_add-st.result c.in-Some.lending.loan.len (search rules) is count other going in
+    let not = quits-not st.how.quit st.written most c.saturating_add-st.result c.in-Some.lending.loan.len (search rules) found.is count other found.going in
     let whole : most ≡ c.in-Some.lending.loan.len = not.1 in
     let through : IsReadUpTo (g.F.AppFace.seen c.read_loan-result.new.face).reads
     (lent_piece (g.F.AppFace.seen c.args.face.now).taken c.in-Some.lending) most = search rules in
     let exact : Gained (g.T.Shelf.kept c.args.shelf.now own.number) (g.T.Shelf.kept c.read_loan-result.new.shelf own.number)
     (λ (read : List ℕ). IsReadOf (g.F.AppFace.seen c.args.face.now).taken (g.F.AppFace.seen c.read_loan-result.new.face).reads c.in-Some.lending most most
     read) = search rules in
-    rw (items, capacity) (oldest-read st i own p (drop 1 st.unread) (g.F.AppFace.seen c.args.face.now)
-    (g.F.AppFace.seen c.read_loan-result.new.face) unread c.requires.due c.requires.pushed within value
-    (sym number) c.read_loan-result.ensures.only c.requires.working c.requires.common c.requires.reaped
-    c.still_flushes-st.result flush_on flush_off c.requires.more
+    rw (found.items, found.capacity) (oldest-read st c.in-Some-find.i own p (drop 1 st.unread) (g.F.AppFace.seen c.args.face.now)
+    (g.F.AppFace.seen c.read_loan-result.new.face) found.unread c.requires.due c.requires.pushed found.within
+    c.index_mut-own.ensures.value found.number c.read_loan-result.ensures.only c.requires.working c.requires.common c.requires.reaped
+    c.still_flushes-st.result found.flush_on found.flush_off c.requires.more
     c.read_loan-result.new.bytes c.saturating_add-st.result (g.T.Shelf.kept c.args.shelf.now)
     (g.T.Shelf.kept c.read_loan-result.new.shelf)
     (subst (IsReadUpTo (g.F.AppFace.seen c.read_loan-result.new.face).reads

@@ -1,10 +1,7 @@
-use Rattle.std.proofs.Common.{ℕ, List, Option, sym, subst}
 use Rattle.board_face.specs.declared.views.app.AppView.{AppView}
-use Rattle.app_worker.specs.declared.turn.Turn.TheVariants.{Idle}
-use Rattle.app_worker.specs.declared.turn.Why.TheVariants.{Unsettled, ReserveHeld}
+use Rattle.app_worker.specs.declared.turn.Why.TheVariants.{Unsettled}
 use Rattle.app_worker.specs.State.{State}
 use Rattle.app_worker.specs.StateOf.{state_of}
-use Rattle.app_worker.specs.Turns.{Turns}
 use Rattle.app_worker.proofs.TurnLemmas.{turns-did, turns-saw, turns-no-spare, turns-first}
 use Rattle.app_worker.proofs.LentAll.{caught-up, leaves-none, no-next}
 use Rattle.app_worker.proofs.working.go_on.Goals as goal
@@ -12,54 +9,28 @@ use Rattle.app_worker.proofs.working.go_on.Goals as goal
 pub returns-in-Did-clause-turns : goal.returns-in-Did-clause-turns
 returns-in-Did-clause-turns g c =
     let a : State = state_of c.args.st.now in
-    let b : State = state_of c.lend_all.new.st in
-    let u : AppView = g.F.AppFace.seen c.args.face.now in
-    let v : AppView = g.F.AppFace.seen c.lend_all.new.face in
     let lends = c.in-Did.ensures.lends in
-    turns-did a b u v (g.T.Shelf.kept c.args.shelf.now) (g.T.Shelf.kept c.lend_all.new.shelf) (g.T.Shelf.faults c.args.shelf.now)
-    (g.T.Shelf.faults c.lend_all.new.shelf) c.requires.working.live lends.0 lends.1 lends.2 lends.4
+    turns-did c.requires.working.live lends.0 lends.1 lends.2 lends.4
     (λ _ rest. absurd (no-next a rest lends.3))
 
 pub returns-in-Stuck-clause-turns : goal.returns-in-Stuck-clause-turns
 returns-in-Stuck-clause-turns g c =
     let a : State = state_of c.args.st.now in
     let u : AppView = g.F.AppFace.seen c.args.face.now in
-    let v : AppView = g.F.AppFace.seen c.lend_all.new.face in
-    let k : ℕ → Option (List ℕ) = g.T.Shelf.kept c.args.shelf.now in
-    let f : ℕ = g.T.Shelf.faults c.args.shelf.now in
-    let f2 : ℕ = g.T.Shelf.faults c.lend_all.new.shelf in
     let lends = c.in-Stuck.ensures.lends in
-    subst (λ (s : State). Turns a s u v k (g.T.Shelf.kept c.lend_all.new.shelf) f f2 (Idle Unsettled)) (sym lends.0)
-    (subst (λ (q : ℕ → Option (List ℕ)). Turns a a u v k q f f2 (Idle Unsettled)) (sym lends.1)
-    (turns-saw a u v k f f2 Unsettled lends.2 c.requires.working c.requires.common c.requires.reaped
+    turns-saw Unsettled lends.0 lends.1 lends.2 c.requires.working c.requires.common c.requires.reaped
     (caught-up a u c.requires.working c.requires.due c.requires.pushed c.requires.reaped c.requires.few c.requires.flush, lends.3)
-    (leaves-none a u v c.requires.due c.requires.pushed c.requires.flush)))
+    (leaves-none a u (g.F.AppFace.seen c.lend_all.new.face) c.requires.due c.requires.pushed c.requires.flush)
 
 pub returns-in-NoSpare-clause-turns : goal.returns-in-NoSpare-clause-turns
 returns-in-NoSpare-clause-turns g c =
     let a : State = state_of c.args.st.now in
     let u : AppView = g.F.AppFace.seen c.args.face.now in
-    let v : AppView = g.F.AppFace.seen c.lend_all.new.face in
-    let k : ℕ → Option (List ℕ) = g.T.Shelf.kept c.args.shelf.now in
-    let f : ℕ = g.T.Shelf.faults c.args.shelf.now in
-    let f2 : ℕ = g.T.Shelf.faults c.lend_all.new.shelf in
     let lends = c.in-NoSpare.ensures.lends in
-    subst (λ (s : State). Turns a s u v k (g.T.Shelf.kept c.lend_all.new.shelf) f f2 (Idle ReserveHeld)) (sym lends.0)
-    (subst (λ (q : ℕ → Option (List ℕ)). Turns a a u v k q f f2 (Idle ReserveHeld)) (sym lends.1)
-    (turns-no-spare a u v k f f2 lends.2 c.requires.working c.requires.common c.requires.reaped
+    turns-no-spare lends.0 lends.1 lends.2 c.requires.working c.requires.common c.requires.reaped
     (caught-up a u c.requires.working c.requires.due c.requires.pushed c.requires.reaped c.requires.few c.requires.flush, lends.3)
-    (leaves-none a u v c.requires.due c.requires.pushed c.requires.flush)))
+    (leaves-none a u (g.F.AppFace.seen c.lend_all.new.face) c.requires.due c.requires.pushed c.requires.flush)
 
 pub returns-in-Nothing-clause-turns : goal.returns-in-Nothing-clause-turns
 returns-in-Nothing-clause-turns g c =
-    let a : State = state_of c.args.st.now in
-    let b : State = state_of c.lend_all.new.st in
-    let e : State = state_of c.look.new.st in
-    let u : AppView = g.F.AppFace.seen c.args.face.now in
-    let v : AppView = g.F.AppFace.seen c.lend_all.new.face in
-    let w : AppView = g.F.AppFace.seen c.look.new.face in
-    let k : ℕ → Option (List ℕ) = g.T.Shelf.kept c.args.shelf.now in
-    let l : ℕ → Option (List ℕ) = g.T.Shelf.kept c.lend_all.new.shelf in
-    let m : ℕ → Option (List ℕ) = g.T.Shelf.kept c.look.new.shelf in
-    turns-first a b e u v w k l m (g.T.Shelf.faults c.args.shelf.now) (g.T.Shelf.faults c.lend_all.new.shelf) (g.T.Shelf.faults c.look.new.shelf)
-    c.look.result c.in-Nothing.ensures.lends.0 c.lend_all.ensures.later c.look.ensures.turns
+    turns-first c.in-Nothing.ensures.lends.0 c.lend_all.ensures.later c.look.ensures.turns

@@ -1,14 +1,14 @@
-use Rattle.std.proofs.Common.{◌≡◌, ℕ, true, [], List, Option, sym, ap, subst, ◌∙◌}
+use Rattle.std.proofs.Common.{◌≡◌, ℕ, true, [], List, Option, sym, ap, subst, ◌∙◌, refl}
 use Rattle.board_face.specs.declared.views.app.AppView.{AppView}
 use Rattle.app_worker.specs.State.{State, Working, Common}
 use Rattle.app_worker.specs.StateOf.{state_of}
-use Rattle.app_worker.specs.Whole.{TookOne, TookNone}
+use Rattle.app_worker.specs.Whole.{TookOne}
 use Rattle.app_worker.specs.Turns.{MayPoll, Turns}
 use Rattle.app_worker.proofs.Looking.{took-failed, took-did, ended-working, ended-common, turns-ended, turns-memory}
 use Rattle.app_worker.proofs.TurnLemmas.{turns-saw}
-use Rattle.app_worker.specs.declared.turn.Turn.TheVariants.{Idle}
 use Rattle.app_worker.specs.declared.turn.Why.TheVariants.{NoNote}
 use Rattle.app_worker.proofs.LentAll.{none-in-reserve, leaves-none}
+use Rattle.app_worker.proofs.working.look.Goals.{After-take_note}
 use Rattle.app_worker.proofs.working.look.Goals as goal
 
 pub close-requires-clause-working : goal.close-requires-clause-working
@@ -27,28 +27,21 @@ close-requires-clause-common g c =
     subst (λ (s : State). Common (record s { ended = true }) v) (sym takes.0)
     (ended-common a (g.F.AppFace.seen c.args.face.now) v c.requires.common takes.1)
 
+-- a note may be taken as it looks for one
+may-poll : (g : _) (c : After-take_note g) → MayPoll (state_of c.args.st.now) (g.F.AppFace.seen c.args.face.now)
+may-poll g c = record {
+  in_order = c.requires.rest;
+  given = c.requires.due;
+  none_left = c.requires.pushed;
+  posted = c.requires.reaped;
+  unread = c.requires.few;
+  reserve = none-in-reserve _ _ c.requires.working c.requires.reaped c.requires.flush;
+}
+
 pub returns-in-Failed-clause-turns : goal.returns-in-Failed-clause-turns
 returns-in-Failed-clause-turns g c =
-    let a : State = state_of c.args.st.now in
-    let b : State = state_of c.take_note.new.st in
-    let u : AppView = g.F.AppFace.seen c.args.face.now in
-    let v : AppView = g.F.AppFace.seen c.take_note.new.face in
-    let k : ℕ → Option (List ℕ) = g.T.Shelf.kept c.args.shelf.now in
-    let f : ℕ = g.T.Shelf.faults c.args.shelf.now in
-    let may : MayPoll a u = record {
-      in_order = c.requires.rest;
-      given = c.requires.due;
-      none_left = c.requires.pushed;
-      posted = c.requires.reaped;
-      unread = c.requires.few;
-      reserve = none-in-reserve a u c.requires.working c.requires.reaped c.requires.flush;
-    } in
-    let e : State = state_of c.lend_all.new.st in
-    let w : AppView = g.F.AppFace.seen c.lend_all.new.face in
-    let m : ℕ → Option (List ℕ) = g.T.Shelf.kept c.lend_all.new.shelf in
-    let f2 : ℕ = g.T.Shelf.faults c.lend_all.new.shelf in
-    let took : TookOne a b u v = c.in-Did.ensures.takes in
-    took-failed a b u v k m f f2 c.requires.working may c.requires.flush c.requires.more took e w c.in-Failed.ensures.lends
+    let may = may-poll g (goal.at.returns-in-Failed-clause-turns g c).After-take_note in
+    took-failed _ _ _ _ _ _ _ _ c.requires.working may c.requires.flush c.requires.more c.in-Did.ensures.takes _ _ c.in-Failed.ensures.lends
 
 pub returns-in_default : goal.returns-in_default
 returns-in_default g c =
@@ -56,24 +49,11 @@ returns-in_default g c =
     let b : State = state_of c.take_note.new.st in
     let u : AppView = g.F.AppFace.seen c.args.face.now in
     let v : AppView = g.F.AppFace.seen c.take_note.new.face in
-    let k : ℕ → Option (List ℕ) = g.T.Shelf.kept c.args.shelf.now in
-    let f : ℕ = g.T.Shelf.faults c.args.shelf.now in
-    let may : MayPoll a u = record {
-      in_order = c.requires.rest;
-      given = c.requires.due;
-      none_left = c.requires.pushed;
-      posted = c.requires.reaped;
-      unread = c.requires.few;
-      reserve = none-in-reserve a u c.requires.working c.requires.reaped c.requires.flush;
-    } in
-    let e : State = state_of c.lend_all.new.st in
-    let w : AppView = g.F.AppFace.seen c.lend_all.new.face in
-    let m : ℕ → Option (List ℕ) = g.T.Shelf.kept c.lend_all.new.shelf in
-    let f2 : ℕ = g.T.Shelf.faults c.lend_all.new.shelf in
+    let may = may-poll g (goal.at.returns-in_default g c).After-take_note in
     let took : TookOne a b u v = c.in-Did.ensures.takes in
     let reaped : b.posted.entries ≡ [] = ap (λ (s : State). s.posted.entries) took.same ∙ c.requires.reaped in
     record {
-      turns = took-did a b u v k m f f2 c.requires.working may c.requires.flush c.requires.more took e w c.lend_all.result c.in_default.not-Failed reaped
+      turns = took-did _ _ _ _ _ _ _ _ c.requires.working may c.requires.flush c.requires.more took _ _ c.lend_all.result c.in_default.not-Failed reaped
           c.lend_all.ensures.lends;
       told = λ why is. absurd (cc);
       later = c.lend_all.ensures.later;
@@ -84,19 +64,10 @@ returns-in_default g c =
 pub returns-in-Ended-clause-turns : goal.returns-in-Ended-clause-turns
 returns-in-Ended-clause-turns g c =
     let a : State = state_of c.args.st.now in
-    let b : State = state_of c.take_note.new.st in
     let u : AppView = g.F.AppFace.seen c.args.face.now in
     let v : AppView = g.F.AppFace.seen c.take_note.new.face in
     let k : ℕ → Option (List ℕ) = g.T.Shelf.kept c.args.shelf.now in
     let f : ℕ = g.T.Shelf.faults c.args.shelf.now in
-    let may : MayPoll a u = record {
-      in_order = c.requires.rest;
-      given = c.requires.due;
-      none_left = c.requires.pushed;
-      posted = c.requires.reaped;
-      unread = c.requires.few;
-      reserve = none-in-reserve a u c.requires.working c.requires.reaped c.requires.flush;
-    } in
     let e : State = state_of c.close.new.st in
     let w : AppView = g.F.AppFace.seen c.close.new.face in
     let m : ℕ → Option (List ℕ) = g.T.Shelf.kept c.close.new.shelf in
@@ -107,39 +78,13 @@ returns-in-Ended-clause-turns g c =
 
 pub returns-in-Memory-clause-turns : goal.returns-in-Memory-clause-turns
 returns-in-Memory-clause-turns g c =
-    let a : State = state_of c.args.st.now in
-    let b : State = state_of c.take_note.new.st in
-    let u : AppView = g.F.AppFace.seen c.args.face.now in
-    let v : AppView = g.F.AppFace.seen c.take_note.new.face in
-    let k : ℕ → Option (List ℕ) = g.T.Shelf.kept c.args.shelf.now in
-    let f : ℕ = g.T.Shelf.faults c.args.shelf.now in
-    let may : MayPoll a u = record {
-      in_order = c.requires.rest;
-      given = c.requires.due;
-      none_left = c.requires.pushed;
-      posted = c.requires.reaped;
-      unread = c.requires.few;
-      reserve = none-in-reserve a u c.requires.working c.requires.reaped c.requires.flush;
-    } in
-    let took : TookNone a b u v = c.in-Memory.ensures.takes in
-    turns-memory a b (state_of c.let_go.new.st) u v (g.F.AppFace.seen c.let_go.new.face) k f c.requires.working may took c.let_go.ensures.done
+    let may = may-poll g (goal.at.returns-in-Memory-clause-turns g c).After-take_note in
+    turns-memory _ _ _ _ _ _ _ _ c.requires.working may c.in-Memory.ensures.takes c.let_go.ensures.done
 
 pub returns-in-NoNote-clause-turns : goal.returns-in-NoNote-clause-turns
 returns-in-NoNote-clause-turns g c =
-    let a : State = state_of c.args.st.now in
-    let u : AppView = g.F.AppFace.seen c.args.face.now in
-    let v : AppView = g.F.AppFace.seen c.take_note.new.face in
-    let k : ℕ → Option (List ℕ) = g.T.Shelf.kept c.args.shelf.now in
-    let f : ℕ = g.T.Shelf.faults c.args.shelf.now in
-    let may : MayPoll a u = record {
-      in_order = c.requires.rest;
-      given = c.requires.due;
-      none_left = c.requires.pushed;
-      posted = c.requires.reaped;
-      unread = c.requires.few;
-      reserve = none-in-reserve a u c.requires.working c.requires.reaped c.requires.flush;
-    } in
     let takes = c.in-NoNote.ensures.takes in
-    subst (λ (s : State). Turns a s u v k k f f (Idle NoNote)) (sym takes.0)
-    (turns-saw a u v k f f NoNote takes.1 c.requires.working c.requires.common c.requires.reaped (c.requires.more, λ _. may)
-    (leaves-none a u v c.requires.due c.requires.pushed c.requires.flush))
+    turns-saw NoNote takes.0 refl takes.1 c.requires.working c.requires.common c.requires.reaped
+    (c.requires.more, λ _. may-poll g (goal.at.returns-in-NoNote-clause-turns g c).After-take_note)
+    (leaves-none (state_of c.args.st.now) (g.F.AppFace.seen c.args.face.now) (g.F.AppFace.seen c.take_note.new.face) c.requires.due
+    c.requires.pushed c.requires.flush)

@@ -1,10 +1,8 @@
-use Rattle.std.proofs.Common.{rules, true, ◌≡◌, ℕ, List, Option, sym, ap, ◌∙◌, subst}
-use Rattle.board_face.specs.declared.views.app.AppView.{AppView}
-use Rattle.app_worker.specs.State.{State, Working}
+use Rattle.std.proofs.Common.{rules, true, ◌≡◌, ap, ◌∙◌, refl}
+use Rattle.app_worker.specs.State.{Working}
 use Rattle.app_worker.specs.StateOf.{state_of}
-use Rattle.app_worker.specs.declared.turn.Turn.TheVariants.{Idle}
 use Rattle.app_worker.specs.declared.turn.Why.TheVariants.{RefillFull}
-use Rattle.app_worker.specs.Turns.{Turns, turn_after}
+use Rattle.app_worker.specs.Turns.{turn_after}
 use Rattle.app_worker.proofs.TurnLemmas.{turns-saw, turns-gave, turns-later, begins-gave}
 use Rattle.app_worker.proofs.working.turn.Goals as goal
 
@@ -13,45 +11,23 @@ returns-then-st-clause-turns g c = c.bare_turn.ensures.turns (g.T.Shelf.kept c.a
 
 pub returns-in-Part-clause-turns : goal.returns-in-Part-clause-turns
 returns-in-Part-clause-turns g c =
-    let a : State = state_of c.args.st.now in
-    let b : State = state_of c.give_back.new.st in
-    let u : AppView = g.F.AppFace.seen c.args.face.now in
-    let v : AppView = g.F.AppFace.seen c.give_back.new.face in
-    let k : ℕ → Option (List ℕ) = g.T.Shelf.kept c.args.shelf.now in
-    let works : Working a u = search rules in
-    turns-gave a b u v k (g.T.Shelf.faults c.args.shelf.now) works c.requires.stands.reaped c.give_back.ensures.working c.give_back.ensures.common
-    (c.give_back.ensures.goes k) c.in-Part.ensures.gives.0 c.in-Part.ensures.gives.1
+    let works : Working (state_of c.args.st.now) (g.F.AppFace.seen c.args.face.now) = search rules in
+    turns-gave works c.requires.stands.reaped c.give_back.ensures.working c.give_back.ensures.common
+    (c.give_back.ensures.goes (g.T.Shelf.kept c.args.shelf.now)) c.in-Part.ensures.gives.0 c.in-Part.ensures.gives.1
 
 pub returns-in-Did-clause-turns : goal.returns-in-Did-clause-turns
 returns-in-Did-clause-turns g c =
-    let a : State = state_of c.args.st.now in
-    let b : State = state_of c.give_back.new.st in
-    let e : State = state_of c.work-turn.new.st in
-    let u : AppView = g.F.AppFace.seen c.args.face.now in
-    let v : AppView = g.F.AppFace.seen c.give_back.new.face in
-    let w : AppView = g.F.AppFace.seen c.work-turn.new.face in
-    let k : ℕ → Option (List ℕ) = g.T.Shelf.kept c.args.shelf.now in
-    let m : ℕ → Option (List ℕ) = g.T.Shelf.kept c.work-turn.new.shelf in
-    let f : ℕ = g.T.Shelf.faults c.args.shelf.now in
-    let f2 : ℕ = g.T.Shelf.faults c.work-turn.new.shelf in
-    let works : Working a u = search rules in
+    let works : Working (state_of c.args.st.now) (g.F.AppFace.seen c.args.face.now) = search rules in
     let is : c.after.result ≡ turn_after true c.work-turn.result = search rules in
-    subst (Turns a e u w k m f f2) (sym is)
-    (turns-later a b e u v w k k m f f f2 c.work-turn.result
-    (begins-gave a b u v k f works c.requires.here c.give_back.ensures.working (c.give_back.ensures.goes k) c.in-Did.ensures.gives.0)
-    c.work-turn.ensures.turns)
+    rw is (turns-later
+    (begins-gave works c.requires.here c.give_back.ensures.working (c.give_back.ensures.goes (g.T.Shelf.kept c.args.shelf.now))
+    c.in-Did.ensures.gives.0) c.work-turn.ensures.turns)
 
 pub returns-in-InUse-clause-turns : goal.returns-in-InUse-clause-turns
 returns-in-InUse-clause-turns g c =
-    let a : State = state_of c.args.st.now in
-    let u : AppView = g.F.AppFace.seen c.args.face.now in
-    let v : AppView = g.F.AppFace.seen c.give_back.new.face in
-    let k : ℕ → Option (List ℕ) = g.T.Shelf.kept c.args.shelf.now in
-    let f : ℕ = g.T.Shelf.faults c.args.shelf.now in
-    let works : Working a u = search rules in
+    let works : Working (state_of c.args.st.now) (g.F.AppFace.seen c.args.face.now) = search rules in
     let gives = c.in-InUse.ensures.gives in
-    subst (λ (s : State). Turns a s u v k k f f (Idle RefillFull)) (sym gives.0)
-    (turns-saw a u v k f f RefillFull gives.1 works c.requires.stands.common c.requires.stands.reaped gives.2 (λ _. gives.1.rose))
+    turns-saw RefillFull gives.0 refl gives.1 works c.requires.stands.common c.requires.stands.reaped gives.2 (λ _. gives.1.rose)
 
 pub returns-in-Did-clause-still : goal.returns-in-Did-clause-still
 returns-in-Did-clause-still g c other =

@@ -1,55 +1,23 @@
-use Rattle.std.proofs.Common.{rules, inl, inr, ◌≡◌, ℕ, true, List, Option, sym, ap, ◌∙◌, subst}
-use Rattle.board_face.specs.declared.views.app.AppView.{AppView}
-use Rattle.app_worker.specs.State.{State}
-use Rattle.app_worker.specs.StateOf.{state_of}
-use Rattle.app_worker.specs.Turns.{Turns, turn_after}
+use Rattle.std.proofs.Common.{rules, inl, inr, ◌≡◌, true, sym, ap, ◌∙◌}
+use Rattle.app_worker.specs.Turns.{turn_after}
 use Rattle.app_worker.specs.declared.stages.Drained.TheVariants.{Did, Failed}
 use Rattle.app_worker.proofs.TurnLemmas.{turns-did, turns-later, turns-first, begins-through}
 use Rattle.app_worker.proofs.working.work.Goals as goal
 
 pub returns-in-Did-clause-turns : goal.returns-in-Did-clause-turns
 returns-in-Did-clause-turns g c =
-    let a : State = state_of c.args.st.now in
-    let b : State = state_of c.drain.new.st in
-    let e : State = state_of c.go_on-turn.new.st in
-    let u : AppView = g.F.AppFace.seen c.args.face.now in
-    let v : AppView = g.F.AppFace.seen c.drain.new.face in
-    let w : AppView = g.F.AppFace.seen c.go_on-turn.new.face in
-    let k : ℕ → Option (List ℕ) = g.T.Shelf.kept c.args.shelf.now in
-    let l : ℕ → Option (List ℕ) = g.T.Shelf.kept c.drain.new.shelf in
-    let m : ℕ → Option (List ℕ) = g.T.Shelf.kept c.go_on-turn.new.shelf in
-    let f : ℕ = g.T.Shelf.faults c.args.shelf.now in
-    let f1 : ℕ = g.T.Shelf.faults c.drain.new.shelf in
-    let f2 : ℕ = g.T.Shelf.faults c.go_on-turn.new.shelf in
     let reads = c.in-Did.ensures.reads in
     let is : c.after.result ≡ turn_after true c.go_on-turn.result = search rules in
-    subst (Turns a e u w k m f f2) (sym is)
-    (turns-later a b e u v w k l m f f1 f2 c.go_on-turn.result
-    (begins-through a b u v k l f f1 c.requires.working c.requires.here reads.0 reads.1 c.drain.ensures.later) c.go_on-turn.ensures.turns)
+    rw is (turns-later (begins-through c.requires.working c.requires.here reads.0 reads.1 c.drain.ensures.later) c.go_on-turn.ensures.turns)
 
 pub returns-in-Nothing-clause-turns : goal.returns-in-Nothing-clause-turns
 returns-in-Nothing-clause-turns g c =
-    let a : State = state_of c.args.st.now in
-    let b : State = state_of c.drain.new.st in
-    let e : State = state_of c.go_on.new.st in
-    let u : AppView = g.F.AppFace.seen c.args.face.now in
-    let v : AppView = g.F.AppFace.seen c.drain.new.face in
-    let w : AppView = g.F.AppFace.seen c.go_on.new.face in
-    let k : ℕ → Option (List ℕ) = g.T.Shelf.kept c.args.shelf.now in
-    let l : ℕ → Option (List ℕ) = g.T.Shelf.kept c.drain.new.shelf in
-    let m : ℕ → Option (List ℕ) = g.T.Shelf.kept c.go_on.new.shelf in
-    turns-first a b e u v w k l m (g.T.Shelf.faults c.args.shelf.now) (g.T.Shelf.faults c.drain.new.shelf) (g.T.Shelf.faults c.go_on.new.shelf)
-    c.go_on.result c.in-Nothing.ensures.reads.0 c.drain.ensures.later c.go_on.ensures.turns
+    turns-first c.in-Nothing.ensures.reads.0 c.drain.ensures.later c.go_on.ensures.turns
 
 pub returns-in-InUse-clause-turns : goal.returns-in-InUse-clause-turns
 returns-in-InUse-clause-turns g c =
-    let a : State = state_of c.args.st.now in
-    let b : State = state_of c.drain.new.st in
-    let u : AppView = g.F.AppFace.seen c.args.face.now in
-    let v : AppView = g.F.AppFace.seen c.drain.new.face in
     let reads = c.in-InUse.ensures.reads in
-    turns-did a b u v (g.T.Shelf.kept c.args.shelf.now) (g.T.Shelf.kept c.drain.new.shelf) (g.T.Shelf.faults c.args.shelf.now)
-    (g.T.Shelf.faults c.drain.new.shelf) c.requires.working.live reads.0 reads.1 (λ _. reads.3) (inl (inl reads.3)) (λ _ _. inr (inr (inr reads.3)))
+    turns-did c.requires.working.live reads.0 reads.1 (λ _. reads.3) (inl (inl reads.3)) (λ _ _. inr (inr (inr reads.3)))
 
 pub returns-in-Did-clause-still : goal.returns-in-Did-clause-still
 returns-in-Did-clause-still g c other =

@@ -1,6 +1,6 @@
 -- How what is kept stands to what was seen: notes, reads and loans.
-use Rattle.std.proofs.Common.{◌≡◌, ◌≢◌, ℕ, zero, suc, ◌+◌, ◌-◌, ◌<◌, ◌≤◌, Bool, true, false, List, [], ◌∷◌, ◌++◌}
-use Rattle.std.proofs.Common.{Option, Some, None, length, get_or, refl, sym, ap, subst, ◌∙◌, arith, length-append}
+use Rattle.std.proofs.Common.{◌≡◌, ◌≢◌, ℕ, zero, suc, ◌+◌, ◌-◌, ◌<◌, ◌≤◌, Bool, true, false, List, [], ◌∷◌, ◌++◌, Option, Some, None, length, get_or}
+use Rattle.std.proofs.Common.{refl, sym, ap, subst, ◌∙◌, arith, length-append}
 use Rattle.std.specs.Prelude.{◌==◌, IfSome, take}
 use Rattle.board_face.proofs.ListLemmas.{not-eqb}
 use Rattle.std.proofs.lemmas.Bool.{eq-eqb}
@@ -16,9 +16,8 @@ use Rattle.flow_queues.specs.declared.queues.Lending.{Lending}
 use Rattle.flow_queues.specs.declared.queues.FlowQueue.{FlowQueue}
 use Rattle.app_worker.specs.declared.stack.Stray.{Stray}
 use Rattle.flow_queues.specs.Marks.{Mark, marks_from}
-use Rattle.flow_queues.specs.Core.{total, IsIn, lent_piece, over_read, read_out, over_kept, marks_of_loan}
-use Rattle.flow_queues.specs.Core.{own_notes}
-use Rattle.flow_queues.specs.Core.{lent_marks, placed_of, FlowStands, Each, many, HasTokens, Stands, OnlyReads, AreReadAt, IsReadOf}
+use Rattle.flow_queues.specs.Core.{total, IsIn, lent_piece, over_read, read_out, over_kept, marks_of_loan, own_notes, lent_marks, placed_of}
+use Rattle.flow_queues.specs.Core.{FlowStands, Each, many, HasTokens, Stands, OnlyReads, AreReadAt, IsReadOf}
 use Rattle.std.specs.Io.KnownBytes.{Keeps}
 use Rattle.zr_io.specs.Moved.{Gained}
 use Rattle.zr_io.proofs.Moved.{Gained-weaker}
@@ -173,12 +172,6 @@ pub total-take : (h : FlowQueue → ℕ) (xs : List FlowQueue) (i : ℕ) (d : Fl
 total-take h [] i d within = absurd (omega arith)
 total-take h (x ∷ xs) zero d within = omega arith
 total-take h (x ∷ xs) (suc i) d within = let e : suc i + 1 ≡ suc (i + 1) = omega arith in rw e (omega (arith, total-take h xs i d (omega arith)))
-
-pub none-until : (n : ℕ) (xs : List FlowQueue) (i : ℕ) (d : FlowQueue) → i < length xs → total (is_number n) (take i xs) ≡ 0
-    → (get_or xs i d).number ≢ n → total (is_number n) (take (i + 1) xs) ≡ 0
-none-until n xs i d within none other =
-    let not : is_number n (get_or xs i d) ≡ 0 = (let no : ((get_or xs i d).number == n) ≡ false = not-eqb (get_or xs i d).number n other in rw no refl) in
-    omega (arith, total-take (is_number n) xs i d within, none, not)
 
 pub get-same : {A : Type 0} (xs : List A) (i : ℕ) (d e : A) → i < length xs → get_or xs i d ≡ get_or xs i e
 get-same [] i d e within = absurd (omega arith)
