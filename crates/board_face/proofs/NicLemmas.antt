@@ -2,7 +2,7 @@
 use Rattle.std.proofs.Common.{◌≡◌, ℕ, zero, suc, ◌+◌, ◌-◌, ◌<◌, ◌≤◌, min, Bool, true, false, cond, eqb, List, [], ◌∷◌, ◌++◌}
 use Rattle.std.proofs.Common.{length, drop, refl, ap, sym, arith, ⊎_elim, subst}
 use Rattle.std.specs.Prelude.{Option, Some, None, if◌then◌else◌, ◌≢◌, filter, ◌==◌, ◌&&◌}
-use Rattle.std.proofs.lemmas.List.{append-nil}
+use Rattle.std.proofs.lemmas.List.{append-nil, map-id}
 use Rattle.std.proofs.lemmas.Bool.{eq-eqb}
 use Rattle.std.proofs.lemmas.Bool.Decides.{eqb_tells}
 use Rattle.std.proofs.lemmas.List.Elements.{filter-append}
@@ -25,10 +25,11 @@ use Rattle.board_face.specs.declared.views.nic.NicView.{NicView}
 use Rattle.board_face.specs.declared.views.nic.NicSide.{NicSide}
 use Rattle.board_face.specs.declared.views.app.AppInside.{AppInside}
 use Rattle.board_face.specs.declared.views.app.AppSide.{AppSide}
-use Rattle.board_face.proofs.ListLemmas.{same_place-refl, same_filling-refl, same_place-is, same_filling-is, map-itself, not-eqb}
+use Rattle.board_face.proofs.ListLemmas.{same_place-refl, same_filling-refl, same_place-is, same_filling-is, not-eqb}
 use Rattle.board_face.proofs.Tallies.{weight, tally, total, tally-append, tally-push, tally-without, total-agree}
 use Rattle.board_face.proofs.Parts.{returned_in-count, making_in, sent_in, returning_in_count, nic_count, app_count, user_part, loans_in, notes_in}
 use Rattle.board_face.proofs.Parts.{came_back_in, owed_count, pool_count-parts, user_count-parts, total-shift, count-tally}
+use Rattle.board_face.proofs.Counting.{weight-and, user_case}
 
 -- ---- events that send nothing and deal with nothing
 
@@ -59,7 +60,7 @@ pub owns-without : (b : ℕ) (nic : NicSide) (own : Filling) → HasOwn nic.view
     ≡ tally (λ (o : Filling). o.buffer == b) nic.view.owns
 owns-without b nic own out =
     tally-without (λ o. o) (same_filling own) own (same_filling-is own) (same_filling-refl own) (λ o. o.buffer == b) nic.view.owns
-    (rw (map-itself nic.view.owns) out)
+    (rw (map-id nic.view.owns) out)
 
 -- and so has a buffer in which a piece was placed
 pub pool_count-placed : (b : ℕ) (nic : NicSide) (apps : List AppSide) (own : Filling) (bytes : List ℕ) → HasOwn nic.view own
@@ -255,14 +256,6 @@ pool_count-honoured b nic apps a buffer entry app numbered here owes =
 user_part-same : (a b : ℕ) (nic : NicSide) (v : NicView) (app : AppSide) → ended_in b (nic_at nic v) app ≡ ended_in b nic app
     → user_part a b (nic_at nic v) app ≡ user_part a b nic app
 user_part-same a b nic v app ends = ap (λ h. if app.view.app == a then loans_in b app + (came_back_in b app - h) else 0) ends
-
-user_case : (c : Bool) (l m n w : ℕ) → m ≡ n + w → (if c then l + m else 0) ≡ (if c then l + n else 0) + (if c then w else 0)
-user_case true l m n w e = omega arith
-user_case false l m n w e = refl
-
-weight-and : (c d : Bool) → (if c then weight d else 0) ≡ weight (c && d)
-weight-and true d = refl
-weight-and false d = refl
 
 owed-honoured : (b : ℕ) (nic : NicSide) (a buffer : ℕ) (entry : Rqe) (app : AppSide) → app.view.app ≡ a → Owes buffer nic app
     → owed_count b nic app ≡ owed_count b (nic_at nic (honoured nic.view a entry buffer)) app + weight (buffer == b)

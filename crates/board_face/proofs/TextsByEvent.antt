@@ -9,7 +9,7 @@ use Rattle.std.proofs.lemmas.List.Elements.{filter-append, All-nil, All-cons, Al
 use Rattle.std.proofs.lemmas.Bool.{false≢true, cases_lt}
 use Rattle.zr_kinds.specs.declared.place.Place.{Place}
 use Rattle.zr_kinds.specs.declared.place.Note.{Note}
-use Rattle.board_face.specs.Lists.{without, at_first, same_place}
+use Rattle.board_face.specs.Lists.{at_first, same_place}
 use Rattle.board_face.specs.Tokens.{next_place, filled_by, same_filling}
 use Rattle.board_face.specs.Texts.{further, front_place, rest_place}
 use Rattle.board_face.specs.NicEvents.{begun, text_done, fresh, placed, sent, text_at}
@@ -35,7 +35,7 @@ use Rattle.board_face.specs.declared.views.app.SpareOwn.{SpareOwn}
 use Rattle.board_face.specs.declared.views.app.AppInside.{AppInside}
 use Rattle.board_face.specs.declared.views.app.AppView.{AppView}
 use Rattle.board_face.specs.declared.views.app.AppSide.{AppSide}
-use Rattle.board_face.proofs.ListLemmas.{same_place-is, same_place-refl, same_filling-is, same_filling-refl}
+use Rattle.board_face.proofs.ListLemmas.{same_place-is, same_place-refl, same_filling-is, same_filling-refl, All-without}
 use Rattle.board_face.proofs.Tallies.{length-tally}
 use Rattle.board_face.proofs.Parts.{returned_in-count}
 use Rattle.board_face.proofs.NicLemmas.{making_at, sent_to-other, sent_to-same, drop-push}
@@ -43,14 +43,6 @@ use Rattle.board_face.proofs.AppLemmas.{IsNext, after-taken, scrubbed_side, Same
 use Rattle.board_face.proofs.RelayLemmas.{bytes_sent-push, bytes_sent-past, take-drop-none}
 
 -- ---- lists
-
-All-case : {A : Type 0} (P : A → Type 0) (c : Bool) (x : A) (xs ys : List A) → P x → All P xs → All P ys → All P (cond c xs (x ∷ ys))
-All-case P true x xs ys here all rest = all
-All-case P false x xs ys here all rest = All-cons P x ys here rest
-
-All-without : {A : Type 0} (P : A → Type 0) (m : A → Bool) (xs : List A) → All P xs → All P (without m xs)
-All-without P m [] all = all
-All-without P m (x ∷ xs) all = All-case P (m x) x xs (without m xs) (All-head P x xs all) (All-tail P x xs all) (All-without P m xs (All-tail P x xs all))
 
 first-case : {A B Q : Type 0} (f : A → Q) (g : A → B) (P : Q → B → Type 0) (q : Q) (c : Bool) (x : A) (rest : B) → (c ≡ true → f x ≡ q)
     → P (f x) (g x) → (c ≡ false → P q rest) → P q (cond c (g x) rest)
