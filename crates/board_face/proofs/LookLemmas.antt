@@ -48,9 +48,6 @@ AppRose-app_saw v look = record { rose = rw (same_app_look-refl look) (omega ari
 pub NicLooksStay-nic_saw : (v : NicView) (look : NicLook) → NicLooksStay v (nic_saw v look)
 NicLooksStay-nic_saw v look = record { later = λ other. times-more same_nic_look other look v.looks }
 
-pub AppLooksStay-app_saw : (v : AppView) (look : AppLook) → AppLooksStay v (app_saw v look)
-AppLooksStay-app_saw v look = record { later = λ other. times-more same_app_look other look v.looks }
-
 -- ---- over several calls
 
 pub NicLooksStay-same : (v w : NicView) → w.looks ≡ v.looks → NicLooksStay v w
@@ -67,17 +64,8 @@ NicRose-later u v w look stay rose = record { rose = omega (arith, stay.later lo
 pub NicRose-before : (u v w : NicView) (look : NicLook) → NicRose look u v → NicLooksStay v w → NicRose look u w
 NicRose-before u v w look rose stay = record { rose = omega (arith, stay.later look, rose.rose) }
 
-pub AppLooksStay-same : (v w : AppView) → w.looks ≡ v.looks → AppLooksStay v w
-AppLooksStay-same v w same = record { later = λ look. rw same (omega arith) }
-
-pub AppLooksStay-trans : (u v w : AppView) → AppLooksStay u v → AppLooksStay v w → AppLooksStay u w
-AppLooksStay-trans u v w first then = record { later = λ look. omega (arith, first.later look, then.later look) }
-
 pub AppRose-later : (u v w : AppView) (look : AppLook) → AppLooksStay u v → AppRose look v w → AppRose look u w
 AppRose-later u v w look stay rose = record { rose = omega (arith, stay.later look, rose.rose) }
-
-pub AppRose-before : (u v w : AppView) (look : AppLook) → AppRose look u v → AppLooksStay v w → AppRose look u w
-AppRose-before u v w look rose stay = record { rose = omega (arith, stay.later look, rose.rose) }
 
 -- ---- what is told of a look that rose
 

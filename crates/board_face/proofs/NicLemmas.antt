@@ -351,45 +351,7 @@ pool_count-text_done b nic apps own bytes making busy place =
 
 -- ---- what was ended came back before
 
--- an entry that is honoured ends one more of the loans that came back
-pub EndedWereReturned-honoured : (b : ℕ) (nic : NicSide) (a buffer : ℕ) (entry : Rqe) (app : AppSide) → app.view.app ≡ a → Owes buffer nic app
-    → EndedWereReturned b nic app → EndedWereReturned b (nic_at nic (honoured nic.view a entry buffer)) app
-EndedWereReturned-honoured b nic a buffer entry app same owes sound =
-    let more = honoured-target b nic a buffer entry app same in
-    record {
-      ended =
-          ⊎_elim
-          (λ t.
-          let e : buffer ≡ b = t.1 in
-          let one : weight (buffer == b) ≡ 1 = ap weight t.0 in
-          let owes_here : Owes b nic app = subst (λ c. Owes c nic app) e owes in
-          let o = owes_here.owes in
-          omega (arith, more, one, returned_in-count b app))
-          (λ t. let none : weight (buffer == b) ≡ 0 = ap weight t.0 in omega (arith, more, none, sound.ended))
-          (eqb_tells buffer b);
-      returning = omega (arith, more, sound.returning);
-    }
-
--- and none of another application's
-pub EndedWereReturned-other : (b : ℕ) (nic : NicSide) (a buffer : ℕ) (entry : Rqe) (app : AppSide) → app.view.app ≢ a → EndedWereReturned b nic app
-    → EndedWereReturned b (nic_at nic (honoured nic.view a entry buffer)) app
-EndedWereReturned-other b nic a buffer entry app other sound =
-    let same = honoured-other b nic a buffer entry app other in
-    record { ended = omega (arith, same, sound.ended); returning = omega (arith, same, sound.returning) }
-
-pub EndedWereReturned-passed_over : (b : ℕ) (nic : NicSide) (a : ℕ) (entry : Rqe) (app : AppSide) → EndedWereReturned b nic app
-    → EndedWereReturned b (nic_at nic (passed_over nic.view a entry)) app
-EndedWereReturned-passed_over b nic a entry app sound =
-    let same = ended_in-passed_over b nic a entry app in
-    record { ended = omega (arith, same, sound.ended); returning = omega (arith, same, sound.returning) }
-
 -- ---- what a board is in the middle of
-
--- where v more of a buffer's returned loans were ended, by an entry in hand or a scrub, it owes v less
-pub owed_count-ended : (b v : ℕ) (nic nic' : NicSide) (app : AppSide) (inside : AppInside)
-    → ended_in b nic' (record app { inside = inside }) ≡ ended_in b nic app + v → ended_in b nic' (record app { inside = inside }) ≤ came_back_in b app
-    → owed_count b nic' (record app { inside = inside }) + v ≡ owed_count b nic app
-owed_count-ended b v nic nic' app inside ends within = omega (arith, ends, within)
 
 stretch : (k h h' r r' w : ℕ) → r ≤ h → r' ≤ h' → h ≤ k → h' ≤ k → h' + r ≡ h + r' + w
     → k - h' + min r' (k - (h' - r')) + w ≡ k - h + min r (k - (h - r))
