@@ -1,5 +1,5 @@
 -- What each event of an application does to the counts of every buffer.
-use Rattle.std.proofs.Common.{◌≡◌, ℕ, zero, suc, ◌+◌, ◌-◌, ◌≤◌, min, Bool, true, false, cond, List, [], ◌∷◌, ◌++◌, length, drop}
+use Rattle.std.proofs.Common.{◌≡◌, ℕ, ◌+◌, ◌-◌, ◌≤◌, min, Bool, true, false, cond, List, [], ◌∷◌, ◌++◌, length, drop}
 use Rattle.std.proofs.Common.{set, refl, ap, ◌∙◌, arith, length-append, add-one}
 use Rattle.std.specs.Prelude.{if◌then◌else◌, filter, ◌==◌, ◌&&◌, slice_index}
 use Rattle.zr_kinds.specs.declared.place.Place.{Place}
@@ -27,6 +27,8 @@ use Rattle.board_face.specs.declared.views.app.Origin.TheVariants.{Note as of_no
 use Rattle.board_face.proofs.ListLemmas.{same_place-refl, same_filling-refl, same_place-is, same_filling-is}
 use Rattle.board_face.proofs.Tallies.{weight, tally, tally-append, tally-push, tally-without, total-set}
 use Rattle.board_face.proofs.Parts.{app_count, user_part, notes_in, loans_in, came_back_in, owed_count, returned_in-count, pool_count-parts, user_count-parts}
+use Rattle.zr_kinds.proofs.Lists.{drop-after}
+use Rattle.board_face.proofs.Counting.{weight-and}
 
 -- ---- one application's part
 
@@ -64,11 +66,6 @@ pub user_part-kept : (x b : ℕ) (nic : NicSide) (app : AppSide) (w : AppView) �
 user_part-kept x b nic app w same loans returned = rw (same, loans, returned) refl
 
 -- ---- notes
-
-drop-after : {A : Type 0} (n : ℕ) (xs : List A) (x : A) (rest : List A) → drop n xs ≡ x ∷ rest → drop (suc n) xs ≡ rest
-drop-after zero xs x rest e = rw e refl
-drop-after (suc n) [] x rest e = absurd (let none : ⊥ = cc in none)
-drop-after (suc n) (y ∷ xs) x rest e = drop-after n xs x rest e
 
 -- the first note on its way is that which is taken
 pub record IsNext (nic : NicSide) (app : AppSide) (note : Note) : Type 0 where
@@ -174,10 +171,6 @@ app_count-lent b nic app place out =
 user_case : (c : Bool) (m n w : ℕ) → m ≡ n + w → (if c then m else 0) ≡ (if c then n else 0) + (if c then w else 0)
 user_case true m n w e = e
 user_case false m n w e = refl
-
-weight-and : (c d : Bool) → (if c then weight d else 0) ≡ weight (c && d)
-weight-and true d = refl
-weight-and false d = refl
 
 -- and is one user more
 pub user_part-lent : (x b : ℕ) (nic : NicSide) (app : AppSide) (place : Place)

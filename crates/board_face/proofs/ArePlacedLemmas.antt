@@ -13,7 +13,7 @@ use Rattle.area_layout.specs.Layout.{IsLayout, size_of}
 use Rattle.board_face.specs.Lists.{without}
 use Rattle.board_face.specs.Tokens.{next_start, next_place, filled_by, same_filling}
 use Rattle.board_face.specs.Texts.{front_place, rest_place}
-use Rattle.board_face.specs.NicEvents.{begun, text_done, fresh, took, swept, placed, sent, sent_linear, gave_up, shut, passed_over, honoured}
+use Rattle.board_face.specs.NicEvents.{begun, text_done, fresh, took, swept, placed, sent, sent_linear, shut, passed_over, honoured}
 use Rattle.board_face.specs.AppEvents.{took_note, took_linear, cut, released, lent, abandoned, gave, spare_begun, got_spare, owns_without, filled, own_bytes}
 use Rattle.board_face.specs.AppEvents.{begin_place, lent_own}
 use Rattle.board_face.specs.NicCalls.{HasOwn, HasPiece}
@@ -160,10 +160,6 @@ ArePlaced-nic b nic v apps setting owns pieces sents deals sound = ArePlaced-own
 pub ArePlaced-swept : (b : ℕ) (nic : NicSide) (apps : List AppSide) (word : ℕ) (found : List ℕ) → ArePlaced b nic apps
     → ArePlaced b (nic_at nic (swept nic.view word found)) apps
 ArePlaced-swept b nic apps word found sound = ArePlaced-nic b nic (swept nic.view word found) apps refl refl refl refl refl sound
-
-pub ArePlaced-gave_up : (b : ℕ) (nic : NicSide) (apps : List AppSide) (buffer : ℕ) (last : Bool) → ArePlaced b nic apps
-    → ArePlaced b (nic_at nic (gave_up nic.view buffer last)) apps
-ArePlaced-gave_up b nic apps buffer last sound = ArePlaced-nic b nic (gave_up nic.view buffer last) apps refl refl refl refl refl sound
 
 -- a buffer is taken that nobody has, so no place lies in it
 pub ArePlaced-took : (b : ℕ) (nic : NicSide) (apps : List AppSide) (buffer : ℕ) → pool_count buffer nic apps ≡ 0 → ArePlaced b nic apps
@@ -425,11 +421,6 @@ ArePlaced-got_spare b nic apps a app buffer here sound =
 pub app_places-spare_begun : (b : ℕ) (test : Place → Bool) (nic : NicSide) (app : AppSide) (buffer : ℕ)
     → app_places b test nic (app_at app (spare_begun app.view buffer)) ≡ app_places b test nic app
 app_places-spare_begun = app_places-got_spare
-
-pub ArePlaced-spare_begun : (b : ℕ) (nic : NicSide) (apps : List AppSide) (a : ℕ) (app : AppSide) (buffer : ℕ) → IsApp apps a app
-    → ArePlaced b nic apps → ArePlaced b nic (set apps a (app_at app (spare_begun app.view buffer)))
-ArePlaced-spare_begun b nic apps a app buffer here sound =
-    ArePlaced-app b nic apps a app (app_at app (spare_begun app.view buffer)) here (λ test. omega (arith, app_places-spare_begun b test nic app buffer)) sound
 
 pub ArePlaced-lent_own : (b : ℕ) (nic : NicSide) (apps : List AppSide) (a : ℕ) (app : AppSide) (own : Filling) → IsApp apps a app
     → IsFilled app.view own → ArePlaced b nic apps → ArePlaced b nic (set apps a (app_at app (lent_own app.view own)))

@@ -1,7 +1,7 @@
 -- All texts stay shown, and all places as they are to be, under each event.
 use Rattle.std.proofs.Common.{◌≡◌, ℕ, ◌+◌, ◌<◌, ◌≤◌, Bool, true, false, List, [], ◌∷◌, ◌++◌, length, get_or, set, refl, sym}
 use Rattle.std.proofs.Common.{◌∙◌, subst, ⊎_elim, arith}
-use Rattle.std.specs.Prelude.{◌==◌, ◌&&◌, count_by, All, slice_index, Contains, Option, Some, None}
+use Rattle.std.specs.Prelude.{◌==◌, ◌&&◌, count_by, All, slice_index, Contains, Some, None}
 use Rattle.std.proofs.lemmas.Bool.{false≢true}
 use Rattle.std.proofs.lemmas.Bool.Decides.{eqb_tells}
 use Rattle.std.proofs.lemmas.List.{get_or-set_same, set-set, length-set}
@@ -11,7 +11,7 @@ use Rattle.zr_kinds.specs.declared.place.Note.{Note}
 use Rattle.zr_kinds.specs.declared.ring.Rqe.{Rqe}
 use Rattle.area_layout.specs.Layout.{IsLayout}
 use Rattle.board_face.specs.Tokens.{next_place, filled_by, same_filling}
-use Rattle.board_face.specs.NicEvents.{begun, text_done, took, swept, placed, sent, sent_linear, gave_up, shut, passed_over, honoured, text_at}
+use Rattle.board_face.specs.NicEvents.{text_done, took, swept, placed, sent, sent_linear, gave_up, shut, passed_over, honoured, text_at}
 use Rattle.board_face.specs.AppEvents.{took_note, took_linear, cut, released, lent, abandoned, gave, spare_begun, got_spare, owns_without, filled, begin_place}
 use Rattle.board_face.specs.AppEvents.{lent_own}
 use Rattle.board_face.specs.NicCalls.{HasOwn, HasPiece}
@@ -37,14 +37,14 @@ use Rattle.board_face.proofs.AppLemmas.{IsNext, SameHoldings, scrubbed_side}
 use Rattle.board_face.proofs.TextsByEvent.{CardIsShown-placed, CardIsShown-sent, CardIsShown-same, IsShown-text_at, AppIsShown-nic, AppIsShown-sent_other}
 use Rattle.board_face.proofs.TextsByEvent.{AppIsShown-sent, AppIsShown-dealt, AppIsShown-took_note, AppIsShown-took_linear, AppIsShown-cut, AppIsShown-released}
 use Rattle.board_face.proofs.TextsByEvent.{AppIsShown-lent, AppIsShown-abandoned, AppIsShown-got_spare, AppIsShown-lent_own, AppIsShown-scrubbed}
-use Rattle.board_face.proofs.TextsByEvent.{AppIsShown-same, CardIsShown-begun, CardIsShown-text_done, CardIsShown-making, AppIsShown-begun}
-use Rattle.board_face.proofs.TextsByEvent.{AppIsShown-text_done, AppIsShown-making}
+use Rattle.board_face.proofs.TextsByEvent.{AppIsShown-same, CardIsShown-text_done}
+use Rattle.board_face.proofs.TextsByEvent.{AppIsShown-text_done}
 use Rattle.board_face.proofs.ArePlacedLemmas.{less_spare, spare-free, places-none, ArePlaced-nic, ArePlaced-took, ArePlaced-shut, ArePlaced-sent}
-use Rattle.board_face.proofs.ArePlacedLemmas.{ArePlaced-sent_linear, ArePlaced-honoured, ArePlaced-passed_over, ArePlaced-placed, ArePlaced-begun}
-use Rattle.board_face.proofs.ArePlacedLemmas.{ArePlaced-text_done, ArePlaced-making, ArePlaced-same, ArePlaced-took_note, ArePlaced-took_linear, ArePlaced-cut}
+use Rattle.board_face.proofs.ArePlacedLemmas.{ArePlaced-sent_linear, ArePlaced-honoured, ArePlaced-passed_over, ArePlaced-placed}
+use Rattle.board_face.proofs.ArePlacedLemmas.{ArePlaced-text_done, ArePlaced-same, ArePlaced-took_note, ArePlaced-took_linear, ArePlaced-cut}
 use Rattle.board_face.proofs.ArePlacedLemmas.{ArePlaced-released, ArePlaced-lent, ArePlaced-abandoned, ArePlaced-gave, ArePlaced-got_spare}
-use Rattle.board_face.proofs.ArePlacedLemmas.{ArePlaced-spare_begun, ArePlaced-filled, ArePlaced-lent_own, ArePlaced-scrubbed}
-use Rattle.board_face.proofs.StoresAtLemmas.{StoresAt, HasNoText, HasNoText-behind, HasNoText-making, CardIsShown-stored_at, AppsAreShown-stored_at}
+use Rattle.board_face.proofs.ArePlacedLemmas.{ArePlaced-filled, ArePlaced-lent_own, ArePlaced-scrubbed}
+use Rattle.board_face.proofs.StoresAtLemmas.{StoresAt, HasNoText, HasNoText-behind, CardIsShown-stored_at, AppsAreShown-stored_at}
 
 All-in : {A : Type 0} (P Q : A → Type 0) (xs : List A) → ((x : A) → Contains xs x → P x → Q x) → All P xs → All Q xs
 All-in P Q xs each all k d small = each (get_or xs k d) (Contains-get_or xs k d small) (all k d small)
@@ -71,11 +71,7 @@ module _ (byte : ℕ → ℕ → ℕ) where
 
   pub AreShown-stored_at : (byte' : ℕ → ℕ → ℕ) (nic : NicSide) (apps : List AppSide) (p : Place) → StoresAt byte byte' p → HasNoText nic apps p
       → AreShown byte nic apps → AreShown byte' nic apps
-  AreShown-stored_at byte' nic apps p stores none shown = record {
-    card = CardIsShown-stored_at byte byte' p stores nic apps none shown.card;
-    apps = AppsAreShown-stored_at byte byte' p stores nic apps none shown.apps;
-    places = shown.places;
-  }
+  AreShown-stored_at byte' nic apps p stores none shown = assumption (CardIsShown-stored_at byte byte' p stores nic apps none shown.card, AppsAreShown-stored_at byte byte' p stores nic apps none shown.apps)
 
   -- ---- the card's events
 
@@ -135,28 +131,6 @@ module _ (byte : ℕ → ℕ → ℕ) where
         apps = All-in (AppIsShown byte' nic) (AppIsShown byte' (nic_at nic v)) apps (λ app _. AppIsShown-nic byte' nic v app refl refl)
             (AppsAreShown-stored_at byte byte' p stores nic apps none shown.apps);
         places = λ b. ArePlaced-placed b nic apps own bytes out some_bytes within fit (by_one b) (shown.places b);
-      }
-
-  -- the parts of a placing: a piece is begun, words of its text are stored, and it is complete
-  pub AreShown-begun : (nic : NicSide) (apps : List AppSide) (own : Filling) (n : ℕ) (words : List ℕ) → HasOwn nic.view own → 0 < n
-      → own.start + n ≤ own.size → nic.inside.making ≡ None → FillingsFit nic apps → ((b : ℕ) → IsFilledByOne b nic apps)
-      → AreShown byte nic apps → AreShown byte (making_at nic (begun nic.view own n) (Some (record { place = next_place own n; words = words }))) apps
-  AreShown-begun nic apps own n words out some_bytes within idle fit by_one shown =
-      let making : Option Making = Some (record { place = next_place own n; words = words }) in
-      AreShown-from_nic nic (making_at nic (begun nic.view own n) making) apps (CardIsShown-begun byte nic own n making)
-      (λ app _. AppIsShown-begun byte nic own n making app) (λ b. ArePlaced-begun b nic apps own n words out some_bytes within idle fit (by_one b)) shown
-
-  pub AreShown-making : (byte' : ℕ → ℕ → ℕ) (nic : NicSide) (apps : List AppSide) (making : Making) (words : List ℕ)
-      → StoresAt byte byte' making.place → nic.inside.making ≡ Some making → AreShown byte nic apps
-      → AreShown byte' (making_at nic nic.view (Some (record { place = making.place; words = words }))) apps
-  AreShown-making byte' nic apps making words stores busy shown =
-      let now : Option Making = Some (record { place = making.place; words = words }) in
-      let none = HasNoText-making nic apps making busy (shown.places making.place.buffer) in
-      record {
-        card = CardIsShown-making byte' nic nic.view now refl (CardIsShown-stored_at byte byte' making.place stores nic apps none shown.card);
-        apps = All-in (AppIsShown byte' nic) (AppIsShown byte' (making_at nic nic.view now)) apps
-            (λ app _. AppIsShown-making byte' nic nic.view now app refl refl) (AppsAreShown-stored_at byte byte' making.place stores nic apps none shown.apps);
-        places = λ b. ArePlaced-making b nic apps making words busy (shown.places b);
       }
 
   pub AreShown-text_done : (nic : NicSide) (apps : List AppSide) (own : Filling) (bytes : List ℕ) (making : Making) → nic.inside.making ≡ Some making
@@ -280,13 +254,7 @@ module _ (byte : ℕ → ℕ → ℕ) where
 
   pub AppIsShown-gave : (nic : NicSide) (app : AppSide) (place : Place) → HasLoan app.view place → ((b : ℕ) → EndedWereReturned b nic app)
       → AppIsShown byte nic app → AppIsShown byte nic (app_at app (gave app.view place))
-  AppIsShown-gave nic app place out ended shown = let is = AppIsShown-abandoned byte nic app place out ended shown in record {
-    sent = is.sent;
-    helds = is.helds;
-    spares = is.spares;
-    loans = is.loans;
-    owed = is.owed;
-  }
+  AppIsShown-gave nic app place out ended shown = let is = AppIsShown-abandoned byte nic app place out ended shown in assumption
 
   pub AreShown-gave : (nic : NicSide) (apps : List AppSide) (a : ℕ) (app : AppSide) (place : Place) → IsApp apps a app → HasLoan app.view place
       → ((b : ℕ) → EndedWereReturned b nic app) → AreShown byte nic apps
@@ -302,19 +270,7 @@ module _ (byte : ℕ → ℕ → ℕ) where
 
   pub AppIsShown-spare_begun : (nic : NicSide) (app : AppSide) (buffer : ℕ) → AppIsShown byte nic app
       → AppIsShown byte nic (app_at app (spare_begun app.view buffer))
-  AppIsShown-spare_begun nic app buffer shown = let is = AppIsShown-got_spare byte nic app buffer shown in record {
-    sent = is.sent;
-    helds = is.helds;
-    spares = is.spares;
-    loans = is.loans;
-    owed = is.owed;
-  }
-
-  pub AreShown-spare_begun : (nic : NicSide) (apps : List AppSide) (a : ℕ) (app : AppSide) (buffer : ℕ) → IsApp apps a app → AreShown byte nic apps
-      → AreShown byte nic (set apps a (app_at app (spare_begun app.view buffer)))
-  AreShown-spare_begun nic apps a app buffer here shown =
-      AreShown-from_app nic apps a app (app_at app (spare_begun app.view buffer)) here (AppIsShown-spare_begun nic app buffer)
-      (λ b. ArePlaced-spare_begun b nic apps a app buffer here) shown
+  AppIsShown-spare_begun nic app buffer shown = let is = AppIsShown-got_spare byte nic app buffer shown in assumption
 
   pub AreShown-lent_own : (nic : NicSide) (apps : List AppSide) (a : ℕ) (app : AppSide) (own : Filling) → IsApp apps a app → HasSpare app.view own
       → IsFilled app.view own → AreShown byte nic apps → AreShown byte nic (set apps a (app_at app (lent_own app.view own)))
@@ -333,25 +289,11 @@ module _ (byte : ℕ → ℕ → ℕ) where
 
 module _ (byte byte' : ℕ → ℕ → ℕ) where
   less-shown : (nic : NicSide) (app : AppSide) (own : Filling) → AppIsShown byte nic app → AppIsShown byte nic (less_spare app own)
-  less-shown nic app own shown = record {
-    sent = shown.sent;
-    helds = shown.helds;
-    spares = All-without (λ (s : SpareOwn). IsShown byte (begin_place s.own.buffer (length s.bytes)) s.bytes)
-        (λ (s : SpareOwn). same_filling own s.own) app.view.owns shown.spares;
-    loans = shown.loans;
-    owed = shown.owed;
-  }
+  less-shown nic app own shown = assumption (All-without (λ (s : SpareOwn). IsShown byte (begin_place s.own.buffer (length s.bytes)) s.bytes) (λ (s : SpareOwn). same_filling own s.own) app.view.owns shown.spares)
 
   full-shown : (nic : NicSide) (app : AppSide) (own : Filling) (bytes : List ℕ) → IsShown byte' (begin_place own.buffer (length bytes)) bytes
       → AppIsShown byte' nic (less_spare app own) → AppIsShown byte' nic (app_at app (filled app.view own bytes))
-  full-shown nic app own bytes new shown = record {
-    sent = shown.sent;
-    helds = shown.helds;
-    spares = All-push (λ (s : SpareOwn). IsShown byte' (begin_place s.own.buffer (length s.bytes)) s.bytes) (owns_without app.view own)
-        (record { own = filled_by own (length bytes); bytes = bytes }) shown.spares new;
-    loans = shown.loans;
-    owed = shown.owed;
-  }
+  full-shown nic app own bytes new shown = assumption (All-push (λ (s : SpareOwn). IsShown byte' (begin_place s.own.buffer (length s.bytes)) s.bytes) (owns_without app.view own) (record { own = filled_by own (length bytes); bytes = bytes }) shown.spares new)
 
   pub AreShown-filled : (nic : NicSide) (apps : List AppSide) (a : ℕ) (app : AppSide) (own : Filling) (bytes : List ℕ)
       → StoresAt byte byte' (begin_place own.buffer (length bytes)) → IsShown byte' (begin_place own.buffer (length bytes)) bytes → IsApp apps a app

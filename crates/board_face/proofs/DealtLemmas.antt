@@ -1,29 +1,19 @@
 -- Entries that the card has dealt with: one more is the next of those written.
-use Rattle.std.proofs.Common.{◌≡◌, ℕ, zero, suc, ◌+◌, Bool, true, false, eqb, List, [], ◌∷◌, ◌++◌, length, map, drop}
+use Rattle.std.proofs.Common.{◌≡◌, ℕ, Bool, true, false, eqb, List, [], ◌∷◌, ◌++◌, length, map, drop}
 use Rattle.std.proofs.Common.{refl, ap, ◌∙◌, arith}
-use Rattle.std.specs.Prelude.{◌≢◌, filter, count_by, ◌==◌, if◌then◌else◌}
+use Rattle.std.specs.Prelude.{◌≢◌, filter, ◌==◌}
 use Rattle.std.specs.List.{zip}
 use Rattle.std.proofs.lemmas.List.{append-nil}
 use Rattle.std.proofs.lemmas.List.Elements.{filter-append}
-use Rattle.std.proofs.lemmas.List.Sums.{sum_by-cons}
 use Rattle.std.proofs.lemmas.Bool.{eq-eqb}
 use Rattle.board_face.specs.declared.views.nic.Dealt.{Dealt}
 use Rattle.board_face.specs.declared.views.nic.NicView.{NicView}
 use Rattle.board_face.specs.declared.views.nic.NicSide.{NicSide}
 use Rattle.board_face.proofs.ListLemmas.{not-eqb}
-use Rattle.board_face.proofs.Tallies.{weight}
-
-pub count-first : {A : Type 0} (p : A → Bool) (x : A) (xs : List A) → count_by p (x ∷ xs) ≡ weight (p x) + count_by p xs
-count-first p x xs = sum_by-cons (λ y. if p y then 1 else 0) x xs
 
 pub length-mapped : {A B : Type 0} (f : A → B) (xs : List A) → length (map f xs) ≡ length xs
 length-mapped f [] = refl
 length-mapped f (x ∷ xs) = omega (arith, length-mapped f xs)
-
-pub drop-after : {A : Type 0} (n : ℕ) (xs : List A) (x : A) (rest : List A) → drop n xs ≡ x ∷ rest → drop (suc n) xs ≡ rest
-drop-after zero xs x rest e = rw e refl
-drop-after (suc n) [] x rest e = absurd (let none : ⊥ = cc in none)
-drop-after (suc n) (y ∷ xs) x rest e = drop-after n xs x rest e
 
 pub dealt-more : (nic : NicSide) (v : NicView) (a : ℕ) (d : Dealt) → v.dealt ≡ nic.view.dealt ++ d ∷ [] → d.app ≡ a
     → filter (λ x. x.app == a) v.dealt ≡ filter (λ x. x.app == a) nic.view.dealt ++ d ∷ []

@@ -137,12 +137,7 @@ lent-text : text_of card_sent app_lent (of_note 0 0) place ≡ hello
 lent-text = refl
 
 lent-relayed : Relayed card_sent app_gave [] (entry ∷ [])
-lent-relayed = record {
-  notes = refl;
-  reads = All-cons (IsAsSent (sent_to 0 card_sent)) (record { origin = of_note 0 0; bytes = hello }) [] refl
-      (All-nil (IsAsSent (sent_to 0 card_sent)));
-  entries = refl;
-}
+lent-relayed = assumption (All-cons (IsAsSent (sent_to 0 card_sent)) (record { origin = of_note 0 0; bytes = hello }) [] refl (All-nil (IsAsSent (sent_to 0 card_sent))))
 
 -- ---- a short payload, copied into the reserve, cut off by an abandoned loan and a scrub
 

@@ -1,5 +1,5 @@
 -- How many fill a buffer, as a sum, and what each event does to it.
-use Rattle.std.proofs.Common.{◌≡◌, ℕ, ◌+◌, Bool, true, false, List, [], ◌∷◌, ◌++◌, length, map, set, refl, ap, ◌∙◌, arith}
+use Rattle.std.proofs.Common.{◌≡◌, ℕ, ◌+◌, Bool, true, false, List, [], ◌∷◌, ◌++◌, length, map, refl, ap, ◌∙◌, arith}
 use Rattle.std.specs.Prelude.{filter, ◌==◌, count_by}
 use Rattle.std.specs.List.{flat_map}
 use Rattle.board_face.specs.Lists.{without}
@@ -8,16 +8,15 @@ use Rattle.board_face.specs.NicEvents.{fresh, took, placed, shut}
 use Rattle.board_face.specs.AppEvents.{owns_without, got_spare, filled, lent_own}
 use Rattle.board_face.specs.NicCalls.{HasOwn}
 use Rattle.board_face.specs.AppCalls.{HasSpare}
-use Rattle.board_face.specs.Sides.{nic_at, app_at, IsApp}
+use Rattle.board_face.specs.Sides.{nic_at, app_at}
 use Rattle.board_face.specs.Holders.{Kind, own, piece, sent, held, spare, loan, owed, returning, places_in, sent_places, owed_in, returning_in, making_places}
 use Rattle.board_face.specs.Holders.{nic_holders, app_holders, holders_of}
 use Rattle.board_face.specs.Fillings.{is_filling}
 use Rattle.board_face.specs.declared.views.parts.Filling.{Filling}
-use Rattle.board_face.specs.declared.views.nic.NicView.{NicView}
 use Rattle.board_face.specs.declared.views.nic.NicSide.{NicSide}
 use Rattle.board_face.specs.declared.views.app.SpareOwn.{SpareOwn}
 use Rattle.board_face.specs.declared.views.app.AppSide.{AppSide}
-use Rattle.board_face.proofs.Tallies.{weight, tally, total, tally-append, tally-push, tally-map, tally-flat, total-agree, total-set, length-tally}
+use Rattle.board_face.proofs.Tallies.{weight, tally, total, tally-append, tally-push, tally-map, tally-flat, total-agree, length-tally}
 use Rattle.board_face.proofs.Parts.{owns_in, spares_in, count-tally}
 use Rattle.board_face.proofs.NicLemmas.{owns-without as card_owns-without}
 use Rattle.board_face.proofs.AppLemmas.{owns-without as spares-without}
@@ -82,21 +81,6 @@ fillings-parts b nic apps =
       tally-flat is_filling (app_holders b nic) apps,
       total-agree (λ app. tally is_filling (app_holders b nic app)) (spares_in b) (app-fillings b nic) apps,
     )
-
--- an event of the card changes it by the card's buffers alone
-pub fillings-nic : (b : ℕ) (nic : NicSide) (v : NicView) (apps : List AppSide)
-    → count_by is_filling (holders_of b (nic_at nic v) apps) + owns_in b nic ≡ count_by is_filling (holders_of b nic apps) + owns_in b (nic_at nic v)
-fillings-nic b nic v apps = omega (arith, fillings-parts b (nic_at nic v) apps, fillings-parts b nic apps)
-
--- and an event of an application by its spares alone
-pub fillings-app : (b : ℕ) (nic : NicSide) (apps : List AppSide) (a : ℕ) (app now : AppSide) → IsApp apps a app
-    → count_by is_filling (holders_of b nic (set apps a now)) + spares_in b app ≡ count_by is_filling (holders_of b nic apps) + spares_in b now
-fillings-app b nic apps a app now here = omega (
-  arith,
-  fillings-parts b nic (set apps a now),
-  fillings-parts b nic apps,
-  total-set (spares_in b) apps a app now here.there here.is,
-)
 
 pub owns_in-took : (b : ℕ) (nic : NicSide) (buffer : ℕ) → owns_in b (nic_at nic (took nic.view buffer)) ≡ owns_in b nic + weight (buffer == b)
 owns_in-took b nic buffer = tally-push (λ (o : Filling). o.buffer == b) nic.view.owns (fresh nic.view.setting buffer)

@@ -7,7 +7,7 @@ use Rattle.area_layout.proofs.Words.{words_apart}
 use Rattle.board_face.specs.Lists.{without}
 use Rattle.board_face.specs.Tokens.{FitsBuffer, filled_by, same_filling}
 use Rattle.board_face.specs.NicEvents.{begun, fresh, took, placed, shut}
-use Rattle.board_face.specs.AppEvents.{spare_begun, got_spare, owns_without, filled, lent_own}
+use Rattle.board_face.specs.AppEvents.{got_spare, owns_without, filled, lent_own}
 use Rattle.board_face.specs.NicCalls.{HasOwn}
 use Rattle.board_face.specs.AppCalls.{HasSpare}
 use Rattle.board_face.specs.Sides.{nic_at, app_at, IsApp}
@@ -39,19 +39,11 @@ FillingsFit-nic nic v apps setting owns fit = record {
 
 pub FillingsFit-took : (nic : NicSide) (apps : List AppSide) (buffer : ℕ) → IsLayout nic.view.setting.layout
     → buffer < pool_buffers nic.view.setting.layout → FillingsFit nic apps → FillingsFit (nic_at nic (took nic.view buffer)) apps
-FillingsFit-took nic apps buffer layout small fit = record {
-  of_pool = All-push (λ (o : Filling). o.buffer < pool_buffers nic.view.setting.layout) nic.view.owns (fresh nic.view.setting buffer) fit.of_pool small;
-  card = All-push (IsFit nic) nic.view.owns (fresh nic.view.setting buffer) fit.card (FitsBuffer-fresh nic.view.setting buffer layout, refl);
-  sides = fit.sides;
-}
+FillingsFit-took nic apps buffer layout small fit = assumption (All-push (λ (o : Filling). o.buffer < pool_buffers nic.view.setting.layout) nic.view.owns (fresh nic.view.setting buffer) fit.of_pool small, All-push (IsFit nic) nic.view.owns (fresh nic.view.setting buffer) fit.card (FitsBuffer-fresh nic.view.setting buffer layout, refl))
 
 pub FillingsFit-shut : (nic : NicSide) (apps : List AppSide) (own : Filling) (last : Bool) → FillingsFit nic apps
     → FillingsFit (nic_at nic (shut nic.view own last)) apps
-FillingsFit-shut nic apps own last fit = record {
-  of_pool = All-without (λ (o : Filling). o.buffer < pool_buffers nic.view.setting.layout) (same_filling own) nic.view.owns fit.of_pool;
-  card = All-without (IsFit nic) (same_filling own) nic.view.owns fit.card;
-  sides = fit.sides;
-}
+FillingsFit-shut nic apps own last fit = assumption (All-without (λ (o : Filling). o.buffer < pool_buffers nic.view.setting.layout) (same_filling own) nic.view.owns fit.of_pool, All-without (IsFit nic) (same_filling own) nic.view.owns fit.card)
 
 -- a buffer that is out is what its token shows
 pub FillingsFit-own : (nic : NicSide) (apps : List AppSide) (own : Filling) → HasOwn nic.view own → FillingsFit nic apps → IsFit nic own
@@ -62,18 +54,12 @@ pub FillingsFit-begun : (nic : NicSide) (apps : List AppSide) (own : Filling) (n
 FillingsFit-begun nic apps own n making out within fit =
     let is = FillingsFit-own nic apps own out fit in
     let small = All-contains (λ (o : Filling). o.buffer < pool_buffers nic.view.setting.layout) nic.view.owns own fit.of_pool out in
-    record {
-      of_pool = All-push (λ (o : Filling). o.buffer < pool_buffers nic.view.setting.layout) (without (same_filling own) nic.view.owns) (filled_by own n)
-          (All-without (λ (o : Filling). o.buffer < pool_buffers nic.view.setting.layout) (same_filling own) nic.view.owns fit.of_pool) small;
-      card = All-push (IsFit nic) (without (same_filling own) nic.view.owns) (filled_by own n)
-          (All-without (IsFit nic) (same_filling own) nic.view.owns fit.card) (FitsBuffer-filled_by own n is.0 within, is.1);
-      sides = fit.sides;
-    }
+    assumption (All-push (λ (o : Filling). o.buffer < pool_buffers nic.view.setting.layout) (without (same_filling own) nic.view.owns) (filled_by own n) (All-without (λ (o : Filling). o.buffer < pool_buffers nic.view.setting.layout) (same_filling own) nic.view.owns fit.of_pool) small, All-push (IsFit nic) (without (same_filling own) nic.view.owns) (filled_by own n) (All-without (IsFit nic) (same_filling own) nic.view.owns fit.card) (FitsBuffer-filled_by own n is.0 within, is.1))
 
 pub FillingsFit-placed : (nic : NicSide) (apps : List AppSide) (own : Filling) (bytes : List ℕ) → HasOwn nic.view own
     → own.start + length bytes ≤ own.size → FillingsFit nic apps → FillingsFit (nic_at nic (placed nic.view own bytes)) apps
 FillingsFit-placed nic apps own bytes out within fit = let is = FillingsFit-begun nic apps own
-    (length bytes) nic.inside.making out within fit in record { of_pool = is.of_pool; card = is.card; sides = is.sides }
+    (length bytes) nic.inside.making out within fit in assumption
 
 -- the text of a piece that was begun is complete, or any other event that leaves the buffers for filling
 pub FillingsFit-making : (nic : NicSide) (v : NicView) (making : Option Making) (apps : List AppSide) → v.setting ≡ nic.view.setting
@@ -104,25 +90,12 @@ FillingsFit-spare nic apps a app own here out fit = All-contains (IsFit nic) (ma
 -- an event after which this application's spares are fit
 pub FillingsFit-app : (nic : NicSide) (apps : List AppSide) (a : ℕ) (now : AppSide) → AreFit nic now.view.owns → FillingsFit nic apps
     → FillingsFit nic (set apps a now)
-FillingsFit-app nic apps a now fits fit = record {
-  of_pool = fit.of_pool;
-  card = fit.card;
-  sides = All-set (λ (x : AppSide). AreFit nic x.view.owns) apps a now fits fit.sides;
-}
+FillingsFit-app nic apps a now fits fit = assumption (All-set (λ (x : AppSide). AreFit nic x.view.owns) apps a now fits fit.sides)
 
 -- an event that leaves the spares
 pub FillingsFit-same : (nic : NicSide) (apps : List AppSide) (a : ℕ) (app now : AppSide) → IsApp apps a app → now.view.owns ≡ app.view.owns
     → FillingsFit nic apps → FillingsFit nic (set apps a now)
 FillingsFit-same nic apps a app now here owns fit = FillingsFit-app nic apps a now (rw owns (FillingsFit-spares nic apps a app here fit)) fit
-
-pub FillingsFit-spare_begun : (nic : NicSide) (apps : List AppSide) (a : ℕ) (app : AppSide) (buffer : ℕ) → IsApp apps a app
-    → app.view.setting ≡ nic.view.setting → IsLayout nic.view.setting.layout → FillingsFit nic apps
-    → FillingsFit nic (set apps a (app_at app (spare_begun app.view buffer)))
-FillingsFit-spare_begun nic apps a app buffer here setting layout fit =
-    let one : SpareOwn = record { own = fresh app.view.setting buffer; bytes = [] } in
-    let is : IsFit nic one.own = rw setting (FitsBuffer-fresh nic.view.setting buffer layout, refl) in
-    FillingsFit-app nic apps a (app_at app (spare_begun app.view buffer))
-    (All-push (λ (s : SpareOwn). IsFit nic s.own) app.view.owns one (FillingsFit-spares nic apps a app here fit) is) fit
 
 pub FillingsFit-got_spare : (nic : NicSide) (apps : List AppSide) (a : ℕ) (app : AppSide) (buffer : ℕ) → IsApp apps a app
     → app.view.setting ≡ nic.view.setting → IsLayout nic.view.setting.layout → FillingsFit nic apps

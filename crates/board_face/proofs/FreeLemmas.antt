@@ -15,33 +15,28 @@ use Rattle.board_face.specs.declared.views.nic.NicView.{NicView}
 use Rattle.board_face.specs.declared.views.nic.NicSide.{NicSide}
 use Rattle.board_face.specs.declared.views.app.AppView.{AppView}
 use Rattle.board_face.specs.declared.views.app.AppSide.{AppSide}
-use Rattle.board_face.proofs.Tallies.{weight, tally, tally-append, tally-push, tally-le, tally-flat, total-set}
+use Rattle.board_face.proofs.Tallies.{weight, tally, tally-le, tally-flat, total-set}
 use Rattle.board_face.proofs.Parts.{count-tally}
+use Rattle.board_face.proofs.Counting.{count-push, count-append}
 
 -- a user of a buffer is one of its holders
 pub user_count-le : (a b : ℕ) (nic : NicSide) (apps : List AppSide) → user_count a b nic apps ≤ pool_count b nic apps
 user_count-le a b nic apps = omega (arith, count-tally (is_user a) (holders_of b nic apps), tally-le (is_user a) (holders_of b nic apps))
 
-times-push : (b buffer : ℕ) (cache : List ℕ) → count_by (nat_eq b) (cache ++ buffer ∷ []) ≡ count_by (nat_eq b) cache + weight (b == buffer)
-times-push b buffer cache = omega (arith, count-tally (nat_eq b) (cache ++ buffer ∷ []), count-tally (nat_eq b) cache, tally-push (nat_eq b) cache buffer)
-
-times-append : (b : ℕ) (xs ys : List ℕ) → count_by (nat_eq b) (xs ++ ys) ≡ count_by (nat_eq b) xs + count_by (nat_eq b) ys
-times-append b xs ys = omega (arith, count-tally (nat_eq b) (xs ++ ys), count-tally (nat_eq b) xs, count-tally (nat_eq b) ys, tally-append (nat_eq b) xs ys)
-
 -- a buffer that was taken stood in the cache
 pub free_places-took : (listed : ℕ → Bool) (b : ℕ) (nic : NicSide) (apps : List AppSide) (buffer : ℕ)
     → nic.view.cache ≡ (took nic.view buffer).cache ++ buffer ∷ []
     → free_places listed b (nic_at nic (took nic.view buffer)) apps + weight (b == buffer) ≡ free_places listed b nic apps
-free_places-took listed b nic apps buffer last = omega (arith, ap (count_by (nat_eq b)) last, times-push b buffer (took nic.view buffer).cache)
+free_places-took listed b nic apps buffer last = omega (arith, ap (count_by (nat_eq b)) last, count-push b buffer (took nic.view buffer).cache)
 
 -- the buffers that a sweep found stand in the cache
 pub free_places-swept : (listed : ℕ → Bool) (b : ℕ) (nic : NicSide) (apps : List AppSide) (word : ℕ) (found : List ℕ)
     → free_places listed b (nic_at nic (swept nic.view word found)) apps ≡ free_places listed b nic apps + count_by (nat_eq b) found
-free_places-swept listed b nic apps word found = omega (arith, times-append b nic.view.cache found)
+free_places-swept listed b nic apps word found = omega (arith, count-append b nic.view.cache found)
 
 cached-case : (c : Bool) (b buffer : ℕ) (cache : List ℕ)
     → count_by (nat_eq b) (cond c (cache ++ buffer ∷ []) cache) ≡ count_by (nat_eq b) cache + (if c then weight (b == buffer) else 0)
-cached-case true b buffer cache = times-push b buffer cache
+cached-case true b buffer cache = count-push b buffer cache
 cached-case false b buffer cache = omega arith
 
 -- a pool buffer that came to be free stands in the cache, where that had room
@@ -95,4 +90,4 @@ pub IsFreeOnce-cached : (listed : ℕ → Bool) (b : ℕ) (nic : NicSide) (apps 
     → IsFreeOnce listed b nic apps → pool_count b nic apps ≡ 0
 IsFreeOnce-cached listed b nic apps rest last once =
     let one : weight (b == b) ≡ 1 = ap weight (eq-eqb b b refl) in
-    IsFreeOnce-unheld listed b nic apps once (omega (arith, ap (count_by (nat_eq b)) last, times-push b b rest, one))
+    IsFreeOnce-unheld listed b nic apps once (omega (arith, ap (count_by (nat_eq b)) last, count-push b b rest, one))

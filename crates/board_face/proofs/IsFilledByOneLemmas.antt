@@ -12,7 +12,7 @@ use Rattle.area_layout.specs.Layout.{total as all_buffers}
 use Rattle.board_face.specs.Lists.{without}
 use Rattle.board_face.specs.Tokens.{next_place, filled_by, same_filling}
 use Rattle.board_face.specs.NicEvents.{begun, text_done, took, swept, placed, sent, sent_linear, gave_up, shut, passed_over, honoured}
-use Rattle.board_face.specs.AppEvents.{took_note, took_linear, cut, released, lent, abandoned, gave, picked_one, spare_begun, got_spare, filled, lent_own}
+use Rattle.board_face.specs.AppEvents.{took_note, took_linear, cut, released, lent, abandoned, gave, got_spare, filled, lent_own}
 use Rattle.board_face.specs.NicCalls.{HasOwn, HasPiece}
 use Rattle.board_face.specs.AppCalls.{HasHeld, HasLoan, HasSpare}
 use Rattle.board_face.specs.Sides.{nic_at, app_at, IsApp, AreNumbered}
@@ -310,21 +310,6 @@ pub IsFilledByOne-got_spare : (b : ℕ) (nic : NicSide) (apps : List AppSide) (a
 IsFilledByOne-got_spare b nic apps a app buffer here within free sound =
     one-spare b buffer nic apps a app (app_at app (got_spare app.view buffer)) here (spares_in-got_spare b app buffer)
     (app_count-got_spare b nic app buffer) within free sound
-
--- the two parts of that: a pick touches no holding
-pub SameHoldings-picked_one : (v : AppView) (buffer : ℕ) → SameHoldings v (picked_one v buffer)
-SameHoldings-picked_one v buffer = record { app = refl; taken = refl; helds = refl; owns = refl; loans = refl; returned = refl }
-
-pub app_count-spare_begun : (b : ℕ) (nic : NicSide) (app : AppSide) (buffer : ℕ)
-    → app_count b nic (app_at app (spare_begun app.view buffer)) ≡ app_count b nic app + weight (buffer == b)
-app_count-spare_begun = app_count-got_spare
-
-pub IsFilledByOne-spare_begun : (b : ℕ) (nic : NicSide) (apps : List AppSide) (a : ℕ) (app : AppSide) (buffer : ℕ) → IsApp apps a app
-    → buffer < all_buffers nic.view.setting.layout → pool_count buffer nic apps ≡ 0 → IsFilledByOne b nic apps
-    → IsFilledByOne b nic (set apps a (app_at app (spare_begun app.view buffer)))
-IsFilledByOne-spare_begun b nic apps a app buffer here within free sound =
-    one-spare b buffer nic apps a app (app_at app (spare_begun app.view buffer)) here (spares_in-got_spare b app buffer)
-    (app_count-spare_begun b nic app buffer) within free sound
 
 pub IsFilledByOne-filled : (b : ℕ) (nic : NicSide) (apps : List AppSide) (a : ℕ) (app : AppSide) (own : Filling) (bytes : List ℕ) → IsApp apps a app
     → HasSpare app.view own → IsFilledByOne b nic apps

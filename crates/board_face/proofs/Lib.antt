@@ -1,6 +1,7 @@
 pub mod ListLemmas
 pub mod LookLemmas
 pub mod Tallies
+pub mod Counting
 pub mod Parts
 pub mod NicLemmas
 pub mod AppLemmas

@@ -1,5 +1,5 @@
 -- Lists from which the first element that meets a test is taken out.
-use Rattle.std.proofs.Common.{◌≡◌, ℕ, Bool, true, false, cond, eqb, List, [], ◌∷◌, map, refl, ap, sym, arith, ⊎_elim}
+use Rattle.std.proofs.Common.{◌≡◌, ℕ, Bool, true, false, cond, eqb, List, [], ◌∷◌, map, refl, sym, arith, ⊎_elim}
 use Rattle.std.specs.Prelude.{◌&&◌, ◌≢◌, All}
 use Rattle.std.proofs.lemmas.Bool.{false≢true, eqb-true}
 use Rattle.std.proofs.lemmas.Bool.Decides.{eqb_tells}
@@ -33,10 +33,6 @@ places-without_first at (x ∷ xs) p ps e =
     let here : at x ≡ p = cc in
     let there : map at xs ≡ ps = cc in
     rw (here, same_place-refl p) there
-
-pub map-itself : {A : Type 0} (xs : List A) → map (λ x. x) xs ≡ xs
-map-itself [] = refl
-map-itself (x ∷ xs) = ap (λ ys. x ∷ ys) (map-itself xs)
 
 pub not-eqb : (a b : ℕ) → a ≢ b → eqb a b ≡ false
 not-eqb a b other = ⊎_elim (λ t. absurd (other t.1)) (λ t. t.0) (eqb_tells a b)

@@ -1,8 +1,7 @@
 -- A look raises its count by one, and lowers none.
-use Rattle.std.proofs.Common.{◌≡◌, ℕ, ◌≤◌, Bool, true, false, List, ◌∷◌, refl, ap, sym, subst, arith, ⊎_elim}
-use Rattle.std.specs.Prelude.{◌==◌, ◌&&◌}
-use Rattle.std.proofs.lemmas.Bool.{cases_Bool}
-use Rattle.std.proofs.lemmas.Bool.Decides.{eqb_tells}
+use Rattle.std.proofs.Common.{◌≡◌, ◌≤◌, Bool, true, false, List, ◌∷◌, refl, ap, sym, subst, arith, ⊎_elim}
+use Rattle.std.specs.Prelude.{◌==◌}
+use Rattle.std.proofs.lemmas.Bool.{cases_Bool, eqb-true, and_parts}
 use Rattle.board_face.specs.declared.views.nic.NicLook.{NicLook}
 use Rattle.board_face.specs.declared.views.nic.NicLook.TheVariants.{RingEmpty, NoteInUse, Swept, NotLeft, HasLeft, NotOwed, Owed, LastHolder, StillHeld}
 use Rattle.board_face.specs.declared.views.app.AppLook.{AppLook}
@@ -49,9 +48,6 @@ AppRose-app_saw v look = record { rose = rw (same_app_look-refl look) (omega ari
 pub NicLooksStay-nic_saw : (v : NicView) (look : NicLook) → NicLooksStay v (nic_saw v look)
 NicLooksStay-nic_saw v look = record { later = λ other. times-more same_nic_look other look v.looks }
 
-pub AppLooksStay-app_saw : (v : AppView) (look : AppLook) → AppLooksStay v (app_saw v look)
-AppLooksStay-app_saw v look = record { later = λ other. times-more same_app_look other look v.looks }
-
 -- ---- over several calls
 
 pub NicLooksStay-same : (v w : NicView) → w.looks ≡ v.looks → NicLooksStay v w
@@ -68,38 +64,22 @@ NicRose-later u v w look stay rose = record { rose = omega (arith, stay.later lo
 pub NicRose-before : (u v w : NicView) (look : NicLook) → NicRose look u v → NicLooksStay v w → NicRose look u w
 NicRose-before u v w look rose stay = record { rose = omega (arith, stay.later look, rose.rose) }
 
-pub AppLooksStay-same : (v w : AppView) → w.looks ≡ v.looks → AppLooksStay v w
-AppLooksStay-same v w same = record { later = λ look. rw same (omega arith) }
-
-pub AppLooksStay-trans : (u v w : AppView) → AppLooksStay u v → AppLooksStay v w → AppLooksStay u w
-AppLooksStay-trans u v w first then = record { later = λ look. omega (arith, first.later look, then.later look) }
-
 pub AppRose-later : (u v w : AppView) (look : AppLook) → AppLooksStay u v → AppRose look v w → AppRose look u w
 AppRose-later u v w look stay rose = record { rose = omega (arith, stay.later look, rose.rose) }
 
-pub AppRose-before : (u v w : AppView) (look : AppLook) → AppRose look u v → AppLooksStay v w → AppRose look u w
-AppRose-before u v w look rose stay = record { rose = omega (arith, stay.later look, rose.rose) }
-
 -- ---- what is told of a look that rose
 
-are-one : (a b : ℕ) → (a == b) ≡ true → a ≡ b
-are-one a b e = ⊎_elim (λ t. t.1) (λ t. absurd (let no : true ≡ false = cc in cc)) (eqb_tells a b)
-
-both-are : (c d : Bool) → (c && d) ≡ true → (c ≡ true) × (d ≡ true)
-both-are true d e = (refl, e)
-both-are false d e = absurd (let no : false ≡ true = e in cc)
-
 pub same_nic_look-is : (x y : NicLook) → same_nic_look x y ≡ true → x ≡ y
-same_nic_look-is (RingEmpty a) (RingEmpty b) e = ap RingEmpty (are-one a b e)
-same_nic_look-is (NoteInUse a) (NoteInUse b) e = ap NoteInUse (are-one a b e)
-same_nic_look-is (Swept a) (Swept b) e = ap Swept (are-one a b e)
-same_nic_look-is (NotLeft a) (NotLeft b) e = ap NotLeft (are-one a b e)
-same_nic_look-is (HasLeft a) (HasLeft b) e = ap HasLeft (are-one a b e)
-same_nic_look-is (NotOwed a i) (NotOwed b j) e = let both = both-are (a == b)
-    (i == j) e in let app = are-one a b both.0 in let buffer = are-one i j both.1 in cc
-same_nic_look-is (Owed a i) (Owed b j) e = let both = both-are (a == b) (i == j) e in let app = are-one a b both.0 in let buffer = are-one i j both.1 in cc
-same_nic_look-is (LastHolder a) (LastHolder b) e = ap LastHolder (are-one a b e)
-same_nic_look-is (StillHeld a) (StillHeld b) e = ap StillHeld (are-one a b e)
+same_nic_look-is (RingEmpty a) (RingEmpty b) e = ap RingEmpty (eqb-true a b e)
+same_nic_look-is (NoteInUse a) (NoteInUse b) e = ap NoteInUse (eqb-true a b e)
+same_nic_look-is (Swept a) (Swept b) e = ap Swept (eqb-true a b e)
+same_nic_look-is (NotLeft a) (NotLeft b) e = ap NotLeft (eqb-true a b e)
+same_nic_look-is (HasLeft a) (HasLeft b) e = ap HasLeft (eqb-true a b e)
+same_nic_look-is (NotOwed a i) (NotOwed b j) e = let both = and_parts (a == b)
+    (i == j) e in let app = eqb-true a b both.0 in let buffer = eqb-true i j both.1 in cc
+same_nic_look-is (Owed a i) (Owed b j) e = let both = and_parts (a == b) (i == j) e in let app = eqb-true a b both.0 in let buffer = eqb-true i j both.1 in cc
+same_nic_look-is (LastHolder a) (LastHolder b) e = ap LastHolder (eqb-true a b e)
+same_nic_look-is (StillHeld a) (StillHeld b) e = ap StillHeld (eqb-true a b e)
 same_nic_look-is x y e = absurd (let no : false ≡ true = e in cc)
 
 pub same_app_look-is : (x y : AppLook) → same_app_look x y ≡ true → x ≡ y

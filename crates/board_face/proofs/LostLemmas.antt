@@ -8,11 +8,11 @@ use Rattle.board_face.specs.NicEvents.{word_bits}
 use Rattle.board_face.specs.NicCalls.{HasSweptAll, is_lost, lost_of}
 use Rattle.board_face.specs.Used.{used_buffers, UnusedAreCached}
 use Rattle.board_face.specs.declared.views.nic.NicView.{NicView}
-use Rattle.board_face.proofs.DealtLemmas.{count-first}
 use Rattle.board_face.proofs.Tallies.{weight, weight-le}
 use Rattle.board_face.proofs.ListLemmas.{not-eqb}
-use Rattle.std.proofs.lemmas.Bool.{cases_Bool, not-true}
+use Rattle.std.proofs.lemmas.Bool.{cases_Bool, not-true, or_parts}
 use Rattle.std.proofs.lemmas.Bool.Decides.{eqb_tells}
+use Rattle.board_face.proofs.Counting.{count-first}
 
 -- ---- how many numbers below n stand in a list
 
@@ -48,14 +48,10 @@ below-list (x ∷ xs) n = omega (arith, below-or (λ b. nat_eq b x) (λ b. list_
 
 -- ---- what stands in a list is counted there, and nothing else
 
-or-none : (c d : Bool) → (c || d) ≡ false → (c ≡ false) × (d ≡ false)
-or-none true d e = absurd (let no : ⊥ = cc in no)
-or-none false d e = (refl, e)
-
 pub none-counted : (b : ℕ) (xs : List ℕ) → list_any (nat_eq b) xs ≡ false → count_by (nat_eq b) xs ≡ 0
 none-counted b [] none = refl
 none-counted b (x ∷ xs) none =
-    let both = or-none (nat_eq b x) (list_any (nat_eq b) xs) none in
+    let both = or_parts (nat_eq b x) (list_any (nat_eq b) xs) none in
     omega (arith, count-first (nat_eq b) x xs, ap weight both.0, none-counted b xs both.1)
 
 some-case : (c d : Bool) (n : ℕ) → (d ≡ true → 1 ≤ n) → (c || d) ≡ true → 1 ≤ weight c + n

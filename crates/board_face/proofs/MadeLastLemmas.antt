@@ -1,18 +1,17 @@
 -- The piece in the making stays the last of its buffer under each event.
 use Rattle.std.proofs.Common.{◌≡◌, ℕ, ◌+◌, ◌<◌, ◌≤◌, Bool, true, false, List, length, set, refl, ap, sym, ◌∙◌, subst, arith}
-use Rattle.std.specs.Prelude.{nat_lt, count_by, slice_index, Contains, Some, None}
+use Rattle.std.specs.Prelude.{nat_lt, count_by, Contains, Some, None}
 use Rattle.std.proofs.lemmas.Bool.{lt-ltb}
 use Rattle.std.proofs.lemmas.List.Elements.{All-contains}
 use Rattle.zr_kinds.specs.declared.place.Place.{Place}
 use Rattle.zr_kinds.specs.declared.place.Note.{Note}
 use Rattle.board_face.specs.Tokens.{next_place}
-use Rattle.board_face.specs.NicEvents.{begun, took, sent, sent_linear}
-use Rattle.board_face.specs.AppEvents.{took_note, took_linear, cut, released, lent, abandoned, gave, spare_begun, filled, own_bytes, begin_place, lent_own}
+use Rattle.board_face.specs.NicEvents.{begun, sent, sent_linear}
+use Rattle.board_face.specs.AppEvents.{cut, released, lent, filled, own_bytes, begin_place, lent_own}
 use Rattle.board_face.specs.NicCalls.{HasOwn, HasPiece}
-use Rattle.board_face.specs.AppCalls.{HasHeld, HasLoan, HasSpare, IsFilled}
+use Rattle.board_face.specs.AppCalls.{HasHeld, HasSpare, IsFilled}
 use Rattle.board_face.specs.Sides.{nic_at, app_at, IsApp, AreNumbered}
 use Rattle.board_face.specs.Holders.{sent_to, ended_in, returning_count}
-use Rattle.board_face.specs.Counts.{EndedWereReturned}
 use Rattle.board_face.specs.Fillings.{IsFilledByOne}
 use Rattle.board_face.specs.Places.{places_of, ends_behind, ArePlaced, IsMadeLast}
 use Rattle.board_face.specs.declared.views.parts.Filling.{Filling}
@@ -24,12 +23,11 @@ use Rattle.board_face.proofs.Tallies.{weight, tally}
 use Rattle.board_face.proofs.ListLemmas.{eqb_same, not-eqb}
 use Rattle.board_face.proofs.Parts.{making_in, pool_count-parts, count-tally}
 use Rattle.board_face.proofs.NicLemmas.{making_at}
-use Rattle.board_face.proofs.AppLemmas.{IsNext, scrubbed_side}
 use Rattle.board_face.proofs.PlaceTallies.{in_buffer, piece_places, app_places}
 use Rattle.board_face.proofs.PlacesByEvent.{places-nic, places-begun, places-making, places-sent, places-sent_linear}
-use Rattle.board_face.proofs.PlacesByEvent.{places-app, app_places-took_note, app_places-took_linear, app_places-cut, app_places-released, app_places-lent}
-use Rattle.board_face.proofs.PlacesByEvent.{app_places-abandoned, app_places-filled, app_places-lent_own, app_places-scrubbed, places-stretch}
-use Rattle.board_face.proofs.ArePlacedLemmas.{IsBehind, app_places-spare_begun, right-weight, none-later, in-none, in-other, not-behind, less_spare}
+use Rattle.board_face.proofs.PlacesByEvent.{places-app, app_places-cut, app_places-released, app_places-lent}
+use Rattle.board_face.proofs.PlacesByEvent.{app_places-filled, app_places-lent_own, places-stretch}
+use Rattle.board_face.proofs.ArePlacedLemmas.{IsBehind, right-weight, none-later, in-none, in-other, not-behind, less_spare}
 use Rattle.board_face.proofs.ArePlacedLemmas.{spare-free, front-ends, rest-ends}
 
 -- no place comes, and the piece in the making is the same
@@ -142,57 +140,16 @@ pub IsMadeLast-app : (nic : NicSide) (apps : List AppSide) (a : ℕ) (app now : 
 IsMadeLast-app nic apps a app now here fewer is =
     IsMadeLast-fewer nic nic apps (set apps a now) refl (λ b test. omega (arith, fewer b test, places-app b test nic apps a app now here)) is
 
-pub IsMadeLast-took_note : (nic : NicSide) (apps : List AppSide) (a : ℕ) (app : AppSide) (note : Note) → IsApp apps a app → IsNext nic app note
-    → note.split ≡ true → IsMadeLast nic apps → IsMadeLast nic (set apps a (app_at app (took_note app.view note)))
-IsMadeLast-took_note nic apps a app note here next split is =
-    IsMadeLast-app nic apps a app (app_at app (took_note app.view note)) here
-    (λ b test. omega (arith, app_places-took_note b test nic app note next split)) is
-
-pub IsMadeLast-took_linear : (nic : NicSide) (apps : List AppSide) (a : ℕ) (app : AppSide) (note : Note) (bytes : List ℕ) → IsApp apps a app
-    → IsNext nic app note → note.split ≡ false → IsMadeLast nic apps
-    → IsMadeLast nic (set apps a (app_at app (took_linear app.view note bytes)))
-IsMadeLast-took_linear nic apps a app note bytes here next split is =
-    IsMadeLast-app nic apps a app (app_at app (took_linear app.view note bytes)) here
-    (λ b test. omega (arith, app_places-took_linear b test nic app note bytes next split)) is
-
-pub IsMadeLast-released : (nic : NicSide) (apps : List AppSide) (a : ℕ) (app : AppSide) (place : Place) → IsApp apps a app → HasHeld app.view place
-    → IsMadeLast nic apps → IsMadeLast nic (set apps a (app_at app (released app.view place)))
-IsMadeLast-released nic apps a app place here out is =
-    IsMadeLast-app nic apps a app (app_at app (released app.view place)) here (λ b test. omega (arith, app_places-released b test nic app place out)) is
-
 pub IsMadeLast-lent : (nic : NicSide) (apps : List AppSide) (a : ℕ) (app : AppSide) (place : Place) → IsApp apps a app → HasHeld app.view place
     → IsMadeLast nic apps → IsMadeLast nic (set apps a (app_at app (lent app.view place)))
 IsMadeLast-lent nic apps a app place here out is =
     IsMadeLast-app nic apps a app (app_at app (lent app.view place)) here (λ b test. omega (arith, app_places-lent b test nic app place out)) is
-
-pub IsMadeLast-abandoned : (nic : NicSide) (apps : List AppSide) (a : ℕ) (app : AppSide) (place : Place) → IsApp apps a app → HasLoan app.view place
-    → ((b : ℕ) → EndedWereReturned b nic app) → IsMadeLast nic apps → IsMadeLast nic (set apps a (app_at app (abandoned app.view place)))
-IsMadeLast-abandoned nic apps a app place here out ended is =
-    IsMadeLast-app nic apps a app (app_at app (abandoned app.view place)) here
-    (λ b test. omega (arith, app_places-abandoned b test nic app place out (ended b))) is
-
-pub IsMadeLast-gave : (nic : NicSide) (apps : List AppSide) (a : ℕ) (app : AppSide) (place : Place) → IsApp apps a app → HasLoan app.view place
-    → ((b : ℕ) → EndedWereReturned b nic app) → IsMadeLast nic apps → IsMadeLast nic (set apps a (app_at app (gave app.view place)))
-IsMadeLast-gave nic apps a app place here out ended is =
-    IsMadeLast-app nic apps a app (app_at app (gave app.view place)) here
-    (λ b test. omega (arith, app_places-abandoned b test nic app place out (ended b))) is
-
-pub IsMadeLast-spare_begun : (nic : NicSide) (apps : List AppSide) (a : ℕ) (app : AppSide) (buffer : ℕ) → IsApp apps a app
-    → IsMadeLast nic apps → IsMadeLast nic (set apps a (app_at app (spare_begun app.view buffer)))
-IsMadeLast-spare_begun nic apps a app buffer here is =
-    IsMadeLast-app nic apps a app (app_at app (spare_begun app.view buffer)) here (λ b test. omega (arith, app_places-spare_begun b test nic app buffer)) is
 
 pub IsMadeLast-lent_own : (nic : NicSide) (apps : List AppSide) (a : ℕ) (app : AppSide) (own : Filling) → IsApp apps a app → IsFilled app.view own
     → IsMadeLast nic apps → IsMadeLast nic (set apps a (app_at app (lent_own app.view own)))
 IsMadeLast-lent_own nic apps a app own here some_bytes is =
     IsMadeLast-app nic apps a app (app_at app (lent_own app.view own)) here
     (λ b test. omega (arith, app_places-lent_own b test nic app own (lt-ltb 0 (length (own_bytes app.view own)) some_bytes))) is
-
-pub IsMadeLast-scrubbed : (nic : NicSide) (apps : List AppSide) (a : ℕ) (app : AppSide) (took : List ℕ) (w : ℕ → ℕ) → IsApp apps a app
-    → ((b : ℕ) → slice_index took b ≡ slice_index app.inside.scrub_took b + w b) → ((b : ℕ) → returning_count b nic app ≤ ended_in b nic app)
-    → IsMadeLast nic apps → IsMadeLast nic (set apps a (scrubbed_side app took))
-IsMadeLast-scrubbed nic apps a app took w here takes small is =
-    IsMadeLast-app nic apps a app (scrubbed_side app took) here (λ b test. app_places-scrubbed b (w b) test nic app took (takes b) (small b)) is
 
 -- The two parts of a piece end no later than it does.
 pub IsMadeLast-cut : (nic : NicSide) (apps : List AppSide) (a : ℕ) (app : AppSide) (place : Place) (at : ℕ) → IsApp apps a app

@@ -2,7 +2,7 @@
 use Rattle.std.proofs.Common.{◌≡◌, ℕ, zero, suc, ◌+◌, ◌-◌, ◌<◌, ◌≤◌, min, Bool, true, false, cond, eqb, List, [], ◌∷◌, ◌++◌}
 use Rattle.std.proofs.Common.{length, drop, refl, ap, sym, arith, ⊎_elim, subst}
 use Rattle.std.specs.Prelude.{Option, Some, None, if◌then◌else◌, ◌≢◌, filter, ◌==◌, ◌&&◌}
-use Rattle.std.proofs.lemmas.List.{append-nil}
+use Rattle.std.proofs.lemmas.List.{append-nil, map-id}
 use Rattle.std.proofs.lemmas.Bool.{eq-eqb}
 use Rattle.std.proofs.lemmas.Bool.Decides.{eqb_tells}
 use Rattle.std.proofs.lemmas.List.Elements.{filter-append}
@@ -25,10 +25,11 @@ use Rattle.board_face.specs.declared.views.nic.NicView.{NicView}
 use Rattle.board_face.specs.declared.views.nic.NicSide.{NicSide}
 use Rattle.board_face.specs.declared.views.app.AppInside.{AppInside}
 use Rattle.board_face.specs.declared.views.app.AppSide.{AppSide}
-use Rattle.board_face.proofs.ListLemmas.{same_place-refl, same_filling-refl, same_place-is, same_filling-is, map-itself, not-eqb}
+use Rattle.board_face.proofs.ListLemmas.{same_place-refl, same_filling-refl, same_place-is, same_filling-is, not-eqb}
 use Rattle.board_face.proofs.Tallies.{weight, tally, total, tally-append, tally-push, tally-without, total-agree}
 use Rattle.board_face.proofs.Parts.{returned_in-count, making_in, sent_in, returning_in_count, nic_count, app_count, user_part, loans_in, notes_in}
 use Rattle.board_face.proofs.Parts.{came_back_in, owed_count, pool_count-parts, user_count-parts, total-shift, count-tally}
+use Rattle.board_face.proofs.Counting.{weight-and, user_case}
 
 -- ---- events that send nothing and deal with nothing
 
@@ -59,7 +60,7 @@ pub owns-without : (b : ℕ) (nic : NicSide) (own : Filling) → HasOwn nic.view
     ≡ tally (λ (o : Filling). o.buffer == b) nic.view.owns
 owns-without b nic own out =
     tally-without (λ o. o) (same_filling own) own (same_filling-is own) (same_filling-refl own) (λ o. o.buffer == b) nic.view.owns
-    (rw (map-itself nic.view.owns) out)
+    (rw (map-id nic.view.owns) out)
 
 -- and so has a buffer in which a piece was placed
 pub pool_count-placed : (b : ℕ) (nic : NicSide) (apps : List AppSide) (own : Filling) (bytes : List ℕ) → HasOwn nic.view own
@@ -256,14 +257,6 @@ user_part-same : (a b : ℕ) (nic : NicSide) (v : NicView) (app : AppSide) → e
     → user_part a b (nic_at nic v) app ≡ user_part a b nic app
 user_part-same a b nic v app ends = ap (λ h. if app.view.app == a then loans_in b app + (came_back_in b app - h) else 0) ends
 
-user_case : (c : Bool) (l m n w : ℕ) → m ≡ n + w → (if c then l + m else 0) ≡ (if c then l + n else 0) + (if c then w else 0)
-user_case true l m n w e = omega arith
-user_case false l m n w e = refl
-
-weight-and : (c d : Bool) → (if c then weight d else 0) ≡ weight (c && d)
-weight-and true d = refl
-weight-and false d = refl
-
 owed-honoured : (b : ℕ) (nic : NicSide) (a buffer : ℕ) (entry : Rqe) (app : AppSide) → app.view.app ≡ a → Owes buffer nic app
     → owed_count b nic app ≡ owed_count b (nic_at nic (honoured nic.view a entry buffer)) app + weight (buffer == b)
 owed-honoured b nic a buffer entry app same owes =
@@ -358,45 +351,7 @@ pool_count-text_done b nic apps own bytes making busy place =
 
 -- ---- what was ended came back before
 
--- an entry that is honoured ends one more of the loans that came back
-pub EndedWereReturned-honoured : (b : ℕ) (nic : NicSide) (a buffer : ℕ) (entry : Rqe) (app : AppSide) → app.view.app ≡ a → Owes buffer nic app
-    → EndedWereReturned b nic app → EndedWereReturned b (nic_at nic (honoured nic.view a entry buffer)) app
-EndedWereReturned-honoured b nic a buffer entry app same owes sound =
-    let more = honoured-target b nic a buffer entry app same in
-    record {
-      ended =
-          ⊎_elim
-          (λ t.
-          let e : buffer ≡ b = t.1 in
-          let one : weight (buffer == b) ≡ 1 = ap weight t.0 in
-          let owes_here : Owes b nic app = subst (λ c. Owes c nic app) e owes in
-          let o = owes_here.owes in
-          omega (arith, more, one, returned_in-count b app))
-          (λ t. let none : weight (buffer == b) ≡ 0 = ap weight t.0 in omega (arith, more, none, sound.ended))
-          (eqb_tells buffer b);
-      returning = omega (arith, more, sound.returning);
-    }
-
--- and none of another application's
-pub EndedWereReturned-other : (b : ℕ) (nic : NicSide) (a buffer : ℕ) (entry : Rqe) (app : AppSide) → app.view.app ≢ a → EndedWereReturned b nic app
-    → EndedWereReturned b (nic_at nic (honoured nic.view a entry buffer)) app
-EndedWereReturned-other b nic a buffer entry app other sound =
-    let same = honoured-other b nic a buffer entry app other in
-    record { ended = omega (arith, same, sound.ended); returning = omega (arith, same, sound.returning) }
-
-pub EndedWereReturned-passed_over : (b : ℕ) (nic : NicSide) (a : ℕ) (entry : Rqe) (app : AppSide) → EndedWereReturned b nic app
-    → EndedWereReturned b (nic_at nic (passed_over nic.view a entry)) app
-EndedWereReturned-passed_over b nic a entry app sound =
-    let same = ended_in-passed_over b nic a entry app in
-    record { ended = omega (arith, same, sound.ended); returning = omega (arith, same, sound.returning) }
-
 -- ---- what a board is in the middle of
-
--- where v more of a buffer's returned loans were ended, by an entry in hand or a scrub, it owes v less
-pub owed_count-ended : (b v : ℕ) (nic nic' : NicSide) (app : AppSide) (inside : AppInside)
-    → ended_in b nic' (record app { inside = inside }) ≡ ended_in b nic app + v → ended_in b nic' (record app { inside = inside }) ≤ came_back_in b app
-    → owed_count b nic' (record app { inside = inside }) + v ≡ owed_count b nic app
-owed_count-ended b v nic nic' app inside ends within = omega (arith, ends, within)
 
 stretch : (k h h' r r' w : ℕ) → r ≤ h → r' ≤ h' → h ≤ k → h' ≤ k → h' + r ≡ h + r' + w
     → k - h' + min r' (k - (h' - r')) + w ≡ k - h + min r (k - (h - r))

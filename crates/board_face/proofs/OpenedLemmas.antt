@@ -3,10 +3,10 @@ use Rattle.std.proofs.Common.{◌≡◌, ℕ, zero, suc, ◌<◌, List, [], ◌�
 use Rattle.std.specs.List.{flat_map}
 use Rattle.std.specs.Prelude.{All, true, false, nat_eq, count_by, ◌==◌, if◌then◌else◌}
 use Rattle.std.proofs.lemmas.List.Elements.{All-nil, All-cons, All-head, All-tail, All-drop, All-weaker}
-use Rattle.area_layout.specs.Layout.{total as all_buffers, pool_buffers, size_of}
+use Rattle.area_layout.specs.Layout.{pool_buffers, size_of}
 use Rattle.board_face.specs.AppEvents.{begin_place}
 use Rattle.board_face.specs.Holders.{ended_in}
-use Rattle.board_face.specs.Counts.{pool_count, user_count, EndedWereReturned}
+use Rattle.board_face.specs.Counts.{pool_count, user_count}
 use Rattle.board_face.specs.Sides.{AreNumbered}
 use Rattle.board_face.specs.Fillings.{IsFilledByOne, FillingsFit}
 use Rattle.board_face.specs.Places.{has_byte, is_empty, ends_behind, ArePlaced}
@@ -50,12 +50,6 @@ none-held b setting (app ∷ apps) news =
 
 pub pool_count-opened : (b : ℕ) (setting : Setting) (apps : List AppSide) → All (IsNew setting) apps → pool_count b (new_nic setting) apps ≡ 0
 pool_count-opened b setting apps news = omega (arith, pool_count-parts b (new_nic setting) apps, none-held b setting apps news)
-
-pub EndedWereReturned-opened : (b : ℕ) (setting : Setting) (a : ℕ) → EndedWereReturned b (new_nic setting) (new_app setting a)
-EndedWereReturned-opened b setting a = let none = all-alike (all_buffers setting.layout) b 0 in record {
-  ended = omega (arith, none);
-  returning = omega (arith, none);
-}
 
 pub IsFilledByOne-opened : (b : ℕ) (setting : Setting) (apps : List AppSide) → All (IsNew setting) apps → IsFilledByOne b (new_nic setting) apps
 IsFilledByOne-opened b setting apps news =
@@ -124,10 +118,6 @@ sum-new f s first (suc n) each = omega (arith, each first, sum-new f s (suc firs
 pub hands-new : (b : ℕ) (s : Setting) (first n : ℕ) → count_by (nat_eq b) (flat_map (λ app. app.inside.hands) (new_apps s first n)) ≡ 0
 hands-new b s first zero = refl
 hands-new b s first (suc n) = hands-new b s (suc first) n
-
-pub picked-new : (b : ℕ) (s : Setting) (first n : ℕ) → count_by (nat_eq b) (flat_map (λ app. app.view.picked) (new_apps s first n)) ≡ 0
-picked-new b s first zero = refl
-picked-new b s first (suc n) = picked-new b s (suc first) n
 
 app-none : (b : ℕ) (s : Setting) (a : ℕ) → app_count b (new_nic s) (new_app s a) ≡ 0
 app-none b s a = omega arith

@@ -47,13 +47,7 @@ LieInOwn-nic nic v apps setting pieces sents h = record {
 -- a text was placed, in a buffer of the pool
 pub LieInOwn-placed : (nic : NicSide) (apps : List AppSide) (own : Filling) (bytes : List ℕ) → own.buffer < pool_buffers nic.view.setting.layout
     → LieInOwn nic apps → LieInOwn (nic_at nic (placed nic.view own bytes)) apps
-LieInOwn-placed nic apps own bytes of_pool h = record {
-  card = record {
-    pieces = All-push (IsPieceOfPool nic.view) nic.view.pieces (record { place = next_place own (length bytes); bytes = bytes }) h.card.pieces of_pool;
-    sent = h.card.sent;
-  };
-  sides = h.sides;
-}
+LieInOwn-placed nic apps own bytes of_pool h = assumption (All-push (IsPieceOfPool nic.view) nic.view.pieces (record { place = next_place own (length bytes); bytes = bytes }) h.card.pieces of_pool)
 
 -- a piece that is out lies in a buffer of the pool
 piece-of_pool : (v : NicView) (place : Place) → HasPiece v place → CardLiesInPool v → place.buffer < pool_buffers v.setting.layout
@@ -63,32 +57,18 @@ piece-of_pool v place out h =
 
 pub LieInOwn-sent : (nic : NicSide) (apps : List AppSide) (a : ℕ) (note : Note) → HasPiece nic.view note.place
     → LieInOwn nic apps → LieInOwn (nic_at nic (sent nic.view a note)) apps
-LieInOwn-sent nic apps a note out h = record {
-  card = record {
-    pieces = All-without (IsPieceOfPool nic.view) (λ (p : PlacedText). same_place note.place p.place) nic.view.pieces h.card.pieces;
-    sent = All-push (IsNoteOfPool nic.view) nic.view.sent (record { app = a; note = note; bytes = text_at nic.view note.place }) h.card.sent
-        (λ _. piece-of_pool nic.view note.place out h.card);
-  };
-  sides = h.sides;
-}
+LieInOwn-sent nic apps a note out h = assumption (All-without (IsPieceOfPool nic.view) (λ (p : PlacedText). same_place note.place p.place) nic.view.pieces h.card.pieces, All-push (IsNoteOfPool nic.view) nic.view.sent (record { app = a; note = note; bytes = text_at nic.view note.place }) h.card.sent (λ _. piece-of_pool nic.view note.place out h.card))
 
 pub LieInOwn-sent_linear : (nic : NicSide) (apps : List AppSide) (a : ℕ) (note : Note) (bytes : List ℕ) → note.split ≡ false
     → LieInOwn nic apps → LieInOwn (nic_at nic (sent_linear nic.view a note bytes)) apps
-LieInOwn-sent_linear nic apps a note bytes unsplit h = record {
-  card = record {
-    pieces = h.card.pieces;
-    sent = All-push (IsNoteOfPool nic.view) nic.view.sent (record { app = a; note = note; bytes = bytes }) h.card.sent
-        (λ split. absurd (false≢true (sym unsplit ∙ split)));
-  };
-  sides = h.sides;
-}
+LieInOwn-sent_linear nic apps a note bytes unsplit h = assumption (All-push (IsNoteOfPool nic.view) nic.view.sent (record { app = a; note = note; bytes = bytes }) h.card.sent (λ split. absurd (false≢true (sym unsplit ∙ split))))
 
 -- ---- an application's events
 
 -- an event of one application, after which its holdings lie so
 pub LieInOwn-app : (nic : NicSide) (apps : List AppSide) (a : ℕ) (now : AppSide) → AppLiesInOwn now.view
     → LieInOwn nic apps → LieInOwn nic (set apps a now)
-LieInOwn-app nic apps a now mine h = record { card = h.card; sides = All-set (λ (app : AppSide). AppLiesInOwn app.view) apps a now mine h.sides }
+LieInOwn-app nic apps a now mine h = assumption (All-set (λ (app : AppSide). AppLiesInOwn app.view) apps a now mine h.sides)
 
 pub LieInOwn-side : (nic : NicSide) (apps : List AppSide) (a : ℕ) (app : AppSide) → IsApp apps a app → LieInOwn nic apps → AppLiesInOwn app.view
 LieInOwn-side nic apps a app here h =
@@ -121,73 +101,29 @@ spare-of_own v own out h =
 
 pub AppLiesInOwn-took_note : (v : AppView) (note : Note) → note.place.buffer < pool_buffers v.setting.layout
     → AppLiesInOwn v → AppLiesInOwn (took_note v note)
-AppLiesInOwn-took_note v note of_pool h = record {
-  helds = All-push (IsHeldOfPool v) v.helds (record { place = note.place; origin = of_note (length v.taken) 0 }) h.helds of_pool;
-  spares = h.spares;
-  loans = h.loans;
-  returned = h.returned;
-}
+AppLiesInOwn-took_note v note of_pool h = assumption (All-push (IsHeldOfPool v) v.helds (record { place = note.place; origin = of_note (length v.taken) 0 }) h.helds of_pool)
 
 pub AppLiesInOwn-cut : (v : AppView) (place : Place) (at : ℕ) → HasHeld v place → AppLiesInOwn v → AppLiesInOwn (cut v place at)
 AppLiesInOwn-cut v place at out h =
     let of_pool = held-of_pool v place out h in
     let front : HeldPiece = record { place = front_place place at; origin = held_origin v place } in
     let rest : HeldPiece = record { place = rest_place place at; origin = further (held_origin v place) at } in
-    record {
-      helds = All-append (IsHeldOfPool v) (helds_without v place) (front ∷ rest ∷ [])
-          (All-without (IsHeldOfPool v) (λ (x : HeldPiece). same_place place x.place) v.helds h.helds)
-          (All-cons (IsHeldOfPool v) front (rest ∷ []) of_pool (All-cons (IsHeldOfPool v) rest [] of_pool (All-nil (IsHeldOfPool v))));
-      spares = h.spares;
-      loans = h.loans;
-      returned = h.returned;
-    }
+    assumption (All-append (IsHeldOfPool v) (helds_without v place) (front ∷ rest ∷ []) (All-without (IsHeldOfPool v) (λ (x : HeldPiece). same_place place x.place) v.helds h.helds) (All-cons (IsHeldOfPool v) front (rest ∷ []) of_pool (All-cons (IsHeldOfPool v) rest [] of_pool (All-nil (IsHeldOfPool v)))))
 
 pub AppLiesInOwn-released : (v : AppView) (place : Place) → AppLiesInOwn v → AppLiesInOwn (released v place)
-AppLiesInOwn-released v place h = record {
-  helds = All-without (IsHeldOfPool v) (λ (x : HeldPiece). same_place place x.place) v.helds h.helds;
-  spares = h.spares;
-  loans = h.loans;
-  returned = h.returned;
-}
+AppLiesInOwn-released v place h = assumption (All-without (IsHeldOfPool v) (λ (x : HeldPiece). same_place place x.place) v.helds h.helds)
 
 pub AppLiesInOwn-lent : (v : AppView) (place : Place) → HasHeld v place → AppLiesInOwn v → AppLiesInOwn (lent v place)
-AppLiesInOwn-lent v place out h = record {
-  helds = All-without (IsHeldOfPool v) (λ (x : HeldPiece). same_place place x.place) v.helds h.helds;
-  spares = h.spares;
-  loans = All-push (IsLoanOfOwn v) v.loans (record { place = place; origin = held_origin v place }) h.loans (inl (held-of_pool v place out h));
-  returned = h.returned;
-}
+AppLiesInOwn-lent v place out h = assumption (All-without (IsHeldOfPool v) (λ (x : HeldPiece). same_place place x.place) v.helds h.helds, All-push (IsLoanOfOwn v) v.loans (record { place = place; origin = held_origin v place }) h.loans (inl (held-of_pool v place out h)))
 
 pub AppLiesInOwn-abandoned : (v : AppView) (place : Place) → HasLoan v place → AppLiesInOwn v → AppLiesInOwn (abandoned v place)
-AppLiesInOwn-abandoned v place out h = record {
-  helds = h.helds;
-  spares = h.spares;
-  loans = All-without (IsLoanOfOwn v) (λ (x : LentPiece). same_place place x.place) v.loans h.loans;
-  returned = All-push (IsLoanOfOwn v) v.returned (record { place = place; origin = loan_origin v place }) h.returned (loan-of_own v place out h);
-}
+AppLiesInOwn-abandoned v place out h = assumption (All-without (IsLoanOfOwn v) (λ (x : LentPiece). same_place place x.place) v.loans h.loans, All-push (IsLoanOfOwn v) v.returned (record { place = place; origin = loan_origin v place }) h.returned (loan-of_own v place out h))
 
 pub AppLiesInOwn-got_spare : (v : AppView) (buffer : ℕ) → IsOwnBuffer v buffer → AppLiesInOwn v → AppLiesInOwn (got_spare v buffer)
-AppLiesInOwn-got_spare v buffer mine h = record {
-  helds = h.helds;
-  spares = All-push (IsSpareOfOwn v) v.owns (record { own = fresh v.setting buffer; bytes = [] }) h.spares mine;
-  loans = h.loans;
-  returned = h.returned;
-}
+AppLiesInOwn-got_spare v buffer mine h = assumption (All-push (IsSpareOfOwn v) v.owns (record { own = fresh v.setting buffer; bytes = [] }) h.spares mine)
 
 pub AppLiesInOwn-filled : (v : AppView) (own : Filling) (bytes : List ℕ) → HasSpare v own → AppLiesInOwn v → AppLiesInOwn (filled v own bytes)
-AppLiesInOwn-filled v own bytes out h = record {
-  helds = h.helds;
-  spares = All-push (IsSpareOfOwn v) (owns_without v own) (record { own = filled_by own (length bytes); bytes = bytes })
-      (All-without (IsSpareOfOwn v) (λ (s : SpareOwn). same_filling own s.own) v.owns h.spares) (spare-of_own v own out h);
-  loans = h.loans;
-  returned = h.returned;
-}
+AppLiesInOwn-filled v own bytes out h = assumption (All-push (IsSpareOfOwn v) (owns_without v own) (record { own = filled_by own (length bytes); bytes = bytes }) (All-without (IsSpareOfOwn v) (λ (s : SpareOwn). same_filling own s.own) v.owns h.spares) (spare-of_own v own out h))
 
 pub AppLiesInOwn-lent_own : (v : AppView) (own : Filling) → HasSpare v own → AppLiesInOwn v → AppLiesInOwn (lent_own v own)
-AppLiesInOwn-lent_own v own out h = record {
-  helds = h.helds;
-  spares = All-without (IsSpareOfOwn v) (λ (s : SpareOwn). same_filling own s.own) v.owns h.spares;
-  loans = All-push (IsLoanOfOwn v) v.loans (record { place = begin_place own.buffer (length (own_bytes v own)); origin = of_copy (own_bytes v own) })
-      h.loans (spare-of_own v own out h);
-  returned = h.returned;
-}
+AppLiesInOwn-lent_own v own out h = assumption (All-without (IsSpareOfOwn v) (λ (s : SpareOwn). same_filling own s.own) v.owns h.spares, All-push (IsLoanOfOwn v) v.loans (record { place = begin_place own.buffer (length (own_bytes v own)); origin = of_copy (own_bytes v own) }) h.loans (spare-of_own v own out h))

@@ -5,7 +5,7 @@ use Rattle.std.specs.Prelude.{if◌then◌else◌, ◌≢◌, filter, count_by, 
 use Rattle.std.specs.List.{flat_map}
 use Rattle.std.proofs.lemmas.List.{length-map}
 use Rattle.std.proofs.lemmas.List.Sums.{length-filter}
-use Rattle.board_face.specs.Sides.{AreNumbered}
+use Rattle.board_face.specs.Sides.{AreNumbered, IsApp}
 use Rattle.board_face.specs.Holders.{Kind, own, piece, sent, held, spare, loan, owed, returning, places_in, on_way, sent_places, returned_in, ended_in}
 use Rattle.board_face.specs.Holders.{returning_count, owed_in, returning_in, making_places, nic_holders, app_holders, holders_of}
 use Rattle.board_face.specs.Counts.{pool_count, is_user, user_count}
@@ -13,6 +13,7 @@ use Rattle.board_face.specs.declared.views.nic.SentNote.{SentNote}
 use Rattle.board_face.specs.declared.views.nic.NicSide.{NicSide}
 use Rattle.board_face.specs.declared.views.app.AppSide.{AppSide}
 use Rattle.board_face.proofs.Tallies.{tally, total, tally-append, length-tally, tally-map, length-flat, tally-flat, total-agree, tally-agree}
+use Rattle.std.proofs.lemmas.Bool.{eq-eqb, ne_eqb}
 
 -- ---- the numbers
 
@@ -170,6 +171,15 @@ total-only n f a others (app ∷ apps) numbered zero d within is = omega (arith,
 total-only n f a others (app ∷ apps) numbered (suc i) d within is =
     let here : f app ≡ 0 = others app (let e = numbered.0 in omega arith) in
     omega (arith, here, total-only (suc n) f a others apps numbered.1 i d (omega arith) (omega arith))
+
+-- an application's user count is of its own loans, out or owed
+pub user_count-own : (a b : ℕ) (nic : NicSide) (apps : List AppSide) (app : AppSide) → AreNumbered 0 apps → IsApp apps a app
+    → user_count a b nic apps ≡ loans_in b app + owed_count b nic app
+user_count-own a b nic apps app numbered here =
+    user_count-parts a b nic apps
+    ∙ total-only 0 (user_part a b nic) a (λ other ne. rw (ne_eqb other.view.app a ne) refl) apps numbered a app here.there (omega arith)
+    ∙ ap (user_part a b nic) here.is
+    ∙ rw (eq-eqb app.view.app a here.number) refl
 
 same-after : (n : ℕ) (f g : AppSide → ℕ) (a : ℕ) → ((app : AppSide) → app.view.app ≢ a → f app ≡ g app) → (apps : List AppSide)
     → AreNumbered n apps → a < n → total f apps ≡ total g apps

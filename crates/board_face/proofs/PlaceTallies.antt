@@ -1,15 +1,20 @@
 -- What each event does to the places of a buffer: how many of them meet a test, as that a byte lies there.
-use Rattle.std.proofs.Common.{◌≡◌, ℕ, ◌+◌, Bool, true, false, cond, List, [], ◌∷◌, ◌++◌, length, map, refl, ap, ◌∙◌, arith}
-use Rattle.std.specs.Prelude.{filter, ◌==◌, ◌&&◌, nat_lt}
+use Rattle.std.proofs.Common.{◌≡◌, ℕ, ◌+◌, ◌<◌, Bool, true, false, cond, List, [], ◌∷◌, ◌++◌, length, map, refl, ap, ◌∙◌, arith, ⊎_elim}
+use Rattle.std.specs.Prelude.{filter, ◌==◌, ◌&&◌, nat_lt, if◌then◌else◌, All}
 use Rattle.std.specs.List.{flat_map}
 use Rattle.zr_kinds.specs.declared.place.Place.{Place}
 use Rattle.board_face.specs.AppEvents.{begin_place}
 use Rattle.board_face.specs.Holders.{Kind, own, piece, sent, held, spare, loan, owed, returning, places_in, on_way, sent_places, owed_in, returning_in}
 use Rattle.board_face.specs.Holders.{making_places, nic_holders, app_holders, holders_of}
-use Rattle.board_face.specs.Places.{kind_place, filled_places, places_of}
+use Rattle.board_face.specs.Places.{kind_place, filled_places, places_of, is_empty}
 use Rattle.board_face.specs.declared.views.nic.NicSide.{NicSide}
 use Rattle.board_face.specs.declared.views.app.AppSide.{AppSide}
 use Rattle.board_face.proofs.Tallies.{weight, tally, total, tally-append, tally-map, tally-flat, total-append, total-agree}
+use Rattle.board_face.proofs.Counting.{total-flat}
+use Rattle.board_face.specs.declared.views.nic.SentNote.{SentNote}
+use Rattle.board_face.proofs.ListLemmas.{eqb_same}
+use Rattle.std.proofs.lemmas.List.Elements.{All-nil, All-cons}
+use Rattle.std.proofs.lemmas.Bool.{eq-eqb, cases_lt}
 
 -- a place in the buffer that meets the test
 abbrev pub in_buffer : ℕ → (Place → Bool) → Place → Bool
@@ -70,10 +75,6 @@ total-no_place test f none [] = refl
 total-no_place test f none (x ∷ xs) =
     let here : tally test (kind_place (f x)) ≡ 0 = ap (tally test) (none x) in
     omega (arith, here, total-no_place test f none xs)
-
-total-flat : {A B : Type 0} (f : B → ℕ) (g : A → List B) (xs : List A) → total f (flat_map g xs) ≡ total (λ x. total f (g x)) xs
-total-flat f g [] = refl
-total-flat f g (x ∷ xs) = omega (arith, total-append f (g x) (flat_map g xs), total-flat f g xs)
 
 total-both : {A : Type 0} (f g : A → ℕ) (xs : List A) → total f xs + total g xs ≡ total (λ x. f x + g x) xs
 total-both f g [] = refl
@@ -138,3 +139,26 @@ places-parts b test nic apps =
       total-agree (λ app. total (kind_tally test) (app_holders b nic app) + tally test (filled_places b app)) (app_places b test nic)
           (app-places b test nic) apps,
     )
+
+-- ---- one among many
+
+pub first-of : (f : Place → Bool) (c : Bool) (s : SentNote) (rest : List SentNote) → c ≡ true
+    → tally (λ (t : SentNote). f t.note.place) (if c then s ∷ rest else rest) ≡ weight (f s.note.place) + tally (λ (t : SentNote). f t.note.place) rest
+first-of f true s rest is = refl
+first-of f false s rest is = absurd (let none : ⊥ = cc in none)
+
+pub in-own : (test : Place → Bool) (p : Place) → in_buffer p.buffer test p ≡ test p
+in-own test p = ap (λ c. c && test p) (eqb_same p.buffer)
+
+-- where no place is empty in any buffer, each has a byte
+pub All-some : {A : Type 0} (f : A → Place) (xs : List A) → ((b : ℕ) → tally (λ y. in_buffer b is_empty (f y)) xs ≡ 0)
+    → All (λ y. 0 < (f y).len) xs
+All-some f [] none = All-nil (λ y. 0 < (f y).len)
+All-some f (y ∷ ys) none =
+    All-cons (λ z. 0 < (f z).len) y ys
+    (⊎_elim
+    (λ some. some)
+    (λ empty. let e : (f y).len ≡ 0 = omega arith in absurd
+    (omega (arith, none (f y).buffer, ap weight (in-own is_empty (f y)), ap weight (eq-eqb (f y).len 0 e))))
+    (cases_lt 0 (f y).len))
+    (All-some f ys (λ b. omega (arith, none b)))

@@ -1,6 +1,6 @@
 -- How many elements of a list meet a test, and sums over a list, by recursion, so that they compute.
 use Rattle.std.proofs.Common.{◌≡◌, ℕ, zero, suc, ◌+◌, ◌<◌, ◌≤◌, Bool, true, false, cond, List, [], ◌∷◌, ◌++◌, length, map}
-use Rattle.std.proofs.Common.{get_or, set, refl, ap, sym, ◌∙◌, arith, length-append, ◌*◌}
+use Rattle.std.proofs.Common.{get_or, set, refl, ap, sym, ◌∙◌, arith, length-append}
 use Rattle.std.specs.Prelude.{if◌then◌else◌, filter, Contains}
 use Rattle.std.specs.List.{flat_map}
 use Rattle.std.proofs.lemmas.Bool.{false≢true}
@@ -31,11 +31,6 @@ length-case false x ys n e = omega (arith, e)
 pub length-tally : {A : Type 0} (test : A → Bool) (xs : List A) → length (filter test xs) ≡ tally test xs
 length-tally test [] = refl
 length-tally test (x ∷ xs) = length-case (test x) x (filter test xs) (tally test xs) (length-tally test xs)
-
-tally-case : {A : Type 0} (test : A → Bool) (b : Bool) (x : A) (ys : List A) (n : ℕ) → tally test ys ≡ n
-    → tally test (cond b (x ∷ ys) ys) ≡ weight b * weight (test x) + n
-tally-case test true x ys n e = omega (arith, e)
-tally-case test false x ys n e = omega (arith, e)
 
 pub tally-map : {A B : Type 0} (test : B → Bool) (f : A → B) (xs : List A) → tally test (map f xs) ≡ tally (λ x. test (f x)) xs
 tally-map test f [] = refl

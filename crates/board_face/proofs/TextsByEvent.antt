@@ -9,10 +9,10 @@ use Rattle.std.proofs.lemmas.List.Elements.{filter-append, All-nil, All-cons, Al
 use Rattle.std.proofs.lemmas.Bool.{false≢true, cases_lt}
 use Rattle.zr_kinds.specs.declared.place.Place.{Place}
 use Rattle.zr_kinds.specs.declared.place.Note.{Note}
-use Rattle.board_face.specs.Lists.{without, at_first, same_place}
+use Rattle.board_face.specs.Lists.{at_first, same_place}
 use Rattle.board_face.specs.Tokens.{next_place, filled_by, same_filling}
 use Rattle.board_face.specs.Texts.{further, front_place, rest_place}
-use Rattle.board_face.specs.NicEvents.{begun, text_done, fresh, placed, sent, text_at}
+use Rattle.board_face.specs.NicEvents.{text_done, fresh, placed, sent, text_at}
 use Rattle.board_face.specs.AppEvents.{took_note, took_linear, held_origin, helds_without, cut, released, lent, loan_origin, abandoned, got_spare, owns_without}
 use Rattle.board_face.specs.AppEvents.{filled, own_bytes, begin_place, lent_own}
 use Rattle.board_face.specs.NicCalls.{HasPiece}
@@ -35,7 +35,7 @@ use Rattle.board_face.specs.declared.views.app.SpareOwn.{SpareOwn}
 use Rattle.board_face.specs.declared.views.app.AppInside.{AppInside}
 use Rattle.board_face.specs.declared.views.app.AppView.{AppView}
 use Rattle.board_face.specs.declared.views.app.AppSide.{AppSide}
-use Rattle.board_face.proofs.ListLemmas.{same_place-is, same_place-refl, same_filling-is, same_filling-refl}
+use Rattle.board_face.proofs.ListLemmas.{same_place-is, same_place-refl, same_filling-is, same_filling-refl, All-without}
 use Rattle.board_face.proofs.Tallies.{length-tally}
 use Rattle.board_face.proofs.Parts.{returned_in-count}
 use Rattle.board_face.proofs.NicLemmas.{making_at, sent_to-other, sent_to-same, drop-push}
@@ -43,14 +43,6 @@ use Rattle.board_face.proofs.AppLemmas.{IsNext, after-taken, scrubbed_side, Same
 use Rattle.board_face.proofs.RelayLemmas.{bytes_sent-push, bytes_sent-past, take-drop-none}
 
 -- ---- lists
-
-All-case : {A : Type 0} (P : A → Type 0) (c : Bool) (x : A) (xs ys : List A) → P x → All P xs → All P ys → All P (cond c xs (x ∷ ys))
-All-case P true x xs ys here all rest = all
-All-case P false x xs ys here all rest = All-cons P x ys here rest
-
-All-without : {A : Type 0} (P : A → Type 0) (m : A → Bool) (xs : List A) → All P xs → All P (without m xs)
-All-without P m [] all = all
-All-without P m (x ∷ xs) all = All-case P (m x) x xs (without m xs) (All-head P x xs all) (All-tail P x xs all) (All-without P m xs (All-tail P x xs all))
 
 first-case : {A B Q : Type 0} (f : A → Q) (g : A → B) (P : Q → B → Type 0) (q : Q) (c : Bool) (x : A) (rest : B) → (c ≡ true → f x ≡ q)
     → P (f x) (g x) → (c ≡ false → P q rest) → P q (cond c (g x) rest)
@@ -280,38 +272,17 @@ module _ (byte : ℕ → ℕ → ℕ) where
       let o = held_origin app.view place in
       let front : HeldPiece = record { place = front_place place at; origin = o } in
       let rest : HeldPiece = record { place = rest_place place at; origin = further o at } in
-      record {
-        sent = shown.sent;
-        helds = All-append P (helds_without app.view place) (front ∷ rest ∷ []) (helds-without nic app place shown)
-            (All-cons P front (rest ∷ []) (shown-front notes o place at within held)
-            (All-cons P rest [] (shown-rest notes o place at within held) (All-nil P)));
-        spares = shown.spares;
-        loans = shown.loans;
-        owed = shown.owed;
-      }
+      assumption (All-append P (helds_without app.view place) (front ∷ rest ∷ []) (helds-without nic app place shown) (All-cons P front (rest ∷ []) (shown-front notes o place at within held) (All-cons P rest [] (shown-rest notes o place at within held) (All-nil P))))
 
   pub AppIsShown-released : (nic : NicSide) (app : AppSide) (place : Place) → AppIsShown byte nic app
       → AppIsShown byte nic (app_at app (released app.view place))
-  AppIsShown-released nic app place shown = record {
-    sent = shown.sent;
-    helds = helds-without nic app place shown;
-    spares = shown.spares;
-    loans = shown.loans;
-    owed = shown.owed;
-  }
+  AppIsShown-released nic app place shown = assumption (helds-without nic app place shown)
 
   -- ---- loans
 
   pub AppIsShown-lent : (nic : NicSide) (app : AppSide) (place : Place) → HasHeld app.view place → AppIsShown byte nic app
       → AppIsShown byte nic (app_at app (lent app.view place))
-  AppIsShown-lent nic app place out shown = record {
-    sent = shown.sent;
-    helds = helds-without nic app place shown;
-    spares = shown.spares;
-    loans = All-push (λ (l : LentPiece). IsShown byte l.place (text_of nic app l.origin l.place)) app.view.loans _ shown.loans
-        (IsShown-held nic app place out shown);
-    owed = shown.owed;
-  }
+  AppIsShown-lent nic app place out shown = assumption (helds-without nic app place shown, All-push (λ (l : LentPiece). IsShown byte l.place (text_of nic app l.origin l.place)) app.view.loans _ shown.loans (IsShown-held nic app place out shown))
 
   -- a loan that comes back stays shown while it is owed
   pub AppIsShown-abandoned : (nic : NicSide) (app : AppSide) (place : Place) → HasLoan app.view place → ((b : ℕ) → EndedWereReturned b nic app)
@@ -342,14 +313,7 @@ module _ (byte : ℕ → ℕ → ℕ) where
 
   pub AppIsShown-got_spare : (nic : NicSide) (app : AppSide) (buffer : ℕ) → AppIsShown byte nic app
       → AppIsShown byte nic (app_at app (got_spare app.view buffer))
-  AppIsShown-got_spare nic app buffer shown = record {
-    sent = shown.sent;
-    helds = shown.helds;
-    spares = All-push (λ (s : SpareOwn). IsShown byte (begin_place s.own.buffer (length s.bytes)) s.bytes) app.view.owns
-        (record { own = fresh app.view.setting buffer; bytes = [] }) shown.spares (shown-empty buffer);
-    loans = shown.loans;
-    owed = shown.owed;
-  }
+  AppIsShown-got_spare nic app buffer shown = assumption (All-push (λ (s : SpareOwn). IsShown byte (begin_place s.own.buffer (length s.bytes)) s.bytes) app.view.owns (record { own = fresh app.view.setting buffer; bytes = [] }) shown.spares (shown-empty buffer))
 
   owns-without : (nic : NicSide) (app : AppSide) (own : Filling) → AppIsShown byte nic app
       → All (λ (s : SpareOwn). IsShown byte (begin_place s.own.buffer (length s.bytes)) s.bytes) (owns_without app.view own)
@@ -358,14 +322,7 @@ module _ (byte : ℕ → ℕ → ℕ) where
 
   pub AppIsShown-filled : (nic : NicSide) (app : AppSide) (own : Filling) (bytes : List ℕ) → IsShown byte (begin_place own.buffer (length bytes)) bytes
       → AppIsShown byte nic app → AppIsShown byte nic (app_at app (filled app.view own bytes))
-  AppIsShown-filled nic app own bytes new shown = record {
-    sent = shown.sent;
-    helds = shown.helds;
-    spares = All-push (λ (s : SpareOwn). IsShown byte (begin_place s.own.buffer (length s.bytes)) s.bytes) (owns_without app.view own)
-        (record { own = filled_by own (length bytes); bytes = bytes }) (owns-without nic app own shown) new;
-    loans = shown.loans;
-    owed = shown.owed;
-  }
+  AppIsShown-filled nic app own bytes new shown = assumption (All-push (λ (s : SpareOwn). IsShown byte (begin_place s.own.buffer (length s.bytes)) s.bytes) (owns_without app.view own) (record { own = filled_by own (length bytes); bytes = bytes }) (owns-without nic app own shown) new)
 
   pub AppIsShown-lent_own : (nic : NicSide) (app : AppSide) (own : Filling) → HasSpare app.view own → AppIsShown byte nic app
       → AppIsShown byte nic (app_at app (lent_own app.view own))
@@ -374,14 +331,7 @@ module _ (byte : ℕ → ℕ → ℕ) where
       let is : IsShown byte (begin_place own.buffer (length bytes)) bytes =
       All-at_first (λ (s : SpareOwn). s.own) (λ s. s.bytes) [] (λ o text. IsShown byte (begin_place o.buffer (length text)) text) (same_filling own) own
       (same_filling-is own) (same_filling-refl own) app.view.owns out shown.spares in
-      record {
-        sent = shown.sent;
-        helds = shown.helds;
-        spares = owns-without nic app own shown;
-        loans = All-push (λ (l : LentPiece). IsShown byte l.place (text_of nic app l.origin l.place)) app.view.loans
-            (record { place = begin_place own.buffer (length bytes); origin = of_copy bytes }) shown.loans (rw (take-length bytes) is);
-        owed = shown.owed;
-      }
+      assumption (owns-without nic app own shown, All-push (λ (l : LentPiece). IsShown byte l.place (text_of nic app l.origin l.place)) app.view.loans (record { place = begin_place own.buffer (length bytes); origin = of_copy bytes }) shown.loans (rw (take-length bytes) is))
 
   -- ---- all else
 
@@ -429,10 +379,6 @@ module _ (byte : ℕ → ℕ → ℕ) where
       → CardIsShown byte (making_at nic v making)
   CardIsShown-making nic v making same shown = record { pieces = rw same shown.pieces }
 
-  pub CardIsShown-begun : (nic : NicSide) (own : Filling) (n : ℕ) (making : Option Making) → CardIsShown byte nic
-      → CardIsShown byte (making_at nic (begun nic.view own n) making)
-  CardIsShown-begun nic own n making shown = CardIsShown-making nic (begun nic.view own n) making refl shown
-
   -- a text that is complete is shown from then on
   pub CardIsShown-text_done : (nic : NicSide) (own : Filling) (bytes : List ℕ) (making : Option Making) → IsShown byte (next_place own (length bytes)) bytes
       → CardIsShown byte nic → CardIsShown byte (making_at nic (text_done nic.view own bytes) making)
@@ -451,10 +397,6 @@ module _ (byte : ℕ → ℕ → ℕ) where
     loans = rw sents shown.loans;
     owed = λ b. rw (sents, deals) (shown.owed b);
   }
-
-  pub AppIsShown-begun : (nic : NicSide) (own : Filling) (n : ℕ) (making : Option Making) (app : AppSide) → AppIsShown byte nic app
-      → AppIsShown byte (making_at nic (begun nic.view own n) making) app
-  AppIsShown-begun nic own n making app shown = AppIsShown-making nic (begun nic.view own n) making app refl refl shown
 
   pub AppIsShown-text_done : (nic : NicSide) (own : Filling) (bytes : List ℕ) (making : Option Making) (app : AppSide) → AppIsShown byte nic app
       → AppIsShown byte (making_at nic (text_done nic.view own bytes) making) app

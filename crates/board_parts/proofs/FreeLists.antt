@@ -8,24 +8,11 @@ use Rattle.std.proofs.lemmas.List.Quantifiers.{all_pairs_push}
 use Rattle.std.proofs.lemmas.Bool.{cases_lt}
 use Rattle.std.proofs.lemmas.Bool.Decides.{eqb_tells}
 use Rattle.board_face.specs.Ended.{IsEachOnce}
-use Rattle.board_face.proofs.ListLemmas.{eqb_same, not-eqb}
-use Rattle.board_face.proofs.Tallies.{weight, tally-append, tally-push}
-use Rattle.board_face.proofs.Parts.{count-tally}
+use Rattle.board_face.proofs.Tallies.{weight}
 use Rattle.board_parts.specs.Free.{listed_in, listed_below}
-
--- ---- how often a number stands in a list
-
-pub weight-same : (b : ℕ) → weight (b == b) ≡ 1
-weight-same b = ap weight (eqb_same b)
-
-pub weight-other : (a b : ℕ) → a ≢ b → weight (a == b) ≡ 0
-weight-other a b other = ap weight (not-eqb a b other)
-
-pub count-push : (b x : ℕ) (xs : List ℕ) → count_by (nat_eq b) (xs ++ x ∷ []) ≡ count_by (nat_eq b) xs + weight (b == x)
-count-push b x xs = omega (arith, count-tally (nat_eq b) (xs ++ x ∷ []), count-tally (nat_eq b) xs, tally-push (nat_eq b) xs x)
-
-pub count-append : (b : ℕ) (xs ys : List ℕ) → count_by (nat_eq b) (xs ++ ys) ≡ count_by (nat_eq b) xs + count_by (nat_eq b) ys
-count-append b xs ys = omega (arith, count-tally (nat_eq b) (xs ++ ys), count-tally (nat_eq b) xs, count-tally (nat_eq b) ys, tally-append (nat_eq b) xs ys)
+use Rattle.board_face.proofs.Counting.{weight-same, count-append, count-cons}
+pub use Rattle.board_face.proofs.Counting.{weight-other}
+use Rattle.zr_kinds.proofs.Booleans.{if-none, if-one}
 
 -- ---- sums of such numbers
 
@@ -63,9 +50,6 @@ sum-one x (suc n) less =
     (λ t. let ne : n ≢ x = t.1 in omega (arith, ap weight t.0, sum-one x n (omega (arith, ne))))
     (eqb_tells n x)
 
-count-cons : (b x : ℕ) (xs : List ℕ) → count_by (nat_eq b) (x ∷ xs) ≡ weight (b == x) + count_by (nat_eq b) xs
-count-cons b x xs = omega (arith, count-append b (x ∷ []) xs, count-push b x [])
-
 -- A list has as many numbers as are counted below n, where it has none from n on.
 length-counts : (n : ℕ) (xs : List ℕ) → ((b : ℕ) → n ≤ b → count_by (nat_eq b) xs ≡ 0)
     → sum_below (λ b. count_by (nat_eq b) xs) n ≡ length xs
@@ -85,14 +69,6 @@ listed-case : (c : Bool) (b n : ℕ) → count_by (nat_eq b) (if c then n ∷ []
 listed-case true b n = omega (arith, count-cons b n [])
 listed-case false b n = refl
 
-with-none : (c : Bool) (w : ℕ) → w ≡ 0 → (if c then w else 0) ≡ 0
-with-none true w none = none
-with-none false w none = refl
-
-with-one : (c : Bool) (w : ℕ) → w ≡ 1 → (if c then w else 0) ≡ weight c
-with-one true w one = one
-with-one false w one = refl
-
 below-more : (b n : ℕ) (listed : List Bool) → count_by (nat_eq b) (listed_below listed (suc n))
     ≡ count_by (nat_eq b) (listed_below listed n) + (if get_or listed n false then weight (b == n) else 0)
 below-more b n listed = omega (
@@ -106,7 +82,7 @@ below-past : (b n : ℕ) (listed : List Bool) → n ≤ b → count_by (nat_eq b
 below-past b zero listed past = refl
 below-past b (suc n) listed past =
     let other = weight-other b n (λ e. absurd (omega (arith, e))) in
-    omega (arith, below-more b n listed, with-none (get_or listed n false) (weight (b == n)) other, below-past b n listed (omega arith))
+    omega (arith, below-more b n listed, if-none (get_or listed n false) (weight (b == n)) other, below-past b n listed (omega arith))
 
 -- and each stands there once.
 below-once : (b n : ℕ) (listed : List Bool) → b < n → count_by (nat_eq b) (listed_below listed n) ≡ weight (listed_in listed b)
@@ -116,14 +92,14 @@ below-once b (suc n) listed within =
     (λ t. let e : b ≡ n = t.1 in omega (
       arith,
       below-more b n listed,
-      with-one (get_or listed n false) (weight (b == n)) (ap weight t.0),
+      if-one (get_or listed n false) (weight (b == n)) (ap weight t.0),
       below-past b n listed (omega (arith, e)),
       ap (λ k. weight (get_or listed k false)) e,
     ))
     (λ t. let ne : b ≢ n = t.1 in omega (
       arith,
       below-more b n listed,
-      with-none (get_or listed n false) (weight (b == n)) (ap weight t.0),
+      if-none (get_or listed n false) (weight (b == n)) (ap weight t.0),
       below-once b n listed (omega (arith, ne)),
     ))
     (eqb_tells b n)
@@ -177,9 +153,9 @@ below-less (suc n) listed =
 
 pub below-rises : (n : ℕ) (listed : List Bool) → AllPairs (λ a b. a < b) (listed_below listed n)
 below-rises zero listed = λ i j d less there. absurd (omega arith)
-below-rises (suc n) listed = with-one-more (get_or listed n false) (listed_below listed n) (below-rises n listed) (below-less n listed)
+below-rises (suc n) listed = if-one-more (get_or listed n false) (listed_below listed n) (below-rises n listed) (below-less n listed)
   where
-    with-one-more : (c : Bool) (xs : List ℕ) → AllPairs (λ a b. a < b) xs → All (λ b. b < n) xs
+    if-one-more : (c : Bool) (xs : List ℕ) → AllPairs (λ a b. a < b) xs → All (λ b. b < n) xs
         → AllPairs (λ a b. a < b) (xs ++ (if c then n ∷ [] else []))
-    with-one-more true xs rises less = all_pairs_push (λ a b. a < b) xs n rises less
-    with-one-more false xs rises less = subst (AllPairs (λ a b. a < b)) (sym (append-nil xs)) rises
+    if-one-more true xs rises less = all_pairs_push (λ a b. a < b) xs n rises less
+    if-one-more false xs rises less = subst (AllPairs (λ a b. a < b)) (sym (append-nil xs)) rises

@@ -16,7 +16,7 @@ use Rattle.board_face.specs.declared.views.app.AppSide.{AppSide}
 use Rattle.board_face.proofs.SideLemmas.{IsApp-at}
 use Rattle.board_face.proofs.Tallies.{tally, total}
 use Rattle.board_face.proofs.Parts.{nic_count, app_count, notes_in, spares_in, loans_in, owed_count, returning_in_count, making_in, pool_count-parts}
-use Rattle.board_parts.proofs.FreeLists.{weight-other}
+use Rattle.board_face.proofs.Counting.{weight-other}
 
 -- ---- lists without an element in a buffer
 

@@ -2,7 +2,7 @@
 use Rattle.std.proofs.Common.{◌≡◌, ◌∙◌, ℕ, ◌+◌, ◌-◌, ◌<◌, Bool, true, false, [], ◌∷◌, length, eqb, ltb}
 use Rattle.std.proofs.Common.{refl, sym, ap, subst, arith, ⊎_elim, if◌then◌else◌}
 use Rattle.std.specs.Prelude.{◌&&◌, ◌||◌}
-use Rattle.std.proofs.lemmas.Bool.{lt-ltb, eq-eqb}
+use Rattle.std.proofs.lemmas.Bool.{lt-ltb, eq-eqb, or_right}
 use Rattle.std.proofs.lemmas.List.Elements.{All-get_or}
 use Rattle.area_layout.proofs.Words.{words_apart}
 use Rattle.area_layout.specs.Layout.{pool_buffers}
@@ -155,10 +155,6 @@ record MayBeSpare (s : AllSides) (a buffer : ℕ) : Type 0 where
   pub within : buffer < total_buffers (run_of s)
   pub fits : (is_pool_buffer (run_of s) buffer || is_reserve_of (run_of s) a buffer) ≡ true
 
-or-true : (c : Bool) → (c || true) ≡ true
-or-true true = refl
-or-true false = refl
-
 may-be_spare : (s : AllSides) → AreSound s → (a : ℕ) (app : AppSide) → IsApp s.apps a app → (buffer : ℕ) → IsOwnBuffer app.view buffer
     → MayBeSpare s a buffer
 may-be_spare s sound a app at buffer own =
@@ -172,7 +168,7 @@ may-be_spare s sound a app at buffer own =
     record { within = omega (arith, less); fits = rw (lt-ltb buffer pool less) refl })
     (λ reserve.
     let is : buffer ≡ pool + a = omega (arith, reserve, same, at.number) in
-    record { within = omega (arith, is, at.there, sound.setting.many); fits = rw (eq-eqb buffer (pool + a) is) (or-true (ltb buffer pool)) })
+    record { within = omega (arith, is, at.there, sound.setting.many); fits = rw (eq-eqb buffer (pool + a) is) (or_right (ltb buffer pool) true refl) })
     own
 
 pub got_spare-law : GotSpareLaw

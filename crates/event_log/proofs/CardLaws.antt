@@ -3,7 +3,7 @@ use Rattle.std.proofs.Common.{◌≡◌, ◌∙◌, ℕ, ◌+◌, ◌<◌, ◌�
 use Rattle.std.proofs.Common.{refl, sym, ap, arith, ⊎_elim, if◌then◌else◌, leb}
 use Rattle.std.specs.Prelude.{◌||◌, ◌%◌, not, count_by}
 use Rattle.std.specs.List.{list_any, list_all, flat_map}
-use Rattle.std.proofs.lemmas.Bool.{lt-ltb, le-leb, eq-eqb, cases_lt}
+use Rattle.std.proofs.lemmas.Bool.{lt-ltb, le-leb, eq-eqb, cases_lt, or_right}
 use Rattle.std.proofs.lemmas.List.{append-nil, flat_map_more, map-append}
 use Rattle.std.proofs.lemmas.List.Elements.{All-contains}
 use Rattle.area_layout.specs.Layout.{size_of}
@@ -40,6 +40,7 @@ use Rattle.event_log.proofs.Settings.{pool_buffers-same}
 use Rattle.event_log.proofs.Shifts.{card-shift}
 use Rattle.event_log.proofs.Tallying.{CardGains, Tallies, TellsNothing, card-stays, count-push, keeps-card, tallies-card}
 use Rattle.event_log.proofs.Weighing.{Moves, all-pass, one_if, weight-append, weight-le}
+use Rattle.zr_kinds.proofs.Booleans.{if-le}
 
 -- an event that tells of no loan, of a card that dealt with no entry
 tallies-unstrayed : (e : Event) (s : AllSides) (v : NicView) → ((a : ℕ) → TellsNothing a e) → is_stray e ≡ false → v.dealt ≡ s.nic.view.dealt
@@ -84,17 +85,9 @@ took-law s sound buffer pool none =
 apart-case : (o l p m : ℕ) → (if not (leb (o + l) p || leb (p + m) o) then 1 else 0) ≤ (if ltb o (p + m) then 1 else 0)
 apart-case o l p m =
     ⊎_elim
-    (λ less. rw (lt-ltb o (p + m) less) (at-most (not (leb (o + l) p || leb (p + m) o))))
-    (λ behind. rw (le-leb (p + m) o behind, either (leb (o + l) p)) (omega arith))
+    (λ less. rw (lt-ltb o (p + m) less) (if-le (not (leb (o + l) p || leb (p + m) o)) 1))
+    (λ behind. rw (le-leb (p + m) o behind, or_right (leb (o + l) p) true refl) (omega arith))
     (cases_lt o (p + m))
-  where
-    at-most : (c : Bool) → (if c then 1 else 0) ≤ 1
-    at-most true = omega arith
-    at-most false = omega arith
-
-    either : (c : Bool) → (c || true) ≡ true
-    either true = refl
-    either false = refl
 
 -- what isn't apart ends behind the begin
 not-apart : (o l : ℕ) (x : Holding) → one_if (λ y. not (is_apart o l y)) x ≤ one_if (ends o) x

@@ -23,7 +23,7 @@ use Rattle.board_face.specs.declared.views.nic.Fate.TheVariants.{Stray}
 use Rattle.board_face.specs.declared.views.nic.NicView.{NicView}
 use Rattle.board_face.specs.declared.views.nic.NicSide.{NicSide}
 use Rattle.board_face.specs.declared.views.app.AppSide.{AppSide}
-use Rattle.board_face.proofs.ListLemmas.{same_place-refl, same_filling-refl, same_place-is, same_filling-is, map-itself}
+use Rattle.board_face.proofs.ListLemmas.{same_place-refl, same_filling-refl, same_place-is, same_filling-is}
 use Rattle.board_face.proofs.NicLemmas.{drop-push, sent_to-other, sent_to-same, honoured-other, honoured-target, ended_in-push}
 use Rattle.board_face.proofs.Parts.{owed_count, owed-count, came_back_in, total-shift}
 use Rattle.board_face.proofs.Tallies.{weight as one, total, total-append, total-agree}
@@ -32,6 +32,8 @@ use Rattle.event_log.proofs.Following.{Shifts}
 use Rattle.event_log.proofs.Parts.{here, place_here, app_weight, weight-parts}
 use Rattle.event_log.proofs.Shifts.{here-none, here-one, card-shift, times-more}
 use Rattle.event_log.proofs.Sums.{total-push, total-without}
+use Rattle.std.proofs.lemmas.List.{map-id}
+use Rattle.std.proofs.lemmas.Bool.{and_right}
 
 pub shifts-took : (s : AllSides) (buffer : ℕ) → Shifts buffer [] (holding.Own ∷ []) s (by_card s (took s.nic.view buffer))
 shifts-took s buffer b f =
@@ -47,7 +49,7 @@ owns-less : (s : AllSides) (it : Filling) → HasOwn s.nic.view it → (g : Fill
     → total g (without (same_filling it) s.nic.view.owns) + g it ≡ total g s.nic.view.owns
 owns-less s it out g =
     total-without (λ o. o) (same_filling it) it (same_filling-is it) (same_filling-refl it) g s.nic.view.owns
-    (rw (map-itself s.nic.view.owns) out)
+    (rw (map-id s.nic.view.owns) out)
 
 pub shifts-placed : (s : AllSides) (it : Filling) (bytes : List ℕ) → HasOwn s.nic.view it
     → Shifts it.buffer [] (holding.Piece it.start (length bytes) ∷ []) s (by_card s (placed s.nic.view it bytes))
@@ -224,17 +226,13 @@ pub shifts-honoured : (s : AllSides) → FitTogether s → (a : ℕ) (app : AppS
     → Shifts buffer (holding.Owed a ∷ []) [] s (by_card s (gave_up (honoured s.nic.view a entry buffer) buffer last))
 shifts-honoured s fit a app at entry buffer last owes b f = honoured-shifts s fit a app at entry buffer owes b f
 
-and-false : (c : Bool) → (c && false) ≡ false
-and-false true = refl
-and-false false = refl
-
 -- a stray gives nothing back
 pub same-passed_over : (s : AllSides) (a : ℕ) (entry : Rqe) (b : ℕ) (f : Holding → ℕ)
     → weight f (plain_holders (by_card s (passed_over s.nic.view a entry)) b) ≡ weight f (plain_holders s b)
 same-passed_over s a entry b f =
     let nic = nic_at s.nic (passed_over s.nic.view a entry) in
     let same : (x : AppSide) → app_weight f b nic x ≡ app_weight f b s.nic x = λ x.
-    let none : one ((a == x.view.app) && false) ≡ 0 = ap one (and-false (a == x.view.app)) in
+    let none : one ((a == x.view.app) && false) ≡ 0 = ap one (and_right (a == x.view.app) false refl) in
     let ends : ended_in b nic x ≡ ended_in b s.nic x =
     omega (arith, none, ended_in-push b s.nic (passed_over s.nic.view a entry) (record { app = a; entry = entry; fate = Stray }) x refl) in
     let owed : owed_count b nic x ≡ owed_count b s.nic x = ap (λ n. came_back_in b x - n) ends in

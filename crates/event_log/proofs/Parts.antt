@@ -12,7 +12,8 @@ use Rattle.board_face.specs.declared.views.app.AppSide.{AppSide}
 use Rattle.board_face.proofs.Tallies.{total, total-append, total-agree}
 use Rattle.board_face.proofs.Parts.{owed_count, owed-count}
 use Rattle.event_log.specs.Plain.{plain, weight}
-use Rattle.event_log.proofs.Sums.{total-map, total-filter, total-flat}
+use Rattle.event_log.proofs.Sums.{total-map, total-filter}
+use Rattle.board_face.proofs.Counting.{total-flat}
 
 -- what a holder of this buffer weighs, among those of all buffers
 abbrev pub here : ℕ → ℕ → ℕ → ℕ

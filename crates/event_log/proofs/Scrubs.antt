@@ -1,7 +1,7 @@
 -- The log goes on to tell of a board after a scrub.
 use Rattle.std.proofs.Common.{◌≡◌, ◌∙◌, ℕ, zero, suc, ◌+◌, ◌*◌, ◌<◌, ◌≤◌, Bool, true, false, List, [], ◌∷◌, ◌++◌, eqb, ltb, if◌then◌else◌}
 use Rattle.std.proofs.Common.{refl, sym, ap, subst, arith, ⊎_elim}
-use Rattle.std.specs.Prelude.{◌==◌, ◌≢◌, filter, not, slice_index}
+use Rattle.std.specs.Prelude.{◌≢◌, filter, not, slice_index}
 use Rattle.std.specs.List.{list_any}
 use Rattle.std.proofs.lemmas.Bool.{cases_lt, lt-ltb, le-ltb, eq-eqb}
 use Rattle.std.proofs.lemmas.Bool.Decides.{eqb_tells}
@@ -17,7 +17,7 @@ use Rattle.board_face.specs.Laws.{AllSides, TookAll, pool_of, scrubbed_by, user_
 use Rattle.board_face.specs.Sides.{IsApp}
 use Rattle.board_face.specs.declared.views.app.AppSide.{AppSide}
 use Rattle.board_face.proofs.ListLemmas.{not-eqb}
-use Rattle.board_face.proofs.Parts.{came_back_in, owed_count, owed-count, returned_in-count, total-only, total-shift, user_count-parts, user_part}
+use Rattle.board_face.proofs.Parts.{came_back_in, owed_count, owed-count, returned_in-count, total-shift, user_count-own, loans_in}
 use Rattle.event_log.specs.IsLogged.{AreSound, IsLogged, NoneReturns, run_of}
 use Rattle.event_log.specs.Logs.{Kept, logged}
 use Rattle.event_log.specs.Plain.{weight}
@@ -56,12 +56,8 @@ module _ (s : AllSides) (sound : AreSound s) (a : ℕ) (app : AppSide) (at : IsA
 
   user-owed : (b : ℕ) → user_of s a b ≡ owed b
   user-owed b =
-      let is : (app.view.app == a) ≡ true = eq-eqb app.view.app a at.number in
-      let mine : user_part a b s.nic app ≡ owed b = rw (is, loans) (omega arith) in
-      user_count-parts a b s.nic s.apps
-      ∙ total-only 0 (user_part a b s.nic) a (λ other ne. rw (not-eqb other.view.app a ne) refl) s.apps sound.fit.numbers a app at.there (omega arith)
-      ∙ ap (user_part a b s.nic) at.is
-      ∙ mine
+      let none : loans_in b app ≡ 0 = rw loans refl in
+      omega (arith, user_count-own a b s.nic s.apps app sound.fit.numbers at, none)
 
   none-of : (n : ℕ) → 0 * n ≡ 0
   none-of n = omega arith

@@ -3,10 +3,11 @@ use Rattle.std.proofs.Common.{◌≡◌, ◌∙◌, ℕ, ◌+◌, ◌-◌, ◌<�
 use Rattle.std.proofs.lemmas.Bool.{cases_lt, lt-ltb, le-ltb}
 use Rattle.std.proofs.lemmas.List.Sums.{sum_by-cons}
 use Rattle.area_layout.specs.declared.layout.Area.{Area}
-use Rattle.area_layout.specs.Layout.{Shape, IsLayout, buffers_in, pool_buffers, total, areas_before, area_of_buffer, area_at, size_of, no_area}
+use Rattle.area_layout.specs.Layout.{Shape, IsLayout, buffers_in, pool_buffers, total, areas_before, area_at, size_of, no_area}
 use Rattle.run_records.specs.Setting.{total_buffers, size_of_buffer, size_among, first_size}
 use Rattle.run_records.specs.Setting.{pool_buffers as run_pool_buffers}
 use Rattle.event_log.specs.Settings.{areas_of, setting_of}
+use Rattle.area_layout.proofs.Words.{area-pool, area-reserve}
 
 abbrev counted : List (ℕ × ℕ) → ℕ
 counted areas = run_pool_buffers areas
@@ -65,17 +66,11 @@ first-size : (areas : List Area) → 1 ≤ (get_or areas 0 no_area).buffers → 
 first-size [] some = absurd (omega arith)
 first-size (a ∷ areas) some = rw (lt-ltb 0 a.buffers some) refl
 
-area-within : (layout : Shape) (b : ℕ) → b < pool_buffers layout → area_of_buffer layout b ≡ areas_before layout.areas b
-area-within layout b within = rw (lt-ltb b (pool_buffers layout) within) refl
-
-area-past : (layout : Shape) (b : ℕ) → pool_buffers layout ≤ b → area_of_buffer layout b ≡ 0
-area-past layout b past = rw (le-ltb b (pool_buffers layout) past) refl
-
 pub size-same : (layout : Shape) → IsLayout layout → (b : ℕ) → size_of_buffer (setting_of layout).areas b ≡ size_of layout b
 size-same layout good b =
     let reserve = first_size (areas_of layout.areas) in
     let size : ℕ → ℕ = λ n. (area_at layout n).size in
     ⊎_elim
-    (λ within. size-among layout.areas reserve b within ∙ ap size (sym (area-within layout b within)))
-    (λ past. size-past layout.areas reserve b past ∙ first-size layout.areas good.first ∙ ap size (sym (area-past layout b past)))
+    (λ within. size-among layout.areas reserve b within ∙ ap size (sym (area-pool layout b within)))
+    (λ past. size-past layout.areas reserve b past ∙ first-size layout.areas good.first ∙ ap size (sym (area-reserve layout b past)))
     (cases_lt b (pool_buffers layout))

@@ -10,13 +10,10 @@ use Rattle.board_face.specs.declared.views.app.AppSide.{AppSide}
 use Rattle.board_face.proofs.Tallies.{weight as one, total, total-set}
 use Rattle.event_log.specs.Plain.{plain_holders, weight}
 use Rattle.event_log.proofs.Parts.{here, card_weight, app_weight, weight-parts}
-
-none-case : (c : Bool) (n : ℕ) → n ≡ 0 → (if c then n else 0) ≡ 0
-none-case true n none = none
-none-case false n none = refl
+use Rattle.zr_kinds.proofs.Booleans.{if-none}
 
 pub here-none : (b c : ℕ) (f : Holding → ℕ) → here b c (weight f []) ≡ 0
-here-none b c f = none-case (c == b) (weight f []) refl
+here-none b c f = if-none (c == b) (weight f []) refl
 
 pub here-one : (b c : ℕ) (f : Holding → ℕ) (x : Holding) → here b c (weight f (x ∷ [])) ≡ here b c (f x)
 here-one b c f x = let e : weight f (x ∷ []) ≡ f x = omega arith in ap (here b c) e

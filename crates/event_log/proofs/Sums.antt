@@ -1,7 +1,6 @@
 -- Sums over lists, where a list is mapped or filtered, or an element comes or goes.
 use Rattle.std.proofs.Common.{◌≡◌, ℕ, zero, suc, ◌+◌, Bool, true, false, cond, List, [], ◌∷◌, ◌++◌, map, refl, ap, sym, ◌∙◌, arith}
 use Rattle.std.specs.Prelude.{if◌then◌else◌, filter, Contains}
-use Rattle.std.specs.List.{flat_map}
 use Rattle.std.proofs.lemmas.Bool.{false≢true}
 use Rattle.board_face.specs.Lists.{without}
 use Rattle.board_face.proofs.Tallies.{total, total-append}
@@ -21,10 +20,6 @@ filter-case f false x ys n e = omega (arith, e)
 pub total-filter : {A : Type 0} (f : A → ℕ) (p : A → Bool) (xs : List A) → total f (filter p xs) ≡ total (λ x. if p x then f x else 0) xs
 total-filter f p [] = refl
 total-filter f p (x ∷ xs) = filter-case f (p x) x (filter p xs) _ (total-filter f p xs)
-
-pub total-flat : {A B : Type 0} (f : B → ℕ) (g : A → List B) (xs : List A) → total f (flat_map g xs) ≡ total (λ x. total f (g x)) xs
-total-flat f g [] = refl
-total-flat f g (x ∷ xs) = omega (arith, total-append f (g x) (flat_map g xs), total-flat f g xs)
 
 -- ---- one element taken out
 

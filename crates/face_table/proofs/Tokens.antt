@@ -13,10 +13,7 @@ use Rattle.board_face.specs.declared.views.app.SpareOwn.{SpareOwn}
 use Rattle.board_face.specs.declared.views.app.AppView.{AppView}
 use Rattle.face_table.specs.declared.app.AppHand.{AppHand}
 use Rattle.face_table.specs.AppHand.{IsAppHand}
-
-pub map-none : {A B : Type 0} (f : A → B) (xs : List A) → map f xs ≡ [] → xs ≡ []
-map-none f [] e = refl
-map-none f (x ∷ xs) e = cc
+use Rattle.zr_kinds.proofs.Lists.{map-none}
 
 -- what is left once an application's token has ended
 module _ (v : AppView) (hand : AppHand) (is : IsAppHand v hand) where

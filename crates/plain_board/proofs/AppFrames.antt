@@ -7,7 +7,7 @@ use Rattle.std.proofs.lemmas.List.{get_or-set_same, get_or-set_other, length-set
 use Rattle.std.proofs.lemmas.List.Elements.{All-set}
 use Rattle.std.proofs.Math.Seq.{map-set_same}
 use Rattle.std.proofs.lemmas.Bool.Decides.{eqb_tells}
-use Rattle.area_layout.specs.Layout.{total}
+use Rattle.area_layout.specs.Layout.{total, pool_buffers}
 use Rattle.board_face.specs.Sides.{IsApp, side_in}
 use Rattle.board_face.specs.Counts.{pool_count, user_count, EndedWereReturned}
 use Rattle.board_face.specs.FreeOnce.{AreFreeOnce, free_places}
@@ -30,7 +30,11 @@ use Rattle.plain_board.specs.Stand.{Arrays, Stand, setting_of, side_of}
 use Rattle.plain_board.specs.Returns.{AreReturns, entries_on_way, loans_out, reach_of}
 use Rattle.plain_board.specs.Sound.{IsSound, IsRing, IsSet, IsAtRest, AreCounted, AreRelayed, AreFlags, AreKept, AreDue, AreBooked, IsPhased, ArePhased}
 use Rattle.plain_board.specs.Sound.{notes_of, refills_of, taken_of}
-use Rattle.plain_board.proofs.Lists.{count-append}
+use Rattle.board_face.proofs.Counting.{count-append}
+
+-- the card's pool is the board's
+pub pools : {board : Stand} → IsSound board → pool_buffers board.nic.view.setting.layout ≡ pool_buffers board.arrays.layout
+pools sound = ap (λ s. pool_buffers s.layout) sound.set.card
 
 -- how often a buffer was picked as a spare
 abbrev pub times_picked : ℕ → List AppSide → ℕ

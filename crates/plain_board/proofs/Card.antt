@@ -17,7 +17,7 @@ use Rattle.board_face.proofs.RelayLemmas.{Relayed-nic}
 use Rattle.plain_board.specs.Returns.{AreReturns}
 use Rattle.plain_board.specs.Stand.{Arrays, Stand}
 use Rattle.plain_board.specs.Sound.{IsSound, IsSet, AreCounted, AreRelayed, AreBooked, IsPhased, ArePhased}
-use Rattle.plain_board.proofs.Lists.{counts-set}
+use Rattle.zr_kinds.proofs.Lists.{counts-set}
 
 -- the board's setting is that of its arrays
 pub within-setting : (board : Stand) (a : ℕ) → IsSound board → a < apps_of board.nic.view.setting → a < board.arrays.layout.reserves

@@ -18,9 +18,10 @@ use Rattle.board_face.proofs.AreShownLemmas.{AreShown-cut}
 use Rattle.board_parts.specs.Free.{listed_in}
 use Rattle.plain_board.specs.Stand.{Stand, byte_of}
 use Rattle.plain_board.specs.Sound.{IsSound}
-use Rattle.plain_board.proofs.Lists.{weight-other, same-or-other, raised}
+use Rattle.plain_board.proofs.Lists.{same-or-other, raised}
 use Rattle.plain_board.proofs.AppFrames.{free_places-side, was-own}
 use Rattle.plain_board.proofs.HeldPieces.{is_held, of_area, there-pool, at-rest, IsSound-helds}
+use Rattle.board_face.proofs.Counting.{weight-other}
 
 -- a buffer with a holder more than the one or more that it had is no freer than it was
 once-more : (p p' f f' w : ℕ) → f ≡ (if p == 0 then 1 else 0) → f' ≡ f → p' ≡ p + w → (w ≡ 0) ⊎ (0 < p)

@@ -1,6 +1,6 @@
 -- The entry that is next in an application's ring is dealt with.
 use Rattle.std.proofs.Common.{◌≡◌, ℕ, suc, ◌+◌, ◌-◌, ◌≤◌, Bool, true, false, List, [], ◌∷◌, ◌++◌, length, map, drop}
-use Rattle.std.proofs.Common.{refl, ap, sym, ◌∙◌, arith, length-append, length-drop}
+use Rattle.std.proofs.Common.{refl, ap, sym, ◌∙◌, arith, length-append}
 use Rattle.std.specs.Prelude.{◌≢◌, filter, count_by, ◌==◌, nat_lt, if◌then◌else◌}
 use Rattle.std.specs.List.{zip}
 use Rattle.std.proofs.lemmas.List.{drop-map}
@@ -9,7 +9,7 @@ use Rattle.std.proofs.lemmas.Bool.{ltb-false}
 use Rattle.std.proofs.Math.Seq.{drop-append_seam}
 use Rattle.zr_kinds.specs.declared.ring.Rqe.{Rqe}
 use Rattle.board_face.specs.Sides.{nic_at}
-use Rattle.board_face.specs.Holders.{lowered_in_hand, ended_in, owed_in, returned_in}
+use Rattle.board_face.specs.Holders.{lowered_in_hand, ended_in, owed_in}
 use Rattle.board_face.specs.Relay.{Relayed, dealt_entries, IsNoLoanStray}
 use Rattle.board_face.specs.declared.views.nic.Dealt.{Dealt}
 use Rattle.board_face.specs.declared.views.nic.NicView.{NicView}
@@ -18,10 +18,11 @@ use Rattle.board_face.specs.declared.views.app.TakenNote.{TakenNote}
 use Rattle.board_face.specs.declared.views.app.WrittenEntry.{WrittenEntry}
 use Rattle.board_face.specs.declared.views.app.AppSide.{AppSide}
 use Rattle.board_face.proofs.NicLemmas.{ended_in-push}
-use Rattle.board_face.proofs.Parts.{returned_in-count, owed_count}
-pub use Rattle.board_face.proofs.DealtLemmas.{count-first, length-mapped, drop-after, dealt-more, dealt-same, zip-push}
+use Rattle.board_face.proofs.Parts.{owed-count}
+pub use Rattle.board_face.proofs.DealtLemmas.{length-mapped, dealt-more, dealt-same, zip-push}
 use Rattle.plain_board.specs.Returns.{entries_on_way, returns, abandoned_in, reach_of, IsNamed, IsOfLoan, AreReturns}
 use Rattle.plain_board.specs.Sound.{IsPhased, ArePhased}
+use Rattle.zr_kinds.proofs.Lists.{drop-after}
 
 -- ---- the front
 
@@ -109,9 +110,6 @@ AreReturns-other nic v app d deals other ends h =
       strays = rw same h.strays;
     }
 
-pub length-owed_in : (b : ℕ) (nic : NicSide) (app : AppSide) → length (owed_in b nic app) ≡ owed_count b nic app
-length-owed_in b nic app = length-drop (ended_in b nic app) (returned_in b app) ∙ ap (λ n. n - ended_in b nic app) (returned_in-count b app)
-
 -- ---- how far the applications have come
 
 -- an entry more is dealt with: who has scrubbed still owes nothing
@@ -127,8 +125,8 @@ ArePhased-dealt nic v apps d sents deals same owns pieces h = record {
           λ b. omega (
             arith,
             (p.scrubbed e).1 b,
-            length-owed_in b nic app,
-            length-owed_in b (nic_at nic v) app,
+            owed-count b nic app,
+            owed-count b (nic_at nic v) app,
             ended_in-push b nic v d app deals,
           ),
         );

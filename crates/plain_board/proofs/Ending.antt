@@ -1,11 +1,10 @@
 -- All have left, so nobody has a buffer, nothing is on its way, and each pool buffer is free once.
-use Rattle.std.proofs.Common.{◌≡◌, ℕ, ◌+◌, ◌*◌, ◌<◌, ◌≤◌, List, [], ◌∷◌, ◌++◌, length, map}
+use Rattle.std.proofs.Common.{◌≡◌, ℕ, ◌+◌, ◌*◌, ◌<◌, ◌≤◌, List, [], ◌++◌, length, map}
 use Rattle.std.proofs.Common.{get_or, refl, ap, sym, ◌∙◌, arith, ⊎_elim, length-drop}
 use Rattle.std.specs.Prelude.{◌==◌, ◌/◌, ◌%◌, All, nat_eq, count_by, if◌then◌else◌}
 use Rattle.std.specs.List.{flat_map}
 use Rattle.std.proofs.Math.Nat.{mul-le-mul_left}
 use Rattle.std.proofs.lemmas.List.{append-nil, get_or_default}
-use Rattle.std.proofs.lemmas.List.Elements.{All-head, All-tail}
 use Rattle.std.proofs.lemmas.Bool.{cases_lt}
 use Rattle.area_layout.specs.Layout.{pool_buffers, total as all_buffers}
 use Rattle.board_face.specs.Sides.{IsApp}
@@ -16,7 +15,7 @@ use Rattle.board_face.specs.Relay.{as_taken, dealt_entries}
 use Rattle.board_face.specs.declared.views.app.WrittenEntry.{WrittenEntry}
 use Rattle.board_face.specs.declared.views.app.AppSide.{AppSide}
 use Rattle.board_face.proofs.SideLemmas.{IsApp-at}
-use Rattle.board_face.proofs.Tallies.{weight, tally, total, tally-flat}
+use Rattle.board_face.proofs.Tallies.{weight, tally, tally-flat}
 use Rattle.board_face.proofs.Parts.{nic_count, app_count, helds_in, spares_in, loans_in, notes_in, owed_count, returned_in-count, pool_count-parts, count-tally}
 use Rattle.board_face.proofs.FreeLemmas.{user_count-le}
 use Rattle.board_face.proofs.RelayLemmas.{way-taken}
@@ -26,12 +25,8 @@ use Rattle.plain_board.specs.Stand.{Stand}
 use Rattle.plain_board.specs.Finish.{IsOver, free_of, IsEachOnce, HasNoCounts, IsServed, BoardsEndWell}
 use Rattle.plain_board.specs.Sound.{IsSound, IsPhased}
 use Rattle.plain_board.proofs.Dealing.{entries-relayed}
-
--- ---- sums
-
-total-zero : {A : Type 0} (f : A → ℕ) (xs : List A) → All (λ x. f x ≡ 0) xs → total f xs ≡ 0
-total-zero f [] none = refl
-total-zero f (x ∷ xs) none = omega (arith, All-head (λ x. f x ≡ 0) x xs none, total-zero f xs (All-tail (λ x. f x ≡ 0) x xs none))
+use Rattle.board_face.proofs.Counting.{total-zero}
+use Rattle.plain_board.proofs.AppFrames.{pools}
 
 -- ---- nobody has anything
 
@@ -140,18 +135,15 @@ module _ (board : Stand) (sound : IsSound board) (over : IsOver board) where
   card-hands : (b : ℕ) → count_by (nat_eq b) board.nic.inside.hands ≡ 0
   card-hands b = rw sound.set.card_rest refl
 
-  pools : pool_buffers board.nic.view.setting.layout ≡ pool_buffers board.arrays.layout
-  pools = ap (λ s. pool_buffers s.layout) sound.set.card
-
   -- a buffer is cached or listed, and not both, and no reserve is cached
   once-there : (b : ℕ) → b < pool_buffers board.arrays.layout
       → count_by (nat_eq b) board.arrays.cache + weight (listed_in board.arrays.listed b) ≡ 1
   once-there b within =
-      let one = sound.free.pool b (rw pools within) ∙ ap (λ n. if n == 0 then 1 else 0) (holders-none b) in
+      let one = sound.free.pool b (rw (pools sound) within) ∙ ap (λ n. if n == 0 then 1 else 0) (holders-none b) in
       omega (arith, ap (count_by (nat_eq b)) sound.cached, one, card-hands b, hands-none b)
 
   none-past : (b : ℕ) → pool_buffers board.arrays.layout ≤ b → count_by (nat_eq b) board.arrays.cache ≡ 0
-  none-past b past = omega (arith, ap (count_by (nat_eq b)) sound.cached, sound.free.reserves b (rw pools past))
+  none-past b past = omega (arith, ap (count_by (nat_eq b)) sound.cached, sound.free.reserves b (rw (pools sound) past))
 
   pub IsEachOnce-over : IsEachOnce (pool_buffers board.arrays.layout) (free_of board.arrays)
   IsEachOnce-over =

@@ -1,9 +1,9 @@
 -- The next note of an application is as it was sent, and its piece shares no byte with what the application has.
-use Rattle.std.proofs.Common.{◌≡◌, ℕ, ◌+◌, ◌<◌, ◌≤◌, Bool, true, false, List, [], ◌∷◌, length, refl, ap, ◌∙◌, subst, arith}
+use Rattle.std.proofs.Common.{◌≡◌, ℕ, ◌+◌, ◌<◌, ◌≤◌, Bool, true, false, length, refl, ap, ◌∙◌, subst, arith}
 use Rattle.std.proofs.Common.{⊎_elim}
-use Rattle.std.specs.Prelude.{◌==◌, ◌&&◌, count_by, filter, if◌then◌else◌, All}
+use Rattle.std.specs.Prelude.{◌==◌, count_by, filter, All}
 use Rattle.std.proofs.lemmas.Bool.{cases_lt, lt-ltb, eq-eqb}
-use Rattle.std.proofs.lemmas.List.Elements.{All-nil, All-cons, All-head, All-filter, All-drop}
+use Rattle.std.proofs.lemmas.List.Elements.{All-head, All-filter, All-drop}
 use Rattle.zr_kinds.specs.declared.place.Place.{Place}
 use Rattle.zr_kinds.specs.declared.place.Note.{Note}
 use Rattle.area_layout.specs.Layout.{LiesIn, pool_buffers, size_of, total as all_buffers}
@@ -18,38 +18,15 @@ use Rattle.board_face.specs.declared.views.app.AppSide.{AppSide}
 use Rattle.board_face.proofs.ListLemmas.{eqb_same}
 use Rattle.board_face.proofs.Tallies.{weight, tally}
 use Rattle.board_face.proofs.Parts.{app_count, spares_in, pool_count-parts, count-tally}
-use Rattle.board_face.proofs.PlaceTallies.{in_buffer, app_places, held_places, loan_places, places-parts}
+use Rattle.board_face.proofs.PlaceTallies.{in_buffer, app_places, held_places, loan_places, places-parts, first-of, in-own, All-some}
 use Rattle.board_face.proofs.AppLemmas.{IsNext}
 use Rattle.board_face.proofs.IsFilledByOneLemmas.{fillings-alone}
 use Rattle.board_face.proofs.ApartLemmas.{AreApart-all}
 use Rattle.plain_board.specs.Stand.{Stand, setting_of}
 use Rattle.plain_board.specs.Sound.{IsSound, IsProper}
-use Rattle.plain_board.proofs.Lists.{All-none}
 use Rattle.board_face.proofs.LiesLemmas.{total-at}
-use Rattle.plain_board.proofs.AppFrames.{has-setting}
-
--- ---- one among many
-
-first-of : (f : Place → Bool) (c : Bool) (s : SentNote) (rest : List SentNote) → c ≡ true
-    → tally (λ (t : SentNote). f t.note.place) (if c then s ∷ rest else rest) ≡ weight (f s.note.place) + tally (λ (t : SentNote). f t.note.place) rest
-first-of f true s rest is = refl
-first-of f false s rest is = absurd (let none : ⊥ = cc in none)
-
-pub in-own : (test : Place → Bool) (p : Place) → in_buffer p.buffer test p ≡ test p
-in-own test p = ap (λ c. c && test p) (eqb_same p.buffer)
-
--- where no place is empty in any buffer, each has a byte
-pub All-some : {A : Type 0} (f : A → Place) (xs : List A) → ((b : ℕ) → tally (λ y. in_buffer b is_empty (f y)) xs ≡ 0)
-    → All (λ y. 0 < (f y).len) xs
-All-some f [] none = All-nil (λ y. 0 < (f y).len)
-All-some f (y ∷ ys) none =
-    All-cons (λ z. 0 < (f z).len) y ys
-    (⊎_elim
-    (λ some. some)
-    (λ empty. let e : (f y).len ≡ 0 = omega arith in absurd
-    (omega (arith, none (f y).buffer, ap weight (in-own is_empty (f y)), ap weight (eq-eqb (f y).len 0 e))))
-    (cases_lt 0 (f y).len))
-    (All-some f ys (λ b. omega (arith, none b)))
+use Rattle.plain_board.proofs.AppFrames.{has-setting, pools}
+use Rattle.board_face.proofs.Counting.{All-none}
 
 module _ (board : Stand) (a : ℕ) (x : AppSide) (sound : IsSound board) (here : IsApp board.apps a x) (note : Note) (next : IsNext board.nic x note) where
   proper : IsProper next.next
@@ -145,10 +122,9 @@ module _ (board : Stand) (a : ℕ) (x : AppSide) (sound : IsSound board) (here :
       let first : IsOfPool next.next = All-head IsOfPool next.next next.rest (subst (All IsOfPool) next.way all) in
       let inside : note.place.buffer < pool_buffers board.nic.view.setting.layout = subst
       (λ (n : Note). n.place.buffer < pool_buffers board.nic.view.setting.layout) next.same (first (ap (λ (n : Note). n.split) next.same ∙ is)) in
-      let nic-pools : pool_buffers board.nic.view.setting.layout ≡ pool_buffers board.arrays.layout = ap (λ s. pool_buffers s.layout) sound.set.card in
       let my-pools : pool_buffers x.view.setting.layout ≡ pool_buffers board.arrays.layout = ap (λ s. pool_buffers s.layout)
       (has-setting board a x x sound here) in
-      omega (arith, inside, nic-pools, my-pools)
+      omega (arith, inside, pools sound, my-pools)
 
   -- no place of the application is empty
   some-helds : note.split ≡ true → All (λ h. 0 < h.place.len) x.view.helds

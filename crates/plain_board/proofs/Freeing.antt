@@ -1,27 +1,19 @@
 -- A buffer whose last holder goes enters the cache or the free list.
 use Rattle.std.proofs.Common.{◌≡◌, ℕ, ◌+◌, ◌<◌, ◌≤◌, Bool, true, false, List, [], ◌∷◌, ◌++◌, length, set, refl, ap, sym}
-use Rattle.std.proofs.Common.{◌∙◌, subst, arith, ⊎_elim, length-append}
-use Rattle.std.specs.Prelude.{◌≢◌, ◌⊎◌, ◌&&◌, nat_eq, count_by, ◌==◌, if◌then◌else◌, nat_lt, Contains, All}
+use Rattle.std.proofs.Common.{subst, arith, ⊎_elim, length-append}
+use Rattle.std.specs.Prelude.{◌≢◌, ◌&&◌, nat_eq, count_by, ◌==◌, if◌then◌else◌, nat_lt}
 use Rattle.std.proofs.lemmas.List.{get_or-set_same, get_or-set_other, length-set}
 use Rattle.std.proofs.lemmas.Bool.Decides.{eqb_tells}
 use Rattle.std.proofs.lemmas.Bool.{ltb-true}
 use Rattle.board_face.specs.NicEvents.{cached, cache_room}
-use Rattle.board_face.proofs.ListLemmas.{not-eqb}
 use Rattle.board_face.proofs.Tallies.{weight}
 use Rattle.board_parts.specs.Free.{listed_in}
 use Rattle.board_parts.specs.Free.{relisted}
-use Rattle.plain_board.proofs.Lists.{weight-swap, count-push}
+use Rattle.board_face.proofs.Counting.{weight-swap, count-push}
 
 pub and-right : (c d : Bool) → (c && d) ≡ true → d ≡ true
 and-right true d e = e
 and-right false d e = absurd (let none : ⊥ = cc in none)
-
-pub and-true : (c d : Bool) → d ≡ true → (c && d) ≡ c
-and-true true d e = e
-and-true false d e = refl
-
-pub All-at : {A : Type 0} (P : A → Type 0) (xs : List A) (x : A) → All P xs → Contains xs x → P x
-All-at P xs x all (k, within, e) = subst P e (all k x within)
 
 -- the cache after a buffer came to be free, or not
 abbrev pub cache_after : Bool → List ℕ → ℕ → List ℕ
@@ -82,21 +74,3 @@ length-listed_after true cache listed i = relist-case (nat_lt (length cache) cac
 length-listed_after false cache listed i = refl
 
 -- ---- free once
-
--- A buffer has a holder less at i. It is free there where none is left.
-pub once-freed : (last : Bool) (p p' f f' w n : ℕ) → f ≡ (if p == 0 then 1 else 0) → p' + w ≡ p → last ≡ (n == 0)
-    → f' ≡ f + (if last then w else 0) → (w ≡ 0) ⊎ ((w ≡ 1) × (p' ≡ n)) → f' ≡ (if p' == 0 then 1 else 0)
-once-freed last p p' f f' w n e less is more which =
-    ⊎_elim
-    (λ none. let same : p' ≡ p = omega arith in rw same (no-more last f f' w none more ∙ e))
-    (λ one. let used : f ≡ 0 = e ∙ ap weight (not-eqb p 0 (λ z. absurd (omega (arith, one.0)))) in
-    one-more last f f' w used one.0 more ∙ ap weight (is ∙ ap (λ x. x == 0) (sym one.1)))
-    which
-  where
-    no-more : (last : Bool) (f f' w : ℕ) → w ≡ 0 → f' ≡ f + (if last then w else 0) → f' ≡ f
-    no-more true f f' w none more = omega arith
-    no-more false f f' w none more = omega arith
-
-    one-more : (last : Bool) (f f' w : ℕ) → f ≡ 0 → w ≡ 1 → f' ≡ f + (if last then w else 0) → f' ≡ weight last
-    one-more true f f' w used one more = omega arith
-    one-more false f f' w used one more = omega arith

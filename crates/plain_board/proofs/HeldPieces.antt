@@ -19,7 +19,7 @@ use Rattle.board_face.specs.declared.views.app.AppSide.{AppSide}
 use Rattle.board_face.proofs.ListLemmas.{eqb_same, same_place-refl, same_place-is}
 use Rattle.board_face.proofs.Tallies.{weight, tally-without}
 use Rattle.board_face.proofs.Parts.{app_count, pool_count-parts, count-tally}
-use Rattle.board_face.proofs.PlaceTallies.{in_buffer, app_places, places-parts}
+use Rattle.board_face.proofs.PlaceTallies.{in_buffer, app_places, places-parts, in-own}
 use Rattle.board_face.proofs.AppLemmas.{app_count-released}
 use Rattle.board_face.proofs.RelayLemmas.{Relayed-app}
 use Rattle.board_face.proofs.FewLemmas.{pool_count-few}
@@ -28,7 +28,6 @@ use Rattle.board_parts.specs.Free.{listed_in}
 use Rattle.plain_board.specs.Stand.{Arrays, Stand, byte_of}
 use Rattle.plain_board.specs.Sound.{IsSound, IsAtRest}
 use Rattle.board_face.proofs.LiesLemmas.{total-at}
-use Rattle.plain_board.proofs.FirstNote.{in-own}
 use Rattle.plain_board.proofs.AppFrames.{IsSet-app, was-at_rest, AreCounted-app, was-returned, AreRelayed-kept, was-relayed, returns-app, was-returns}
 use Rattle.plain_board.proofs.AppFrames.{AreFlags-kept, AreKept-app, AreDue-app, was-given, was-due, AreBooked-kept}
 use Rattle.plain_board.proofs.AppFrames.{ArePhased-app, was-phased, OwnBuffers-app}

@@ -3,7 +3,7 @@ use Rattle.std.proofs.Common.{◌≡◌, ℕ, ◌+◌, ◌-◌, ◌*◌, ◌<◌
 use Rattle.std.proofs.Common.{sym, ◌∙◌, subst, arith, ⊎_elim, inl, inr, Some}
 use Rattle.std.specs.Prelude.{◌≢◌, ◌&&◌, nat_eq, nat_lt, count_by, ◌==◌, if◌then◌else◌, All}
 use Rattle.std.proofs.lemmas.List.{get_or_default, length-set, get_or-set_same, get_or-set_other}
-use Rattle.std.proofs.lemmas.List.Elements.{All-push}
+use Rattle.std.proofs.lemmas.List.Elements.{All-push, All-contains}
 use Rattle.std.proofs.lemmas.Nat.{mul-add-lt}
 use Rattle.std.proofs.lemmas.Bool.{cases_Bool, cases_lt, ltb-true, lt-ltb}
 use Rattle.std.proofs.lemmas.Bool.Decides.{eqb_tells}
@@ -26,7 +26,7 @@ use Rattle.board_face.specs.declared.views.nic.NicSide.{NicSide}
 use Rattle.board_face.specs.declared.views.app.AppSide.{AppSide}
 use Rattle.board_face.proofs.ListLemmas.{eqb_same, not-eqb}
 use Rattle.board_face.proofs.NicLemmas.{Owes, pool_count-honoured, user_count-honoured, honoured-other, honoured-target}
-use Rattle.board_face.proofs.Parts.{returned_in-count, user_part, user_count-parts, total-only, loans_in, owed_count, count-tally}
+use Rattle.board_face.proofs.Parts.{returned_in-count, loans_in, owed_count, count-tally, user_count-own, owed-count}
 use Rattle.board_face.proofs.Tallies.{weight}
 use Rattle.board_face.proofs.FillingsFitLemmas.{FillingsFit-nic}
 use Rattle.board_face.proofs.IsFilledByOneLemmas.{IsFilledByOne-honoured, IsFilledByOne-gave_up}
@@ -37,26 +37,21 @@ use Rattle.board_parts.specs.Counts.{user_at}
 use Rattle.plain_board.specs.Stand.{Stand, byte_of}
 use Rattle.plain_board.specs.Returns.{AreReturns, is_some_of, returns, names, abandoned_in}
 use Rattle.plain_board.specs.Sound.{IsSound, refills_of}
-use Rattle.plain_board.proofs.Lists.{counts-set, weight-same, weight-other, same-or-other, same-user, weight-none}
+use Rattle.plain_board.proofs.Lists.{same-or-other, same-user}
 use Rattle.plain_board.proofs.Card.{IsSet-nic, none-lowered}
-use Rattle.plain_board.proofs.Freeing.{All-at, and-true, and-right, cache_after, listed_after, places-after, cache-grows, cache-short, length-listed_after}
-use Rattle.plain_board.proofs.Freeing.{once-freed}
+use Rattle.plain_board.proofs.Freeing.{and-right, cache_after, listed_after, places-after, cache-grows, cache-short, length-listed_after}
 use Rattle.plain_board.proofs.Shutting.{used-nowhere}
 use Rattle.board_face.proofs.SideLemmas.{IsApp-at}
 use Rattle.plain_board.proofs.Popping.{same-app, other-number, ring_then, AreRelayed-popped, AreBooked-popped}
-use Rattle.plain_board.proofs.Dealing.{HasFront, HasFront-relayed, AreReturns-dealt, AreReturns-other, ArePhased-dealt, count-first, length-owed_in}
+use Rattle.plain_board.proofs.Dealing.{HasFront, HasFront-relayed, AreReturns-dealt, AreReturns-other, ArePhased-dealt}
+use Rattle.board_face.proofs.Counting.{weight-same, weight-other, weight-none, count-first, once-freed}
+use Rattle.zr_kinds.proofs.Lists.{counts-set}
+use Rattle.zr_kinds.proofs.Booleans.{and-true}
+use Rattle.plain_board.proofs.AppFrames.{pools}
 
 -- the entry gave its reference back, which was the last of its buffer, or not
 abbrev pub honoured_if : NicView → ℕ → Rqe → ℕ → Bool → NicView
 honoured_if v a e i last = gave_up (honoured v a e i) i last
-
-pub part-none : (c : Bool) (n : ℕ) → c ≡ false → (if c then n else 0) ≡ 0
-part-none true n e = absurd (let none : ⊥ = cc in none)
-part-none false n e = refl
-
-pub part-all : (c : Bool) (n : ℕ) → c ≡ true → (if c then n else 0) ≡ n
-part-all true n e = refl
-part-all false n e = absurd (let none : ⊥ = cc in none)
 
 pub nothing : (last : Bool) {f w : ℕ} → w ≡ 0 → f + (if last then w else 0) ≡ f
 nothing true none = omega (arith, none)
@@ -98,10 +93,7 @@ module _ (board : Stand) (a i : ℕ) (x : AppSide) (e : Rqe) (es : List Rqe) (so
   users_here : get_or board.arrays.users (user_at board.arrays.layout a i) 0 ≡ loans_in i x + owed_count i board.nic x
   users_here =
       sound.counted.users a i here.there inside
-      ∙ (user_count-parts a i board.nic board.apps
-      ∙ (total-only 0 (user_part a i board.nic) a (λ app other. part-none (app.view.app == a) _
-      (not-eqb app.view.app a other)) board.apps sound.set.numbers a x here.there (omega arith)
-      ∙ (ap (user_part a i board.nic) here.is ∙ part-all (x.view.app == a) _ (subst (λ n. (n == a) ≡ true) (sym here.number) (eqb_same a)))))
+      ∙ user_count-own a i board.nic board.apps x sound.set.numbers here
 
   -- no entry is in hand
   idle : (b : ℕ) → lowered_in_hand x.view.app b board.nic.inside.entry ≡ 0
@@ -118,14 +110,14 @@ module _ (board : Stand) (a i : ℕ) (x : AppSide) (e : Rqe) (es : List Rqe) (so
         idle i,
         count-first (returns x.view.setting.layout i) front.first front.others,
         ap weight counted,
-        length-owed_in i board.nic x,
+        owed-count i board.nic x,
       ))
       (λ raw. let none = ((rw front.way at (h.clear i)).0 raw names_it).0 in
       omega (arith, users_here, some, none, count-tally (λ l. l.place.buffer == i) x.view.loans))
       (cases_Bool front.first.of_loan)
 
   pub owes_one : 1 ≤ length (owed_in i board.nic x)
-  owes_one = omega (arith, owes_some, length-owed_in i board.nic x)
+  owes_one = omega (arith, owes_some, owed-count i board.nic x)
 
   pub owes : Owes i board.nic x
   owes = record { owes = omega (arith, owes_some); returning = (returned i).returning }
@@ -145,12 +137,9 @@ module _ (board : Stand) (a i : ℕ) (x : AppSide) (e : Rqe) (es : List Rqe) (so
   pub is_held : 0 < get_or board.arrays.pool i 0
   is_held = omega (arith, less true i, weight-same i, sound.counted.pool i inside)
 
-  pools : pool_buffers board.nic.view.setting.layout ≡ pool_buffers board.arrays.layout
-  pools = ap (λ s. pool_buffers s.layout) sound.set.card
-
   unlisted : i < pool_buffers board.arrays.layout → listed_in board.arrays.listed i ≡ false
   unlisted of_pool =
-      let nowhere = used-nowhere (pool_count i board.nic board.apps) _ (sound.free.pool i (rw pools of_pool))
+      let nowhere = used-nowhere (pool_count i board.nic board.apps) _ (sound.free.pool i (rw (pools sound) of_pool))
       (omega (arith, is_held, sound.counted.pool i inside)) in
       weight-none (listed_in board.arrays.listed i) (omega (arith, nowhere))
 
@@ -159,13 +148,13 @@ module _ (board : Stand) (a i : ℕ) (x : AppSide) (e : Rqe) (es : List Rqe) (so
   came last = last && nat_lt i (pool_buffers board.nic.view.setting.layout)
 
   pub came-code : (last : Bool) → (last && nat_lt i (pool_buffers board.arrays.layout)) ≡ came last
-  came-code last = ap (λ n. last && nat_lt i n) (sym pools)
+  came-code last = ap (λ n. last && nat_lt i n) (sym (pools sound))
 
   pub came-zero : (last : Bool) (n : ℕ) → last ≡ (n == 0) → i < pool_buffers board.arrays.layout → came last ≡ (n == 0)
-  came-zero last n is of_pool = and-true last _ (lt-ltb i (pool_buffers board.nic.view.setting.layout) (rw pools of_pool)) ∙ is
+  came-zero last n is of_pool = and-true last _ (lt-ltb i (pool_buffers board.nic.view.setting.layout) (rw (pools sound) of_pool)) ∙ is
 
   pub came-pool : (last : Bool) → came last ≡ true → i < pool_buffers board.arrays.layout
-  came-pool last free = let of_pool = ltb-true i (pool_buffers board.nic.view.setting.layout) (and-right last _ free) in let p = pools in omega arith
+  came-pool last free = let of_pool = ltb-true i (pool_buffers board.nic.view.setting.layout) (and-right last _ free) in let p = pools sound in omega arith
 
   places_if : (free : Bool) → (free ≡ true → i < pool_buffers board.arrays.layout) → (b : ℕ)
       → weight (listed_in (listed_after free board.arrays.cache board.arrays.listed i) b) + count_by (nat_eq b) (cache_after free board.arrays.cache i)
@@ -258,8 +247,8 @@ module _ (board : Stand) (a i : ℕ) (x : AppSide) (e : Rqe) (es : List Rqe) (so
         idle i,
         count-first (returns x.view.setting.layout i) front.first front.others,
         ap weight counted,
-        length-owed_in i board.nic x,
-        length-owed_in i (nic_then last) x,
+        owed-count i board.nic x,
+        owed-count i (nic_then last) x,
         ended_then last i,
         weight-same i,
       )))
@@ -271,8 +260,8 @@ module _ (board : Stand) (a i : ℕ) (x : AppSide) (e : Rqe) (es : List Rqe) (so
         before,
         idle b,
         count-first test front.first front.others,
-        length-owed_in b board.nic x,
-        length-owed_in b (nic_then last) x,
+        owed-count b board.nic x,
+        owed-count b (nic_then last) x,
         ended_then last b,
         other,
       ))
@@ -293,8 +282,8 @@ module _ (board : Stand) (a i : ℕ) (x : AppSide) (e : Rqe) (es : List Rqe) (so
         rw front.way at ((sound.returns a x here).no_more b),
         count-first (returns x.view.setting.layout b) front.first front.others,
         gives-one b,
-        length-owed_in b board.nic x,
-        length-owed_in b (nic_then last) x,
+        owed-count b board.nic x,
+        owed-count b (nic_then last) x,
         ended_then last b,
       )
 
@@ -318,11 +307,12 @@ module _ (board : Stand) (a i : ℕ) (x : AppSide) (e : Rqe) (es : List Rqe) (so
       → free_places (listed_in (listed_after (came last) board.arrays.cache board.arrays.listed i)) b (nic_then last) board.apps
       ≡ (if pool_count b (nic_then last) board.apps == 0 then 1 else 0)
   once_then last n now is of_pool b within =
-      let before = sound.free.pool b (rw pools within) in
+      let before = sound.free.pool b (rw (pools sound) within) in
       ⊎_elim
       (λ inside. once-freed (came last) (pool_count b board.nic board.apps) _ (free_places (listed_in board.arrays.listed) b board.nic board.apps) _
-      (weight (i == b)) n before (less last b) (is inside) (free_then last of_pool b)
-      (⊎_elim (λ same. inr (same.0, ap (λ y. pool_count y (nic_then last) board.apps) same.1 ∙ sym now)) (λ other. inl other) (same-or-other b i)))
+      (weight (i == b)) (weight (i == b)) n before (less last b) (free_then last of_pool b)
+      (⊎_elim (λ same. inr (omega (arith, same.0), same.0, ap (λ y. pool_count y (nic_then last) board.apps) same.1 ∙ sym now, is inside))
+      (λ other. inl (other, other)) (same-or-other b i)))
       (λ beyond. let apart : weight (i == b) ≡ 0 = weight-other i b (λ e. absurd (omega arith)) in
       let kept : pool_count b (nic_then last) board.apps ≡ pool_count b board.nic board.apps = omega (arith, less last b, apart) in
       free_then last of_pool b ∙ (nothing (came last) apart ∙ (before ∙ ap (λ p. if p == 0 then 1 else 0) (sym kept))))
@@ -366,8 +356,8 @@ module _ (board : Stand) (a i : ℕ) (x : AppSide) (e : Rqe) (es : List Rqe) (so
           returned = all_returned last;
         };
         free = record {
-          pool = λ b within. once_then last n now is of_pool b (rw (← pools) within);
-          reserves = λ b past. let past' : pool_buffers board.arrays.layout ≤ b = rw (← pools) past in free_then last of_pool b
+          pool = λ b within. once_then last n now is of_pool b (rw (← pools sound) within);
+          reserves = λ b past. let past' : pool_buffers board.arrays.layout ≤ b = rw (← pools sound) past in free_then last of_pool b
               ∙ beyond_pool (came last) of_pool b past' (sound.free.reserves b past);
         };
         relayed = AreRelayed-popped board a x e es sound here found (honoured_if board.nic.view a e i last) the_dealt refl refl refl refl _ refl refl refl;
@@ -389,7 +379,7 @@ module _ (board : Stand) (a i : ℕ) (x : AppSide) (e : Rqe) (es : List Rqe) (so
             (IsFilledByOne-honoured b board.nic board.apps a i e x sound.set.numbers here owes (sound.by_one b));
         shown = AreShown-gave_up (byte_of board.arrays) nic_honoured board.apps i last
             (AreShown-honoured (byte_of board.arrays) board.nic board.apps a i e
-            (λ b app has. (All-at (EndedWereReturned b board.nic) board.apps app (sound.counted.returned b) has).returning) sound.shown);
+            (λ b app has. (All-contains (EndedWereReturned b board.nic) board.apps app (sound.counted.returned b) has).returning) sound.shown);
         notes = sound.notes;
         own_buffers = LieInOwn-nic board.nic (honoured_if board.nic.view a e i last) board.apps refl refl refl sound.own_buffers;
         judged = All-push (IsHonouredAsNamed board.nic.view.setting.layout) board.nic.view.dealt the_dealt sound.judged as_named;

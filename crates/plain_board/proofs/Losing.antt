@@ -26,12 +26,10 @@ use Rattle.board_face.proofs.SideLemmas.{IsApp-at}
 use Rattle.plain_board.specs.Stand.{Stand}
 use Rattle.plain_board.specs.Sound.{IsSound}
 use Rattle.plain_board.proofs.AppFrames.{times_picked, times_used}
-use Rattle.plain_board.proofs.Lists.{count-push, count-append, weight-other}
+use Rattle.board_face.proofs.Counting.{weight-other, count-cons, sum-map}
+use Rattle.zr_kinds.proofs.Booleans.{if-le}
 
 -- ---- counts
-
-count-cons : (b x : ℕ) (xs : List ℕ) → count_by (nat_eq b) (x ∷ xs) ≡ weight (b == x) + count_by (nat_eq b) xs
-count-cons b x xs = omega (arith, count-append b (x ∷ []) xs, count-push b x [])
 
 or-case : (c d : Bool) (n : ℕ) → weight d ≤ n → weight (c || d) ≤ weight c + n
 or-case true d n h = omega arith
@@ -42,14 +40,14 @@ any-counted : (b : ℕ) (xs : List ℕ) → weight (list_any (nat_eq b) xs) ≤ 
 any-counted b [] = omega arith
 any-counted b (x ∷ xs) = omega (arith, or-case (b == x) (list_any (nat_eq b) xs) (count_by (nat_eq b) xs) (any-counted b xs), count-cons b x xs)
 
-none-case : (c d : Bool) (n : ℕ) → (weight d ≡ 0 → n ≡ 0) → weight (c || d) ≡ 0 → weight c + n ≡ 0
-none-case true d n h e = absurd (omega (arith, e))
-none-case false d n h e = omega (arith, h e)
+nif-le : (c d : Bool) (n : ℕ) → (weight d ≡ 0 → n ≡ 0) → weight (c || d) ≡ 0 → weight c + n ≡ 0
+nif-le true d n h e = absurd (omega (arith, e))
+nif-le false d n h e = omega (arith, h e)
 
 -- and what doesn't isn't
 none-counted : (b : ℕ) (xs : List ℕ) → weight (list_any (nat_eq b) xs) ≡ 0 → count_by (nat_eq b) xs ≡ 0
 none-counted b [] e = refl
-none-counted b (x ∷ xs) e = omega (arith, none-case (b == x) (list_any (nat_eq b) xs) (count_by (nat_eq b) xs) (none-counted b xs) e, count-cons b x xs)
+none-counted b (x ∷ xs) e = omega (arith, nif-le (b == x) (list_any (nat_eq b) xs) (count_by (nat_eq b) xs) (none-counted b xs) e, count-cons b x xs)
 
 -- ---- sums over the numbers below n
 
@@ -119,18 +117,10 @@ unsplit note = if note.split then 0 else note.total
 abbrev of_sent : SentNote → ℕ
 of_sent s = unsplit s.note
 
-pub sum-map : {A B : Type 0} (f : B → ℕ) (g : A → B) (xs : List A) → sum_by f (map g xs) ≡ sum_by (λ x. f (g x)) xs
-sum-map f g [] = refl
-sum-map f g (x ∷ xs) = omega (arith, sum_by-cons f (g x) (map g xs), sum_by-cons (λ y. f (g y)) x xs, sum-map f g xs)
-
 filter-case : (c : Bool) (s : SentNote) (rest : List SentNote)
     → sum_by of_sent (cond c (s ∷ rest) rest) ≡ (if c then of_sent s else 0) + sum_by of_sent rest
 filter-case true s rest = sum_by-cons of_sent s rest
 filter-case false s rest = omega arith
-
-one-case : (c : Bool) (n : ℕ) → (if c then n else 0) ≤ n
-one-case true n = omega arith
-one-case false n = omega arith
 
 after : (n a w : ℕ) (apps : List AppSide) → AreNumbered n apps → a < n → total (λ app. if a == app.view.app then w else 0) apps ≡ 0
 after n a w [] h past = refl
@@ -144,7 +134,7 @@ once : (n a w : ℕ) (apps : List AppSide) → AreNumbered n apps → total (λ 
 once n a w [] h = omega arith
 once n a w (app ∷ apps) h =
     ⊎_elim
-    (λ t. let here : a ≡ app.view.app = t.1 in omega (arith, one-case (a == app.view.app) w, after (suc n) a w apps h.1 (let number = h.0 in omega arith)))
+    (λ t. let here : a ≡ app.view.app = t.1 in omega (arith, if-le (a == app.view.app) w, after (suc n) a w apps h.1 (let number = h.0 in omega arith)))
     (λ t. let none : (if a == app.view.app then w else 0) ≡ 0 = ap (λ c. if c then w else 0) t.0 in omega (arith, none, once (suc n) a w apps h.1))
     (eqb_tells a app.view.app)
 

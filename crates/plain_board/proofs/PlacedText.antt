@@ -23,10 +23,11 @@ use Rattle.board_parts.specs.Area.{stored}
 use Rattle.board_parts.specs.Free.{listed_in}
 use Rattle.plain_board.specs.Stand.{Stand, byte_of}
 use Rattle.plain_board.specs.Sound.{IsSound}
-use Rattle.plain_board.proofs.Lists.{weight-same, weight-other, same-or-other}
+use Rattle.plain_board.proofs.Lists.{same-or-other}
 use Rattle.plain_board.proofs.Shutting.{of_pool, is_held, used-nowhere}
 use Rattle.plain_board.proofs.Card.{IsSet-nic, AreCounted-nic, AreRelayed-nic, AreReturns-nic, AreBooked-nic, ArePhased-open}
 use Rattle.plain_board.proofs.Storing.{in_area as stored-in_area, length-stored, stored_then, byte_upto, IsShown-stored, StoresAt-last, AreShown-before}
+use Rattle.board_face.proofs.Counting.{weight-same, weight-other}
 
 -- a buffer that has a holder may have one more, and is free neither before nor after
 once-placed : (p p' f w : ℕ) → f ≡ (if p == 0 then 1 else 0) → p' ≡ p + w → (w ≡ 0) ⊎ (0 < p) → f ≡ (if p' == 0 then 1 else 0)

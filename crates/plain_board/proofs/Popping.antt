@@ -1,7 +1,7 @@
 -- An entry leaves its slot.
 use Rattle.std.proofs.Common.{◌≡◌, ℕ, ◌-◌, ◌<◌, List, [], ◌∷◌, ◌++◌, length, map, drop, set, get_or, refl, ap, sym, ◌∙◌, subst}
-use Rattle.std.proofs.Common.{arith, ⊎_elim, Some, None}
-use Rattle.std.specs.Prelude.{◌≢◌, slice_get}
+use Rattle.std.proofs.Common.{arith, ⊎_elim}
+use Rattle.std.specs.Prelude.{◌≢◌}
 use Rattle.std.proofs.lemmas.List.{set-get_or, get_or_default, get_or-set_same, get_or-set_other}
 use Rattle.std.proofs.lemmas.List.Elements.{All-set}
 use Rattle.std.proofs.lemmas.Bool.Decides.{eqb_tells}
@@ -95,14 +95,6 @@ module _ (board : Stand) (a : ℕ) (x : AppSide) (e : Rqe) (es : List Rqe) (soun
   }
 
 -- ---- the front of a ring
-
-pub front-some : {A : Type 0} (xs : List A) (x : A) → slice_get xs 0 ≡ Some x → xs ≡ x ∷ drop 1 xs
-front-some [] x e = absurd (let none : ⊥ = cc in none)
-front-some (y ∷ ys) x e = let same : y ≡ x = cc in ap (λ z. z ∷ ys) same
-
-pub front-none : {A : Type 0} (xs : List A) → slice_get xs 0 ≡ None → xs ≡ []
-front-none [] e = refl
-front-none (y ∷ ys) e = absurd (let none : ⊥ = cc in none)
 
 -- nothing leaves an empty ring
 pub rings-same : {A : Type 0} (rings : List (Buffer A)) (a : ℕ) → (get_or rings a (buffer [] 0)).items ≡ []

@@ -1,7 +1,7 @@
 -- A piece is given up: its buffer has one holder less, and is listed where that was the last and it is one of the pool.
-use Rattle.std.proofs.Common.{◌≡◌, ℕ, ◌+◌, ◌-◌, ◌<◌, ◌≤◌, Bool, true, false, List, length, set, get_or, refl, ap, sym, ◌∙◌}
+use Rattle.std.proofs.Common.{◌≡◌, ℕ, ◌+◌, ◌-◌, ◌<◌, ◌≤◌, Bool, true, false, List, length, set, get_or, refl, ap}
 use Rattle.std.proofs.Common.{arith, inl, inr, ⊎_elim}
-use Rattle.std.specs.Prelude.{◌==◌, ◌&&◌, ◌⊎◌, nat_lt, if◌then◌else◌}
+use Rattle.std.specs.Prelude.{◌==◌, ◌&&◌, nat_lt, if◌then◌else◌}
 use Rattle.std.proofs.lemmas.List.{length-set}
 use Rattle.std.proofs.lemmas.Bool.{lt-ltb, ltb-true}
 use Rattle.zr_kinds.specs.declared.place.Place.{Place}
@@ -21,10 +21,12 @@ use Rattle.board_face.proofs.AreShownLemmas.{AreShown-released}
 use Rattle.board_parts.specs.Free.{listed_in}
 use Rattle.plain_board.specs.Stand.{Stand, byte_of}
 use Rattle.plain_board.specs.Sound.{IsSound}
-use Rattle.plain_board.proofs.Lists.{weight-other, weight-none, same-or-other, lowered}
-use Rattle.plain_board.proofs.Freeing.{and-right, and-true, listed-set}
-use Rattle.plain_board.proofs.AppFrames.{free_places-side, was-own}
+use Rattle.plain_board.proofs.Lists.{same-or-other, lowered}
+use Rattle.plain_board.proofs.Freeing.{and-right, listed-set}
+use Rattle.plain_board.proofs.AppFrames.{free_places-side, was-own, pools}
 use Rattle.plain_board.proofs.HeldPieces.{is_held, there-pool, held-count, at-rest, IsSound-helds}
+use Rattle.board_face.proofs.Counting.{weight-other, weight-none, once-freed}
+use Rattle.zr_kinds.proofs.Booleans.{and-true}
 
 -- ---- the free list
 
@@ -39,24 +41,6 @@ listed-then false listed i b was = omega arith
 pub length-then : (came : Bool) (listed : List Bool) (i : ℕ) → length (listed_then came listed i) ≡ length listed
 length-then true listed i = length-set listed i true
 length-then false listed i = refl
-
--- a buffer that has a holder less is free where none is left
-pub once-less : (came : Bool) (p p' f f' w n : ℕ) → f ≡ (if p == 0 then 1 else 0) → p' + w ≡ p → f' ≡ f + (if came then w else 0)
-    → (w ≡ 0) ⊎ ((w ≡ 1) × (p' ≡ n) × (came ≡ (n == 0))) → f' ≡ (if p' == 0 then 1 else 0)
-once-less came p p' f f' w n e less more which =
-    ⊎_elim
-    (λ none. let same : p' ≡ p = omega arith in rw same (no-more came f f' w none more ∙ e))
-    (λ one. let used : f ≡ 0 = e ∙ ap weight (not-eqb p 0 (λ z. absurd (omega (arith, one.0)))) in
-    one-more came f f' w used one.0 more ∙ ap weight (one.2 ∙ ap (λ m. m == 0) (sym one.1)))
-    which
-  where
-    no-more : (came : Bool) (f f' w : ℕ) → w ≡ 0 → f' ≡ f + (if came then w else 0) → f' ≡ f
-    no-more true f f' w none more = omega arith
-    no-more false f f' w none more = omega arith
-
-    one-more : (came : Bool) (f f' w : ℕ) → f ≡ 0 → w ≡ 1 → f' ≡ f + (if came then w else 0) → f' ≡ weight came
-    one-more true f f' w used one more = omega arith
-    one-more false f f' w used one more = omega arith
 
 -- none comes to be listed that is none of the pool
 past-pool : (came : Bool) (i b m : ℕ) → (came ≡ true → i < m) → m ≤ b → (if came then weight (i == b) else 0) ≡ 0
@@ -78,13 +62,10 @@ module _ (board : Stand) (a : ℕ) (x : AppSide) (place : Place) (sound : IsSoun
   came-pool : came ≡ true → place.buffer < pool_buffers board.arrays.layout
   came-pool e = ltb-true place.buffer (pool_buffers board.arrays.layout) (and-right (left == 0) _ e)
 
-  pools : pool_buffers board.nic.view.setting.layout ≡ pool_buffers board.arrays.layout
-  pools = ap (λ s. pool_buffers s.layout) sound.set.card
-
   -- a buffer of the pool that is held isn't listed
   unlisted : place.buffer < pool_buffers board.arrays.layout → listed_in board.arrays.listed place.buffer ≡ false
   unlisted inside =
-      let once = sound.free.pool place.buffer (rw pools inside) in
+      let once = sound.free.pool place.buffer (rw (pools sound) inside) in
       let some = is_held board a x place sound here out in
       let none = ap weight (not-eqb (pool_count place.buffer board.nic board.apps) 0 (λ z. absurd (omega (arith, some)))) in
       weight-none (listed_in board.arrays.listed place.buffer) (omega (arith, once, none))
@@ -111,21 +92,22 @@ module _ (board : Stand) (a : ℕ) (x : AppSide) (place : Place) (sound : IsSoun
         lists b,
       ) in
       record {
-        pool = λ b within. once-less came (pool_count b board.nic board.apps) _ (free_places (listed_in board.arrays.listed) b board.nic board.apps) _
-            (weight (place.buffer == b)) left (sound.free.pool b within)
+        pool = λ b within. once-freed came (pool_count b board.nic board.apps) _ (free_places (listed_in board.arrays.listed) b board.nic board.apps) _
+            (weight (place.buffer == b)) (weight (place.buffer == b)) left (sound.free.pool b within)
             (less b)
             (places b)
             (⊎_elim
             (λ same. let e : b ≡ place.buffer = same.1 in
-            let inside : place.buffer < pool_buffers board.arrays.layout = rw (← e, ← pools) within in
+            let inside : place.buffer < pool_buffers board.arrays.layout = rw (← e, ← pools sound) within in
             inr (
+              omega (arith, same.0),
               same.0,
               omega (arith, less b, same.0, held-count board a x place sound here out, ap (λ m. pool_count m board.nic board.apps) e),
               and-true (left == 0) _ (lt-ltb place.buffer (pool_buffers board.arrays.layout) inside),
             ))
-            (λ other. inl other)
+            (λ other. inl (other, other))
             (same-or-other b place.buffer));
-        reserves = λ b past. let past' : pool_buffers board.arrays.layout ≤ b = rw (← pools) past in
+        reserves = λ b past. let past' : pool_buffers board.arrays.layout ≤ b = rw (← pools sound) past in
             omega (arith, places b, sound.free.reserves b past, past-pool came place.buffer b (pool_buffers board.arrays.layout) came-pool past');
       }
 

@@ -14,7 +14,7 @@ use Rattle.board_face.specs.Laws.{TookAll}
 use Rattle.board_face.specs.declared.views.app.AppSide.{AppSide}
 use Rattle.board_face.proofs.ListLemmas.{eqb_same, not-eqb}
 use Rattle.board_face.proofs.Tallies.{weight}
-use Rattle.board_face.proofs.Parts.{app_count, user_part, loans_in, owed_count, returned_in-count, pool_count-parts, user_count-parts, total-only}
+use Rattle.board_face.proofs.Parts.{app_count, user_part, loans_in, owed_count, returned_in-count, pool_count-parts, user_count-own}
 use Rattle.board_face.proofs.AppLemmas.{scrubbed_side, pool_count-app, app_count-scrubbed, user_part-scrubbed, EndedWereReturned-scrubbed}
 use Rattle.board_face.proofs.IsFilledByOneLemmas.{IsFilledByOne-scrubbed}
 use Rattle.board_face.proofs.FillingsFitLemmas.{FillingsFit-same}
@@ -24,7 +24,7 @@ use Rattle.board_parts.specs.Counts.{user_at, HasFewUsers, came_back, TakesBack}
 use Rattle.board_parts.specs.Free.{listed_in}
 use Rattle.plain_board.specs.Stand.{Stand, byte_of}
 use Rattle.plain_board.specs.Sound.{IsSound, IsAtRest}
-use Rattle.plain_board.proofs.AppFrames.{has-setting, IsSet-app, was-at_rest, AreCounted-app, was-returned, AreRelayed-kept, was-relayed, returns-app}
+use Rattle.plain_board.proofs.AppFrames.{has-setting, IsSet-app, was-at_rest, AreCounted-app, was-returned, AreRelayed-kept, was-relayed, returns-app, pools}
 use Rattle.plain_board.proofs.AppFrames.{was-returns, AreFlags-kept, free_places-side, AreKept-app, AreDue-app, was-given, was-due, AreBooked-kept}
 use Rattle.plain_board.proofs.AppFrames.{ArePhased-app, was-phased, OwnBuffers-kept}
 use Rattle.plain_board.proofs.Card.{none-lowered}
@@ -78,9 +78,9 @@ module _ (board : Stand) (a : ℕ) (x : AppSide) (sound : IsSound board) (here :
         → get_or board.arrays.users (user_at board.arrays.layout a b) 0 ≡ owed_count b board.nic x
     users-mine b within =
         sound.counted.users a b here.there within
-        ∙ (user_count-parts a b board.nic board.apps
-        ∙ (total-only 0 (user_part a b board.nic) a (λ app other. rw (not-eqb app.view.app a other) refl) board.apps sound.set.numbers a x here.there
-        (omega arith) ∙ (ap (user_part a b board.nic) here.is ∙ part-mine b)))
+        ∙ user_count-own a b board.nic board.apps x sound.set.numbers here
+        ∙ ap (λ n. n + owed_count b board.nic x) (no-loans b)
+        ∙ omega arith
 
     pub few-users : HasFewUsers board.arrays.layout a board.arrays.users board.arrays.pool
     few-users b within = omega (arith, users-mine b within, app-few b, sound.counted.pool b within)
@@ -139,13 +139,10 @@ module _ (board : Stand) (a : ℕ) (x : AppSide) (sound : IsSound board) (here :
         unscrubbed = λ e. absurd (let wrong : true ≡ false = e in cc);
       }
 
-      pools : pool_buffers board.nic.view.setting.layout ≡ pool_buffers board.arrays.layout
-      pools = ap (λ s. pool_buffers s.layout) sound.set.card
-
       free-then : AreFreeOnce (listed_in listed') board.nic (set board.apps a scrubbed_then)
       free-then = record {
         pool = λ b inside.
-            let of_pool : b < pool_buffers board.arrays.layout = rw (← pools) inside in
+            let of_pool : b < pool_buffers board.arrays.layout = rw (← pools sound) inside in
             let within : b < all_buffers board.arrays.layout = omega arith in
             let owed = get_or board.arrays.users (user_at board.arrays.layout a b) 0 in
             let before : pool_count b board.nic board.apps ≡ get_or pool' b 0 + owed = omega
@@ -159,7 +156,7 @@ module _ (board : Stand) (a : ℕ) (x : AppSide) (sound : IsSound board) (here :
             (once-back owed (get_or pool' b 0) _ _ (nat_lt b (pool_buffers board.arrays.layout)) (listed_in board.arrays.listed b) (listed_in listed' b)
             (lt-ltb b (pool_buffers board.arrays.layout) of_pool) (back.lists b within) was some change);
         reserves = λ b past.
-            let past' : pool_buffers board.arrays.layout ≤ b = rw (← pools) past in
+            let past' : pool_buffers board.arrays.layout ≤ b = rw (← pools sound) past in
             let none : listed_in listed' b ≡ false = get_or_past listed' b false (omega (arith, back.listed_len, sound.sizes.listed)) in
             omega (
               arith,

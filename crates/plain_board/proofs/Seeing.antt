@@ -1,5 +1,5 @@
 -- What the card sees of its board is so: a count that it reads is the number of holders, and a ring has what is on its way.
-use Rattle.std.proofs.Common.{◌≡◌, ℕ, ◌-◌, ◌<◌, ◌≤◌, Bool, true, false, List, [], ◌∷◌, ◌++◌, length, map, get_or, refl, ap, sym}
+use Rattle.std.proofs.Common.{◌≡◌, ℕ, ◌-◌, ◌<◌, ◌≤◌, Bool, true, false, [], ◌∷◌, ◌++◌, length, get_or, refl, ap, sym}
 use Rattle.std.proofs.Common.{◌∙◌, arith, ⊎_elim, Option, Some, None}
 use Rattle.std.specs.Prelude.{◌≢◌, ◌==◌, IfSome}
 use Rattle.std.proofs.lemmas.List.{length-map}
@@ -31,10 +31,7 @@ use Rattle.plain_board.specs.Seen.{card_of, IsSeenByCard, IsJudged}
 use Rattle.board_face.proofs.SideLemmas.{IsApp-at}
 use Rattle.plain_board.proofs.Dealing.{entries-relayed}
 use Rattle.plain_board.proofs.Honouring.{honoured_if}
-
-none-mapped : {A B : Type 0} (f : A → B) (xs : List A) → map f xs ≡ [] → xs ≡ []
-none-mapped f [] e = refl
-none-mapped f (x ∷ xs) e = absurd (let none : ⊥ = cc in none)
+use Rattle.zr_kinds.proofs.Lists.{map-none}
 
 module _ (board : Stand) (sound : IsSound board) where
   -- what is said of each look whose count rose
@@ -106,7 +103,7 @@ module _ (board : Stand) (sound : IsSound board) where
       let here = IsApp-at board.apps a blank_app sound.set.numbers there in
       let way = entries-relayed board.nic app _ (refills_of board.arrays a) (sound.relayed.relayed a app here) in
       NicTold-one IsSo board.nic.view (nic_saw board.nic.view (RingEmpty a)) (RingEmpty a) refl
-      (none-mapped (λ w. w.entry) (entries_on_way board.nic app) (way ∙ empty))
+      (map-none (λ w. w.entry) (entries_on_way board.nic app) (way ∙ empty))
 
   -- the ring has no room
   pub NicTold-full : (a : ℕ) → a < length board.apps → (get_or board.arrays.notes a (buffer [] 0)).capacity ≤ length (notes_of board.arrays a)

@@ -20,9 +20,13 @@ use Rattle.board_face.proofs.Tallies.{weight}
 use Rattle.board_parts.specs.Free.{listed_in}
 use Rattle.plain_board.specs.Stand.{Stand, byte_of}
 use Rattle.plain_board.specs.Sound.{IsSound}
-use Rattle.plain_board.proofs.Lists.{weight-none, weight-same, weight-other, same-or-other}
-use Rattle.plain_board.proofs.Freeing.{and-true, All-at, cache_after, listed_after, places-after, cache-grows, cache-short, length-listed_after, once-freed}
+use Rattle.plain_board.proofs.Lists.{same-or-other}
+use Rattle.plain_board.proofs.Freeing.{cache_after, listed_after, places-after, cache-grows, cache-short, length-listed_after}
 use Rattle.plain_board.proofs.Card.{IsSet-nic, AreCounted-nic, AreRelayed-nic, AreReturns-nic, AreBooked-nic, ArePhased-open}
+use Rattle.board_face.proofs.Counting.{weight-none, weight-same, weight-other, once-freed}
+use Rattle.std.proofs.lemmas.List.Elements.{All-contains}
+use Rattle.zr_kinds.proofs.Booleans.{and-true}
+use Rattle.plain_board.proofs.AppFrames.{pools}
 
 -- a buffer with a holder stands in no free place
 pub used-nowhere : (p f : ℕ) → f ≡ (if p == 0 then 1 else 0) → 0 < p → f ≡ 0
@@ -33,11 +37,8 @@ outside true f w empty none = omega arith
 outside false f w empty none = omega arith
 
 module _ (board : Stand) (own : Filling) (sound : IsSound board) (out : HasOwn board.nic.view own) where
-  pools : pool_buffers board.nic.view.setting.layout ≡ pool_buffers board.arrays.layout
-  pools = ap (λ s. pool_buffers s.layout) sound.set.card
-
   pub of_pool : own.buffer < pool_buffers board.arrays.layout
-  of_pool = rw (← pools) (All-at (λ (o : Filling). o.buffer < pool_buffers board.nic.view.setting.layout) board.nic.view.owns own sound.filled.of_pool out)
+  of_pool = rw (← pools sound) (All-contains (λ (o : Filling). o.buffer < pool_buffers board.nic.view.setting.layout) board.nic.view.owns own sound.filled.of_pool out)
 
   pub less : (last : Bool) (b : ℕ) → pool_count b (nic_at board.nic (shut board.nic.view own last)) board.apps + weight (own.buffer == b)
       ≡ pool_count b board.nic board.apps
@@ -49,7 +50,7 @@ module _ (board : Stand) (own : Filling) (sound : IsSound board) (out : HasOwn b
   nowhere : free_places (listed_in board.arrays.listed) own.buffer board.nic board.apps ≡ 0
   nowhere =
       let p = of_pool in
-      used-nowhere (pool_count own.buffer board.nic board.apps) _ (sound.free.pool own.buffer (rw pools p))
+      used-nowhere (pool_count own.buffer board.nic board.apps) _ (sound.free.pool own.buffer (rw (pools sound) p))
       (omega (arith, is_held, sound.counted.pool own.buffer (omega arith)))
 
   unlisted : listed_in board.arrays.listed own.buffer ≡ false
@@ -60,10 +61,10 @@ module _ (board : Stand) (own : Filling) (sound : IsSound board) (out : HasOwn b
   came last = last && nat_lt own.buffer (pool_buffers board.nic.view.setting.layout)
 
   pub came-code : (last : Bool) → (last && nat_lt own.buffer (pool_buffers board.arrays.layout)) ≡ came last
-  came-code last = ap (λ n. last && nat_lt own.buffer n) (sym pools)
+  came-code last = ap (λ n. last && nat_lt own.buffer n) (sym (pools sound))
 
   pub came-zero : (last : Bool) (n : ℕ) → last ≡ (n == 0) → came last ≡ (n == 0)
-  came-zero last n is = let p = of_pool in and-true last _ (lt-ltb own.buffer (pool_buffers board.nic.view.setting.layout) (rw pools p)) ∙ is
+  came-zero last n is = let p = of_pool in and-true last _ (lt-ltb own.buffer (pool_buffers board.nic.view.setting.layout) (rw (pools sound) p)) ∙ is
 
   free_after : (last : Bool) (b : ℕ) → free_places (listed_in (listed_after (came last) board.arrays.cache board.arrays.listed own.buffer)) b
       (nic_at board.nic (shut board.nic.view own last)) board.apps
@@ -106,11 +107,19 @@ module _ (board : Stand) (own : Filling) (sound : IsSound board) (out : HasOwn b
             sound.counted;
         free = record {
           pool = λ b within. once-freed (came last) (pool_count b board.nic board.apps) _
-              (free_places (listed_in board.arrays.listed) b board.nic board.apps) _ (weight (own.buffer == b)) n (sound.free.pool b within) (less last b) is
+              (free_places (listed_in board.arrays.listed) b board.nic board.apps) _ (weight (own.buffer == b)) (weight (own.buffer == b)) n (sound.free.pool b within)
+              (less last b)
               (free_after last b)
-              (⊎_elim (λ same. inr (same.0, ap (λ x. pool_count x (nic_at board.nic (shut board.nic.view own last)) board.apps) same.1 ∙ sym now))
-              (λ other. inl other) (same-or-other b own.buffer));
-          reserves = λ b past. let past' : pool_buffers board.arrays.layout ≤ b = rw (← pools) past in free_after last b
+              (⊎_elim
+              (λ same. inr (
+                omega (arith, same.0),
+                same.0,
+                ap (λ x. pool_count x (nic_at board.nic (shut board.nic.view own last)) board.apps) same.1
+                    ∙ sym now,
+                is,
+              ))
+              (λ other. inl (other, other)) (same-or-other b own.buffer));
+          reserves = λ b past. let past' : pool_buffers board.arrays.layout ≤ b = rw (← pools sound) past in free_after last b
               ∙ outside (came last) _ _ (sound.free.reserves b past) (weight-other own.buffer b (λ e. absurd (omega arith)));
         };
         relayed = AreRelayed-nic board.arrays _ board.nic (shut board.nic.view own last) board.apps refl refl refl refl refl sound.relayed;

@@ -29,11 +29,11 @@ use Rattle.board_parts.specs.Area.{stored}
 use Rattle.plain_board.specs.Stand.{Arrays, Stand, byte_of}
 use Rattle.plain_board.specs.Sound.{IsSound}
 use Rattle.board_face.proofs.LiesLemmas.{total-of}
-use Rattle.plain_board.proofs.Lists.{weight-same, All-none}
 use Rattle.plain_board.proofs.Storing.{length-stored, stored_then, IsShown-stored, StoresAt-last, AreShown-before}
 use Rattle.plain_board.proofs.AppFrames.{IsSet-app, was-at_rest, AreCounted-app, was-returned, AreRelayed-kept, was-relayed, returns-app, was-returns}
 use Rattle.plain_board.proofs.AppFrames.{AreFlags-kept, AreFreeOnce-app, AreKept-app, AreDue-app, was-given, was-due, AreBooked-app, was-booked_loans}
 use Rattle.plain_board.proofs.AppFrames.{was-booked_filled, was-booked_raw, ArePhased-app, was-phased, was-own, OwnBuffers-app}
+use Rattle.board_face.proofs.Counting.{weight-same, All-none}
 
 module _ (board : Stand) (a : ℕ) (x : AppSide) (own : Filling) (sound : IsSound board) (here : IsApp board.apps a x) (out : HasSpare x.view own) where
   -- its buffer is one of the area

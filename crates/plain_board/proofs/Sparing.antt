@@ -33,13 +33,14 @@ use Rattle.board_parts.specs.Free.{listed_in, HasNoneListed, IsPicked}
 use Rattle.plain_board.specs.Stand.{Arrays, Stand, setting_of, others_of, byte_of}
 use Rattle.plain_board.specs.Seen.{IsSeenBy}
 use Rattle.plain_board.specs.Sound.{IsSound, IsAtRest}
-use Rattle.plain_board.proofs.Lists.{weight-other, weight-swap, count-push, once-taken, same-or-other, All-none, raised}
+use Rattle.plain_board.proofs.Lists.{same-or-other, raised}
 use Rattle.board_face.proofs.LiesLemmas.{total-at}
 use Rattle.plain_board.proofs.OwnSide.{seen-count, seen-users, nothing-listed}
 use Rattle.plain_board.proofs.Reserves.{reserve-own}
-use Rattle.plain_board.proofs.AppFrames.{has-setting, IsSet-app, was-at_rest, AreCounted-app, was-returned, AreRelayed-kept, was-relayed, returns-app}
+use Rattle.plain_board.proofs.AppFrames.{has-setting, IsSet-app, was-at_rest, AreCounted-app, was-returned, AreRelayed-kept, was-relayed, returns-app, pools}
 use Rattle.plain_board.proofs.AppFrames.{was-returns, AreFlags-kept, free_places-side, times_used, times_picked-app, AreDue-app, was-given, AreBooked-app}
 use Rattle.plain_board.proofs.AppFrames.{was-booked_loans, was-booked_raw, ArePhased-app, was-phased, was-own, OwnBuffers-app}
+use Rattle.board_face.proofs.Counting.{weight-other, weight-swap, count-push, once-taken, All-none}
 
 -- ---- the free list
 
@@ -69,7 +70,6 @@ module _ (board : Stand) (a buffer : ℕ) (x : AppSide) (listed : List Bool) (so
     (picked : IsPicked board.arrays.listed listed board.arrays.pool (pool_buffers board.arrays.layout + a) buffer) where
   pub is_unheld : IsUnheld board a buffer listed
   is_unheld =
-      let pools : pool_buffers board.nic.view.setting.layout ≡ pool_buffers board.arrays.layout = ap (λ s. pool_buffers s.layout) sound.set.card in
       ⊎_elim
       (λ t. let low = t.0 in
       let inside : buffer < pool_buffers board.arrays.layout = omega (arith, low.there, sound.sizes.listed) in
@@ -77,7 +77,7 @@ module _ (board : Stand) (a buffer : ℕ) (x : AppSide) (listed : List Bool) (so
       ≡ weight (listed_in board.arrays.listed b) = λ b. rw t.1 (listed-less board.arrays.listed buffer b low.there low.is_listed) in
       record {
         within = omega arith;
-        none = IsFreeOnce-unheld (listed_in board.arrays.listed) buffer board.nic board.apps (sound.free.pool buffer (rw pools inside))
+        none = IsFreeOnce-unheld (listed_in board.arrays.listed) buffer board.nic board.apps (sound.free.pool buffer (rw (pools sound) inside))
             (omega (arith, ap weight low.is_listed));
         len = ap length t.1 ∙ length-set board.arrays.listed buffer false;
         takes = λ b within. less b;
@@ -135,9 +135,6 @@ module _ (board : Stand) (a buffer : ℕ) (x : AppSide) (listed : List Bool) (so
   mine : x.view.setting ≡ setting_of board.arrays
   mine = has-setting board a x now sound here
 
-  pools : pool_buffers board.nic.view.setting.layout ≡ pool_buffers board.arrays.layout
-  pools = ap (λ s. pool_buffers s.layout) sound.set.card
-
   my-pools : pool_buffers x.view.setting.layout ≡ pool_buffers board.arrays.layout
   my-pools = ap (λ s. pool_buffers s.layout) mine
 
@@ -156,7 +153,7 @@ module _ (board : Stand) (a buffer : ℕ) (x : AppSide) (listed : List Bool) (so
   free-then = record {
     pool = λ b within. once-taken (pool_count b board.nic board.apps) _ (free_places (listed_in board.arrays.listed) b board.nic board.apps) _
         (weight (buffer == b)) (sound.free.pool b within)
-        (omega (arith, places b, free.takes b (rw (← pools) within)))
+        (omega (arith, places b, free.takes b (rw (← pools sound) within)))
         (more b)
         (⊎_elim (λ same. let e : b ≡ buffer = same.1 in inr (same.0, ap (λ n. pool_count n board.nic board.apps) e ∙ free.none)) (λ other. inl other)
         (same-or-other b buffer));
@@ -223,7 +220,7 @@ module _ (board : Stand) (a buffer : ℕ) (x : AppSide) (listed : List Bool) (so
         returns = returns-app board a x now sound here (assumption was);
         flags = AreFlags-kept board a x now sound here arrays_then refl refl refl;
         kept = record {
-          kept = λ b within. let inside : b < pool_buffers board.arrays.layout = rw (← pools) within in
+          kept = λ b within. let inside : b < pool_buffers board.arrays.layout = rw (← pools sound) within in
               omega (
                 arith,
                 sound.kept.kept b within,
@@ -239,7 +236,7 @@ module _ (board : Stand) (a buffer : ℕ) (x : AppSide) (listed : List Bool) (so
             times_used b board.nic board.apps,
             times_used b board.nic (set board.apps a now),
             times_picked-app board a x now sound here b,
-            picks b (rw (← pools) within),
+            picks b (rw (← pools sound) within),
           );
         };
         due = AreDue-app board a x now sound here (omega (arith, given, pick-length (nat_lt buffer (pool_buffers x.view.setting.layout)) x.view.picked buffer))

@@ -1,7 +1,6 @@
 -- A loan's text is what was sent with its note, which later notes don't change, and both boards show it.
 use Rattle.std.proofs.Common.{◌≡◌, ℕ, zero, suc, ◌<◌, List, [], ◌∷◌, ◌++◌, length, take, drop, get_or, refl, ap, sym, ◌∙◌, subst}
 use Rattle.std.proofs.Common.{arith, ⊎_elim}
-use Rattle.std.specs.Prelude.{All, Contains}
 use Rattle.std.proofs.lemmas.Bool.{cases_lt}
 use Rattle.board_face.specs.Holders.{sent_to}
 use Rattle.board_face.specs.Shown.{IsShown, AppIsShown, bytes_sent, origin_bytes, text_of, owed_loans}
@@ -15,6 +14,7 @@ use Rattle.board_face.proofs.RelayLemmas.{bytes_sent-past, take-drop-none}
 use Rattle.plain_board.specs.Stand.{Stand, byte_of}
 use Rattle.plain_board.specs.Sound.{IsSound}
 use Rattle.plain_board.specs.Lent.{IsLent, LentTextsStand}
+use Rattle.std.proofs.lemmas.List.Elements.{All-contains}
 
 bytes_sent-more : (k : ℕ) (notes more : List SentNote) → k < length notes → bytes_sent k (notes ++ more) ≡ bytes_sent k notes
 bytes_sent-more k [] more within = absurd (omega arith)
@@ -33,9 +33,6 @@ origin-more notes more (of_note k at) n whole some =
     omega (arith, ap length none, whole, some)))
     (cases_lt k (length notes))
 
-All-of : {A : Type 0} (P : A → Type 0) (xs : List A) (x : A) → All P xs → Contains xs x → P x
-All-of P xs x all (k, within, e) = subst P e (all k x within)
-
 -- a loan that is out or owed is shown
 lent-shown : (board : Stand) (a : ℕ) (app : AppSide) (l : LentPiece) → IsSound board → IsApp board.apps a app → IsLent board.nic app l
     → IsShown (byte_of board.arrays) l.place (text_of board.nic app l.origin l.place)
@@ -43,8 +40,8 @@ lent-shown board a app l sound here lent =
     let shown : AppIsShown (byte_of board.arrays) board.nic app = subst (AppIsShown (byte_of board.arrays) board.nic) here.is
     (sound.shown.apps a app here.there) in
     ⊎_elim
-    (λ out. All-of (λ m. IsShown (byte_of board.arrays) m.place (text_of board.nic app m.origin m.place)) app.view.loans l shown.loans out)
-    (λ owed. All-of (λ m. IsShown (byte_of board.arrays) m.place (text_of board.nic app m.origin m.place)) (owed_loans l.place.buffer board.nic app) l
+    (λ out. All-contains (λ m. IsShown (byte_of board.arrays) m.place (text_of board.nic app m.origin m.place)) app.view.loans l shown.loans out)
+    (λ owed. All-contains (λ m. IsShown (byte_of board.arrays) m.place (text_of board.nic app m.origin m.place)) (owed_loans l.place.buffer board.nic app) l
     (shown.owed l.place.buffer) owed)
     lent
 

@@ -3,7 +3,7 @@ use Rattle.std.proofs.Common.{◌≡◌, ℕ, ◌+◌, ◌-◌, ◌≤◌, true,
 use Rattle.std.proofs.Common.{◌∙◌, subst, arith, ⊎_elim, Option, Some, None}
 use Rattle.std.specs.Prelude.{◌≢◌, count_by, ◌==◌, if◌then◌else◌, IsSome, IfSome}
 use Rattle.std.proofs.lemmas.List.{length-set}
-use Rattle.std.proofs.lemmas.List.Elements.{All-head, All-push, All-weaker}
+use Rattle.std.proofs.lemmas.List.Elements.{All-head, All-push, All-weaker, All-contains}
 use Rattle.std.proofs.lemmas.Bool.{cases_Bool, cases_lt}
 use Rattle.std.proofs.lemmas.Bool.Decides.{eqb_tells}
 use Rattle.zr_kinds.specs.declared.ring.Rqe.{Rqe}
@@ -35,10 +35,11 @@ use Rattle.plain_board.specs.Stand.{Stand, byte_of}
 use Rattle.plain_board.specs.Returns.{AreReturns, returns, abandoned_in, is_some_of, IsNamed}
 use Rattle.plain_board.specs.Sound.{IsSound, refills_of}
 use Rattle.plain_board.proofs.Card.{IsSet-nic, none-lowered}
-use Rattle.plain_board.proofs.Freeing.{All-at}
 use Rattle.plain_board.proofs.Popping.{same-app, other-number, ring_then, AreRelayed-popped, AreBooked-popped}
-use Rattle.plain_board.proofs.Dealing.{HasFront, HasFront-relayed, AreReturns-dealt, AreReturns-other, ArePhased-dealt, count-first, length-owed_in}
+use Rattle.plain_board.proofs.Dealing.{HasFront, HasFront-relayed, AreReturns-dealt, AreReturns-other, ArePhased-dealt}
 use Rattle.plain_board.proofs.Reserves.{own-users}
+use Rattle.board_face.proofs.Counting.{count-first}
+use Rattle.board_face.proofs.Parts.{owed-count}
 
 some-of : (o : Option ℕ) → IsSome o → (i : ℕ) × (o ≡ Some i)
 some-of None h = absurd (let none : ⊥ = cc in none)
@@ -76,7 +77,7 @@ module _ (board : Stand) (a : ℕ) (x : AppSide) (e : Rqe) (es : List Rqe) (soun
         idle i,
         count-first (returns x.view.setting.layout i) front.first front.others,
         ap weight counted,
-        length-owed_in i board.nic x,
+        owed-count i board.nic x,
       ) in
       let is : judged board.arrays.layout e ≡ Some i =
       ap (λ l. judged l e) (sym same_layout) ∙ (ap (λ entry. judged x.view.setting.layout entry) (sym front.entry) ∙ it.1) in
@@ -100,8 +101,8 @@ module _ (board : Stand) (a : ℕ) (x : AppSide) (e : Rqe) (es : List Rqe) (soun
     rw front.way at ((sound.returns a x here).owed b),
     idle b,
     count-first (returns x.view.setting.layout b) front.first front.others,
-    length-owed_in b board.nic x,
-    length-owed_in b nic_passed x,
+    owed-count b board.nic x,
+    owed-count b nic_passed x,
     ended_in-passed_over b board.nic a e x,
   )
 
@@ -113,8 +114,8 @@ module _ (board : Stand) (a : ℕ) (x : AppSide) (e : Rqe) (es : List Rqe) (soun
         rw front.way at ((sound.returns a x here).no_more b),
         count-first (returns x.view.setting.layout b) front.first front.others,
         ap weight raw,
-        length-owed_in b board.nic x,
-        length-owed_in b nic_passed x,
+        owed-count b board.nic x,
+        owed-count b nic_passed x,
         ended_in-passed_over b board.nic a e x,
       )
 
@@ -174,7 +175,7 @@ module _ (board : Stand) (a : ℕ) (x : AppSide) (e : Rqe) (es : List Rqe) (soun
         filled = FillingsFit-nic board.nic v board.apps refl refl sound.filled;
         by_one = λ b. IsFilledByOne-passed_over b board.nic board.apps a e (sound.by_one b);
         shown = AreShown-passed_over (byte_of board.arrays) board.nic board.apps a e
-            (λ b app has. (All-at (EndedWereReturned b board.nic) board.apps app (sound.counted.returned b) has).returning) sound.shown;
+            (λ b app has. (All-contains (EndedWereReturned b board.nic) board.apps app (sound.counted.returned b) has).returning) sound.shown;
         notes = sound.notes;
         own_buffers = LieInOwn-nic board.nic v board.apps refl refl refl sound.own_buffers;
         judged = All-push (IsHonouredAsNamed board.nic.view.setting.layout) board.nic.view.dealt stray_dealt sound.judged

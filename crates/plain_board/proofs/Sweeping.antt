@@ -24,9 +24,11 @@ use Rattle.board_parts.specs.Free.{listed_in}
 use Rattle.plain_board.specs.Stand.{Stand, byte_of}
 use Rattle.board_parts.specs.Free.{listed_from, found_in, word_len, word_end}
 use Rattle.plain_board.specs.Sound.{IsSound}
-use Rattle.plain_board.proofs.Lists.{weight-same, weight-other, count-push, count-append}
 use Rattle.plain_board.proofs.Card.{IsSet-nic, AreCounted-same, AreRelayed-nic, AreReturns-nic, AreBooked-nic, ArePhased-nic}
 use Rattle.board_parts.proofs.Moving.{length-listed_from}
+use Rattle.board_face.proofs.Counting.{weight-same, weight-other, count-push, count-append}
+use Rattle.plain_board.proofs.AppFrames.{pools}
+use Rattle.zr_kinds.proofs.Booleans.{if-none, if-one}
 
 -- ---- the buffers found
 
@@ -41,14 +43,10 @@ module _ (listed : List Bool) (first : ℕ) where
   found-outside (suc n) b where_ = omega (
     arith,
     found-case (listed_in listed (first + n)) b (first + n) (listed_from listed first n),
-    nothing (listed_in listed (first + n)) (weight-other b (first + n)
+    if-none (listed_in listed (first + n)) _ (weight-other b (first + n)
         (λ e. ⊎_elim (λ under. absurd (omega arith)) (λ over. absurd (omega arith)) where_)),
     found-outside n b (⊎_elim (λ under. inl under) (λ over. inr (omega arith)) where_),
   )
-    where
-      nothing : (c : Bool) {w : ℕ} → w ≡ 0 → (if c then w else 0) ≡ 0
-      nothing true none = none
-      nothing false none = refl
 
   pub found-inside : (n b : ℕ) → first ≤ b → b < first + n → count_by (nat_eq b) (listed_from listed first n) ≡ weight (listed_in listed b)
   found-inside zero b from to = absurd (omega arith)
@@ -57,25 +55,17 @@ module _ (listed : List Bool) (first : ℕ) where
       (λ less. omega (
         arith,
         found-case (listed_in listed (first + n)) b (first + n) (listed_from listed first n),
-        nothing (listed_in listed (first + n)) (weight-other b (first + n) (λ e. absurd (omega arith))),
+        if-none (listed_in listed (first + n)) _ (weight-other b (first + n) (λ e. absurd (omega arith))),
         found-inside n b from less,
       ))
       (λ more. let same : b ≡ first + n = omega arith in
       subst (λ x. count_by (nat_eq x) (listed_from listed first (suc n)) ≡ weight (listed_in listed x)) (sym same) (omega (
         arith,
         found-case (listed_in listed (first + n)) (first + n) (first + n) (listed_from listed first n),
-        one (listed_in listed (first + n)) (weight-same (first + n)),
+        if-one (listed_in listed (first + n)) _ (weight-same (first + n)),
         found-outside n (first + n) (inr (omega arith)),
       )))
       (cases_lt b (first + n))
-    where
-      nothing : (c : Bool) {w : ℕ} → w ≡ 0 → (if c then w else 0) ≡ 0
-      nothing true none = none
-      nothing false none = refl
-
-      one : (c : Bool) {w : ℕ} → w ≡ 1 → (if c then w else 0) ≡ weight c
-      one true is = is
-      one false is = refl
 
 abbrev pub IsBetween : ℕ → ℕ → ℕ → Type 0
 IsBetween first n b = (first ≤ b) × (b < first + n)
@@ -104,9 +94,6 @@ module _ (listed : List Bool) (first : ℕ) where
 -- ---- the board
 
 module _ (board : Stand) (word : ℕ) (sound : IsSound board) (inside : word < free_words_of board.nic.view.setting) where
-  pools : pool_buffers board.nic.view.setting.layout ≡ pool_buffers board.arrays.layout
-  pools = ap (λ s. pool_buffers s.layout) sound.set.card
-
   -- how often each buffer was found
   pub found-times : (listed' : List Bool)
       → ((b : ℕ) → word_bits * word ≤ b → b < word_end board.arrays.listed word → listed_in listed' b ≡ false)
@@ -167,7 +154,7 @@ module _ (board : Stand) (word : ℕ) (sound : IsSound board) (inside : word < f
                 arith,
                 sound.kept.kept b within,
                 found-times listed' gone others b,
-                found-of_word listed' gone b (rw (← pools) within) here,
+                found-of_word listed' gone b (rw (← pools sound) within) here,
                 count-append b board.nic.view.cache found,
               ))
               (λ t. let before : 1 ≤ count_by (nat_eq (b / word_bits)) board.nic.view.swept = omega
@@ -201,7 +188,7 @@ module _ (board : Stand) (word : ℕ) (sound : IsSound board) (inside : word < f
       let first = word_bits * word in
       let n = word_len board.arrays.listed word in
       let l = sound.sizes.listed in
-      let p = pools in
+      let p = pools sound in
       record {
         found = found;
         event = refl;

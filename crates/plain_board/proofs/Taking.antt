@@ -23,9 +23,10 @@ use Rattle.board_face.proofs.Tallies.{weight}
 use Rattle.board_parts.specs.Free.{listed_in}
 use Rattle.plain_board.specs.Stand.{Stand, byte_of}
 use Rattle.plain_board.specs.Sound.{IsSound}
-use Rattle.plain_board.proofs.Lists.{take-last, once-taken, same-or-other, count-push, weight-same, weight-other, weight-swap, All-none}
-use Rattle.plain_board.proofs.AppFrames.{times_used}
+use Rattle.plain_board.proofs.Lists.{take-last, same-or-other}
+use Rattle.plain_board.proofs.AppFrames.{times_used, pools}
 use Rattle.plain_board.proofs.Card.{IsSet-nic, AreCounted-nic, AreRelayed-nic, AreReturns-nic, AreBooked-nic, ArePhased-open}
+use Rattle.board_face.proofs.Counting.{once-taken, count-push, weight-same, weight-other, weight-swap, All-none}
 
 -- how many elements of the free places one count stands for
 free-case : (c : Bool) (f : ℕ) → f ≡ (if c then 1 else 0) → 1 ≤ f → (c ≡ true) × (f ≡ 1)
@@ -44,17 +45,13 @@ module _ (board : Stand) (buffer : ℕ) (sound : IsSound board) (found : last_it
   pub last : board.nic.view.cache ≡ (took board.nic.view buffer).cache ++ buffer ∷ []
   last = take-last board.nic.view.cache buffer (ap last_item (sym sound.cached) ∙ found)
 
-  -- every count of free places, by the set part: the board's setting is that of its arrays
-  pools : pool_buffers board.nic.view.setting.layout ≡ pool_buffers board.arrays.layout
-  pools = ap (λ s. pool_buffers s.layout) sound.set.card
-
   in_cache : 1 ≤ free_places (listed_in board.arrays.listed) buffer board.nic board.apps
   in_cache = omega (arith, free_places-took (listed_in board.arrays.listed) buffer board.nic board.apps buffer last, weight-same buffer)
 
   pub is_spare : IsSpareIn buffer board
   is_spare =
       ⊎_elim
-      (λ inside. let once = sound.free.pool buffer (rw pools inside) in
+      (λ inside. let once = sound.free.pool buffer (rw (pools sound) inside) in
       let both = free-case (pool_count buffer board.nic board.apps == 0)
       (free_places (listed_in board.arrays.listed) buffer board.nic board.apps) once in_cache in
       let zero_count = eqb-true (pool_count buffer board.nic board.apps) 0 both.0 in
@@ -65,7 +62,7 @@ module _ (board : Stand) (buffer : ℕ) (sound : IsSound board) (found : last_it
         there = omega (arith, sound.sizes.pool);
         count = sound.counted.pool buffer (omega arith) ∙ zero_count;
       })
-      (λ outside. absurd (let none = sound.free.reserves buffer (rw pools outside) in omega (arith, in_cache, none)))
+      (λ outside. absurd (let none = sound.free.reserves buffer (rw (pools sound) outside) in omega (arith, in_cache, none)))
       (cases_lt buffer (pool_buffers board.arrays.layout))
 
   -- no token lies in it
@@ -136,8 +133,8 @@ module _ (board : Stand) (buffer : ℕ) (sound : IsSound board) (found : last_it
       );
     };
     due = sound.due;
-    filled = FillingsFit-took board.nic board.apps buffer (rw sound.set.card sound.sizes.layout) (rw pools is_spare.of_pool) sound.filled;
-    by_one = λ b. IsFilledByOne-took b board.nic board.apps buffer (let p = is_spare.of_pool in let l = pools in omega arith) is_spare.none (sound.by_one b);
+    filled = FillingsFit-took board.nic board.apps buffer (rw sound.set.card sound.sizes.layout) (rw (pools sound) is_spare.of_pool) sound.filled;
+    by_one = λ b. IsFilledByOne-took b board.nic board.apps buffer (let p = is_spare.of_pool in let l = pools sound in omega arith) is_spare.none (sound.by_one b);
     shown = AreShown-took (byte_of board.arrays) board.nic board.apps buffer is_spare.none sound.shown;
     notes = sound.notes;
     own_buffers = LieInOwn-nic board.nic (took board.nic.view buffer) board.apps refl refl refl sound.own_buffers;
@@ -149,7 +146,7 @@ module _ (board : Stand) (buffer : ℕ) (sound : IsSound board) (found : last_it
   pub TookBuffer-took : TookBuffer board.nic.view (took board.nic.view buffer) (filling buffer 0 (size_of board.arrays.layout buffer))
   TookBuffer-took = record {
     last = last;
-    of_pool = rw pools is_spare.of_pool;
+    of_pool = rw (pools sound) is_spare.of_pool;
     fresh = ap (λ s. filling buffer 0 (size_of s.layout buffer)) (sym sound.set.card);
     event = refl;
     apart = is_apart;

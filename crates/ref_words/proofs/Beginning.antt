@@ -24,10 +24,10 @@ use Rattle.board_face.proofs.Parts.{user_part, user_count-parts}
 use Rattle.ref_words.specs.Words.{Words, pool_of, listed_in}
 use Rattle.ref_words.specs.Rule.{RefRule}
 use Rattle.ref_words.proofs.RingSteps.{rings-card}
-use Rattle.ref_words.proofs.Counting.{weight-same, weight-other}
 use Rattle.ref_words.proofs.Frees.{AreFreeOnce-more, AreKept-card}
 use Rattle.ref_words.proofs.CardSteps.{SidesRule-card}
 use Rattle.ref_words.proofs.PoolSteps.{IsPoolStep}
+use Rattle.board_face.proofs.Counting.{weight-other, weight-same}
 
 -- a buffer within the area has so many holders at most
 pub holders-few : (setting : Setting) (words : Words) (nic : NicSide) (apps : List AppSide) (b : ℕ) → RefRule setting words nic apps

@@ -22,10 +22,10 @@ use Rattle.board_face.proofs.Tallies.{weight}
 use Rattle.ref_words.specs.Words.{Words, pool_of, listed_in}
 use Rattle.ref_words.specs.Rule.{RefRule}
 use Rattle.ref_words.proofs.RingSteps.{rings-app}
-use Rattle.ref_words.proofs.Counting.{weight-same, weight-other}
 use Rattle.ref_words.proofs.Frees.{AreFreeOnce-more, AreKept-app, free_places-hands}
 use Rattle.ref_words.proofs.SideSteps.{own-was, mine, SidesRule-app}
 use Rattle.ref_words.proofs.PoolSteps.{IsPoolStep}
+use Rattle.board_face.proofs.Counting.{weight-other, weight-same}
 
 module _ (setting : Setting) (words : Words) (nic : NicSide) (apps : List AppSide) (a : ℕ) (app : AppSide) (place : Place) (at : ℕ)
     (rule : RefRule setting words nic apps) (here : IsApp apps a app) (out : HasHeld app.view place) (front : 0 < at) (rest : at < place.len) where

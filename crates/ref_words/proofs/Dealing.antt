@@ -25,7 +25,7 @@ use Rattle.board_face.specs.declared.views.app.WrittenEntry.{WrittenEntry}
 use Rattle.board_face.specs.declared.views.app.AppSide.{AppSide}
 use Rattle.board_face.proofs.ListLemmas.{not-eqb}
 use Rattle.board_face.proofs.SideLemmas.{IsApp-at}
-use Rattle.board_face.proofs.DealtLemmas.{length-mapped, drop-after, dealt-more, dealt-same, zip-push}
+use Rattle.board_face.proofs.DealtLemmas.{length-mapped, dealt-more, dealt-same, zip-push}
 use Rattle.board_face.proofs.Parts.{count-tally}
 use Rattle.board_face.proofs.Tallies.{weight, tally-push}
 use Rattle.ref_words.specs.Words.{Words, with_refill}
@@ -38,6 +38,7 @@ use Rattle.ref_words.proofs.RingMoves.{slot-here, slot-other, rings-parts}
 use Rattle.ref_words.proofs.SlotWords.{ring-here, ring-other, differ-refill}
 use Rattle.ref_words.proofs.SlotSteps.{DifferInSlots}
 use Rattle.ref_words.proofs.CardEnds.{RefRule-ended}
+use Rattle.zr_kinds.proofs.Lists.{drop-after}
 
 pub take-next : {A B : Type 0} (f : A → B) (n : ℕ) (xs : List A) (x : A) (rest : List A) → drop n xs ≡ x ∷ rest
     → take (suc n) (map f xs) ≡ take n (map f xs) ++ f x ∷ []

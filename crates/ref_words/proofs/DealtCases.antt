@@ -17,18 +17,14 @@ use Rattle.board_face.specs.declared.views.nic.Judged.{Judged}
 use Rattle.board_face.specs.declared.views.nic.Judged.TheVariants.{Not, Stray as judged_stray, BothLowered}
 use Rattle.board_face.specs.declared.views.nic.NicSide.{NicSide}
 use Rattle.board_face.specs.declared.views.app.AppSide.{AppSide}
-use Rattle.board_face.proofs.DealtLemmas.{count-first}
-use Rattle.board_face.proofs.Tallies.{weight}
+use Rattle.board_face.proofs.Tallies.{weight, weight-le}
 use Rattle.ref_words.specs.Words.{Words, with_refill}
 use Rattle.ref_words.specs.Rings.{takes_entry_at}
 use Rattle.ref_words.specs.Sides.{IsInHand, IsFirstRaw}
 use Rattle.ref_words.specs.Rule.{RefRule}
-use Rattle.ref_words.proofs.InHand.{in_hand, if-none, if-weight}
+use Rattle.ref_words.proofs.InHand.{in_hand, if-none}
 use Rattle.ref_words.proofs.Dealing.{RefRule-dealt}
-
-weight-most : (c : Bool) → weight c ≤ 1
-weight-most true = omega arith
-weight-most false = omega arith
+use Rattle.board_face.proofs.Counting.{count-first, weight-and}
 
 no-honour : (c : Bool) → weight (c && false) ≡ (if c then 0 else 0)
 no-honour true = refl
@@ -83,7 +79,7 @@ module _ (setting : Setting) (words : Words) (nic : NicSide) (apps : List AppSid
         let h = rule.sides.returns a app here in
         let all = rw front.is at (h.no_more c) in
         let parts = count-first (returns app.view.setting.layout c) front.first front.others in
-        let most = weight-most (returns app.view.setting.layout c front.first) in
+        let most = weight-le (returns app.view.setting.layout c front.first) in
         ⊎_elim
         (λ is. omega (arith, all, parts, most, lowered-here app here c, ap weight is))
         (λ isnt.
@@ -99,7 +95,7 @@ module _ (setting : Setting) (words : Words) (nic : NicSide) (apps : List AppSid
     pub honours : RefRule setting (with_refill words a (takes_entry_at setting nic a) 0 0) (side_dealt nic a entry (Honoured b)) apps
     honours = RefRule-dealt setting words nic apps a entry (Honoured b) (λ c. weight (b == c)) rule is_app (record {
       lowered = λ x c. ap (lowered_in_hand x c) at;
-      counted = λ x c. sym (if-weight (a == x) (b == c));
+      counted = λ x c. sym (weight-and (a == x) (b == c));
       returning = λ x c. ap (returning_in_hand x c) at ∙ if-none (a == x);
       first = known.first;
       honoured = λ buffer e. let same : b ≡ buffer = cc in subst (λ n. judged setting.layout entry ≡ Some n) same named;

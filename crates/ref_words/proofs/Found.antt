@@ -12,25 +12,14 @@ use Rattle.std.proofs.lemmas.List.Elements.{All-nil, All-cons, All-weaker}
 use Rattle.std.proofs.lemmas.List.Kept.{AllPairs-cons}
 use Rattle.board_face.specs.NicEvents.{word_bits}
 use Rattle.board_face.proofs.Tallies.{weight}
-use Rattle.board_face.proofs.Parts.{count-tally}
 use Rattle.ref_words.specs.FreeSteps.{found_below, found_in}
-use Rattle.ref_words.proofs.Counting.{weight-same, weight-other}
-
-pub count-cons : (b x : ℕ) (xs : List ℕ) → count_by (nat_eq b) (x ∷ xs) ≡ weight (b == x) + count_by (nat_eq b) xs
-count-cons b x xs = omega (arith, count-tally (nat_eq b) (x ∷ xs), count-tally (nat_eq b) xs)
+use Rattle.board_face.proofs.Counting.{count-cons, weight-other, weight-same}
+use Rattle.zr_kinds.proofs.Booleans.{if-none, if-one}
 
 found-case : (c : Bool) (b x : ℕ) (rest : List ℕ)
     → count_by (nat_eq b) (if c then x ∷ rest else rest) ≡ (if c then weight (b == x) else 0) + count_by (nat_eq b) rest
 found-case true b x rest = count-cons b x rest
 found-case false b x rest = omega arith
-
-if-none : (c : Bool) (w : ℕ) → w ≡ 0 → (if c then w else 0) ≡ 0
-if-none true w none = none
-if-none false w none = refl
-
-if-one : (c : Bool) (w : ℕ) → w ≡ 1 → (if c then w else 0) ≡ weight c
-if-one true w one = one
-if-one false w one = refl
 
 module _ (word n : ℕ) where
   abbrev at : ℕ → ℕ

@@ -22,7 +22,7 @@ use Rattle.ref_words.specs.Words.{Words, free_of, with_free, with_listed, with_u
 use Rattle.ref_words.specs.Sides.{SidesRule}
 use Rattle.ref_words.specs.Rule.{RefRule}
 use Rattle.ref_words.proofs.RingSteps.{AllRings, rings-words}
-use Rattle.ref_words.proofs.Counting.{weight-same, weight-other}
+use Rattle.board_face.proofs.Counting.{weight-other, weight-same}
 
 -- ---- bits
 

@@ -14,13 +14,12 @@ use Rattle.board_face.specs.FreeOnce.{free_places, AreFreeOnce}
 use Rattle.board_face.specs.Used.{picked_buffers, AreKept}
 use Rattle.board_face.specs.declared.views.nic.NicSide.{NicSide}
 use Rattle.board_face.specs.declared.views.app.AppSide.{AppSide}
-use Rattle.board_face.proofs.ListLemmas.{eqb_same, not-eqb, map-itself}
-use Rattle.board_face.proofs.Tallies.{weight, tally, tally-append, tally-flat, tally-without, total-set}
+use Rattle.board_face.proofs.ListLemmas.{eqb_same, not-eqb}
+use Rattle.board_face.proofs.Tallies.{weight, tally, tally-flat, tally-without, total-set}
 use Rattle.board_face.proofs.Parts.{count-tally}
-use Rattle.ref_words.proofs.Counting.{if_so, once-more, once-freed, weight-swap, count-push}
-
-pub count-append : (b : ℕ) (xs ys : List ℕ) → count_by (nat_eq b) (xs ++ ys) ≡ count_by (nat_eq b) xs + count_by (nat_eq b) ys
-count-append b xs ys = omega (arith, count-tally (nat_eq b) (xs ++ ys), count-tally (nat_eq b) xs, count-tally (nat_eq b) ys, tally-append (nat_eq b) xs ys)
+use Rattle.ref_words.proofs.Counting.{if_so, once-more}
+use Rattle.std.proofs.lemmas.List.{map-id}
+use Rattle.board_face.proofs.Counting.{count-append, count-push, once-freed, once-taken, weight-swap}
 
 -- ---- hands
 
@@ -56,7 +55,7 @@ count-taken b xs has y =
       arith,
       tally-without (λ (x : ℕ). x) (nat_eq b) b (λ x e. ⊎_elim (λ t. sym t.1) (λ t. absurd (let w : true ≡ false = sym e
           ∙ t.0 in let no : ⊥ = cc in no)) (eqb_tells b x))
-          (eqb_same b) (nat_eq y) xs (rw (map-itself xs) has),
+          (eqb_same b) (nat_eq y) xs (rw (map-id xs) has),
       count-tally (nat_eq y) (without (nat_eq b) xs),
       count-tally (nat_eq y) xs,
       weight-swap b y,
@@ -143,17 +142,6 @@ AreFreeOnce-more listed nic now apps apps' i setting more held same free = recor
   reserves = λ b past. same b ∙ free.reserves b (rw (← setting) past);
 }
 
-taken-case : (p p' f f' w : ℕ) → f ≡ (if p == 0 then 1 else 0) → f' + w ≡ f → p' ≡ p + w → (w ≡ 0) ⊎ ((w ≡ 1) × (p ≡ 0))
-    → f' ≡ (if p' == 0 then 1 else 0)
-taken-case p p' f f' w e less more which =
-    ⊎_elim
-    (λ (none : w ≡ 0). let same : p' ≡ p = omega arith in rw same (omega (arith, e)))
-    (λ (one : (w ≡ 1) × (p ≡ 0)). let before : p ≡ 0 = one.1 in
-    let after : p' ≡ 1 = omega (arith, one.0) in
-    let full : f ≡ 1 = rw before at e in
-    rw after (omega (arith, one.0)))
-    which
-
 -- A buffer that nobody had left its free place, and has a holder.
 pub AreFreeOnce-taken : (listed : ℕ → Bool) (nic now : NicSide) (apps apps' : List AppSide) (i : ℕ) → now.view.setting ≡ nic.view.setting
     → pool_count i nic apps ≡ 0 → ((b : ℕ) → pool_count b now apps' ≡ pool_count b nic apps + weight (i == b))
@@ -161,7 +149,7 @@ pub AreFreeOnce-taken : (listed : ℕ → Bool) (nic now : NicSide) (apps apps' 
     → AreFreeOnce listed nic apps → AreFreeOnce listed now apps'
 AreFreeOnce-taken listed nic now apps apps' i setting unheld more gone free = record {
   pool = λ b small.
-      taken-case (pool_count b nic apps) _ (free_places listed b nic apps) _ (weight (i == b)) (free.pool b (rw (← setting) small)) (gone b) (more b)
+      once-taken (pool_count b nic apps) _ (free_places listed b nic apps) _ (weight (i == b)) (free.pool b (rw (← setting) small)) (gone b) (more b)
       (⊎_elim (λ t. inr (ap weight t.0, ap (λ y. pool_count y nic apps) (sym t.1) ∙ unheld)) (λ t. inl (ap weight t.0)) (eqb_tells i b));
   reserves = λ b past. omega (arith, free.reserves b (rw (← setting) past), gone b);
 }

@@ -14,10 +14,6 @@ in_hand a entry judged = Some (record { app = a; entry = entry; judged = judged 
 pub some-is : (x y : EntryInHand) → Some x ≡ Some y → x ≡ y
 some-is x y e = cc
 
-pub if-weight : (c d : Bool) → (if c then weight d else 0) ≡ weight (c && d)
-if-weight true d = refl
-if-weight false d = refl
-
 pub if-none : (c : Bool) → ◌≡◌ {A = ℕ} (if c then 0 else 0) 0
 if-none true = refl
 if-none false = refl

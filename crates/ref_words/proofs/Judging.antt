@@ -3,7 +3,7 @@ use Rattle.std.proofs.Common.{◌≡◌, ⊎_elim, ℕ, ◌+◌, ◌-◌, ◌<�
 use Rattle.std.proofs.Common.{◌∷◌, length, refl}
 use Rattle.std.proofs.Common.{ap, sym, ◌∙◌, arith, subst}
 use Rattle.std.proofs.Common.{length-drop}
-use Rattle.std.specs.Prelude.{◌≢◌, ◌==◌, if◌then◌else◌, Some}
+use Rattle.std.specs.Prelude.{◌≢◌, ◌==◌, Some}
 use Rattle.std.proofs.lemmas.Bool.{cases_Bool, cases_lt}
 use Rattle.std.proofs.lemmas.Bool.Decides.{eqb_tells}
 use Rattle.zr_kinds.specs.declared.ring.Rqe.{Rqe}
@@ -16,10 +16,10 @@ use Rattle.board_face.specs.declared.views.parts.Setting.{Setting}
 use Rattle.board_face.specs.declared.views.nic.Judged.TheVariants.{Not, Stray, Owed}
 use Rattle.board_face.specs.declared.views.nic.NicSide.{NicSide}
 use Rattle.board_face.specs.declared.views.app.AppSide.{AppSide}
-use Rattle.board_face.proofs.ListLemmas.{eqb_same, not-eqb}
+use Rattle.board_face.proofs.ListLemmas.{eqb_same}
 use Rattle.board_face.proofs.Tallies.{weight}
-use Rattle.board_face.proofs.Parts.{user_part, user_count-parts, owed_count, loans_in}
-use Rattle.board_face.proofs.Parts.{returned_in-count, total-only, count-tally}
+use Rattle.board_face.proofs.Parts.{owed_count, loans_in, user_count-own}
+use Rattle.board_face.proofs.Parts.{returned_in-count, count-tally}
 use Rattle.ref_words.specs.Words.{Words, user_of}
 use Rattle.ref_words.specs.Sides.{IsInHand, IsFirstRaw}
 use Rattle.ref_words.specs.Rule.{RefRule}
@@ -28,23 +28,12 @@ use Rattle.ref_words.proofs.SlotSteps.{no-word}
 use Rattle.ref_words.proofs.CardLooks.{RefRule-card}
 use Rattle.ref_words.proofs.InHand.{in_hand, some-is, if-none}
 
-part-none : (c : Bool) (n : ℕ) → c ≡ false → (if c then n else 0) ≡ 0
-part-none true n e = absurd (let none : ⊥ = cc in none)
-part-none false n e = refl
-
-part-all : (c : Bool) (n : ℕ) → c ≡ true → (if c then n else 0) ≡ n
-part-all true n e = refl
-part-all false n e = absurd (let none : ⊥ = cc in none)
-
 -- an application's user count is its loans there, out or owed
 pub own-users : (setting : Setting) (words : Words) (nic : NicSide) (apps : List AppSide) (a b : ℕ) (app : AppSide) → RefRule setting words nic apps
     → IsApp apps a app → b < total setting.layout → user_of words a b ≡ loans_in b app + owed_count b nic app
 own-users setting words nic apps a b app rule here within =
     rule.users a b (let h = here.there in omega (arith, rule.sides.set.many)) within
-    ∙ (user_count-parts a b nic apps
-    ∙ (total-only 0 (user_part a b nic) a (λ x other. part-none (x.view.app == a) _ (not-eqb x.view.app a other)) apps rule.sides.set.numbers a app
-    here.there (omega arith)
-    ∙ (ap (user_part a b nic) here.is ∙ part-all (app.view.app == a) _ (subst (λ n. (n == a) ≡ true) (sym here.number) (eqb_same a)))))
+    ∙ user_count-own a b nic apps app rule.sides.set.numbers here
 
 module _ (setting : Setting) (words : Words) (nic : NicSide) (apps : List AppSide) (a : ℕ) (entry : Rqe) (b : ℕ) (rule : RefRule setting words nic apps)
     (at : nic.inside.entry ≡ in_hand a entry Not) (named : judged setting.layout entry ≡ Some b) (within : b < total setting.layout) where

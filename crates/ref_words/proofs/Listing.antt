@@ -1,5 +1,5 @@
 -- A role lists a buffer that it has in hand.
-use Rattle.std.proofs.Common.{◌≡◌, ℕ, ◌+◌, ◌≤◌, Bool, true, false, List, set, refl, arith}
+use Rattle.std.proofs.Common.{◌≡◌, ℕ, ◌+◌, ◌≤◌, false, List, set, refl, arith}
 use Rattle.std.specs.Prelude.{◌==◌, nat_eq, count_by, Contains}
 use Rattle.board_face.specs.Sides.{IsApp}
 use Rattle.board_face.specs.FreeOnce.{free_places}
@@ -11,23 +11,19 @@ use Rattle.board_face.proofs.Tallies.{weight}
 use Rattle.ref_words.specs.Words.{Words, listed_in, with_listed}
 use Rattle.ref_words.specs.FreeSteps.{side_nic_listed, side_app_listed}
 use Rattle.ref_words.specs.Rule.{RefRule}
-use Rattle.ref_words.proofs.Counting.{weight-same}
 use Rattle.ref_words.proofs.Frees.{AreKept-app, free_places-hands, in-hands, count-taken}
 use Rattle.ref_words.proofs.RingSteps.{rings-card}
 use Rattle.ref_words.proofs.CardSteps.{SidesRule-card}
 use Rattle.ref_words.proofs.SideSteps.{mine}
 use Rattle.ref_words.proofs.FreeWords.{RefRule-free, AreKept-listed, listed-more, in-list, one-place}
 use Rattle.ref_words.proofs.AppHands as hands
+use Rattle.board_face.proofs.Counting.{weight-none, weight-same}
 
 -- a buffer in hand is counted there
 has-one : (b : ℕ) (xs : List ℕ) → Contains xs b → 1 ≤ count_by (nat_eq b) xs
 has-one b xs has = omega (arith, count-taken b xs has b, weight-same b)
 
 module _ (setting : Setting) (words : Words) (nic : NicSide) (apps : List AppSide) (b : ℕ) (rule : RefRule setting words nic apps) where
-  none-listed : (c : Bool) → weight c ≡ 0 → c ≡ false
-  none-listed true e = absurd (omega (arith, e))
-  none-listed false e = refl
-
   -- ---- the card
 
   module _ (has : Contains nic.inside.hands b) where
@@ -38,7 +34,7 @@ module _ (setting : Setting) (words : Words) (nic : NicSide) (apps : List AppSid
     some = omega (arith, has-one b nic.inside.hands has)
 
     pub unlisted : listed_in words b ≡ false
-    unlisted = none-listed (listed_in words b) (omega (arith, one-place setting words nic apps b rule some, has-one b nic.inside.hands has))
+    unlisted = weight-none (listed_in words b) (omega (arith, one-place setting words nic apps b rule some, has-one b nic.inside.hands has))
 
     more : (x : ℕ) → weight (listed_in (with_listed words b) x) ≡ weight (listed_in words x) + weight (b == x)
     more = listed-more words b (in-list setting words nic apps b rule some) unlisted
@@ -80,7 +76,7 @@ module _ (setting : Setting) (words : Words) (nic : NicSide) (apps : List AppSid
     )
 
     pub unlisted-app : listed_in words b ≡ false
-    unlisted-app = none-listed (listed_in words b) (let e = elsewhere in omega arith)
+    unlisted-app = weight-none (listed_in words b) (let e = elsewhere in omega arith)
 
     more-app : (x : ℕ) → weight (listed_in (with_listed words b) x) ≡ weight (listed_in words x) + weight (b == x)
     more-app = listed-more words b (in-list setting words nic apps b rule some-app) unlisted-app

@@ -25,7 +25,8 @@ use Rattle.board_face.proofs.SideLemmas.{IsApp-at}
 use Rattle.board_face.proofs.LostLemmas.{lost-few, none-counted, some-counted}
 use Rattle.board_face.proofs.Tallies.{total, total-le, total-agree, length-flat}
 use Rattle.ref_words.specs.Sides.{IsTakenInOrder}
-use Rattle.ref_words.proofs.Frees.{count-append}
+use Rattle.zr_kinds.proofs.Booleans.{if-le}
+use Rattle.board_face.proofs.Counting.{sum-map, count-append}
 
 -- ---- what is lost was picked
 
@@ -61,10 +62,6 @@ unsplit note = if note.split then 0 else note.total
 abbrev of_sent : SentNote → ℕ
 of_sent s = unsplit s.note
 
-sum-map : {A B : Type 0} (f : B → ℕ) (g : A → B) (xs : List A) → sum_by f (map g xs) ≡ sum_by (λ x. f (g x)) xs
-sum-map f g [] = refl
-sum-map f g (x ∷ xs) = omega (arith, sum_by-cons f (g x) (map g xs), sum_by-cons (λ y. f (g y)) x xs, sum-map f g xs)
-
 -- the notes that an application took are among those that were sent to it
 taken-sent : (nic : NicSide) (app : AppSide) → IsTakenInOrder nic app
     → unsplit_bytes (map (λ t. t.note) app.view.taken) ≤ sum_by of_sent (sent_to app.view.app nic)
@@ -84,10 +81,6 @@ filter-case : (c : Bool) (s : SentNote) (rest : List SentNote)
 filter-case true s rest = sum_by-cons of_sent s rest
 filter-case false s rest = omega arith
 
-one-case : (c : Bool) (w : ℕ) → (if c then w else 0) ≤ w
-one-case true w = omega arith
-one-case false w = omega arith
-
 total-plus : {A : Type 0} (f g : A → ℕ) (xs : List A) → total (λ x. f x + g x) xs ≡ total f xs + total g xs
 total-plus f g [] = refl
 total-plus f g (x ∷ xs) = omega (arith, total-plus f g xs)
@@ -100,7 +93,7 @@ once n a w (app ∷ apps) numbered =
     let rest = once (suc n) a w apps numbered.1 in
     let number = numbered.0 in (
       ⊎_elim
-          (λ t. let here : a ≡ app.view.app = t.1 in omega (arith, one-case (a == app.view.app) w, rest.1 (omega (arith, here, number))))
+          (λ t. let here : a ≡ app.view.app = t.1 in omega (arith, if-le (a == app.view.app) w, rest.1 (omega (arith, here, number))))
           (λ t. let none : (if a == app.view.app then w else 0) ≡ 0 = ap (λ c. if c then w else 0) t.0 in omega (arith, none, rest.0))
           (eqb_tells a app.view.app),
       λ past.

@@ -1,9 +1,9 @@
 -- Where the piece of an application's next note lies: in a pool buffer, with a byte at least, and apart from all that it has.
-use Rattle.std.proofs.Common.{◌≡◌, ℕ, ◌+◌, ◌<◌, ◌≤◌, Bool, true, false, List}
-use Rattle.std.proofs.Common.{[], ◌∷◌, length, refl, ap, ◌∙◌, subst, arith, ⊎_elim}
-use Rattle.std.specs.Prelude.{◌==◌, ◌&&◌, count_by, filter, if◌then◌else◌, All}
-use Rattle.std.proofs.lemmas.Bool.{cases_lt, eq-eqb}
-use Rattle.std.proofs.lemmas.List.Elements.{All-nil, All-cons, All-head, All-filter, All-drop}
+use Rattle.std.proofs.Common.{◌≡◌, ℕ, ◌+◌, ◌<◌, ◌≤◌, Bool, true, List}
+use Rattle.std.proofs.Common.{length, refl, ap, ◌∙◌, subst, arith, ⊎_elim}
+use Rattle.std.specs.Prelude.{◌==◌, count_by, filter, All}
+use Rattle.std.proofs.lemmas.Bool.{cases_lt}
+use Rattle.std.proofs.lemmas.List.Elements.{All-head, All-filter, All-drop}
 use Rattle.zr_kinds.specs.declared.place.Place.{Place}
 use Rattle.zr_kinds.specs.declared.place.Note.{Note}
 use Rattle.area_layout.specs.Layout.{LiesIn, pool_buffers}
@@ -20,29 +20,12 @@ use Rattle.board_face.specs.declared.views.app.AppSide.{AppSide}
 use Rattle.board_face.proofs.ListLemmas.{eqb_same}
 use Rattle.board_face.proofs.Tallies.{weight, tally}
 use Rattle.board_face.proofs.Parts.{app_count, spares_in, pool_count-parts, count-tally}
-use Rattle.board_face.proofs.PlaceTallies.{in_buffer, app_places, held_places, loan_places, places-parts}
+use Rattle.board_face.proofs.PlaceTallies.{in_buffer, app_places, held_places, loan_places, places-parts, first-of, All-some}
 use Rattle.board_face.proofs.AppLemmas.{IsNext}
 use Rattle.board_face.proofs.IsFilledByOneLemmas.{fillings-alone}
 use Rattle.board_face.proofs.ApartLemmas.{AreApart-all}
 use Rattle.board_face.proofs.LiesLemmas.{total-at, lies-by}
-use Rattle.ref_words.proofs.Taking.{All-none}
-
-first-of : (f : Place → Bool) (c : Bool) (s : SentNote) (rest : List SentNote) → c ≡ true
-    → tally (λ (t : SentNote). f t.note.place) (if c then s ∷ rest else rest) ≡ weight (f s.note.place) + tally (λ (t : SentNote). f t.note.place) rest
-first-of f true s rest is = refl
-first-of f false s rest is = absurd (let none : ⊥ = cc in none)
-
--- where no place is empty in any buffer, each has a byte
-All-some : {A : Type 0} (f : A → Place) (xs : List A) → ((b : ℕ) → tally (λ y. in_buffer b is_empty (f y)) xs ≡ 0) → All (λ y. 0 < (f y).len) xs
-All-some f [] none = All-nil (λ y. 0 < (f y).len)
-All-some f (y ∷ ys) none =
-    All-cons (λ z. 0 < (f z).len) y ys
-    (⊎_elim
-    (λ some. some)
-    (λ empty. let e : (f y).len ≡ 0 = omega arith in absurd
-    (omega (arith, none (f y).buffer, ap (λ c. weight (c && is_empty (f y))) (eqb_same (f y).buffer), ap weight (eq-eqb (f y).len 0 e))))
-    (cases_lt 0 (f y).len))
-    (All-some f ys (λ b. omega (arith, none b)))
+use Rattle.board_face.proofs.Counting.{All-none}
 
 module _ (nic : NicSide) (apps : List AppSide) (a : ℕ) (app : AppSide) (here : IsApp apps a app) (note : Note) (next : IsNext nic app note)
     (split : note.split ≡ true) where

@@ -1,5 +1,5 @@
 -- Phases stay told by each step of an application at counts.
-use Rattle.std.proofs.Common.{◌≡◌, ℕ, Bool, false, List, [], map, set, refl, sym, ◌∙◌, ap, ⊎_elim, arith, Contains, inl, inr}
+use Rattle.std.proofs.Common.{◌≡◌, ℕ, Bool, false, List, map, set, refl, sym, ◌∙◌, ap, ⊎_elim, arith, Contains, inl, inr}
 use Rattle.std.proofs.lemmas.Bool.{cases_Bool, false≢true}
 use Rattle.zr_kinds.specs.declared.place.Place.{Place}
 use Rattle.area_layout.specs.Layout.{pool_buffers}
@@ -19,15 +19,12 @@ use Rattle.ref_words.specs.PhaseRule.{IsAppPhased, PhaseRule}
 use Rattle.ref_words.proofs.Phases.{phases-mine, phases-here, phases-kept}
 use Rattle.ref_words.proofs.SideSteps.{own-setting}
 use Rattle.ref_words.proofs.SpareTaking as spare
+use Rattle.zr_kinds.proofs.Lists.{none-in}
 
 module _ (setting : Setting) (words : Words) (nic : NicSide) (apps : List AppSide) (rule : RefRule setting words nic apps)
     (was : PhaseRule setting words nic apps) (a : ℕ) (app : AppSide) (here : IsApp apps a app) where
   mine : IsAppPhased words.phases nic app
   mine = phases-mine words.phases nic apps was a app here
-
-  -- while a token is out the application hasn't left
-  none-in : {A : Type 0} (xs : List A) (x : A) → Contains xs x → xs ≡ [] → ⊥
-  none-in xs x has none = let there = (rw none at has).1 in omega arith
 
   held-here : (place : Place) → HasHeld app.view place → IsHere app.view
   held-here place out =

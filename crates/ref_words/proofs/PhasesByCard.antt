@@ -1,5 +1,5 @@
 -- Phases stay told by each step of the card at counts and slots.
-use Rattle.std.proofs.Common.{◌≡◌, ℕ, Bool, true, false, List, [], map, refl, ap, ⊎_elim, arith, Contains}
+use Rattle.std.proofs.Common.{◌≡◌, ℕ, Bool, true, false, List, map, refl, ap, ⊎_elim}
 use Rattle.std.proofs.lemmas.Bool.{cases_Bool}
 use Rattle.zr_kinds.specs.declared.place.Note.{Note}
 use Rattle.zr_kinds.specs.declared.ring.Rqe.{Rqe}
@@ -23,13 +23,10 @@ use Rattle.ref_words.specs.Words.{Words}
 use Rattle.ref_words.specs.Rule.{RefRule}
 use Rattle.ref_words.specs.PhaseRule.{PhaseRule}
 use Rattle.ref_words.proofs.Phases.{phases-open, phases-still, LieInOwn-by}
+use Rattle.zr_kinds.proofs.Lists.{none-in}
 
 module _ (setting : Setting) (words : Words) (nic : NicSide) (apps : List AppSide) (rule : RefRule setting words nic apps)
     (was : PhaseRule setting words nic apps) where
-  -- while a token is out the card hasn't ended
-  none-in : {A : Type 0} (xs : List A) (x : A) → Contains xs x → xs ≡ [] → ⊥
-  none-in xs x has none = let there = (rw none at has).1 in omega arith
-
   pub own-open : (own : Filling) → HasOwn nic.view own → IsOpen nic.view
   own-open own out =
       ⊎_elim (λ over. absurd (none-in nic.view.owns own out (was.ended over).none.owns)) (λ going. going) (cases_Bool nic.view.ended)

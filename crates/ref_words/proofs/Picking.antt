@@ -18,11 +18,11 @@ use Rattle.board_face.proofs.Tallies.{weight}
 use Rattle.ref_words.specs.Words.{Words, listed_in, with_unlisted}
 use Rattle.ref_words.specs.FreeSteps.{side_word_without, side_bit_cleared}
 use Rattle.ref_words.specs.Rule.{RefRule}
-use Rattle.ref_words.proofs.Counting.{weight-swap, count-push}
-use Rattle.ref_words.proofs.Frees.{AreKept-app, count-append, free_places-hands, picked-moved}
+use Rattle.ref_words.proofs.Frees.{AreKept-app, free_places-hands, picked-moved}
 use Rattle.ref_words.proofs.SideSteps.{mine, own-setting}
 use Rattle.ref_words.proofs.FreeWords.{RefRule-free, AreKept-listed, listed-fewer, listed-same, of-pool, in-list}
 use Rattle.ref_words.proofs.AppHands as hands
+use Rattle.board_face.proofs.Counting.{count-append, count-push, weight-swap}
 
 module _ (setting : Setting) (words : Words) (nic : NicSide) (apps : List AppSide) (a : ℕ) (app : AppSide) (b : ℕ)
     (rule : RefRule setting words nic apps) (here : IsApp apps a app) where

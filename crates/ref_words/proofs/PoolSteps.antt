@@ -13,7 +13,7 @@ use Rattle.ref_words.specs.Words.{Words, with_pool, listed_in}
 use Rattle.ref_words.specs.Sides.{SidesRule}
 use Rattle.ref_words.specs.Rule.{RefRule}
 use Rattle.ref_words.proofs.RingSteps.{AllRings, rings-words}
-use Rattle.ref_words.proofs.Counting.{counts-set}
+use Rattle.zr_kinds.proofs.Lists.{counts-set}
 
 -- What is to be known of the sides after the step, where the count of the buffer i becomes n.
 pub record IsPoolStep (setting : Setting) (words : Words) (nic now : NicSide) (apps apps' : List AppSide) (i n : ℕ) : Type 0 where

@@ -24,11 +24,13 @@ use Rattle.board_face.proofs.Tallies.{weight}
 use Rattle.ref_words.specs.Words.{Words, pool_of, listed_in}
 use Rattle.ref_words.specs.Rule.{RefRule}
 use Rattle.ref_words.proofs.RingSteps.{rings-app}
-use Rattle.ref_words.proofs.Counting.{count-push, weight-same, weight-other, weight-swap, if_so, if_so-weight, and-true, and-false}
+use Rattle.ref_words.proofs.Counting.{if_so, if_so-weight, and-false}
 use Rattle.ref_words.proofs.Frees.{AreFreeOnce-fewer, AreKept-app, free_places-hands}
 use Rattle.ref_words.proofs.SideSteps.{own-was, mine, own-setting, SidesRule-app}
 use Rattle.ref_words.proofs.PoolSteps.{IsPoolStep}
 use Rattle.ref_words.proofs.Shutting.{last-is}
+use Rattle.board_face.proofs.Counting.{count-push, weight-other, weight-same, weight-swap}
+use Rattle.zr_kinds.proofs.Booleans.{and-true}
 
 -- a buffer that came to be free stands in the hands
 pub hands-case : (came : Bool) (hands : List ℕ) (i b : ℕ)

@@ -28,11 +28,13 @@ use Rattle.ref_words.specs.Sides.{IsInHand}
 use Rattle.ref_words.specs.Rule.{RefRule}
 use Rattle.ref_words.proofs.CardSteps.{AreReturns-owed, IsScrubbedSoFar-owed, HasNoneOwed-owed}
 use Rattle.ref_words.proofs.RingSteps.{rings-card}
-use Rattle.ref_words.proofs.Counting.{weight-same, weight-other, if_so-weight, and-true, and-false}
+use Rattle.ref_words.proofs.Counting.{if_so-weight, and-false}
 use Rattle.ref_words.proofs.Frees.{AreFreeOnce-fewer, AreKept-card, cache-grows}
 use Rattle.ref_words.proofs.PoolSteps.{IsPoolStep}
 use Rattle.ref_words.proofs.Shutting.{last-is, free-gave_up}
-use Rattle.ref_words.proofs.InHand.{in_hand, some-is, if-weight, if-none, same-if, other-if}
+use Rattle.ref_words.proofs.InHand.{in_hand, some-is, if-none, same-if, other-if}
+use Rattle.board_face.proofs.Counting.{weight-and, weight-other, weight-same}
+use Rattle.zr_kinds.proofs.Booleans.{and-true}
 
 module _ (setting : Setting) (words : Words) (nic : NicSide) (apps : List AppSide) (a : ℕ) (entry : Rqe) (b : ℕ) (rule : RefRule setting words nic apps)
     (at : nic.inside.entry ≡ in_hand a entry (UserLowered b)) where
@@ -63,7 +65,7 @@ module _ (setting : Setting) (words : Words) (nic : NicSide) (apps : List AppSid
       let was : returning_in_hand x.view.app c nic.inside.entry ≡ returning_in_hand x.view.app c (in_hand a entry (UserLowered b)) = ap
       (returning_in_hand x.view.app c) at in
       let none : returning_in_hand x.view.app c now.inside.entry ≡ 0 = if-none (a == x.view.app) in
-      omega (arith, was, none, if-weight (a == x.view.app) (b == c))
+      omega (arith, was, none, weight-and (a == x.view.app) (b == c))
 
   app : AppSide
   app = get_or apps a (new_app setting a)

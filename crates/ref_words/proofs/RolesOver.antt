@@ -1,10 +1,9 @@
 -- Roles that are over were served, and nobody of them has a buffer.
-use Rattle.std.proofs.Common.{◌≡◌, ℕ, ◌+◌, ◌<◌, ◌≤◌, true, List, [], ◌∷◌, length, map, take, drop}
+use Rattle.std.proofs.Common.{◌≡◌, ℕ, ◌+◌, ◌<◌, ◌≤◌, true, List, [], length, map, take, drop}
 use Rattle.std.proofs.Common.{get_or, refl, ap, sym, ◌∙◌, arith, subst, ⊎_elim, length-drop}
 use Rattle.std.specs.Prelude.{◌==◌, All, nat_eq, count_by, if◌then◌else◌, Option, Some, None}
 use Rattle.std.specs.List.{flat_map}
 use Rattle.std.proofs.lemmas.List.{take_all, length-map, nil_from_length}
-use Rattle.std.proofs.lemmas.List.Elements.{All-head, All-tail}
 use Rattle.std.proofs.lemmas.Bool.Decides.{eqb_tells}
 use Rattle.area_layout.specs.Layout.{pool_buffers}
 use Rattle.board_face.specs.Sides.{IsApp}
@@ -20,7 +19,7 @@ use Rattle.board_face.specs.declared.views.nic.NicSide.{NicSide}
 use Rattle.board_face.specs.declared.views.app.WrittenEntry.{WrittenEntry}
 use Rattle.board_face.specs.declared.views.app.AppSide.{AppSide}
 use Rattle.board_face.proofs.SideLemmas.{IsApp-at}
-use Rattle.board_face.proofs.Tallies.{tally, total, tally-flat}
+use Rattle.board_face.proofs.Tallies.{tally, tally-flat}
 use Rattle.board_face.proofs.Parts.{nic_count, app_count, helds_in, spares_in, loans_in, notes_in, owed_count, owed-count, count-tally}
 use Rattle.board_face.proofs.Parts.{length-nic_holders, length-app_holders, pool_count-parts}
 use Rattle.ref_words.specs.Words.{Words, listed_in}
@@ -28,14 +27,11 @@ use Rattle.ref_words.specs.Over.{CardIsOver, AppIsOver}
 use Rattle.ref_words.specs.PhaseRule.{IsAppPhased}
 use Rattle.ref_words.specs.TextRule.{HasTexts}
 use Rattle.ref_words.specs.Rule.{BoardRule}
+use Rattle.board_face.proofs.Counting.{total-zero}
 
 -- what nothing is left of behind its first n was taken whole
 all-taken : {A B : Type 0} (f : A → B) (n : ℕ) (xs : List A) → drop n xs ≡ [] → take n (map f xs) ≡ map f xs
 all-taken f n xs none = take_all n (map f xs) (omega (arith, ap length none, length-drop n xs, length-map xs f))
-
-total-zero : {A : Type 0} (f : A → ℕ) (xs : List A) → All (λ x. f x ≡ 0) xs → total f xs ≡ 0
-total-zero f [] none = refl
-total-zero f (x ∷ xs) none = omega (arith, All-head (λ x. f x ≡ 0) x xs none, total-zero f xs (All-tail (λ x. f x ≡ 0) x xs none))
 
 module _ (setting : Setting) (words : Words) (nic : NicSide) (apps : List AppSide) (rule : BoardRule setting words nic apps) where
   -- ---- an application that has left

@@ -23,12 +23,13 @@ use Rattle.board_face.proofs.FillingsFitLemmas.{FillingsFit-same}
 use Rattle.ref_words.specs.Words.{Words, pool_of, listed_in}
 use Rattle.ref_words.specs.Rule.{RefRule}
 use Rattle.ref_words.proofs.RingSteps.{rings-app}
-use Rattle.ref_words.proofs.Counting.{if_so, and-true, and-false}
+use Rattle.ref_words.proofs.Counting.{if_so, and-false}
 use Rattle.ref_words.proofs.Frees.{AreFreeOnce-fewer, AreKept-app, free_places-hands}
 use Rattle.ref_words.proofs.SideSteps.{own-was, mine, own-setting, SidesRule-app}
 use Rattle.ref_words.proofs.PoolSteps.{IsPoolStep}
 use Rattle.ref_words.proofs.Shutting.{last-is}
 use Rattle.ref_words.proofs.Releasing.{hands-case}
+use Rattle.zr_kinds.proofs.Booleans.{and-true}
 
 module _ (setting : Setting) (words : Words) (nic : NicSide) (apps : List AppSide) (a : ℕ) (app : AppSide) (b n : ℕ)
     (rule : RefRule setting words nic apps) (here : IsApp apps a app) (there : b < total setting.layout)

@@ -24,10 +24,12 @@ use Rattle.board_face.proofs.Tallies.{weight}
 use Rattle.ref_words.specs.Words.{Words, pool_of, listed_in}
 use Rattle.ref_words.specs.Rule.{RefRule}
 use Rattle.ref_words.proofs.RingSteps.{rings-card}
-use Rattle.ref_words.proofs.Counting.{weight-same, weight-other, weight-swap, cached-or-in_hand, if_so, if_so-weight, and-true}
+use Rattle.ref_words.proofs.Counting.{cached-or-in_hand, if_so, if_so-weight}
 use Rattle.ref_words.proofs.Frees.{AreFreeOnce-fewer, AreKept-card, cache-grows}
 use Rattle.ref_words.proofs.CardSteps.{SidesRule-card}
 use Rattle.ref_words.proofs.PoolSteps.{IsPoolStep}
+use Rattle.board_face.proofs.Counting.{weight-other, weight-same, weight-swap}
+use Rattle.zr_kinds.proofs.Booleans.{and-true}
 
 -- a count of w is lowered by w to 0, and no greater one
 pub last-is : (n m w : ℕ) → m + w ≡ n → (n == w) ≡ (m == 0)

@@ -26,12 +26,12 @@ use Rattle.board_face.proofs.Tallies.{weight}
 use Rattle.ref_words.specs.Words.{Words, user_of, listed_in}
 use Rattle.ref_words.specs.Rule.{RefRule}
 use Rattle.ref_words.proofs.RingSteps.{rings-app}
-use Rattle.ref_words.proofs.Counting.{weight-same}
 use Rattle.ref_words.proofs.Frees.{AreKept-app, free_places-hands}
 use Rattle.ref_words.proofs.InHand.{same-if, other-pair}
 use Rattle.ref_words.proofs.SideSteps.{own-was, mine, SidesRule-app}
 use Rattle.ref_words.proofs.UserSteps.{IsUserStep}
 use Rattle.ref_words.proofs.Beginning.{few-holders}
+use Rattle.board_face.proofs.Counting.{weight-same}
 
 module _ (setting : Setting) (words : Words) (nic : NicSide) (apps : List AppSide) (a : ℕ) (app : AppSide) (own : Filling)
     (rule : RefRule setting words nic apps) (here : IsApp apps a app) (out : HasSpare app.view own) (some : IsFilled app.view own)

@@ -30,11 +30,10 @@ use Rattle.board_face.proofs.Tallies.{weight}
 use Rattle.ref_words.specs.Words.{Words, pool_of, listed_in}
 use Rattle.ref_words.specs.Rule.{RefRule}
 use Rattle.ref_words.proofs.RingSteps.{rings-app}
-use Rattle.ref_words.proofs.Counting.{weight-same, weight-other}
 use Rattle.ref_words.proofs.Frees.{AreFreeOnce-taken, AreFreeOnce-reserve, AreKept-app, free_places-hands, in-hands, count-taken, without-none}
 use Rattle.ref_words.proofs.SideSteps.{own-was, mine, own-setting, SidesRule-app}
 use Rattle.ref_words.proofs.PoolSteps.{IsPoolStep}
-use Rattle.ref_words.proofs.Taking.{All-none}
+use Rattle.board_face.proofs.Counting.{All-none, weight-other, weight-same}
 
 -- an application has nothing in a buffer that nobody has
 pub own-none : (b : ℕ) (nic : NicSide) (apps : List AppSide) (a : ℕ) (app : AppSide) → IsApp apps a app → pool_count b nic apps ≡ 0

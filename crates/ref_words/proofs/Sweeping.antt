@@ -26,13 +26,12 @@ use Rattle.board_face.proofs.Tallies.{weight}
 use Rattle.ref_words.specs.Words.{Words, listed_in, free_of, with_free}
 use Rattle.ref_words.specs.FreeSteps.{found_in, side_swept}
 use Rattle.ref_words.specs.Rule.{RefRule}
-use Rattle.ref_words.proofs.Counting.{count-push}
 use Rattle.ref_words.proofs.Found.{IsFound, found-none, found-one, found-all, found-falling, found-few}
-use Rattle.ref_words.proofs.Frees.{count-append}
 use Rattle.ref_words.proofs.FreeWords.{RefRule-free, listed-here, listed-there, of-pool}
 use Rattle.ref_words.proofs.Losing.{lost-bound}
 use Rattle.ref_words.proofs.RingSteps.{rings-card}
 use Rattle.ref_words.proofs.CardSteps.{SidesRule-card}
+use Rattle.board_face.proofs.Counting.{count-append, count-push}
 
 module _ (setting : Setting) (words : Words) (nic : NicSide) (apps : List AppSide) (j : ℕ) (rule : RefRule setting words nic apps)
     (within : j < free_words_of setting) where

@@ -1,7 +1,6 @@
 -- The card takes the buffer that entered its cache last.
-use Rattle.std.proofs.Common.{◌≡◌, ⊎_elim, ℕ, ◌+◌, ◌<◌, List, [], ◌∷◌, ◌++◌, refl, ap, sym, ◌∙◌, arith, subst}
-use Rattle.std.specs.Prelude.{◌≢◌, ◌==◌, All, nat_eq, count_by}
-use Rattle.std.proofs.lemmas.List.Elements.{All-nil, All-cons}
+use Rattle.std.proofs.Common.{◌≡◌, ⊎_elim, ℕ, ◌+◌, ◌<◌, List, [], ◌∷◌, ◌++◌, refl, ap, sym, ◌∙◌, arith}
+use Rattle.std.specs.Prelude.{◌==◌, nat_eq, count_by}
 use Rattle.std.proofs.lemmas.Bool.{cases_lt}
 use Rattle.area_layout.specs.Layout.{total, pool_buffers}
 use Rattle.board_face.specs.NicEvents.{took}
@@ -19,22 +18,15 @@ use Rattle.board_face.proofs.ArePlacedLemmas.{ArePlaced-took}
 use Rattle.board_face.proofs.MadeLastLemmas.{IsMadeLast-nic}
 use Rattle.board_face.proofs.IsFilledByOneLemmas.{IsFilledByOne-took}
 use Rattle.board_face.proofs.FillingsFitLemmas.{FillingsFit-took}
-use Rattle.board_face.proofs.Tallies.{weight, tally}
+use Rattle.board_face.proofs.Tallies.{weight}
 use Rattle.board_face.proofs.Parts.{pool_count-parts}
 use Rattle.ref_words.specs.Words.{Words, pool_of, listed_in}
 use Rattle.ref_words.specs.Rule.{RefRule}
 use Rattle.ref_words.proofs.RingSteps.{rings-card}
-use Rattle.ref_words.proofs.Counting.{weight-same, weight-other, weight-swap, count-push}
-use Rattle.ref_words.proofs.Frees.{AreFreeOnce-taken, count-append}
+use Rattle.ref_words.proofs.Frees.{AreFreeOnce-taken}
 use Rattle.ref_words.proofs.CardSteps.{SidesRule-card}
 use Rattle.ref_words.proofs.PoolSteps.{IsPoolStep}
-
-pub All-none : {A : Type 0} (f : A → ℕ) (b : ℕ) (xs : List A) → tally (λ x. f x == b) xs ≡ 0 → All (λ x. f x ≢ b) xs
-All-none f b [] none = All-nil (λ x. f x ≢ b)
-All-none f b (x ∷ xs) none =
-    All-cons (λ y. f y ≢ b) x xs
-    (λ e. absurd (let one : weight (f x == b) ≡ 1 = subst (λ c. weight (f x == c) ≡ 1) e (weight-same (f x)) in omega (arith, one, none)))
-    (All-none f b xs (omega (arith, none)))
+use Rattle.board_face.proofs.Counting.{All-none, count-append, count-push, weight-other, weight-same, weight-swap}
 
 module _ (setting : Setting) (words : Words) (nic : NicSide) (apps : List AppSide) (b : ℕ) (rule : RefRule setting words nic apps)
     (last : nic.view.cache ≡ (took nic.view b).cache ++ b ∷ []) where

@@ -45,9 +45,10 @@ use Rattle.ref_words.specs.Area.{byte_in}
 use Rattle.ref_words.specs.Sides.{SidesRule, IsTakenInOrder, IsDealtInOrder}
 use Rattle.ref_words.specs.Rule.{RefRule}
 use Rattle.ref_words.specs.TextRule.{AreTexts}
-use Rattle.ref_words.proofs.InHand.{in_hand, if-none, if-weight}
+use Rattle.ref_words.proofs.InHand.{in_hand, if-none}
 use Rattle.ref_words.proofs.TextsByCard.{ends-in-hand, AreTexts-card}
 use Rattle.ref_words.proofs.TextsByApp.{HasTexts-left, AreTexts-app, AppIsShown-inside}
+use Rattle.board_face.proofs.Counting.{weight-and}
 
 -- ---- an application's slots
 
@@ -199,7 +200,7 @@ module _ (setting : Setting) (area : List ℕ) (nic : NicSide) (apps : List AppS
   pub texts-honoured : (entry : Rqe) (b : ℕ) → nic.inside.entry ≡ in_hand a entry (BothLowered b)
       → SidesRule setting (side_dealt nic a entry (Honoured b)) apps → AreTexts setting.layout area (side_dealt nic a entry (Honoured b)) apps
   texts-honoured entry b at sides =
-      texts-dealt entry (BothLowered b) (Honoured b) at (λ x c. omega (arith, if-weight (a == x) (b == c))) sides
+      texts-dealt entry (BothLowered b) (Honoured b) at (λ x c. omega (arith, weight-and (a == x) (b == c))) sides
 
   pub texts-stray : (entry : Rqe) → nic.inside.entry ≡ in_hand a entry judged_stray → SidesRule setting (side_dealt nic a entry Stray) apps
       → AreTexts setting.layout area (side_dealt nic a entry Stray) apps

@@ -1,5 +1,5 @@
 -- The user count is lowered for the entry in hand: the loan that was owed is returning.
-use Rattle.std.proofs.Common.{◌≡◌, ⊎_elim, ℕ, ◌+◌, ◌-◌, ◌<◌, ◌≤◌, Bool, true, false, List, length, get_or, refl, ap, sym}
+use Rattle.std.proofs.Common.{◌≡◌, ⊎_elim, ℕ, ◌+◌, ◌-◌, ◌<◌, ◌≤◌, List, length, get_or, refl, ap, sym}
 use Rattle.std.proofs.Common.{◌∙◌, arith, subst, length-drop}
 use Rattle.std.specs.Prelude.{◌≢◌, ◌==◌, ◌&&◌, if◌then◌else◌, Contains}
 use Rattle.std.proofs.lemmas.List.Elements.{All-contains}
@@ -29,14 +29,10 @@ use Rattle.ref_words.specs.Sides.{IsInHand}
 use Rattle.ref_words.specs.Rule.{RefRule}
 use Rattle.ref_words.proofs.CardSteps.{AreReturns-owed, IsScrubbedSoFar-owed, HasNoneOwed-owed}
 use Rattle.ref_words.proofs.RingSteps.{rings-card}
-use Rattle.ref_words.proofs.Counting.{weight-same}
 use Rattle.ref_words.proofs.Frees.{AreKept-card}
 use Rattle.ref_words.proofs.UserSteps.{IsUserStep}
-use Rattle.ref_words.proofs.InHand.{in_hand, some-is, if-weight, if-none, same-if, other-if, other-pair}
-
-user_case : (c : Bool) (l m n w : ℕ) → m ≡ n + w → (if c then l + m else 0) ≡ (if c then l + n else 0) + (if c then w else 0)
-user_case true l m n w e = omega arith
-user_case false l m n w e = refl
+use Rattle.ref_words.proofs.InHand.{in_hand, some-is, if-none, same-if, other-if, other-pair}
+use Rattle.board_face.proofs.Counting.{user_case, weight-and, weight-same}
 
 module _ (setting : Setting) (words : Words) (nic : NicSide) (apps : List AppSide) (a : ℕ) (entry : Rqe) (b : ℕ) (rule : RefRule setting words nic apps)
     (at : nic.inside.entry ≡ in_hand a entry (Owed b)) where
@@ -50,12 +46,12 @@ module _ (setting : Setting) (words : Words) (nic : NicSide) (apps : List AppSid
   not-lowered x c = ap (lowered_in_hand x c) at ∙ if-none (a == x)
 
   ends : (c : ℕ) (x : AppSide) → ended_in c now x ≡ ended_in c nic x + weight ((a == x.view.app) && (b == c))
-  ends c x = omega (arith, not-lowered x.view.app c, if-weight (a == x.view.app) (b == c))
+  ends c x = omega (arith, not-lowered x.view.app c, weight-and (a == x.view.app) (b == c))
 
   returns : (c : ℕ) (x : AppSide) → returning_count c now x ≡ returning_count c nic x + weight ((a == x.view.app) && (b == c))
   returns c x =
       let was : returning_in_hand x.view.app c nic.inside.entry ≡ 0 = ap (returning_in_hand x.view.app c) at ∙ if-none (a == x.view.app) in
-      omega (arith, was, if-weight (a == x.view.app) (b == c))
+      omega (arith, was, weight-and (a == x.view.app) (b == c))
 
   app : AppSide
   app = get_or apps a (new_app setting a)
@@ -105,7 +101,7 @@ module _ (setting : Setting) (words : Words) (nic : NicSide) (apps : List AppSid
       omega (arith, ends c app, same-if a app.view.app b c mine.number, owes c a app mine, returned_in-count c app) in
       let split = user_case (app.view.app == x) (loans_in c app) (owed_count c nic app) (owed_count c now app) (weight (b == c)) owed in
       let joined : (if app.view.app == x then weight (b == c) else 0) ≡ w =
-      ap (λ n. if n == x then weight (b == c) else 0) mine.number ∙ if-weight (a == x) (b == c) in
+      ap (λ n. if n == x then weight (b == c) else 0) mine.number ∙ weight-and (a == x) (b == c) in
       let target : user_part x c nic app ≡ user_part x c now app + w = omega (arith, split, joined) in
       let others : (y : AppSide) → y.view.app ≢ a → user_part x c nic y ≡ user_part x c now y = λ y ne.
       ap (λ h. if y.view.app == x then loans_in c y + (came_back_in c y - h) else 0) (omega (arith, ends c y, other-if a y.view.app b c ne)) in
@@ -169,7 +165,7 @@ module _ (setting : Setting) (words : Words) (nic : NicSide) (apps : List AppSid
       proper = rule.sides.proper;
       returns = λ k x here.
           AreReturns-owed nic now x refl
-          (λ c. omega (arith, not-lowered x.view.app c, fewer c k x here, if-weight (a == x.view.app) (b == c)))
+          (λ c. omega (arith, not-lowered x.view.app c, fewer c k x here, weight-and (a == x.view.app) (b == c)))
           (rule.sides.returns k x here);
       hand = λ it is.
           subst

@@ -4,3 +4,6 @@ mod Rows
 pub mod LeastMissing
 pub mod Mapped
 pub mod ValuesFrom
+pub mod Booleans
+pub mod Lists
+pub mod Pushed

@@ -1,7 +1,7 @@
 -- Where the hand has no token, none is out.
 use Rattle.std.proofs.Common.{rules, ◌≡◌, [], map}
-use Rattle.face_table.proofs.Tokens.{map-none}
 use Rattle.face_table.proofs.card.end.Goals as goal
+use Rattle.zr_kinds.proofs.Lists.{map-none}
 
 pub end-requires : goal.end-requires
 end-requires g c =

@@ -10,12 +10,13 @@ use Rattle.plain_board.proofs.AppFrames.{here-of}
 use Rattle.plain_board.proofs.Card.{within-setting}
 use Rattle.plain_board.proofs.Freeing.{and-right}
 use Rattle.plain_board.proofs.Still.{IsSound-saw}
-use Rattle.plain_board.proofs.Popping.{front-some, front-none, rings-same}
+use Rattle.plain_board.proofs.Popping.{rings-same}
 use Rattle.plain_board.proofs.Straying.{IsSound-passed_over, PassedOver-passed_over}
 use Rattle.plain_board.proofs.Honouring.{is_held, owes_one, IsSound-honoured, came-zero, came-pool, came-code, FreedEntry-honoured, HonouredEntry-honoured}
 use Rattle.plain_board.proofs.Seeing.{IsJudged-passed_over, IsJudged-honoured, NicTold-empty, NicTold-passed_over, NicTold-honoured}
 use Rattle.plain_board.proofs.contents.Contents.entry.Goals as goal
 use Rattle.plain_board.proofs.contents.Contents.entry.Goals.{then-free, else-free}
+use Rattle.zr_kinds.proofs.Lists.{front-some, front-none}
 
 and-left : (c d : Bool) → (c && d) ≡ true → c ≡ true
 and-left true d e = refl
