@@ -1,4 +1,6 @@
-//! The application: notes into the queues of their flows, loans, completions, reading and giving back.
+//! The application: notes into the queues of their flows, loans, completions, reading and giving back. Between two turns
+//! `AppStands` holds; what a turn does, and why it does nothing, is `Turns`. No flow but the active one, that of the note
+//! taken last, ever has a piece in order.
 #![tactic(auto)]
 
 mod lending;

@@ -1,4 +1,6 @@
-//! Which application and which flow a TCP segment belongs to, and what a flow's stream is.
+//! Which application and which flow a TCP segment belongs to, and what a flow's stream is. `FlowTable::place` equals the
+//! definitions in `specs/` for every segment and every list of flows. The module `plain` has slow programs for tests that
+//! compute these definitions.
 #![tactic(auto)]
 
 mod close;

@@ -1,4 +1,6 @@
-//! The page pool: where payloads are placed, how fresh buffers are found, and which frames are refused.
+//! The page pool: where payloads are placed, how fresh buffers are found, and which frames are refused. `PoolStands` is the
+//! condition of each call and holds again after it. What calls do to notes is said of one list: those sent, and behind them
+//! those pending (`all_notes`). No call takes memory, waits, or changes what stands beside the face.
 #![tactic(auto)]
 
 mod close;

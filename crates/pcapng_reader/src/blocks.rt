@@ -153,7 +153,7 @@ fn begin_section<S: Source>(source: &mut S, section: &mut Section, head: &Head) 
     Ok(())
 }
 
-/// Reads the rest of an interface's block. Memory for it is asked for before.
+/// Reads the rest of an interface's block. Memory for the interface is asked for within it, behind the bytes of its head.
 fn add_interface<S: Source>(source: &mut S, section: &mut Section, head: &Head) -> Result<(), Fault>
     requires head { IsHead (told section.old) head.now }
     requires kind { head.now.kind ≡ InterfaceDescription }

@@ -1,4 +1,5 @@
-//! Reads the record of a run and says whether it is that of a legal run.
+//! Reads the record of a run and says whether it is that of a legal run. The holders of a buffer are kept by offset
+//! (`Buffer`), and are those of the definition in any order (`SameHolders`).
 #![tactic(auto)]
 
 mod buffer;

@@ -1,4 +1,6 @@
-//! The reassembly queue of one TCP flow: pieces of payload that came out of order, kept until the stream reaches them.
+//! The reassembly queue of one TCP flow: pieces of payload that came out of order, kept until the stream reaches them. The
+//! queue is over any kind of piece, into which it never looks. Its positions, popped or kept, are a map as the copying
+//! receiver's.
 #![tactic(auto)]
 
 mod distance;

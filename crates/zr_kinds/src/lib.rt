@@ -1,5 +1,6 @@
-//! The words that every layer shares: what can go wrong in a command, the entries of the rings, notes and places, what
-//! a replay counts, and the copying receiver, the measure of all streams.
+//! The words that every layer shares: what can go wrong in a command, the entries of the rings, notes and places, what a
+//! replay counts, and the copying receiver, the measure of all streams. One enum, `Fault`, names why a replay ended,
+//! `Stopped` why an application did: nothing panics, and nothing ends the process but the return of `main`.
 #![tactic(auto)]
 
 mod behaviour;
