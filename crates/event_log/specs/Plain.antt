@@ -5,6 +5,7 @@ use Rattle.std.specs.List.{filter_map}
 use Rattle.run_records.specs.declared.holding.Holding.{Holding}
 use Rattle.run_records.specs.declared.holding.Holding.TheVariants as holding
 use Rattle.run_records.specs.Holders.{Holdings}
+pub use Rattle.run_records.specs.Holders.{weight}
 use Rattle.board_face.specs.Holders.{Kind, own, piece, sent, held, spare, loan, owed, returning, holders_of}
 use Rattle.board_face.specs.Laws.{AllSides}
 
@@ -20,11 +21,6 @@ plain (returning a p) = None
 
 abbrev pub plain_holders : AllSides → ℕ → List Holding
 plain_holders s b = filter_map plain (holders_of b s.nic s.apps)
-
--- what holders weigh together
-abbrev pub weight : (Holding → ℕ) → List Holding → ℕ
-weight weigh [] = 0
-weight weigh (first ∷ others) = weigh first + weight weigh others
 
 -- The same holders, each as often, in any order: those of each buffer weigh the same, whatever each weighs.
 abbrev pub SameHoldings : Holdings → AllSides → Type 0

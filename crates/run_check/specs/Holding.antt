@@ -13,15 +13,11 @@ use Rattle.run_check.specs.Reading.{event_of}
 use Rattle.run_check.specs.declared.checking.Checked.{Checked}
 use Rattle.run_check.specs.declared.checking.Checked.TheVariants.{Yes, No}
 use Rattle.run_records.specs.Holders.{Holdings, after, is_apart, is_same}
+pub use Rattle.run_records.specs.Holders.{weight}
 
 -- the holders of each buffer, of which a number past the last has none
 abbrev pub holdings_of : List (List Holding) → Holdings
 holdings_of buffers = λ buffer. slice_index_or buffers buffer []
-
--- what holders weigh together
-abbrev pub weight : (Holding → ℕ) → List Holding → ℕ
-weight weigh [] = 0
-weight weigh (first ∷ held) = weigh first + weight weigh held
 
 -- the same holders, each as often, in any order: they weigh the same, whatever each weighs
 abbrev pub SameHolders : List Holding → List Holding → Type 0

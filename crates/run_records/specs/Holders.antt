@@ -38,6 +38,11 @@ is_apart offset len (holding.Held a o l) = are_apart offset len o l
 is_apart offset len (holding.Loan a o l) = are_apart offset len o l
 is_apart offset len other = true
 
+-- what holders weigh together: where it is the same whatever each weighs, they are the same holders, each as often, in any order
+abbrev pub weight : (Holding → ℕ) → List Holding → ℕ
+weight weigh [] = 0
+weight weigh (first ∷ held) = weigh first + weight weigh held
+
 -- ---- what an event names
 
 abbrev pub buffer_of : Event → Option ℕ
