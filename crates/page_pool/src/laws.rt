@@ -6,7 +6,8 @@ pub fn packing_is_whole()
     ensures { PackingIsWhole }
 {}
 
-/// A payload of at most 65,515 bytes has at most 64 parts. It does nothing: its contract is the law.
+/// A packing takes no more fresh buffers than are needed, and where each has 1,024 bytes or more a payload has at most 64
+/// parts. It does nothing: its contract is the law.
 pub fn packing_is_short()
     ensures { PackingIsShort }
 {}

@@ -179,7 +179,7 @@ pub fn nic_offer<F: NicFace>(face: &mut F, pool: &mut Pool, offer: &Offer<'_>) -
     ensures stands { PoolStands pool.new (F.seen face.new) }
     ensures offers { Offers pool.old pool.new (F.seen face.old) (F.seen face.new) offer.now result }
     ensures rest { KeepsRest (F.seen face.old) (F.seen face.new) }
-    // A note stays pending only where its slot was seen in use in this call.
+    // Notes stay pending only where the slot of the next one was seen in use in this call.
     ensures pending { (app : ℕ) → IsNextApp pool.new app
         → NicRose (NoteInUse app) (F.seen face.old) (F.seen face.new) × F.tells (NoteInUse app) (nic_gist (F.seen face.new)) (F.beside face.new) }
     ensures beside { F.beside face.new ≡ F.beside face.old }

@@ -1,4 +1,5 @@
 //! Runs of a stream of loans at the board for one thread: the card makes all its calls, and then the stream gives its items.
+//! Pouring into a shelf runs over the board on words.
 #![tactic(auto)]
 
 mod gathering;

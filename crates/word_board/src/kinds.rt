@@ -1,4 +1,5 @@
-//! One step of each kind, with what the stepping seat has done by it. Each cites its law.
+//! The steps of each kind, each with what the stepping seat has done by it and the law that it cites, and the calls that are
+//! made of several.
 
 mod app_counts;
 mod area;
