@@ -2,6 +2,7 @@
 use Rattle.std.proofs.Common.{◌≡◌, ℕ, ◌+◌, ◌-◌, ◌%◌, ◌^◌, ◌<◌, ◌≤◌, List, [], set, get_or, refl, ap, sym, ◌∙◌}
 use Rattle.std.proofs.Common.{arith, subst}
 use Rattle.atomic_table.specs.Table.{Me, keeps, Allows}
+use Rattle.atomic_table.specs.Seated.{TableId}
 use Rattle.std.proofs.lemmas.List.{set-get_or, get_or_default}
 use Rattle.area_layout.specs.Layout.{total, area_words}
 use Rattle.board_face.specs.NicCalls.{apps_of}
@@ -10,7 +11,7 @@ use Rattle.board_face.specs.declared.views.parts.Setting.{Setting}
 use Rattle.board_face.specs.declared.views.nic.NicSide.{NicSide}
 use Rattle.board_face.specs.declared.views.app.AppSide.{AppSide}
 use Rattle.ref_words.specs.declared.view.View.{View}
-use Rattle.ref_words.specs.Words.{Words, table_of, pool_at, pool_of, with_pool, user_at, user_of, with_user}
+use Rattle.ref_words.specs.Words.{Words, table_of, table_words, pool_at, pool_of, with_pool, user_at, user_of, with_user}
 use Rattle.ref_words.specs.Words.{note_at, with_note, refill_at, slot_word, with_refill, area_at}
 use Rattle.ref_words.specs.Area.{with_area}
 use Rattle.std.specs.Prelude.{slice_index, All}
@@ -20,7 +21,7 @@ use Rattle.ref_words.specs.Rule.{BoardRule}
 use Rattle.ref_words.proofs.Roles.{card-is, card-moves, app-is, app-moves}
 use Rattle.ref_words.proofs.Laying.{pool-word, pool-set, user-word, user-set, note-word, note-set, refill-word, refill-set}
 use Rattle.ref_words.proofs.LayingArea.{area-is, area-set}
-use Rattle.word_board.specs.Board.{IsBoard, TheNic, TheApp}
+use Rattle.word_board.specs.Board.{IsBoard, TheNic, TheApp, card_of, app_of}
 use Rattle.word_board.specs.Steps.{Makes, MayCard, MayApp}
 
 module _ (setting : Setting) (slots id i : ℕ) (f : ℕ → ℕ) (told : ℕ → Type 0) where
@@ -86,21 +87,35 @@ module _ (setting : Setting) (slots id i : ℕ) (f : ℕ → ℕ) (told : ℕ �
         (refl, subst told found both.1),
       ))
 
--- What the card may do, the table allows, where the words are those of its board and the seat has its side.
-pub card-allows : (card : TheNic) (setting : Setting) (slots id i : ℕ) (f : ℕ → ℕ) (next : ℕ → NicSide) (told : ℕ → Type 0) → setting ≡ card.board.setting
-    → (me : Me (Unit {0}) View) → me ≡ (card_view card.side, []) → MayCard card i f next told
-    → Allows (IsBoard setting) slots id me i f (λ n w. (w ≡ (card_view (next n), me.1)) × told n)
-card-allows card setting slots id i f next told set me sits may =
-    subst (λ s. Allows (IsBoard s) slots id me i f (λ n w. (w ≡ (card_view (next n), me.1)) × told n)) (sym set)
-    (card-step card.board.setting slots id i f told card.side next may me sits)
+-- What the card may do is what the table asks, where the seat is of that table and has its side.
+pub card-asked : (card : TheNic) (key map : Setting) (table mine : TableId) (id i : ℕ) (f : ℕ → ℕ) (next : ℕ → NicSide) (told : ℕ → Type 0)
+    → mine ≡ table → map ≡ key → table_words key ≤ table.words → (me : Me (Unit {0}) View) → me ≡ (card_view (card_of me.0), [])
+    → record { board = record { table = table; setting = map }; side = card_of me.0 } ≡ card → i < table_words card.board.setting
+    → MayCard card i f next told
+    → (mine ≡ table) × (i < table.words) × Allows (IsBoard key) table.slots id me i f (λ n w. (w ≡ (card_view (next n), me.1)) × told n)
+card-asked card key map table mine id i f next told same keyed wide me sits is word may =
+    let set = sym keyed ∙ ap (λ (v : TheNic). v.board.setting) is in (
+      same,
+      (let within : table_words card.board.setting ≤ table.words = subst (λ (s : Setting). table_words s ≤ table.words) set wide in omega (arith, word, within)),
+      subst (λ s. Allows (IsBoard s) table.slots id me i f (λ n w. (w ≡ (card_view (next n), me.1)) × told n)) (sym set)
+          (card-step card.board.setting table.slots id i f told card.side next may me
+          (sits ∙ ap (λ (v : TheNic). (card_view v.side, [])) is)),
+    )
 
--- So may an application.
-pub app-allows : (app : TheApp) (setting : Setting) (slots id i : ℕ) (f : ℕ → ℕ) (next : ℕ → AppSide) (told : ℕ → Type 0) → setting ≡ app.board.setting
-    → (me : Me (Unit {0}) View) → me ≡ (app_view app.side, []) → MayApp app i f next told
-    → Allows (IsBoard setting) slots id me i f (λ n w. (w ≡ (app_view (next n), me.1)) × told n)
-app-allows app setting slots id i f next told set me sits may =
-    subst (λ s. Allows (IsBoard s) slots id me i f (λ n w. (w ≡ (app_view (next n), me.1)) × told n)) (sym set)
-    (app-step app.board.setting slots id i f told app.side next may.number may.step me sits)
+-- So is what an application may do.
+pub app-asked : (app : TheApp) (key map : Setting) (table mine : TableId) (id i : ℕ) (f : ℕ → ℕ) (next : ℕ → AppSide) (told : ℕ → Type 0)
+    → mine ≡ table → map ≡ key → table_words key ≤ table.words → (me : Me (Unit {0}) View) → me ≡ (app_view (app_of me.0), [])
+    → record { board = record { table = table; setting = map }; side = app_of me.0 } ≡ app → i < table_words app.board.setting
+    → MayApp app i f next told
+    → (mine ≡ table) × (i < table.words) × Allows (IsBoard key) table.slots id me i f (λ n w. (w ≡ (app_view (next n), me.1)) × told n)
+app-asked app key map table mine id i f next told same keyed wide me sits is word may =
+    let set = sym keyed ∙ ap (λ (v : TheApp). v.board.setting) is in (
+      same,
+      (let within : table_words app.board.setting ≤ table.words = subst (λ (s : Setting). table_words s ≤ table.words) set wide in omega (arith, word, within)),
+      subst (λ s. Allows (IsBoard s) table.slots id me i f (λ n w. (w ≡ (app_view (next n), me.1)) × told n)) (sym set)
+          (app-step app.board.setting table.slots id i f told app.side next may.number may.step me
+          (sits ∙ ap (λ (v : TheApp). (app_view v.side, [])) is)),
+    )
 
 -- ---- a pool count
 

@@ -1,4 +1,4 @@
-ghost use Rattle.std.specs.Prelude.{◌≡◌, ◌+◌, ◌^◌, ◌<◌, ◌≤◌, [], true, map, slice_index, Contains, ◌==◌};
+ghost use Rattle.std.specs.Prelude.{◌≡◌, ◌+◌, ◌^◌, ◌<◌, true, map, slice_index, Contains};
 ghost use Rattle.area_layout.specs.Layout.{total};
 ghost use Rattle.board_face.specs.AppCalls.{IsHere, HasHeld, HasNoneIn};
 ghost use Rattle.board_face.specs.AppEvents.{cut, reserve_of};

@@ -1,4 +1,4 @@
-ghost use Rattle.std.specs.Prelude.{◌≡◌, ◌+◌, ◌*◌, ◌<◌, ◌≤◌, [], length};
+ghost use Rattle.std.specs.Prelude.{◌≡◌, ◌+◌, ◌*◌, ◌<◌, ◌≤◌, length};
 ghost use Rattle.area_layout.specs.Layout.{LiesIn, first_word};
 ghost use Rattle.board_face.specs.AppCalls.{HasSpare};
 ghost use Rattle.board_face.specs.AppEvents.{begin_place};

@@ -1,4 +1,4 @@
-ghost use Rattle.std.specs.Prelude.{◌≡◌, ◌+◌, ◌<◌, [], true, false, length, if◌then◌else◌};
+ghost use Rattle.std.specs.Prelude.{◌≡◌, ◌+◌, ◌<◌, true, false, length, if◌then◌else◌};
 ghost use Rattle.board_face.specs.AppCalls.{HasLoan, NamesNoLoan};
 ghost use Rattle.board_face.specs.AppEvents.{entry_of};
 ghost use Rattle.board_face.specs.SlotSteps.{seen_with, at_refill, side_refill_looked, side_refill_stored, side_gave, side_pushed};

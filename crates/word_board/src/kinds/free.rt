@@ -1,4 +1,4 @@
-ghost use Rattle.std.specs.Prelude.{◌≡◌, ◌/◌, ◌<◌, ◌==◌, [], true, length, Contains, false};
+ghost use Rattle.std.specs.Prelude.{◌≡◌, ◌/◌, ◌<◌, ◌==◌, true, length, Contains, false};
 ghost use Rattle.area_layout.specs.Layout.{pool_buffers};
 ghost use Rattle.board_face.specs.AppCalls.{MaySpare};
 ghost use Rattle.board_face.specs.NicCalls.{free_words_of};

@@ -1,4 +1,4 @@
-ghost use Rattle.std.specs.Prelude.{◌≡◌, ◌<◌, [], true, false, None, MatchBool};
+ghost use Rattle.std.specs.Prelude.{◌≡◌, ◌<◌, true, false, None, MatchBool};
 ghost use Rattle.area_layout.specs.Layout.{total};
 ghost use Rattle.board_face.specs.NicCalls.{HasNoToken, NicOnlySaw, apps_of};
 ghost use Rattle.board_face.specs.NicEvents.{saw_leave};

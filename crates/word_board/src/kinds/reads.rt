@@ -1,4 +1,4 @@
-ghost use Rattle.std.specs.Prelude.{◌≡◌, ◌+◌, ◌%◌, ◌<◌, ◌≤◌, [], ◌++◌, length};
+ghost use Rattle.std.specs.Prelude.{◌≡◌, ◌+◌, ◌%◌, ◌<◌, ◌≤◌, ◌++◌, length};
 ghost use Rattle.area_layout.specs.Layout.{LiesIn, first_word};
 ghost use Rattle.board_face.specs.AppCalls.{HasLoan, ShowsCopy};
 ghost use Rattle.board_face.specs.AppEvents.{loan_origin, has_read};

@@ -1,4 +1,4 @@
-ghost use Rattle.std.specs.Prelude.{◌≡◌, ℕ, ◌<◌, [], ◌∷◌, true, if◌then◌else◌, Some, None, MatchOption, Contains, false};
+ghost use Rattle.std.specs.Prelude.{◌≡◌, ℕ, ◌<◌, ◌∷◌, true, if◌then◌else◌, Some, None, MatchOption, Contains, false};
 ghost use Rattle.board_face.specs.AppEvents.{app_saw, fell_quiet};
 ghost use Rattle.board_face.specs.declared.views.app.AppLook.TheVariants.{NotQuiet};
 ghost use Rattle.ref_words.specs.RestSteps.{side_raw_looked, side_any_looked, side_last_looked};

@@ -1,4 +1,4 @@
-ghost use Rattle.std.specs.Prelude.{◌≡◌, ◌+◌, ◌<◌, ◌≤◌, [], length, None};
+ghost use Rattle.std.specs.Prelude.{◌≡◌, ◌+◌, ◌<◌, ◌≤◌, length, None};
 ghost use Rattle.area_layout.specs.Layout.{LiesIn};
 ghost use Rattle.board_face.specs.AppCalls.{HasSpare};
 ghost use Rattle.board_face.specs.AppEvents.{begin_place, filled};
