@@ -2,7 +2,6 @@
 use Rattle.std.proofs.Common.{◌≡◌, ◌≢◌, ℕ, zero, suc, ◌+◌, ◌-◌, ◌<◌, ◌≤◌, Bool, true, false, List, [], ◌∷◌, ◌++◌, Option, Some, None, length, get_or}
 use Rattle.std.proofs.Common.{refl, sym, ap, subst, ◌∙◌, arith, length-append}
 use Rattle.std.specs.Prelude.{◌==◌, IfSome, take}
-use Rattle.board_face.proofs.ListLemmas.{not-eqb}
 use Rattle.std.proofs.lemmas.Bool.{eq-eqb}
 use Rattle.std.proofs.lemmas.Bool.Decides.{nat_tests}
 use Rattle.zr_kinds.specs.declared.ring.Completion.{Completion}
@@ -27,7 +26,7 @@ use Rattle.flow_queues.proofs.Tokens.{is_that_loan, that-loan, is-lent-there}
 use Rattle.flow_queues.proofs.Entering.{marks-length}
 use Rattle.flow_queues.proofs.ReadLemmas.{marks-split}
 use Rattle.flow_queues.proofs.Placing.{values-split, values-length}
-use Rattle.flow_queues.proofs.Standing.{each-map, each-right, parts-alike, is_number, total-changed, many-same, each-changed, stands-saw}
+use Rattle.flow_queues.proofs.Standing.{each-map, each-right, parts-alike, total-changed, many-same, each-changed, stands-saw}
 
 -- ---- a loan was read
 

@@ -1,5 +1,5 @@
 -- From one moment to a later one.
-use Rattle.std.proofs.Common.{◌≡◌, ℕ, ◌*◌, ◌≤◌, ◌+◌, true, false, ⊎_elim, Option, Some, None, List, [], ◌∷◌, ◌++◌, drop, length, refl, sym}
+use Rattle.std.proofs.Common.{◌≡◌, ℕ, ◌≤◌, ◌+◌, true, false, ⊎_elim, Option, Some, None, List, [], ◌∷◌, ◌++◌, drop, length, refl, sym}
 use Rattle.std.proofs.Common.{ap, subst, ◌∙◌, arith, append-nil, append_assoc}
 use Rattle.std.specs.Prelude.{◌==◌, if◌then◌else◌}
 use Rattle.area_layout.specs.Layout.{pool_buffers}
@@ -19,7 +19,7 @@ use Rattle.zr_kinds.specs.declared.place.Place.{Place}
 use Rattle.zr_kinds.specs.declared.ring.Completion.{Completion}
 use Rattle.app_worker.specs.State.{State, TellsOf, due_one}
 use Rattle.flow_queues.specs.Totals.{loan_entries}
-use Rattle.flow_queues.specs.Entries.{lies_in, returned_aside}
+use Rattle.flow_queues.specs.Entries.{lies_in}
 use Rattle.app_worker.specs.Moves.{Moves, Reaps, KeepsLeaked, KeptSince, reads_of, reserve_loans, over_lent, over_gone, over_leaked}
 use Rattle.std.proofs.lemmas.Bool.{cases_Bool}
 use Rattle.flow_queues.proofs.Tokens.{total-append}
