@@ -118,27 +118,10 @@ stands-read count before after own p ps leaked old new number only stands =
 pub stands-gave : (count : ℕ) (flows : List FlowQueue) (posted : List (Completion × Lending)) (l : Lending) (leaked : List Lending)
     (old new : AppView) → Stands count flows posted (l ∷ leaked) old → Gave old new l → Stands count flows posted leaked new
 stands-gave count flows posted l leaked old new stands step =
-    let helds : (f : HeldPiece → ℕ) → total f new.helds
-    ≡ total (λ flow. over_kept f flow.queue) flows = λ f. ap (λ (v : AppView). total f v.helds) step.view ∙ stands.tokens.helds f in
-    let taken : new.taken ≡ old.taken = ap (λ (v : AppView). v.taken) step.view in
+    let view : new ≡ record old { loans = new.loans; returned = new.returned; written = new.written; quiet = new.quiet } = rw step.view refl in
     let loans : (f : LentPiece → ℕ) → total f new.loans
     ≡ total (λ p. f (lent_piece old.taken p.1)) posted + over_read old.taken f leaked = λ f. omega (arith, step.loans f, stands.tokens.loans f) in
-    record {
-      tokens = record {
-        apart = step.apart;
-        helds = helds;
-        loans = subst (λ ts. (f : LentPiece → ℕ) → total f new.loans ≡ total (λ p. f (lent_piece ts p.1)) posted + over_read ts f leaked)
-            (sym taken) loans;
-      };
-      notes = stands.notes ∙ sym (ap length taken);
-      distinct = stands.distinct;
-      flows = subst (λ (ts : List TakenNote). Each (FlowStands ts posted) flows) (sym taken) stands.flows;
-      known = λ n none. ap (own_notes n) taken ∙ stands.known n none;
-      posted = stands.posted;
-      lent = subst (λ ts. Each (λ p. p.1.note < length ts) posted) (sym taken) stands.lent;
-      due_lent = subst (λ ts. Each (λ l. l.note < length ts) leaked) (sym taken) stands.due_lent.1;
-      counted = ap (λ (v : AppView). v.scrubbed) step.view ∙ stands.counted;
-    }
+    rw view (assumption (rw view at step.apart))
 
 pub given-stands : (count : ℕ) (flows : List FlowQueue) (posted : List (Completion × Lending)) (due now : Option Lending)
     (leaked : List Lending) (most : ℕ) (stray stray_now : Stray) (old new : AppView) (given : Bool) → Stands count flows posted (read_out due leaked) old

@@ -45,17 +45,10 @@ all-end st v works = each-map (FlowStands v.taken (st.unread ++ st.posted.entrie
 
 -- it can be given up as it is
 pub torn-of : (st : State) (v : AppView) → Working st v → Torn st v
-torn-of st v works = record {
-  tokens = works.stands.tokens;
-  flows = all-end st v works;
-  distinct = works.stands.distinct;
-  index = works.index;
-  given = works.given;
-  lent = works.stands.lent;
-  due_lent = works.stands.due_lent;
-  within_lent = omega (arith, works.appended, works.stands.tokens.loans lent_len);
-  whole_given = omega (arith, works.appended);
-}
+torn-of st v works =
+    let within_lent : total (λ f. f.bytes) st.flows ≤ lent_bytes v = omega (arith, works.appended, works.stands.tokens.loans lent_len) in
+    let whole_given : total lent_len v.returned ≤ total (λ f. f.bytes) st.flows = omega (arith, works.appended) in
+    assumption (all-end st v works)
 
 -- ---- a note
 
@@ -170,7 +163,6 @@ module _ (was : State) (old new : AppView) (t : TakenNote) (works : Working was 
             index-set index flows i own x within value refl is_index,
             rw view at (read-noted old new t (read_of was) (ap (λ (v : AppView). v.reads) view) (ap (λ (v : AppView). v.taken) view)
                 works.stands.due_lent works.read_whole),
-            works,
           ));
           common = common-noted was old new t view-in notes i index now bytes-in few-in common;
           moves = moves-noted was old new t view-in notes i index now (grow-noted was.flows t.note own (λ x. set flows i x) q base put-in);

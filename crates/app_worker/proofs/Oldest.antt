@@ -339,7 +339,6 @@ module _ (was : State) (i : ℕ) (own : FlowQueue) (p : Completion × Lending) (
           rw only.view at still-outside,
           λ (on : flush ≡ true) (none : ps ++ was.posted.entries ≡ []). (flush_on on).1 (rest_all none),
           rw only.view at (read-more old new was.leaked.items only (subst (λ d. AreReadWhole old (read_out d was.leaked.items)) due works.read_whole)),
-          works,
         ));
         common = common-read (own.bytes + p.1.loan.len) written was.stopped (omega arith) (omega (arith, count)) quits;
         goes = record {
