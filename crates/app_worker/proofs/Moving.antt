@@ -97,20 +97,6 @@ abandons-live was now old new live still more items f =
     let after : over_leaked f now new ≡ kept now.leaked.items = ap (λ b. if b then gone new else kept now.leaked.items) still in
     omega (arith, before, after, ap kept items, total-append (λ (l : Lending). f l.loan) was.leaked.items more)
 
--- all this is as before
-pub abandons-same : (was now : State) (old new : AppView) → now.bare ≡ was.bare → now.leaked.items ≡ was.leaked.items → new.written ≡ old.written
-    → new.returned ≡ old.returned → (f : Place → ℕ) → over_leaked f was old ≤ over_leaked f now new
-abandons-same was now old new bare items written returned f =
-    let kept : List Lending → ℕ = λ ls. total (λ (l : Lending). f l.loan) ls in
-    let gone : List WrittenEntry → List LentPiece → ℕ = λ ws ls.
-    total (λ (l : LentPiece). f l.place) (drop (total (λ (w : WrittenEntry). if w.of_loan then 1 else 0) ws) ls) in
-    let same : over_leaked f now new ≡ over_leaked f was old =
-    ap (λ b. if b then gone new.written new.returned else kept now.leaked.items) bare
-    ∙ ap (λ ls. if was.bare then gone new.written new.returned else kept ls) items
-    ∙ ap (λ ws. if was.bare then gone ws new.returned else kept was.leaked.items) written
-    ∙ ap (λ ls. if was.bare then gone old.written ls else kept was.leaked.items) returned in
-    omega (arith, same)
-
 -- ---- what is posted and read
 
 -- nothing is

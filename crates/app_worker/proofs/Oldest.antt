@@ -208,10 +208,6 @@ module _ (was : State) (i : ℕ) (own : FlowQueue) (p : Completion × Lending) (
       omega (arith, shorts, common.bound) in
       rw only.view (assumption (rw only.view at (gives-more old new only common.gives_whole)))
 
-  gives-read : Gives new new.returned
-  gives-read = subst (Gives new) (sym same_returned)
-      (gives-same old new old.returned (ap (λ (v : AppView). v.written) only.view) same_setting works.given)
-
   steps-read : (bytes written : ℕ) → app_steps (with_read was i own bytes ps p.1 written flush) new ≡ app_steps was old + 1
   steps-read bytes written = rw only.view (omega (arith, ap due_one due))
 
