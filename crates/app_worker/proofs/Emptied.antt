@@ -13,7 +13,7 @@ use Rattle.board_face.specs.declared.views.app.HeldPiece.{HeldPiece}
 use Rattle.board_face.specs.declared.views.app.AppView.{AppView}
 use Rattle.flow_queues.specs.declared.queues.Lending.{Lending}
 use Rattle.flow_queues.specs.declared.queues.FlowQueue.{FlowQueue}
-use Rattle.flow_queues.specs.Core.{total, many, Each, over_due, over_read, short_bytes, lent_piece, own_notes, BeginAt, received_notes}
+use Rattle.flow_queues.specs.Core.{total, many, over_due, over_read, short_bytes, lent_piece, own_notes, BeginAt, received_notes}
 use Rattle.flow_queues.specs.Core.{AreReadAt, most_at_once, is_copy, IsIn, unsplit_len}
 use Rattle.flow_queues.proofs.Indexing.{by-place}
 use Rattle.app_worker.specs.State.{State, Common, due_one, app_steps, one_if, read_of}

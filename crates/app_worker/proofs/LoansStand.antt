@@ -8,15 +8,14 @@ use Rattle.zr_kinds.specs.declared.ring.Completion.{Completion}
 use Rattle.zr_kinds.specs.CopyingReceiver.{values_from}
 use Rattle.board_face.specs.declared.views.app.AppLook.TheVariants.{RefillInUse}
 use Rattle.board_face.specs.declared.views.app.TakenNote.{TakenNote}
-use Rattle.board_face.specs.declared.views.app.HeldPiece.{HeldPiece}
 use Rattle.board_face.specs.declared.views.app.LentPiece.{LentPiece}
 use Rattle.board_face.specs.declared.views.app.AppView.{AppView}
 use Rattle.flow_queues.specs.declared.queues.Lending.{Lending}
 use Rattle.flow_queues.specs.declared.queues.FlowQueue.{FlowQueue}
 use Rattle.app_worker.specs.declared.stack.Stray.{Stray}
 use Rattle.flow_queues.specs.Marks.{Mark, marks_from}
-use Rattle.flow_queues.specs.Core.{total, IsIn, lent_piece, over_read, read_out, over_kept, marks_of_loan, own_notes, lent_marks, placed_of}
-use Rattle.flow_queues.specs.Core.{FlowStands, Each, many, HasTokens, Stands, OnlyReads, AreReadAt, IsReadOf}
+use Rattle.flow_queues.specs.Core.{total, IsIn, lent_piece, over_read, read_out, over_kept, marks_of_loan, lent_marks, placed_of}
+use Rattle.flow_queues.specs.Core.{FlowStands, many, HasTokens, Stands, OnlyReads, AreReadAt, IsReadOf}
 use Rattle.std.specs.Io.KnownBytes.{Keeps}
 use Rattle.zr_io.specs.Moved.{Gained}
 use Rattle.zr_io.proofs.Moved.{Gained-weaker}

@@ -24,8 +24,6 @@ use Rattle.app_worker.proofs.Flushing.{flushes-same}
 use Rattle.app_worker.specs.Whole.{TookOne, TookNone, Torn}
 use Rattle.zr_kinds.specs.declared.ring.Completion.{Completion}
 use Rattle.flow_queues.specs.declared.queues.Lending.{Lending}
-use Rattle.flow_queues.specs.Entries.{Gives}
-use Rattle.flow_queues.proofs.GivenBack.{gives-same}
 use Rattle.flow_queues.proofs.Tokens.{is-released}
 use Rattle.flow_queues.proofs.Standing.{each-map}
 use Rattle.flow_queues.proofs.Took.{Took, is-took, taken_note, kept-tokens, set-last}

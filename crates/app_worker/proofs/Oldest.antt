@@ -40,8 +40,6 @@ use Rattle.app_worker.proofs.Through.{moves-stopped}
 use Rattle.flow_queues.proofs.Indexing.{index-set}
 use Rattle.app_worker.specs.ReadWhole.{IsReadWhole, AreReadWhole}
 use Rattle.app_worker.proofs.ReadWhole.{gives-more, read-more}
-use Rattle.flow_queues.specs.Entries.{Gives}
-use Rattle.flow_queues.proofs.GivenBack.{gives-same}
 use Rattle.flow_queues.proofs.Resting.{rest-same, each-same}
 
 pub front-of : {A : Type 0} (xs : List A) (x : A) → slice_get xs 0 ≡ Some x → xs ≡ x ∷ drop 1 xs
