@@ -241,11 +241,6 @@ module _ (a c : State) (u w : AppView) (kept : ℕ → Option (List ℕ)) (f : �
 
 -- ---- whether it scrubs
 
-pub scrubs-left : (u w x : AppView) (was now done : Bool) → AppLooksStay u w → w.quiet ≡ u.quiet → Leaves was now w x done → ScrubsIfQuiet u x
-scrubs-left u w x was now true stay same leaves not_yet = inl (ap (λ (v : AppView). v.scrubbed) leaves.1.1)
-scrubs-left u w x was now false stay same leaves not_yet =
-    inr (rose-after stay leaves.1.rose, ap (λ (v : AppView). v.quiet) leaves.1.event ∙ same)
-
 pub scrubs-done : (u w x : AppView) (was now done : Bool) → AppLooksStay u w → w.quiet ≡ u.quiet → ScrubsOnce was now w x done
     → ScrubsIfQuiet u x
 scrubs-done u w x was now true stay same scrubs not_yet = inl (ap (λ (v : AppView). v.scrubbed) scrubs.1.1)

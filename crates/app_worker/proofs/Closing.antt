@@ -17,7 +17,7 @@ use Rattle.flow_queues.specs.declared.queues.FlowQueue.{FlowQueue}
 use Rattle.flow_queues.specs.declared.queues.Lending.{Lending}
 use Rattle.zr_kinds.specs.declared.ring.Completion.{Completion}
 use Rattle.app_worker.specs.declared.turn.Turn.TheVariants.{Did, Finished}
-use Rattle.flow_queues.specs.Core.{total, Each, own_notes, received_notes, placed_of, marks_of_waiting, lent_piece, over_read, read_out, FlowStands}
+use Rattle.flow_queues.specs.Core.{total, Each, many, own_notes, received_notes, placed_of, marks_of_waiting, lent_piece, over_read, read_out, FlowStands}
 use Rattle.flow_queues.specs.Entries.{lies_in, returned_aside}
 use Rattle.app_worker.specs.State.{State, Working, Common, Bare, app_steps, one_if}
 use Rattle.flow_queues.specs.Totals.{lent_len, loan_entries}
@@ -37,7 +37,7 @@ use Rattle.app_worker.proofs.Seeing.{common-saw, goes-saw, goes-still}
 use Rattle.app_worker.proofs.Measure.{one-most}
 use Rattle.flow_queues.proofs.Tokens.{total-append}
 use Rattle.app_worker.proofs.Through.{goes-then}
-use Rattle.app_worker.proofs.TurnLemmas.{turns-bare, no-poll, no-rest}
+use Rattle.app_worker.proofs.TurnLemmas.{turns-bare}
 
 -- all of the flow was appended
 abbrev pub IsWhole : List TakenNote → FlowQueue → Type 0
@@ -129,36 +129,25 @@ closed-bare b c v w works ended few reaped due common gone =
     let whole : Each (IsWhole v.taken) b.flows =
     each-map (λ f. FlowStands v.taken [] f × IsAtRest f) (IsWhole v.taken) b.flows (λ f _ p. whole-flow v.taken f p.0 p.1)
     (each-both (FlowStands v.taken []) IsAtRest b.flows flows (works.over ended)) in
-    record {
-      helds = gone.helds;
-      loans = gone.loans;
-      due = ap (λ (s : State). s.due) gone.same;
-      leaked = ap (λ (s : State). s.leaked.items) gone.same;
-      none_left = gone.none_left;
-      given = gone.given;
-      abandoned = λ going. closed-abandoned b c v w works none due common gone;
-      unread = ap (λ (s : State). s.unread) gone.same;
-      flows = gone.ends;
-      distinct = gone.distinct;
-      index = gone.index;
-      whole = λ going. (
-        ap (λ (s : State). s.ended) gone.same ∙ ended,
-        subst (λ ts. Each (IsWhole ts) c.flows) (sym gone.taken)
-            (each-facts (IsWhole v.taken) (IsWhole v.taken) (whole-facts v.taken) b.flows c.flows gone.facts whole),
-      );
-      appended = λ going. omega (
-        arith,
-        gone.back lent_len,
-        works.stands.tokens.loans lent_len,
-        ap (total (λ (p : Completion × Lending). p.1.loan.len)) none,
-        works.appended,
-        total-facts (λ x. x.bytes) b.flows c.flows gone.facts,
-      );
-      within_lent = gone.within_lent;
-      whole_given = gone.whole_given;
-      known = λ going n nothing. ap (own_notes n) gone.taken
-          ∙ works.stands.known n (sym (total-facts (λ x. if x.number == n then 1 else 0) b.flows c.flows gone.facts) ∙ nothing);
-    }
+    let appended : c.stopped ≡ stop.No → total lent_len w.returned ≡ total (λ f. f.bytes) c.flows = λ going. omega (
+      arith,
+      gone.back lent_len,
+      works.stands.tokens.loans lent_len,
+      ap (total (λ (p : Completion × Lending). p.1.loan.len)) none,
+      works.appended,
+      total-facts (λ x. x.bytes) b.flows c.flows gone.facts,
+    ) in
+    assumption (
+      ap (λ (s : State). s.due) gone.same,
+      ap (λ (s : State). s.leaked.items) gone.same,
+      ap (λ (s : State). s.unread) gone.same,
+      ap (λ (s : State). s.ended) gone.same ∙ ended,
+      closed-abandoned b c v w works none due common gone,
+      subst (λ ts. Each (IsWhole ts) c.flows) (sym gone.taken)
+          (each-facts (IsWhole v.taken) (IsWhole v.taken) (whole-facts v.taken) b.flows c.flows gone.facts whole),
+      λ (n : ℕ) (nothing : many n c.flows ≡ 0). ap (own_notes n) gone.taken
+          ∙ works.stands.known n (sym (total-facts (λ x. if x.number == n then 1 else 0) b.flows c.flows gone.facts) ∙ nothing),
+    )
 
 -- ---- the last look
 
@@ -206,7 +195,7 @@ turns-finished a c u w x k m f f2 done out leaves =
     let (now, (quiet, is)) = leaves in
     rw (now, is) (turns-bare (bare-scrubbed c w quiet true out.bare) out.is_bare (common-scrubbed c w quiet true out.common) out.reaped
     (goes-then out.goes (goes-scrubbed c w quiet true m (omega (arith, one-most w.left)))) (out.here, refl, out.is_bare) (inl out.taken)
-    (λ why e. absurd (cc)) (λ other. absurd (other refl)) (no-poll a (scrubbed_state c) u (scrubbed_view w quiet true) out.taken) out.same
+    (λ why e. absurd (cc)) (λ other. absurd (other refl)) (λ _ differs. absurd (differs out.taken)) out.same
     (λ bare. (let r = out.rests bare in record {
       state = ap scrubbed_state r.state;
       view = ap (λ (v : AppView). scrubbed_view v quiet true) r.view;
@@ -221,7 +210,7 @@ turns-not-quiet a c u w x k m f f2 done out steps leaves =
     let (same, saw) = leaves in
     rw (same, saw.event) (turns-bare (bare-saw c w NotQuiet out.bare) out.is_bare (common-saw c w NotQuiet out.common) out.reaped
     (goes-then out.goes (goes-saw c w NotQuiet m)) (omega (arith, steps)) (inl out.taken) (λ why e. absurd (cc)) (λ _. out.left)
-    (no-poll a c u (app_saw w NotQuiet) out.taken) out.same
+    (λ _ differs. absurd (differs out.taken)) out.same
     (λ bare. (let r = out.rests bare in record {
       state = r.state;
       view = ap (λ (v : AppView). app_saw v NotQuiet) r.view;
@@ -247,5 +236,5 @@ out-of {a} {b} {c} {u} {v} {w} {k} {m} ended going live here through few due gon
   left = gone.left ∙ through.left;
   here = here;
   same = ap (λ (s : State). s.stopped) gone.same ∙ through.working.going ∙ sym going;
-  rests = no-rest a c u w k m live;
+  rests = λ is. absurd (cc);
 }

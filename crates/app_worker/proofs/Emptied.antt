@@ -9,10 +9,11 @@ use Rattle.zr_io.proofs.Moved.{Gained-weaker}
 use Rattle.board_face.specs.declared.views.app.Reading.{Reading}
 use Rattle.board_face.specs.declared.views.app.TakenNote.{TakenNote}
 use Rattle.board_face.specs.declared.views.app.LentPiece.{LentPiece}
+use Rattle.board_face.specs.declared.views.app.HeldPiece.{HeldPiece}
 use Rattle.board_face.specs.declared.views.app.AppView.{AppView}
 use Rattle.flow_queues.specs.declared.queues.Lending.{Lending}
 use Rattle.flow_queues.specs.declared.queues.FlowQueue.{FlowQueue}
-use Rattle.flow_queues.specs.Core.{total, many, Each, over_due, over_read, short_bytes, lent_piece, own_notes, BeginAt, received_notes}
+use Rattle.flow_queues.specs.Core.{total, many, over_due, over_read, short_bytes, lent_piece, own_notes, BeginAt, received_notes}
 use Rattle.flow_queues.specs.Core.{AreReadAt, most_at_once, is_copy, IsIn, unsplit_len}
 use Rattle.flow_queues.proofs.Indexing.{by-place}
 use Rattle.app_worker.specs.State.{State, Common, due_one, app_steps, one_if, read_of}
@@ -40,15 +41,10 @@ use Rattle.flow_queues.proofs.Releasing.{total-none, each-facts, total-facts}
 -- what is said of a flow is said by its facts
 pub ends-facts : (taken : List TakenNote) (f g : FlowQueue) → facts_of g ≡ facts_of f → FlowEnds taken f → FlowEnds taken g
 ends-facts taken f g same ends =
-    let number : g.number ≡ f.number = ap (λ (x : FlowFacts). x.number) same in
-    let base : g.queue.base ≡ f.queue.base = ap (λ (x : FlowFacts). x.base) same in
-    let bytes : g.bytes ≡ f.bytes = ap (λ (x : FlowFacts). x.bytes) same in
-    record {
-      begun = subst (λ b. BeginAt b (own_notes g.number taken)) (sym base) (subst (λ n. BeginAt f.queue.base (own_notes n taken)) (sym number) ends.begun);
-      below = λ p below. subst (λ b. IsSome ((received_notes b nothing_placed (own_notes g.number taken)).at p)) (sym base)
-          (subst (λ n. IsSome ((received_notes f.queue.base nothing_placed (own_notes n taken)).at p)) (sym number)
-          (ends.below p (omega (arith, below, bytes))));
-    }
+    let P : FlowFacts → Type 0 = λ x. BeginAt x.base (own_notes x.number taken)
+    × ((p : ℕ) → p < x.bytes → IsSome ((received_notes x.base nothing_placed (own_notes x.number taken)).at p)) in
+    let moved : P (facts_of g) = subst P (sym same) (ends.begun, ends.below) in
+    record { begun = moved.0; below = moved.1 }
 
 -- and so are the places of flows
 length-facts : (xs ys : List FlowQueue) → map facts_of ys ≡ map facts_of xs → length ys ≡ length xs
@@ -81,15 +77,6 @@ shelved-facts first kept taken reads f g same shelved =
     let P : FlowFacts → Type 0 = λ x. Gained (first x.number) (kept x.number)
     (λ bytes. AreReadAt taken reads (values_from (received_notes x.base nothing_placed (own_notes x.number taken)).at x.bytes 0) bytes) in
     record { gained = subst P (sym same) shelved.gained }
-
-pub shelves-facts : (first kept : ℕ → Option (List ℕ)) (flows now : List FlowQueue) (old new : AppView) → map facts_of now ≡ map facts_of flows
-    → new.taken ≡ old.taken → new.reads ≡ old.reads → AreShelved first kept flows old → AreShelved first kept now new
-shelves-facts first kept flows now old new facts taken reads shelved = record {
-  flows = subst (λ ts. Each (IsShelved first kept ts new.reads) now) (sym taken) (subst (λ rs. Each (IsShelved first kept old.taken rs) now) (sym reads)
-      (each-facts (IsShelved first kept old.taken old.reads) (IsShelved first kept old.taken old.reads)
-      (shelved-facts first kept old.taken old.reads) flows now facts shelved.flows));
-  others = λ n none. shelved.others n (sym (total-facts (λ x. if x.number == n then 1 else 0) flows now facts) ∙ none);
-}
 
 -- Each loan that no entry gave back was out, and is abandoned.
 still-kept : (old new : AppView) (more : List LentPiece) → loan_entries old ≡ length old.returned → drop (loan_entries new) new.returned ≡ more
@@ -138,27 +125,37 @@ fronts-facts first kept taken reads lent later stay f g same shelved =
           (front-facts taken reads lent later stay f g same) shelved.gained);
     }
 
-pub all-fronts-facts : (first kept : ℕ → Option (List ℕ)) (flows now : List FlowQueue) (old new : AppView) → map facts_of now ≡ map facts_of flows
-    → new.taken ≡ old.taken → new.reads ≡ old.reads
-    → ((x : LentPiece) → IsIn x (kept_loans old) → IsIn x (kept_loans new))
-    → AreFronts first kept flows old → AreFronts first kept now new
-all-fronts-facts first kept flows now old new facts taken reads stay shelved = record {
-  flows = subst (λ ts. Each (IsFrontShelved first kept ts new.reads (kept_loans new)) now) (sym taken)
-      (subst (λ rs. Each (IsFrontShelved first kept old.taken rs (kept_loans new)) now) (sym reads)
-      (each-facts (IsFrontShelved first kept old.taken old.reads (kept_loans old))
-      (IsFrontShelved first kept old.taken old.reads (kept_loans new))
-      (fronts-facts first kept old.taken old.reads (kept_loans old) (kept_loans new) stay) flows now facts
-      shelved.flows));
-  torn = shelved.torn;
-  exact = subst (λ ts. Each (IsExact ts new.reads) now) (sym taken) (subst (λ rs. Each (IsExact old.taken rs) now) (sym reads)
-      (each-facts (IsExact old.taken old.reads) (IsExact old.taken old.reads)
-      (λ f g same exact other. shelved-facts first kept old.taken old.reads f g same (exact (λ is. other (ap (λ (x : FlowFacts). x.number) same ∙ is))))
-      flows now facts shelved.exact));
-  others = λ n none. shelved.others n (sym (total-facts (λ x. if x.number == n then 1 else 0) flows now facts) ∙ none);
-}
-  where
-    IsExact : List TakenNote → List Reading → FlowQueue → Type 0
-    IsExact taken reads f = f.number ≢ shelved.torn → IsShelved first kept taken reads f
+-- all flows, once pieces and loans went
+module _ (first kept : ℕ → Option (List ℕ)) (flows now : List FlowQueue) (old : AppView) (helds : List HeldPiece) (loans returned : List LentPiece)
+    (facts : map facts_of now ≡ map facts_of flows) where
+  abbrev gone_view : AppView
+  gone_view = record old { helds = helds; loans = loans; returned = returned }
+
+  still-none : (n : ℕ) → many n now ≡ 0 → many n flows ≡ 0
+  still-none n none = sym (total-facts (λ x. if x.number == n then 1 else 0) flows now facts) ∙ none
+
+  shelves-facts : AreShelved first kept flows old → AreShelved first kept now gone_view
+  shelves-facts shelved = record {
+    flows = each-facts (IsShelved first kept old.taken old.reads) (IsShelved first kept old.taken old.reads)
+        (shelved-facts first kept old.taken old.reads) flows now facts shelved.flows;
+    others = λ n none. shelved.others n (still-none n none);
+  }
+
+  fronts-gone : ((x : LentPiece) → IsIn x (kept_loans old) → IsIn x (kept_loans gone_view)) → AreFronts first kept flows old
+      → AreFronts first kept now gone_view
+  fronts-gone stay shelved = record {
+    flows = each-facts (IsFrontShelved first kept old.taken old.reads (kept_loans old))
+        (IsFrontShelved first kept old.taken old.reads (kept_loans gone_view))
+        (fronts-facts first kept old.taken old.reads (kept_loans old) (kept_loans gone_view) stay) flows now facts shelved.flows;
+    torn = shelved.torn;
+    exact = each-facts IsExact IsExact
+        (λ f g same exact other. shelved-facts first kept old.taken old.reads f g same (exact (λ is. other (ap (λ (x : FlowFacts). x.number) same ∙ is))))
+        flows now facts shelved.exact;
+    others = λ n none. shelved.others n (still-none n none);
+  }
+    where
+      IsExact : FlowQueue → Type 0
+      IsExact f = f.number ≢ shelved.torn → IsShelved first kept old.taken old.reads f
 
 -- what is unread is out
 pub unread-out : (was : State) (old : AppView) → Torn was old → (f : LentPiece → ℕ)
@@ -311,7 +308,6 @@ gone-all was now old v1 v2 v3 new reaped not_yet pushed torn common first second
         sound-gone old gone refl torn.tokens.apart back common.sound,
         blocks-moved was.how.stray old gone was.stray more refl refl refl (λ f. omega (arith, went f)) common.entries common.blocks,
         tt,
-        common,
       );
       moves = record {
         same = (refl, refl, refl, omega arith);
@@ -334,9 +330,8 @@ gone-all was now old v1 v2 v3 new reaped not_yet pushed torn common first second
         bytes = λ n. omega (arith, total-facts (λ x. if x.number == n then x.bytes else 0) was.flows now facts);
       };
       steps = steps;
-      shelved = λ begin kept shelved. shelves-facts begin kept was.flows now old gone facts refl refl shelved;
-      fronts = λ begin kept shelved. all-fronts-facts begin kept was.flows now old gone facts refl refl
-          (still-kept old gone more all_given rest went) shelved;
+      shelved = λ begin kept. shelves-facts begin kept was.flows now old [] [] (old.returned ++ more) facts;
+      fronts = λ begin kept. fronts-gone begin kept was.flows now old [] [] (old.returned ++ more) facts (still-kept old gone more all_given rest went);
       none_left = pushed;
       taken = refl;
       left = refl;

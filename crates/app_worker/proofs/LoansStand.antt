@@ -2,22 +2,20 @@
 use Rattle.std.proofs.Common.{◌≡◌, ◌≢◌, ℕ, zero, suc, ◌+◌, ◌-◌, ◌<◌, ◌≤◌, Bool, true, false, List, [], ◌∷◌, ◌++◌, Option, Some, None, length, get_or}
 use Rattle.std.proofs.Common.{refl, sym, ap, subst, ◌∙◌, arith, length-append}
 use Rattle.std.specs.Prelude.{◌==◌, IfSome, take}
-use Rattle.board_face.proofs.ListLemmas.{not-eqb}
 use Rattle.std.proofs.lemmas.Bool.{eq-eqb}
 use Rattle.std.proofs.lemmas.Bool.Decides.{nat_tests}
 use Rattle.zr_kinds.specs.declared.ring.Completion.{Completion}
 use Rattle.zr_kinds.specs.CopyingReceiver.{values_from}
 use Rattle.board_face.specs.declared.views.app.AppLook.TheVariants.{RefillInUse}
 use Rattle.board_face.specs.declared.views.app.TakenNote.{TakenNote}
-use Rattle.board_face.specs.declared.views.app.HeldPiece.{HeldPiece}
 use Rattle.board_face.specs.declared.views.app.LentPiece.{LentPiece}
 use Rattle.board_face.specs.declared.views.app.AppView.{AppView}
 use Rattle.flow_queues.specs.declared.queues.Lending.{Lending}
 use Rattle.flow_queues.specs.declared.queues.FlowQueue.{FlowQueue}
 use Rattle.app_worker.specs.declared.stack.Stray.{Stray}
 use Rattle.flow_queues.specs.Marks.{Mark, marks_from}
-use Rattle.flow_queues.specs.Core.{total, IsIn, lent_piece, over_read, read_out, over_kept, marks_of_loan, own_notes, lent_marks, placed_of}
-use Rattle.flow_queues.specs.Core.{FlowStands, Each, many, HasTokens, Stands, OnlyReads, AreReadAt, IsReadOf}
+use Rattle.flow_queues.specs.Core.{total, IsIn, lent_piece, over_read, read_out, over_kept, marks_of_loan, lent_marks, placed_of}
+use Rattle.flow_queues.specs.Core.{FlowStands, many, HasTokens, Stands, OnlyReads, AreReadAt, IsReadOf}
 use Rattle.std.specs.Io.KnownBytes.{Keeps}
 use Rattle.zr_io.specs.Moved.{Gained}
 use Rattle.zr_io.proofs.Moved.{Gained-weaker}
@@ -27,7 +25,7 @@ use Rattle.flow_queues.proofs.Tokens.{is_that_loan, that-loan, is-lent-there}
 use Rattle.flow_queues.proofs.Entering.{marks-length}
 use Rattle.flow_queues.proofs.ReadLemmas.{marks-split}
 use Rattle.flow_queues.proofs.Placing.{values-split, values-length}
-use Rattle.flow_queues.proofs.Standing.{each-map, each-right, parts-alike, is_number, total-changed, many-same, each-changed, stands-saw}
+use Rattle.flow_queues.proofs.Standing.{each-map, each-right, parts-alike, total-changed, many-same, each-changed, stands-saw}
 
 -- ---- a loan was read
 
@@ -119,27 +117,10 @@ stands-read count before after own p ps leaked old new number only stands =
 pub stands-gave : (count : ℕ) (flows : List FlowQueue) (posted : List (Completion × Lending)) (l : Lending) (leaked : List Lending)
     (old new : AppView) → Stands count flows posted (l ∷ leaked) old → Gave old new l → Stands count flows posted leaked new
 stands-gave count flows posted l leaked old new stands step =
-    let helds : (f : HeldPiece → ℕ) → total f new.helds
-    ≡ total (λ flow. over_kept f flow.queue) flows = λ f. ap (λ (v : AppView). total f v.helds) step.view ∙ stands.tokens.helds f in
-    let taken : new.taken ≡ old.taken = ap (λ (v : AppView). v.taken) step.view in
+    let view : new ≡ record old { loans = new.loans; returned = new.returned; written = new.written; quiet = new.quiet } = rw step.view refl in
     let loans : (f : LentPiece → ℕ) → total f new.loans
     ≡ total (λ p. f (lent_piece old.taken p.1)) posted + over_read old.taken f leaked = λ f. omega (arith, step.loans f, stands.tokens.loans f) in
-    record {
-      tokens = record {
-        apart = step.apart;
-        helds = helds;
-        loans = subst (λ ts. (f : LentPiece → ℕ) → total f new.loans ≡ total (λ p. f (lent_piece ts p.1)) posted + over_read ts f leaked)
-            (sym taken) loans;
-      };
-      notes = stands.notes ∙ sym (ap length taken);
-      distinct = stands.distinct;
-      flows = subst (λ (ts : List TakenNote). Each (FlowStands ts posted) flows) (sym taken) stands.flows;
-      known = λ n none. ap (own_notes n) taken ∙ stands.known n none;
-      posted = stands.posted;
-      lent = subst (λ ts. Each (λ p. p.1.note < length ts) posted) (sym taken) stands.lent;
-      due_lent = subst (λ ts. Each (λ l. l.note < length ts) leaked) (sym taken) stands.due_lent.1;
-      counted = ap (λ (v : AppView). v.scrubbed) step.view ∙ stands.counted;
-    }
+    rw view (assumption (rw view at step.apart))
 
 pub given-stands : (count : ℕ) (flows : List FlowQueue) (posted : List (Completion × Lending)) (due now : Option Lending)
     (leaked : List Lending) (most : ℕ) (stray stray_now : Stray) (old new : AppView) (given : Bool) → Stands count flows posted (read_out due leaked) old

@@ -1,9 +1,8 @@
 -- From one moment to a later one.
-use Rattle.std.proofs.Common.{◌≡◌, ℕ, ◌*◌, ◌≤◌, ◌+◌, true, false, ⊎_elim, Option, Some, None, List, [], ◌∷◌, ◌++◌, drop, length, refl, sym}
+use Rattle.std.proofs.Common.{◌≡◌, ℕ, ◌≤◌, ◌+◌, true, false, ⊎_elim, Option, Some, None, List, [], ◌∷◌, ◌++◌, drop, length, refl, sym}
 use Rattle.std.proofs.Common.{ap, subst, ◌∙◌, arith, append-nil, append_assoc}
 use Rattle.std.specs.Prelude.{◌==◌, if◌then◌else◌}
 use Rattle.area_layout.specs.Layout.{pool_buffers}
-use Rattle.board_face.specs.declared.views.app.WrittenEntry.{WrittenEntry}
 use Rattle.board_face.specs.AppEvents.{reserve_of}
 use Rattle.board_face.specs.declared.views.parts.Setting.{Setting}
 use Rattle.board_face.specs.declared.views.app.LentPiece.{LentPiece}
@@ -19,7 +18,7 @@ use Rattle.zr_kinds.specs.declared.place.Place.{Place}
 use Rattle.zr_kinds.specs.declared.ring.Completion.{Completion}
 use Rattle.app_worker.specs.State.{State, TellsOf, due_one}
 use Rattle.flow_queues.specs.Totals.{loan_entries}
-use Rattle.flow_queues.specs.Entries.{lies_in, returned_aside}
+use Rattle.flow_queues.specs.Entries.{lies_in}
 use Rattle.app_worker.specs.Moves.{Moves, Reaps, KeepsLeaked, KeptSince, reads_of, reserve_loans, over_lent, over_gone, over_leaked}
 use Rattle.std.proofs.lemmas.Bool.{cases_Bool}
 use Rattle.flow_queues.proofs.Tokens.{total-append}
@@ -96,20 +95,6 @@ abandons-live was now old new live still more items f =
     let before : over_leaked f was old ≡ kept was.leaked.items = ap (λ b. if b then gone old else kept was.leaked.items) live in
     let after : over_leaked f now new ≡ kept now.leaked.items = ap (λ b. if b then gone new else kept now.leaked.items) still in
     omega (arith, before, after, ap kept items, total-append (λ (l : Lending). f l.loan) was.leaked.items more)
-
--- all this is as before
-pub abandons-same : (was now : State) (old new : AppView) → now.bare ≡ was.bare → now.leaked.items ≡ was.leaked.items → new.written ≡ old.written
-    → new.returned ≡ old.returned → (f : Place → ℕ) → over_leaked f was old ≤ over_leaked f now new
-abandons-same was now old new bare items written returned f =
-    let kept : List Lending → ℕ = λ ls. total (λ (l : Lending). f l.loan) ls in
-    let gone : List WrittenEntry → List LentPiece → ℕ = λ ws ls.
-    total (λ (l : LentPiece). f l.place) (drop (total (λ (w : WrittenEntry). if w.of_loan then 1 else 0) ws) ls) in
-    let same : over_leaked f now new ≡ over_leaked f was old =
-    ap (λ b. if b then gone new.written new.returned else kept now.leaked.items) bare
-    ∙ ap (λ ls. if was.bare then gone new.written new.returned else kept ls) items
-    ∙ ap (λ ws. if was.bare then gone ws new.returned else kept was.leaked.items) written
-    ∙ ap (λ ls. if was.bare then gone old.written ls else kept was.leaked.items) returned in
-    omega (arith, same)
 
 -- ---- what is posted and read
 

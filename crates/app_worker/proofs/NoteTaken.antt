@@ -24,8 +24,6 @@ use Rattle.app_worker.proofs.Flushing.{flushes-same}
 use Rattle.app_worker.specs.Whole.{TookOne, TookNone, Torn}
 use Rattle.zr_kinds.specs.declared.ring.Completion.{Completion}
 use Rattle.flow_queues.specs.declared.queues.Lending.{Lending}
-use Rattle.flow_queues.specs.Entries.{Gives}
-use Rattle.flow_queues.proofs.GivenBack.{gives-same}
 use Rattle.flow_queues.proofs.Tokens.{is-released}
 use Rattle.flow_queues.proofs.Standing.{each-map}
 use Rattle.flow_queues.proofs.Took.{Took, is-took, taken_note, kept-tokens, set-last}
@@ -45,17 +43,10 @@ all-end st v works = each-map (FlowStands v.taken (st.unread ++ st.posted.entrie
 
 -- it can be given up as it is
 pub torn-of : (st : State) (v : AppView) → Working st v → Torn st v
-torn-of st v works = record {
-  tokens = works.stands.tokens;
-  flows = all-end st v works;
-  distinct = works.stands.distinct;
-  index = works.index;
-  given = works.given;
-  lent = works.stands.lent;
-  due_lent = works.stands.due_lent;
-  within_lent = omega (arith, works.appended, works.stands.tokens.loans lent_len);
-  whole_given = omega (arith, works.appended);
-}
+torn-of st v works =
+    let within_lent : total (λ f. f.bytes) st.flows ≤ lent_bytes v = omega (arith, works.appended, works.stands.tokens.loans lent_len) in
+    let whole_given : total lent_len v.returned ≤ total (λ f. f.bytes) st.flows = omega (arith, works.appended) in
+    assumption (all-end st v works)
 
 -- ---- a note
 
@@ -64,42 +55,25 @@ module _ (was : State) (old new : AppView) (t : TakenNote) (works : Working was 
   view-in : TookView old new t
   view-in = record { view = view }
 
-  one-longer : length new.taken ≡ length old.taken + 1
-  one-longer = ap length (ap (λ (v : AppView). v.taken) view) ∙ length-append old.taken (t ∷ [])
+  lent-taken : Each (λ (p : Completion × Lending). p.1.note < length (old.taken ++ t ∷ [])) (was.unread ++ was.posted.entries)
+  lent-taken = each-map (λ (p : Completion × Lending). p.1.note < length old.taken) (λ p. p.1.note < length (old.taken ++ t ∷ []))
+      (was.unread ++ was.posted.entries) (λ p _ below. omega (arith, below, length-append old.taken (t ∷ []))) works.stands.lent
 
-  lent-taken : Each (λ (p : Completion × Lending). p.1.note < length new.taken) (was.unread ++ was.posted.entries)
-  lent-taken = each-map (λ (p : Completion × Lending). p.1.note < length old.taken) (λ p. p.1.note < length new.taken)
-      (was.unread ++ was.posted.entries) (λ p _ below. omega (arith, below, one-longer)) works.stands.lent
-
-  due-taken : Each (λ (l : Lending). l.note < length new.taken) (read_of was)
-  due-taken = each-map (λ (l : Lending). l.note < length old.taken) (λ l. l.note < length new.taken) (read_of was)
-      (λ l _ below. omega (arith, below, one-longer)) works.stands.due_lent
-
-  gives-taken : Gives new new.returned
-  gives-taken = subst (Gives new) (sym (ap (λ (v : AppView). v.returned) view)) (gives-same old new old.returned
-      (ap (λ (v : AppView). v.written) view) (ap (λ (v : AppView). v.setting) view) works.given)
-
-  within-taken : total (λ f. f.bytes) was.flows ≤ lent_bytes new
-  within-taken = omega (arith, works.appended, works.stands.tokens.loans lent_len, ap lent_bytes view)
-
-  given-taken : total lent_len new.returned ≤ total (λ f. f.bytes) was.flows
-  given-taken = omega (arith, works.appended, ap (λ (v : AppView). total lent_len v.returned) view)
+  due-taken : Each (λ (l : Lending). l.note < length (old.taken ++ t ∷ [])) (read_of was)
+  due-taken = each-map (λ (l : Lending). l.note < length old.taken) (λ l. l.note < length (old.taken ++ t ∷ [])) (read_of was)
+      (λ l _ below. omega (arith, below, length-append old.taken (t ∷ []))) works.stands.due_lent
 
   -- nothing of it is kept
   pub none-taken : ((f : HeldPiece → ℕ) → total f new.helds ≡ total f old.helds) → TookNone was was old new
   none-taken helds = record {
-    torn = record {
-      tokens = kept-tokens was.notes was.flows (was.unread ++ was.posted.entries) (read_of was) old new t (ap (λ (v : AppView). v.taken) view)
-          (ap (λ (v : AppView). v.loans) view) lie helds works.stands;
-      flows = ends-kept was.flows old new t view-in (all-end was old works);
-      distinct = works.stands.distinct;
-      index = works.index;
-      given = gives-taken;
-      lent = lent-taken;
-      due_lent = due-taken;
-      within_lent = within-taken;
-      whole_given = given-taken;
-    };
+    torn = rw view (assumption (
+      rw view at (kept-tokens was.notes was.flows (was.unread ++ was.posted.entries) (read_of was) old new t (ap (λ (v : AppView). v.taken) view)
+          (ap (λ (v : AppView). v.loans) view) lie helds works.stands),
+      rw view at (ends-kept was.flows old new t view-in (all-end was old works)),
+      lent-taken,
+      due-taken,
+      torn-of was old works,
+    ));
     common = common-noted was old new t view-in was.notes was.active was.index was.flows refl
         (record { kept = omega (arith, helds held_len); short = omega arith }) common;
     moves = moves-noted was old new t view-in was.notes was.active was.index was.flows (λ n. omega arith);
@@ -133,18 +107,18 @@ module _ (was : State) (old new : AppView) (t : TakenNote) (works : Working was 
         → TookNone was (with_note was was.notes (set flows i (record own { queue = q })) index was.active) old new
     torn-taken is_index tokens =
         let now : List FlowQueue = set flows i (record own { queue = q }) in
+        let before = torn-of was old works in
+        let distinct : (n : ℕ) → many n now ≤ 1 = λ n. (many-noted was.flows t.note own (λ x. set flows i x) q base put-in n).1 (works.stands.distinct n) in
+        let within_lent : total (λ f. f.bytes) now ≤ lent_bytes old = omega (arith, bytes-in, before.within_lent) in
+        let whole_given : total lent_len old.returned ≤ total (λ f. f.bytes) now = omega (arith, bytes-in, before.whole_given) in
         record {
-          torn = record {
-            tokens = tokens;
-            flows = ends-noted was.flows old new t view-in (all-end was old works) known-in own (λ x. set flows i x) put-in q base;
-            distinct = λ n. (many-noted was.flows t.note own (λ x. set flows i x) q base put-in n).1 (works.stands.distinct n);
-            index = index-set index flows i own (record own { queue = q }) within value refl is_index;
-            given = gives-taken;
-            lent = lent-taken;
-            due_lent = due-taken;
-            within_lent = omega (arith, bytes-in, within-taken);
-            whole_given = omega (arith, bytes-in, given-taken);
-          };
+          torn = rw view (assumption (
+            rw view at tokens,
+            rw view at (ends-noted was.flows old new t view-in (all-end was old works) known-in own (λ x. set flows i x) put-in q base),
+            index-set index flows i own (record own { queue = q }) within value refl is_index,
+            lent-taken,
+            due-taken,
+          ));
           common = common-noted was old new t view-in was.notes was.active index now bytes-in few-in common;
           moves = moves-noted was old new t view-in was.notes was.active index now (grow-noted was.flows t.note own (λ x. set flows i x) q base put-in);
           shelved = shelves-noted was.flows old new t view-in (all-end was old works) known-in own (λ x. set flows i x) put-in q base;
@@ -170,7 +144,6 @@ module _ (was : State) (old new : AppView) (t : TakenNote) (works : Working was 
             index-set index flows i own x within value refl is_index,
             rw view at (read-noted old new t (read_of was) (ap (λ (v : AppView). v.reads) view) (ap (λ (v : AppView). v.taken) view)
                 works.stands.due_lent works.read_whole),
-            works,
           ));
           common = common-noted was old new t view-in notes i index now bytes-in few-in common;
           moves = moves-noted was old new t view-in notes i index now (grow-noted was.flows t.note own (λ x. set flows i x) q base put-in);

@@ -19,7 +19,7 @@ use Rattle.flow_queues.specs.Core.{many, short_bytes, IsIn, lent_piece, read_out
 use Rattle.zr_kinds.specs.declared.behaviour.Stopped.{Stopped}
 use Rattle.zr_kinds.specs.declared.behaviour.Stopped.TheVariants as stop
 use Rattle.app_worker.specs.State.{State, read_of, TellsOf, LiesOutside, Working, Common, due_one, loan_len, app_steps}
-use Rattle.flow_queues.specs.Totals.{Quits, capped, taken_len, lent_len, bytes_if, bytes_of, loan_entries}
+use Rattle.flow_queues.specs.Totals.{lent_bytes, Quits, capped, taken_len, lent_len, bytes_if, bytes_of, loan_entries}
 use Rattle.flow_queues.specs.Shelves.{FlowEnds, kept_loans, IsShelved, AreShelved, AreOfOneLoan, ReadsFront, IsFrontShelved, AreFronts}
 use Rattle.board_face.specs.AppEvents.{reserve_of}
 use Rattle.app_worker.specs.Moves.{Moves, KeptSince, reads_of, reserve_loans}
@@ -40,8 +40,6 @@ use Rattle.app_worker.proofs.Through.{moves-stopped}
 use Rattle.flow_queues.proofs.Indexing.{index-set}
 use Rattle.app_worker.specs.ReadWhole.{IsReadWhole, AreReadWhole}
 use Rattle.app_worker.proofs.ReadWhole.{gives-more, read-more}
-use Rattle.flow_queues.specs.Entries.{Gives}
-use Rattle.flow_queues.proofs.GivenBack.{gives-same}
 use Rattle.flow_queues.proofs.Resting.{rest-same, each-same}
 
 pub front-of : {A : Type 0} (xs : List A) (x : A) → slice_get xs 0 ≡ Some x → xs ≡ x ∷ drop 1 xs
@@ -208,10 +206,6 @@ module _ (was : State) (i : ℕ) (own : FlowQueue) (p : Completion × Lending) (
       omega (arith, shorts, common.bound) in
       rw only.view (assumption (rw only.view at (gives-more old new only common.gives_whole)))
 
-  gives-read : Gives new new.returned
-  gives-read = subst (Gives new) (sym same_returned)
-      (gives-same old new old.returned (ap (λ (v : AppView). v.written) only.view) same_setting works.given)
-
   steps-read : (bytes written : ℕ) → app_steps (with_read was i own bytes ps p.1 written flush) new ≡ app_steps was old + 1
   steps-read bytes written = rw only.view (omega (arith, ap due_one due))
 
@@ -339,7 +333,6 @@ module _ (was : State) (i : ℕ) (own : FlowQueue) (p : Completion × Lending) (
           rw only.view at still-outside,
           λ (on : flush ≡ true) (none : ps ++ was.posted.entries ≡ []). (flush_on on).1 (rest_all none),
           rw only.view at (read-more old new was.leaked.items only (subst (λ d. AreReadWhole old (read_out d was.leaked.items)) due works.read_whole)),
-          works,
         ));
         common = common-read (own.bytes + p.1.loan.len) written was.stopped (omega arith) (omega (arith, count)) quits;
         goes = record {
@@ -420,27 +413,24 @@ module _ (was : State) (i : ℕ) (own : FlowQueue) (p : Completion × Lending) (
       (λ f other stands. ends-of old.taken (p ∷ (ps ++ was.posted.entries)) f f.bytes stands.counted stands)
       (ends-of old.taken (p ∷ (ps ++ was.posted.entries)) own bytes (omega (arith, next.within))
       (own-stands was.notes at.before at.after own (p ∷ (ps ++ was.posted.entries)) was.leaked.items old stood)) in
-      record {
-        tokens = subst (λ (fs : List FlowQueue). HasTokens fs (ps ++ was.posted.entries) (p.1 ∷ was.leaked.items) new) (sym (at.set_is later))
-            (tokens-read was.notes at.before at.after own bytes p (ps ++ was.posted.entries) was.leaked.items old new only stood);
-        flows = subst (λ ts. Each (FlowEnds ts) (set was.flows i later)) (sym same_taken) (subst (Each (FlowEnds old.taken)) (sym (at.set_is later)) flows);
-        distinct = λ n. omega (arith, ap (many n) (at.set_is later), many-same at.before at.after own later refl n, stood.distinct n);
-        index = index-set was.index was.flows i own later within value refl works.index;
-        given = gives-read;
-        lent = subst (λ ts. Each (λ (q : Completion × Lending). q.1.note < length ts) (ps ++ was.posted.entries)) (sym same_taken) stood.lent.1;
-        due_lent = subst (λ ts. Each (λ (l : Lending). l.note < length ts) (p.1 ∷ was.leaked.items)) (sym same_taken) (stood.lent.0, stood.due_lent);
-        within_lent = omega (
-          arith,
-          most,
-          sum-read bytes,
-          works.appended,
-          ap (λ d. total loan_len (read_out d was.leaked.items)) due,
-          stood.tokens.loans lent_len,
-          ap (total lent_len) same_returned,
-          ap (λ (v : AppView). total lent_len v.loans) only.view,
-        );
-        whole_given = omega (arith, more, sum-read bytes, works.appended, ap (total lent_len) same_returned);
-      }
+      let distinct : (n : ℕ) → many n (set was.flows i later) ≤ 1 =
+      λ n. omega (arith, ap (many n) (at.set_is later), many-same at.before at.after own later refl n, stood.distinct n) in
+      let within_lent : total (λ o. o.bytes) (set was.flows i later) ≤ lent_bytes old = omega (
+        arith,
+        most,
+        sum-read bytes,
+        works.appended,
+        ap (λ d. total loan_len (read_out d was.leaked.items)) due,
+        stood.tokens.loans lent_len,
+      ) in
+      let whole_given : total lent_len old.returned ≤ total (λ o. o.bytes) (set was.flows i later) = omega (arith, more, sum-read bytes, works.appended) in
+      rw only.view (assumption (
+        rw only.view at (subst (λ (fs : List FlowQueue). HasTokens fs (ps ++ was.posted.entries) (p.1 ∷ was.leaked.items) new) (sym (at.set_is later))
+            (tokens-read was.notes at.before at.after own bytes p (ps ++ was.posted.entries) was.leaked.items old new only stood)),
+        subst (Each (FlowEnds old.taken)) (sym (at.set_is later)) flows,
+        index-set was.index was.flows i own later within value refl works.index,
+        stood,
+      ))
 
   pub oldest-failed : (bytes written most faults faults_now : ℕ) (kept kept_now : ℕ → Option (List ℕ)) → own.bytes ≤ bytes
       → most ≤ p.1.loan.len → bytes ≤ own.bytes + most → written ≡ min (was.written + (bytes - own.bytes)) (2 ^ 64 - 1)

@@ -44,7 +44,7 @@ quits-now (Some n) written then is = let e : n ≡ then = cc in (omega (arith, e
 -- the oldest loan was appended in part, and all was given up
 pub has-quit : {was mid now : State} {old midv new : AppView} {kept kept_now : ℕ → Option (List ℕ)}
     → was.posted.entries ≡ [] → ReadQuit was mid old midv kept kept_now → LetGo mid now midv new → HasQuit was now old new kept kept_now
-has-quit {was} {mid} {now} {old} {midv} {new} {kept_now} reaped quit gone =
+has-quit {mid} {now} {midv} {new} {kept_now} reaped quit gone =
     let stopped : now.stopped ≡ stop.Quit = ap (λ (s : State). s.stopped) gone.same ∙ quit.stopped in
     record {
       bare = bare-stopped now new now.stopped (λ e. absurd (let f : stop.Quit ≡ stop.No = sym stopped ∙ e in cc)) mid midv gone;
@@ -64,6 +64,6 @@ has-quit {was} {mid} {now} {old} {midv} {new} {kept_now} reaped quit gone =
 
 -- it quit after other steps
 pub quit-later : {a b c : State} {u v w : AppView} {k l m : ℕ → Option (List ℕ)} → Through a b u v k l → HasQuit b c v w l m → HasQuit a c u w k m
-quit-later {a} {b} {c} {u} {v} {w} {k} {l} {m} first quit =
+quit-later {a} {c} {u} {w} first quit =
     let steps : app_steps a u < app_steps c w = omega (arith, first.goes.moves.steps, quit.steps) in
     assumption (goes-then first.goes quit.goes, quit.taken ∙ first.taken, quit.left ∙ first.left)

@@ -1,5 +1,5 @@
 -- Stages one after another.
-use Rattle.std.proofs.Common.{◌≡◌, ◌≢◌, ℕ, ◌<◌, ◌≤◌, List, [], Option, Some, None, length, refl, sym, ap, subst, ◌∙◌, arith}
+use Rattle.std.proofs.Common.{◌≡◌, ◌≢◌, ℕ, ◌<◌, ◌≤◌, false, List, [], Option, Some, None, length, refl, sym, ap, subst, ◌∙◌, arith}
 use Rattle.zr_kinds.specs.declared.behaviour.Stopped.{Stopped}
 use Rattle.zr_kinds.specs.declared.behaviour.Stopped.TheVariants as stop
 use Rattle.board_face.specs.AppCalls.{AppOnlySaw}
@@ -11,7 +11,7 @@ use Rattle.app_worker.specs.State.{State, Working, Common, Bare, app_steps}
 use Rattle.flow_queues.specs.Core.{Each}
 use Rattle.flow_queues.specs.Flows.{IsAtRest}
 use Rattle.flow_queues.specs.Totals.{Quits}
-use Rattle.app_worker.specs.Moves.{Moves, Goes}
+use Rattle.app_worker.specs.Moves.{Moves, Goes, KeptSince, Reaps}
 use Rattle.zr_io.specs.Moved.{Rose}
 use Rattle.app_worker.specs.Whole.{GaveBack, ReadOne, ReadFailed, Reads}
 use Rattle.app_worker.specs.Letting.{LetGo}
@@ -29,7 +29,7 @@ write-stays a b stays other is = other (stays (λ none. absurd (no-write (sym is
     no-write e = absurd (cc)
 
 pub goes-then : {a b c : State} {u v w : AppView} {k l m : ℕ → Option (List ℕ)} → Goes a b u v k l → Goes b c v w l m → Goes a c u w k m
-goes-then {a} {b} {c} {u} {v} {w} first second = record {
+goes-then {a} {b} {c} first second = record {
   moves = moves-then first.moves second.moves;
   shelved = λ other begin was. second.shelved other begin (first.shelved (write-stays b.stopped c.stopped second.moves.stays other) begin was);
   failed = λ is begin exact front. second.failed is begin
@@ -42,7 +42,7 @@ pub through-none : (st : State) (v : AppView) (kept : ℕ → Option (List ℕ))
 through-none st v kept working common reaped = assumption (flushes-none st v, goes-none st v kept)
 
 pub through-then : {a b c : State} {u v w : AppView} {k l m : ℕ → Option (List ℕ)} → Through a b u v k l → Through b c v w l m → Through a c u w k m
-through-then {a} {b} {c} {u} {v} {w} {k} {l} {m} first second = assumption (
+through-then {a} first second = assumption (
   flushes-then first.flushes second.flushes,
   goes-then first.goes second.goes,
   second.ended ∙ first.ended,
@@ -115,19 +115,13 @@ common-stopped st v cause none other common =
 
 pub moves-stopped : (was st : State) (old v : AppView) (cause : Stopped) → was.stopped ≡ stop.No → Moves was st old v
     → Moves was (stopped_by st cause) old v
-moves-stopped was st old v cause none moves = record {
-  same = moves.same;
-  how = moves.how;
-  places = moves.places;
-  steps = moves.steps;
-  looks = moves.looks;
-  keeps = λ n r before live. (let k = moves.keeps n r before live in record { lent = k.lent; kept = k.kept });
-  stays = λ other. absurd (other none);
-  leaked = moves.leaked;
-  abandons = moves.abandons;
-  reaps = (let r = moves.reaps in record { read = r.read; more = r.more; in_order = r.in_order; lent = r.lent; tells = r.tells; gone = r.gone });
-  bytes = moves.bytes;
-}
+moves-stopped was st old v cause none moves =
+    let keeps : (n r : ℕ) → (was.bare ≡ false → KeptSince n r was old) → st.bare ≡ false → KeptSince n r (stopped_by st cause) v =
+    λ n r before live. (let k = moves.keeps n r before live in record { lent = k.lent; kept = k.kept }) in
+    let reaps : Reaps was (stopped_by st cause) old v =
+    (let r = moves.reaps in record { read = r.read; more = r.more; in_order = r.in_order; lent = r.lent; tells = r.tells; gone = r.gone }) in
+    let stays : was.stopped ≢ stop.No → cause ≡ was.stopped = λ other. absurd (other none) in
+    assumption
 
 pub write-stopped : {was mid now : State} {old midv new : AppView} {kept kept_now : ℕ → Option (List ℕ)} {faults faults_now : ℕ}
     → was.stopped ≡ stop.No → was.posted.entries ≡ [] → ReadFailed was mid old midv kept kept_now faults faults_now → LetGo mid now midv new
@@ -155,7 +149,7 @@ write-stopped {was} {mid} {now} {old} {midv} {new} {kept_now} none reaped failed
 -- it failed after other steps
 pub write-later : {a b c : State} {u v w : AppView} {k l m : ℕ → Option (List ℕ)} {f f1 f2 : ℕ} → f ≤ f1 → Through a b u v k l
     → WriteStopped b c v w l m f1 f2 → WriteStopped a c u w k m f f2
-write-later {a} {b} {c} {u} {v} {w} {k} {l} {m} {f} {f2} later first stopped =
+write-later {a} {c} {u} {w} {f} {f2} later first stopped =
     let rose : Rose f f2 = omega (arith, later, stopped.rose) in
     let steps : app_steps a u < app_steps c w = omega (arith, first.goes.moves.steps, stopped.steps) in
     assumption (goes-then first.goes stopped.goes, stopped.taken ∙ first.taken, stopped.left ∙ first.left)

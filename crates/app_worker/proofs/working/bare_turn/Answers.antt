@@ -1,8 +1,6 @@
-use Rattle.std.proofs.Common.{true, None, sym, subst, ◌∙◌}
-use Rattle.board_face.specs.declared.views.app.AppView.{AppView}
+use Rattle.std.proofs.Common.{true, None, ◌∙◌}
 use Rattle.app_worker.specs.State.{State}
 use Rattle.app_worker.specs.StateOf.{state_of}
-use Rattle.app_worker.specs.Turns.{Turns}
 use Rattle.app_worker.proofs.BareLemmas.{bare-finished, bare-not-quiet, out-ended, then-loans, then-done, scrubs-done}
 use Rattle.app_worker.proofs.Closing.{turns-finished, turns-not-quiet}
 use Rattle.app_worker.proofs.working.bare_turn.Goals as goal
@@ -47,8 +45,7 @@ pub scrub-did-requires-clause-loans : goal.scrub-did-requires-clause-loans
 scrub-did-requires-clause-loans g c =
     let turns = c.in-Some.ensures.passes (state_of c.args.st.now) (λ _. None) 0 c.requires.bare
     c.requires.is_bare c.requires.common c.requires.reaped c.if-st.false in
-    then-loans (state_of c.args.st.now) (state_of c.args.st.now) (g.F.AppFace.seen c.args.face.now) (g.F.AppFace.seen c.pass_note.new.face)
-    (λ _. None) 0 c.in-Some.turn c.requires.is_bare turns
+    then-loans _ _ _ _ _ _ _ c.requires.is_bare turns
 
 pub scrub-did-requires-clause-known : goal.scrub-did-requires-clause-known
 scrub-did-requires-clause-known g c =
@@ -58,14 +55,10 @@ scrub-did-requires-clause-known g c =
 
 pub returns-clause-turns : goal.returns-clause-turns
 returns-clause-turns g c = λ kept faults.
-    let st : State = state_of c.args.st.now in
-    let u : AppView = g.F.AppFace.seen c.args.face.now in
     let turns = c.in-Some.ensures.passes (state_of c.args.st.now) kept faults c.requires.bare
     c.requires.is_bare c.requires.common c.requires.reaped c.if-st.false in
-    subst (Turns st (record st { scrubbed = c.scrub-did.new.scrubbed }) u (g.F.AppFace.seen c.scrub-did.new.face) kept kept faults faults)
-    (sym c.after.ensures)
-    (then-done st st u (g.F.AppFace.seen c.pass_note.new.face) kept faults c.in-Some.turn c.requires.is_bare turns
-    (g.F.AppFace.seen c.scrub-did.new.face) c.scrub-did.new.scrubbed c.scrub-did.result c.if-st-2.false c.scrub-did.ensures.scrubs)
+    rw c.after.ensures (then-done _ _ _ _ _ _ _ c.requires.is_bare turns (g.F.AppFace.seen c.scrub-did.new.face) c.scrub-did.new.scrubbed
+    c.scrub-did.result c.if-st-2.false c.scrub-did.ensures.scrubs)
 
 pub returns-clause-scrubs : goal.returns-clause-scrubs
 returns-clause-scrubs g c =
