@@ -91,11 +91,6 @@ sums-counted (x ∷ xs) n = omega (
 
 -- ---- applications
 
-pub numbered-at : (n : ℕ) (apps : List AppSide) (i : ℕ) (d : AppSide) → AreNumbered n apps → i < length apps → (get_or apps i d).view.app ≡ n + i
-numbered-at n [] i d h within = absurd (omega arith)
-numbered-at n (app ∷ apps) zero d h within = let e = h.0 in omega arith
-numbered-at n (app ∷ apps) (suc i) d h within = omega (arith, numbered-at (suc n) apps i d h.1 (omega arith))
-
 total-le_at : {A : Type 0} (f g : A → ℕ) (xs : List A) → ((i : ℕ) (d : A) → i < length xs → f (get_or xs i d) ≤ g (get_or xs i d))
     → total f xs ≤ total g xs
 total-le_at f g [] h = omega arith

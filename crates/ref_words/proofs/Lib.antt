@@ -43,7 +43,6 @@ mod ScrubTaking
 pub mod Phases
 mod PhasesByCard
 mod PhasesByApp
-mod NewNotes
 mod PhasesBySlots
 mod PhasesByFree
 mod PhasesOpened

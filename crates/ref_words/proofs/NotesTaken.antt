@@ -23,7 +23,7 @@ use Rattle.board_face.specs.declared.views.nic.NicSide.{NicSide}
 use Rattle.board_face.specs.declared.views.nic.SentNote.{SentNote}
 use Rattle.board_face.specs.declared.views.app.TakenNote.{TakenNote}
 use Rattle.board_face.specs.declared.views.app.AppSide.{AppSide}
-use Rattle.board_face.proofs.AppLemmas.{IsNext, pool_count-app, user_count-app, app_count-took_note, app_count-took_linear}
+use Rattle.board_face.proofs.AppLemmas.{pool_count-app, user_count-app, app_count-took_note, app_count-took_linear}
 use Rattle.board_face.proofs.ArePlacedLemmas.{ArePlaced-app}
 use Rattle.board_face.proofs.FillingsFitLemmas.{FillingsFit-same}
 use Rattle.board_face.proofs.IsFilledByOneLemmas.{IsFilledByOne-app}
@@ -48,6 +48,7 @@ use Rattle.ref_words.proofs.SideSteps.{own-was, SidesRule-app, mine}
 use Rattle.ref_words.proofs.Frees.{AreKept-app, free_places-hands}
 use Rattle.ref_words.proofs.Dealing.{take-next}
 use Rattle.ref_words.specs.Sides.{IsTakenInOrder}
+use Rattle.board_face.specs.Laws.{IsNextNote}
 
 -- ---- what the words of a slot tell
 
@@ -252,7 +253,7 @@ module _ (setting : Setting) (words : Words) (nic : NicSide) (apps : List AppSid
     note-is : note ≡ next.note
     note-is = sym (note-front loaded others fields) ∙ (ap (λ ws. note_of (1 ∷ ws)) (sym words-are) ∙ note-read setting next fits)
 
-    pub is-next : IsNext nic app note
+    pub is-next : IsNextNote nic app note
     is-next = record { next = next; rest = drop (suc k) (sent_to a nic); way = way; same = sym note-is }
 
     pub is-split : note.split ≡ true → IsSplitNote note

@@ -42,14 +42,6 @@ get-last [] x i is = rw is refl
 get-last (y ∷ xs) x zero is = absurd (omega (arith, is))
 get-last (y ∷ xs) x (suc i) is = get-last xs x i (omega (arith, is))
 
--- ---- what is written
-
--- what is written back through a slice of a whole list is the list then
-pub written-whole : {A : Type 0} (n : ℕ) (new old : List A) → n ≡ length old → length new ≡ length old → take n (new ++ drop (length new) old) ≡ new
-written-whole n new old whole same =
-    let none : drop (length new) old ≡ [] = drop_all (length new) old (omega (arith, same)) in
-    rw (none, append-nil new) (take_all n new (omega (arith, whole, same)))
-
 -- Where each count is f of its place, and g is f with n in the place i, the counts with n there are g.
 pub counts-set : (t : ℕ) (counts : List ℕ) (f g : ℕ → ℕ) (i n : ℕ) → i < length counts → ((b : ℕ) → b < t → get_or counts b 0 ≡ f b)
     → n ≡ g i → ((b : ℕ) → b ≢ i → g b ≡ f b)
