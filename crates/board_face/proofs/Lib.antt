@@ -31,3 +31,4 @@ pub mod WrittenLemmas
 pub mod DealtLemmas
 pub mod LiesLemmas
 pub mod NewNotes
+pub mod Losing

@@ -58,7 +58,6 @@ mod Listing
 mod WordLooks
 mod Picking
 pub mod Found
-mod Losing
 mod Sweeping
 mod Resting
 pub mod AppNumbers
