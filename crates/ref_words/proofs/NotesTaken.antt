@@ -9,7 +9,6 @@ use Rattle.std.proofs.lemmas.List.Sums.{sum_by-cons}
 use Rattle.board_face.specs.Texts.{unsplit_bytes, IsSplitNote, IsLinearNote}
 use Rattle.zr_kinds.specs.declared.place.Note.{Note}
 use Rattle.zr_kinds.specs.declared.place.Place.{Place}
-use Rattle.board_face.specs.NicCalls.{apps_of}
 use Rattle.board_face.specs.AppEvents.{reserve_of}
 use Rattle.board_face.specs.Holders.{sent_to, on_way}
 use Rattle.board_face.specs.Counts.{pool_count, EndedWereReturned}
@@ -44,7 +43,7 @@ use Rattle.ref_words.proofs.LeftWords as left-words
 use Rattle.ref_words.proofs.RingSteps.{AllRings, rings-others}
 use Rattle.ref_words.proofs.SlotWords.{ring-here, ring-other, differ-note}
 use Rattle.ref_words.proofs.SlotSteps.{DifferInSlots, RefRule-slot}
-use Rattle.ref_words.proofs.SideSteps.{own-was, SidesRule-app, mine}
+use Rattle.ref_words.proofs.SideSteps.{own-was, SidesRule-app, mine, is-app}
 use Rattle.ref_words.proofs.Frees.{AreKept-app, free_places-hands}
 use Rattle.ref_words.proofs.Dealing.{take-next}
 use Rattle.ref_words.specs.Sides.{IsTakenInOrder}
@@ -128,9 +127,6 @@ module _ (setting : Setting) (words : Words) (nic : NicSide) (apps : List AppSid
   rings : AreRings setting words nic app
   rings = rule.rings a app here
 
-  is-app : a < apps_of setting
-  is-app = let h = here.there in omega (arith, rule.sides.set.many)
-
   abbrev k : ℕ
   k = length app.view.taken
 
@@ -174,7 +170,7 @@ module _ (setting : Setting) (words : Words) (nic : NicSide) (apps : List AppSid
 
     rings-then : AllRings setting words' nic apps'
     rings-then =
-        let inside : a < length words.notes = let small = is-app in omega (arith, rule.sizes.notes) in
+        let inside : a < length words.notes = let small = is-app rule.sides here in omega (arith, rule.sizes.notes) in
         rings-others setting words' nic apps a app like here
         (record {
           refills = rings.refills;
@@ -196,7 +192,7 @@ module _ (setting : Setting) (words : Words) (nic : NicSide) (apps : List AppSid
 
     pub RefRule-taken : RefRule setting words' nic (set apps a now)
     RefRule-taken =
-        let differ : DifferInSlots setting words words' = differ-note setting words rule.sizes a s 0 0 is-app (mod-lt k rings.notes.some) in
+        let differ : DifferInSlots setting words words' = differ-note setting words rule.sizes a s 0 0 (is-app rule.sides here) (mod-lt k rings.notes.some) in
         subst (λ x. RefRule setting words' nic (set apps a x)) (sym taking.same)
         (RefRule-slot setting words words' nic nic apps apps' rule differ (record {
           sides = SidesRule-app setting nic apps a app rule.sides here like (record {
