@@ -29,6 +29,7 @@ use Rattle.board_face.proofs.Tallies.{weight, tally, tally-append, tally-push, t
 use Rattle.board_face.proofs.Parts.{app_count, user_part, notes_in, loans_in, came_back_in, owed_count, returned_in-count, pool_count-parts, user_count-parts}
 use Rattle.zr_kinds.proofs.Lists.{drop-after}
 use Rattle.board_face.proofs.Counting.{weight-and}
+use Rattle.board_face.specs.Laws.{IsNextNote}
 
 -- ---- one application's part
 
@@ -67,13 +68,6 @@ user_part-kept x b nic app w same loans returned = rw (same, loans, returned) re
 
 -- ---- notes
 
--- the first note on its way is that which is taken
-pub record IsNext (nic : NicSide) (app : AppSide) (note : Note) : Type 0 where
-  pub next : SentNote
-  pub rest : List SentNote
-  pub way : on_way nic app ≡ next ∷ rest
-  pub same : next.note ≡ note
-
 pub after-taken : (nic : NicSide) (app : AppSide) (t : TakenNote) (next : SentNote) (rest : List SentNote) → on_way nic app ≡ next ∷ rest
     → drop (length (app.view.taken ++ t ∷ [])) (sent_to app.view.app nic) ≡ rest
 after-taken nic app t next rest way = rw (length-append app.view.taken (t ∷ []))
@@ -90,7 +84,7 @@ notes_in-cons : (b : ℕ) (s : SentNote) (rest : List SentNote)
 notes_in-cons b s rest = split_case b s.note.split s (filter (λ (x : SentNote). x.note.split) rest)
 
 -- what the note that is taken adds to those on their way
-way-next : (b : ℕ) (nic : NicSide) (app : AppSide) (note : Note) (t : TakenNote) → IsNext nic app note
+way-next : (b : ℕ) (nic : NicSide) (app : AppSide) (note : Note) (t : TakenNote) → IsNextNote nic app note
     → notes_in b (on_way nic app) ≡ weight (note.split && (note.place.buffer == b)) + notes_in b
     (drop (length (app.view.taken ++ t ∷ [])) (sent_to app.view.app nic))
 way-next b nic app note t next =
@@ -100,7 +94,7 @@ way-next b nic app note t next =
     omega (arith, gone, was, one)
 
 -- a piece that is taken only changes its kind
-pub app_count-took_note : (b : ℕ) (nic : NicSide) (app : AppSide) (note : Note) → IsNext nic app note → note.split ≡ true
+pub app_count-took_note : (b : ℕ) (nic : NicSide) (app : AppSide) (note : Note) → IsNextNote nic app note → note.split ≡ true
     → app_count b nic (app_at app (took_note app.view note)) ≡ app_count b nic app
 app_count-took_note b nic app note next split =
     let one : weight (note.split && (note.place.buffer == b)) ≡ weight (note.place.buffer == b) = ap (λ c. weight (c && (note.place.buffer == b))) split in
@@ -112,7 +106,7 @@ app_count-took_note b nic app note next split =
     )
 
 -- a note in which its bytes travelled held nothing
-pub app_count-took_linear : (b : ℕ) (nic : NicSide) (app : AppSide) (note : Note) (bytes : List ℕ) → IsNext nic app note → note.split ≡ false
+pub app_count-took_linear : (b : ℕ) (nic : NicSide) (app : AppSide) (note : Note) (bytes : List ℕ) → IsNextNote nic app note → note.split ≡ false
     → app_count b nic (app_at app (took_linear app.view note bytes)) ≡ app_count b nic app
 app_count-took_linear b nic app note bytes next split =
     let none : weight (note.split && (note.place.buffer == b)) ≡ 0 = ap (λ c. weight (c && (note.place.buffer == b))) split in

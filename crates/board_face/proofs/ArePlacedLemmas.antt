@@ -38,7 +38,7 @@ use Rattle.board_face.proofs.ListLemmas.{All-without, not-eqb}
 use Rattle.board_face.proofs.Tallies.{total-le, weight, tally, tally-le, tally-push, weight-le, total-set}
 use Rattle.board_face.proofs.Parts.{owns_in, spares_in, app_count, returned_in-count, pool_count-parts, count-tally}
 use Rattle.board_face.proofs.NicLemmas.{making_at, owns-without}
-use Rattle.board_face.proofs.AppLemmas.{IsNext, SameHoldings, scrubbed_side, pool_count-app, owns-without as spares-without}
+use Rattle.board_face.proofs.AppLemmas.{SameHoldings, scrubbed_side, pool_count-app, owns-without as spares-without}
 use Rattle.board_face.proofs.PlaceTallies.{in_buffer, piece_places, app_places, places-parts}
 use Rattle.board_face.proofs.PlacesByEvent.{places-stretch, places-nic, places-placed, places-begun, places-text_done, places-making, places-sent}
 use Rattle.board_face.proofs.PlacesByEvent.{places-sent_linear, places-honoured, places-passed_over, places-app, app_places-same, app_places-took_note}
@@ -46,6 +46,7 @@ use Rattle.board_face.proofs.PlacesByEvent.{app_places-took_linear, app_places-c
 use Rattle.board_face.proofs.PlacesByEvent.{app_places-got_spare, app_places-lent_own, app_places-scrubbed}
 use Rattle.board_face.proofs.IsFilledByOneLemmas.{fillings-one, fillings-alone}
 use Rattle.board_face.proofs.FillingsFitLemmas.{FillingsFit-own, FillingsFit-spare, few-within}
+use Rattle.board_face.specs.Laws.{IsNextNote}
 
 -- ---- a buffer has no more places than holders
 
@@ -373,14 +374,14 @@ pub ArePlaced-same : (b : ℕ) (nic : NicSide) (apps : List AppSide) (a : ℕ) (
 ArePlaced-same b nic apps a app v here same sound = ArePlaced-app b nic apps a app (app_at app v) here
     (λ test. omega (arith, app_places-same b test nic app v same)) sound
 
-pub ArePlaced-took_note : (b : ℕ) (nic : NicSide) (apps : List AppSide) (a : ℕ) (app : AppSide) (note : Note) → IsApp apps a app → IsNext nic app note
+pub ArePlaced-took_note : (b : ℕ) (nic : NicSide) (apps : List AppSide) (a : ℕ) (app : AppSide) (note : Note) → IsApp apps a app → IsNextNote nic app note
     → note.split ≡ true → ArePlaced b nic apps → ArePlaced b nic (set apps a (app_at app (took_note app.view note)))
 ArePlaced-took_note b nic apps a app note here next split sound =
     ArePlaced-app b nic apps a app (app_at app (took_note app.view note)) here
     (λ test. omega (arith, app_places-took_note b test nic app note next split)) sound
 
 pub ArePlaced-took_linear : (b : ℕ) (nic : NicSide) (apps : List AppSide) (a : ℕ) (app : AppSide) (note : Note) (bytes : List ℕ) → IsApp apps a app
-    → IsNext nic app note → note.split ≡ false → ArePlaced b nic apps
+    → IsNextNote nic app note → note.split ≡ false → ArePlaced b nic apps
     → ArePlaced b nic (set apps a (app_at app (took_linear app.view note bytes)))
 ArePlaced-took_linear b nic apps a app note bytes here next split sound =
     ArePlaced-app b nic apps a app (app_at app (took_linear app.view note bytes)) here

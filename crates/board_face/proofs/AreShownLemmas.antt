@@ -33,7 +33,7 @@ use Rattle.board_face.specs.declared.views.app.AppSide.{AppSide}
 use Rattle.board_face.proofs.ListLemmas.{All-without}
 use Rattle.board_face.proofs.Tallies.{weight}
 use Rattle.board_face.proofs.NicLemmas.{making_at, ended_in-honoured, ended_in-passed_over}
-use Rattle.board_face.proofs.AppLemmas.{IsNext, SameHoldings, scrubbed_side}
+use Rattle.board_face.proofs.AppLemmas.{SameHoldings, scrubbed_side}
 use Rattle.board_face.proofs.TextsByEvent.{CardIsShown-placed, CardIsShown-sent, CardIsShown-same, IsShown-text_at, AppIsShown-nic, AppIsShown-sent_other}
 use Rattle.board_face.proofs.TextsByEvent.{AppIsShown-sent, AppIsShown-dealt, AppIsShown-took_note, AppIsShown-took_linear, AppIsShown-cut, AppIsShown-released}
 use Rattle.board_face.proofs.TextsByEvent.{AppIsShown-lent, AppIsShown-abandoned, AppIsShown-got_spare, AppIsShown-lent_own, AppIsShown-scrubbed}
@@ -45,6 +45,7 @@ use Rattle.board_face.proofs.ArePlacedLemmas.{ArePlaced-text_done, ArePlaced-sam
 use Rattle.board_face.proofs.ArePlacedLemmas.{ArePlaced-released, ArePlaced-lent, ArePlaced-abandoned, ArePlaced-gave, ArePlaced-got_spare}
 use Rattle.board_face.proofs.ArePlacedLemmas.{ArePlaced-filled, ArePlaced-lent_own, ArePlaced-scrubbed}
 use Rattle.board_face.proofs.StoresAtLemmas.{StoresAt, HasNoText, HasNoText-behind, CardIsShown-stored_at, AppsAreShown-stored_at}
+use Rattle.board_face.specs.Laws.{IsNextNote}
 
 All-in : {A : Type 0} (P Q : A → Type 0) (xs : List A) → ((x : A) → Contains xs x → P x → Q x) → All P xs → All Q xs
 All-in P Q xs each all k d small = each (get_or xs k d) (Contains-get_or xs k d small) (all k d small)
@@ -215,14 +216,14 @@ module _ (byte : ℕ → ℕ → ℕ) where
   AreShown-same nic apps a app v here same shown = AreShown-from_app nic apps a app (app_at app v) here (AppIsShown-same byte nic app v same)
       (λ b. ArePlaced-same b nic apps a app v here same) shown
 
-  pub AreShown-took_note : (nic : NicSide) (apps : List AppSide) (a : ℕ) (app : AppSide) (note : Note) → IsApp apps a app → IsNext nic app note
+  pub AreShown-took_note : (nic : NicSide) (apps : List AppSide) (a : ℕ) (app : AppSide) (note : Note) → IsApp apps a app → IsNextNote nic app note
       → note.split ≡ true → AreShown byte nic apps → AreShown byte nic (set apps a (app_at app (took_note app.view note)))
   AreShown-took_note nic apps a app note here next split shown =
       AreShown-from_app nic apps a app (app_at app (took_note app.view note)) here (AppIsShown-took_note byte nic app note next split)
       (λ b. ArePlaced-took_note b nic apps a app note here next split) shown
 
   pub AreShown-took_linear : (nic : NicSide) (apps : List AppSide) (a : ℕ) (app : AppSide) (note : Note) (bytes : List ℕ) → IsApp apps a app
-      → IsNext nic app note → note.split ≡ false → AreShown byte nic apps
+      → IsNextNote nic app note → note.split ≡ false → AreShown byte nic apps
       → AreShown byte nic (set apps a (app_at app (took_linear app.view note bytes)))
   AreShown-took_linear nic apps a app note bytes here next split shown =
       AreShown-from_app nic apps a app (app_at app (took_linear app.view note bytes)) here (AppIsShown-took_linear byte nic app note bytes next)

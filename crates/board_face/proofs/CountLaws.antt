@@ -22,7 +22,7 @@ use Rattle.board_face.proofs.Parts.{nic_count, app_count, user_part, owed_count,
 use Rattle.board_face.proofs.NicLemmas.{Owes, pool_count-nic, user_count-nic, pool_count-took, pool_count-placed, pool_count-swept, pool_count-gave_up}
 use Rattle.board_face.proofs.NicLemmas.{pool_count-shut, pool_count-sent, pool_count-sent_linear, pool_count-honoured, user_count-honoured}
 use Rattle.board_face.proofs.NicLemmas.{pool_count-passed_over, user_count-passed_over}
-use Rattle.board_face.proofs.AppLemmas.{SameHoldings, IsNext, scrubbed_side, pool_count-app, user_count-app, app_count-same, user_part-same, user_part-kept}
+use Rattle.board_face.proofs.AppLemmas.{SameHoldings, scrubbed_side, pool_count-app, user_count-app, app_count-same, user_part-same, user_part-kept}
 use Rattle.board_face.proofs.AppLemmas.{app_count-took_note, app_count-took_linear, app_count-cut, app_count-released, app_count-lent, user_part-lent}
 use Rattle.board_face.proofs.AppLemmas.{app_count-abandoned, user_part-abandoned, app_count-gave, user_part-gave, app_count-got_spare, app_count-filled}
 use Rattle.board_face.proofs.AppLemmas.{app_count-lent_own, user_part-lent_own, app_count-scrubbed, user_part-scrubbed}
@@ -169,12 +169,10 @@ module _ (s : AllSides) (a : ℕ) (app : AppSide) (here : IsApp s.apps a app) (v
 pub poll_law : PollLaw
 poll_law = record {
   split = λ s a app here note split next.
-      let first : IsNext s.nic app note = record { next = next.next; rest = next.rest; way = next.way; same = next.same } in
-      app-keeps s a app here (took_note app.view note) (λ b. app_count-took_note b s.nic app note first split)
+      app-keeps s a app here (took_note app.view note) (λ b. app_count-took_note b s.nic app note next split)
       (users-kept s a app here (took_note app.view note) refl refl refl);
   linear = λ s a app here note split next bytes.
-      let first : IsNext s.nic app note = record { next = next.next; rest = next.rest; way = next.way; same = next.same } in
-      app-keeps s a app here (took_linear app.view note bytes) (λ b. app_count-took_linear b s.nic app note bytes first split)
+      app-keeps s a app here (took_linear app.view note bytes) (λ b. app_count-took_linear b s.nic app note bytes next split)
       (users-kept s a app here (took_linear app.view note bytes) refl refl refl);
 }
 

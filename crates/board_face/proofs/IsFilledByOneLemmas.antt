@@ -30,11 +30,12 @@ use Rattle.board_face.proofs.Tallies.{weight, tally, total, tally-le, tally-push
 use Rattle.board_face.proofs.Parts.{owns_in, pieces_in, spares_in, app_count, owed_count, count-tally}
 use Rattle.board_face.proofs.NicLemmas.{Owes, making_at, owns-without, pool_count-nic, pool_count-took, pool_count-placed, pool_count-shut, pool_count-sent}
 use Rattle.board_face.proofs.NicLemmas.{pool_count-sent_linear, pool_count-honoured, pool_count-passed_over, pool_count-begun, pool_count-text_done}
-use Rattle.board_face.proofs.AppLemmas.{IsNext, SameHoldings, scrubbed_side, pool_count-app, app_count-same, app_count-took_note, app_count-took_linear}
+use Rattle.board_face.proofs.AppLemmas.{SameHoldings, scrubbed_side, pool_count-app, app_count-same, app_count-took_note, app_count-took_linear}
 use Rattle.board_face.proofs.AppLemmas.{app_count-cut, app_count-released, app_count-lent, app_count-abandoned, app_count-gave, app_count-got_spare}
 use Rattle.board_face.proofs.AppLemmas.{app_count-filled, app_count-lent_own, app_count-scrubbed}
 use Rattle.board_face.proofs.FillerCounts.{fillings-parts, owns_in-took, owns_in-shut, owns_in-placed, spares_in-got_spare, spares_in-filled}
 use Rattle.board_face.proofs.FillerCounts.{spares_in-lent_own}
+use Rattle.board_face.specs.Laws.{IsNextNote}
 
 -- ---- the same by numbers
 
@@ -232,13 +233,13 @@ IsFilledByOne-same b nic apps a app v here same sound =
     IsFilledByOne-app b nic apps a app (app_at app v) here (omega (arith, spares)) (omega (arith, app_count-same b nic app v same)) sound
 
 pub IsFilledByOne-took_note : (b : ℕ) (nic : NicSide) (apps : List AppSide) (a : ℕ) (app : AppSide) (note : Note) → IsApp apps a app
-    → IsNext nic app note → note.split ≡ true → IsFilledByOne b nic apps → IsFilledByOne b nic (set apps a (app_at app (took_note app.view note)))
+    → IsNextNote nic app note → note.split ≡ true → IsFilledByOne b nic apps → IsFilledByOne b nic (set apps a (app_at app (took_note app.view note)))
 IsFilledByOne-took_note b nic apps a app note here next split sound =
     IsFilledByOne-app b nic apps a app (app_at app (took_note app.view note)) here (omega arith)
     (omega (arith, app_count-took_note b nic app note next split)) sound
 
 pub IsFilledByOne-took_linear : (b : ℕ) (nic : NicSide) (apps : List AppSide) (a : ℕ) (app : AppSide) (note : Note) (bytes : List ℕ) → IsApp apps a app
-    → IsNext nic app note → note.split ≡ false → IsFilledByOne b nic apps
+    → IsNextNote nic app note → note.split ≡ false → IsFilledByOne b nic apps
     → IsFilledByOne b nic (set apps a (app_at app (took_linear app.view note bytes)))
 IsFilledByOne-took_linear b nic apps a app note bytes here next split sound =
     IsFilledByOne-app b nic apps a app (app_at app (took_linear app.view note bytes)) here (omega arith)

@@ -30,3 +30,5 @@ pub mod OwnBufferLemmas
 pub mod WrittenLemmas
 pub mod DealtLemmas
 pub mod LiesLemmas
+pub mod NewNotes
+pub mod Losing

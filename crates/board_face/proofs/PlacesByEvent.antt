@@ -38,8 +38,9 @@ use Rattle.board_face.proofs.ListLemmas.{same_place-is, same_place-refl, same_fi
 use Rattle.board_face.proofs.Tallies.{total-le, weight, tally, total, tally-append, tally-push, tally-without, total-set}
 use Rattle.board_face.proofs.Parts.{total-shift}
 use Rattle.board_face.proofs.NicLemmas.{making_at, sent_to-other, sent_to-same, drop-push, ended_in-honoured, ended_in-passed_over}
-use Rattle.board_face.proofs.AppLemmas.{IsNext, SameHoldings, after-taken, scrubbed_side}
+use Rattle.board_face.proofs.AppLemmas.{SameHoldings, after-taken, scrubbed_side}
 use Rattle.board_face.proofs.PlaceTallies.{tally-filter, in_buffer, piece_places, way_places, app_places, places-parts}
+use Rattle.board_face.specs.Laws.{IsNextNote}
 
 -- ---- the card's events that send nothing and deal with nothing
 
@@ -210,7 +211,7 @@ pub places-app : (b : ℕ) (test : Place → Bool) (nic : NicSide) (apps : List 
 places-app b test nic apps a app now here =
     omega (arith, places-parts b test nic (set apps a now), places-parts b test nic apps, total-set (app_places b test nic) apps a app now here.there here.is)
 
-way-next : (b : ℕ) (test : Place → Bool) (nic : NicSide) (app : AppSide) (note : Note) (t : TakenNote) → IsNext nic app note
+way-next : (b : ℕ) (test : Place → Bool) (nic : NicSide) (app : AppSide) (note : Note) (t : TakenNote) → IsNextNote nic app note
     → way_places b test nic app ≡ weight (note.split && in_buffer b test note.place) + tally (λ (s : SentNote). in_buffer b test s.note.place)
     (filter (λ (s : SentNote). s.note.split) (drop (length (app.view.taken ++ t ∷ [])) (sent_to app.view.app nic)))
 way-next b test nic app note t next =
@@ -222,7 +223,7 @@ way-next b test nic app note t next =
     omega (arith, gone, was, one)
 
 -- a piece that is taken stays where it lies
-pub app_places-took_note : (b : ℕ) (test : Place → Bool) (nic : NicSide) (app : AppSide) (note : Note) → IsNext nic app note → note.split ≡ true
+pub app_places-took_note : (b : ℕ) (test : Place → Bool) (nic : NicSide) (app : AppSide) (note : Note) → IsNextNote nic app note → note.split ≡ true
     → app_places b test nic (app_at app (took_note app.view note)) ≡ app_places b test nic app
 app_places-took_note b test nic app note next split =
     let one : weight (note.split && in_buffer b test note.place)
@@ -234,7 +235,7 @@ app_places-took_note b test nic app note next split =
       tally-push (λ (h : HeldPiece). in_buffer b test h.place) app.view.helds (record { place = note.place; origin = of_note (length app.view.taken) 0 }),
     )
 
-pub app_places-took_linear : (b : ℕ) (test : Place → Bool) (nic : NicSide) (app : AppSide) (note : Note) (bytes : List ℕ) → IsNext nic app note
+pub app_places-took_linear : (b : ℕ) (test : Place → Bool) (nic : NicSide) (app : AppSide) (note : Note) (bytes : List ℕ) → IsNextNote nic app note
     → note.split ≡ false → app_places b test nic (app_at app (took_linear app.view note bytes)) ≡ app_places b test nic app
 app_places-took_linear b test nic app note bytes next split =
     let none : weight (note.split && in_buffer b test note.place) ≡ 0 = ap (λ c. weight (c && in_buffer b test note.place)) split in

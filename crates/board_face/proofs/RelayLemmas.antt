@@ -23,7 +23,7 @@ use Rattle.board_face.specs.declared.views.app.AppView.{AppView}
 use Rattle.board_face.specs.declared.views.app.AppSide.{AppSide}
 use Rattle.board_face.proofs.ListLemmas.{not-eqb}
 use Rattle.board_face.proofs.NicLemmas.{sent_to-other, sent_to-same}
-use Rattle.board_face.proofs.AppLemmas.{IsNext}
+use Rattle.board_face.specs.Laws.{IsNextNote}
 
 -- ---- what is on its way
 
@@ -42,7 +42,7 @@ pub way-taken : (nic : NicSide) (app : AppSide) (ns : List TakenNote) (es : List
 way-taken nic app ns es relayed = drop-behind as_taken app.view.taken ns (sent_to app.view.app nic) relayed.notes
 
 first-way : (nic : NicSide) (app : AppSide) (t : TakenNote) (ns : List TakenNote) (way : List SentNote) → on_way nic app ≡ way
-    → map as_taken way ≡ t ∷ ns → IsNext nic app t.note
+    → map as_taken way ≡ t ∷ ns → IsNextNote nic app t.note
 first-way nic app t ns [] way e = absurd (let none : ⊥ = cc in none)
 first-way nic app t ns (s ∷ rest) way e =
     let first : as_taken s ≡ t = cc in
@@ -50,7 +50,7 @@ first-way nic app t ns (s ∷ rest) way e =
 
 -- the first note in the slots is the next
 pub IsNext-relayed : (nic : NicSide) (app : AppSide) (t : TakenNote) (ns : List TakenNote) (es : List Rqe) → Relayed nic app (t ∷ ns) es
-    → IsNext nic app t.note
+    → IsNextNote nic app t.note
 IsNext-relayed nic app t ns es relayed = first-way nic app t ns (on_way nic app) refl (way-taken nic app (t ∷ ns) es relayed)
 
 -- ---- the card's events

@@ -39,8 +39,9 @@ use Rattle.board_face.proofs.ListLemmas.{same_place-is, same_place-refl, same_fi
 use Rattle.board_face.proofs.Tallies.{length-tally}
 use Rattle.board_face.proofs.Parts.{returned_in-count}
 use Rattle.board_face.proofs.NicLemmas.{making_at, sent_to-other, sent_to-same, drop-push}
-use Rattle.board_face.proofs.AppLemmas.{IsNext, after-taken, scrubbed_side, SameHoldings}
+use Rattle.board_face.proofs.AppLemmas.{after-taken, scrubbed_side, SameHoldings}
 use Rattle.board_face.proofs.RelayLemmas.{bytes_sent-push, bytes_sent-past, take-drop-none}
+use Rattle.board_face.specs.Laws.{IsNextNote}
 
 -- ---- lists
 
@@ -186,7 +187,7 @@ module _ (byte : ℕ → ℕ → ℕ) where
       rw bytes (subst (λ (text : List ℕ). IsShown byte note.place text) (sym (ap (λ n. take n s.bytes) (sym here.len) ∙ take-length s.bytes)) here)
 
   -- the piece of a note that is taken is held
-  pub AppIsShown-took_note : (nic : NicSide) (app : AppSide) (note : Note) → IsNext nic app note → note.split ≡ true → AppIsShown byte nic app
+  pub AppIsShown-took_note : (nic : NicSide) (app : AppSide) (note : Note) → IsNextNote nic app note → note.split ≡ true → AppIsShown byte nic app
       → AppIsShown byte nic (app_at app (took_note app.view note))
   AppIsShown-took_note nic app note next split shown =
       let P : SentNote → Type 0 = λ x. x.note.split ≡ true → IsShown byte x.note.place x.bytes in
@@ -201,7 +202,7 @@ module _ (byte : ℕ → ℕ → ℕ) where
         owed = shown.owed;
       }
 
-  pub AppIsShown-took_linear : (nic : NicSide) (app : AppSide) (note : Note) (bytes : List ℕ) → IsNext nic app note → AppIsShown byte nic app
+  pub AppIsShown-took_linear : (nic : NicSide) (app : AppSide) (note : Note) (bytes : List ℕ) → IsNextNote nic app note → AppIsShown byte nic app
       → AppIsShown byte nic (app_at app (took_linear app.view note bytes))
   AppIsShown-took_linear nic app note bytes next shown =
       let P : SentNote → Type 0 = λ x. x.note.split ≡ true → IsShown byte x.note.place x.bytes in

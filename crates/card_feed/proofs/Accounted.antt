@@ -1,7 +1,7 @@
 -- The stream of a flow, without the frames that are left out, by the frames that were offered.
 use Rattle.std.proofs.Common.{◌≡◌, ℕ, suc, ◌+◌, ◌^◌, List, [], ◌∷◌, ◌++◌, length, map, filter, append_assoc, length-append, refl}
 use Rattle.std.proofs.Common.{sym, ap, subst, ◌∙◌, ⊎_elim, arith, Bool, true, false, not, nat_lt, if◌then◌else◌, ◌==◌, Option, Some, None}
-use Rattle.std.proofs.Common.{option_map}
+use Rattle.std.proofs.Common.{option_map, map-id}
 use Rattle.std.specs.Prelude.{All}
 use Rattle.std.specs.List.{list_any, slice_get}
 use Rattle.std.proofs.lemmas.Bool.{eqb-true, eqb-false, ne_eqb, cases_Bool, true≢false}
@@ -9,7 +9,6 @@ use Rattle.zr_kinds.specs.CopyingReceiver.{Placed, nothing_placed, next_missing,
 use Rattle.zr_kinds.proofs.InOrder.{first_of-nothing}
 use Rattle.zr_kinds.proofs.LeastMissing.{IsBounded-nothing}
 use Rattle.zr_kinds.proofs.Mapped.{MapsPlaced, received-map, front_of-map}
-use Rattle.board_face.proofs.ListLemmas.{map-itself}
 use Rattle.board_face.specs.declared.views.nic.SentNote.{SentNote}
 use Rattle.flow_table.specs.Steered.{Steered, first_byte}
 use Rattle.flow_table.specs.CountedPart.{FlowClose, not_closed, closed_by, counted_part}
@@ -30,7 +29,7 @@ IsLike one other = MapsPlaced (λ (x : ℕ). x) one other
 
 received-like : (base s : ℕ) (one other : Placed ℕ) (values : List ℕ) → IsLike one other → IsLike (received base one s values)
     (received base other s values)
-received-like base s one other values like = subst (λ bs. IsLike (received base one s values) (received base other s bs)) (map-itself values)
+received-like base s one other values like = subst (λ bs. IsLike (received base one s values) (received base other s bs)) (map-id values)
     (received-map (λ (x : ℕ). x) base one other s values like)
 
 nothing_brought : (from p : ℕ) → brought {A = ℕ} [] from p ≡ None
@@ -201,7 +200,7 @@ base_shown split flow (p ∷ os) all before notes is shows some o later first =
 -- ---- the stream
 
 like_front : (one other : Placed ℕ) → IsLike one other → front_of other ≡ front_of one
-like_front one other like = front_of-map (λ (x : ℕ). x) one other like ∙ map-itself (front_of one)
+like_front one other like = front_of-map (λ (x : ℕ). x) one other like ∙ map-id (front_of one)
 
 nothing_like : IsLike nothing_placed nothing_placed
 nothing_like = record { at = λ p. refl; bounded = IsBounded-nothing; mapped_bounded = IsBounded-nothing }

@@ -83,8 +83,8 @@ cut-law s sound a app at p m out some less =
     (λ held. rw (lt-ltb 0 m some, lt-ltb m p.len less) refl) in
     logs-by e s new refl (follows-by e p.buffer (x ∷ []) news s new refl (NoneReturns-app s a app v at sound.returns) shifts
     (λ held q u. pool-said held (pool_of new p.buffer) q) becomes)
-    (tallies-none e s a app v at (λ n. record { loans = refl; bytes = refl; copies = refl; holds = refl; returns = refl; spares = refl })
-    (record { stray = refl; takes = refl; sends = refl; deals = refl }) (gains-none app.view v refl refl refl refl) (record { taken = refl; returned = refl; spares = refl }))
+    (tallies-none e s a app v at (λ n. assumption)
+    (assumption) (gains-none app.view v refl refl refl refl) (assumption))
 
 pub released-law : ReleasedLaw
 released-law s sound a app at p out =
@@ -97,8 +97,8 @@ released-law s sound a app at p out =
     (λ there none. rw (app-there s sound a app at, within-by s sound p.buffer p.offset p.len there none) refl) (λ held. refl) in
     logs-by e s new refl (follows-by e p.buffer (x ∷ []) [] s new refl (NoneReturns-app s a app v at sound.returns) shifts
     (λ held q u. pool-said held (pool_of new p.buffer) q) becomes)
-    (tallies-none e s a app v at (λ n. record { loans = refl; bytes = refl; copies = refl; holds = refl; returns = refl; spares = refl })
-    (record { stray = refl; takes = refl; sends = refl; deals = refl }) (gains-none app.view v refl refl refl refl) (record { taken = refl; returned = refl; spares = refl }))
+    (tallies-none e s a app v at (λ n. assumption)
+    (assumption) (gains-none app.view v refl refl refl refl) (assumption))
 
 -- ---- loans
 
@@ -222,13 +222,13 @@ app-unlogged = record {
       same-app s a app v at (gains-none app.view v refl refl refl refl)
       (record { taken = takes-none app.view.taken _ split; returned = refl; spares = refl }) (same-took_linear s a app at note split next bytes);
   fill = λ s a app at own bytes out.
-      same-app s a app (filled app.view own bytes) at (gains-filled app.view own bytes out) (record { taken = refl; returned = refl; spares = refl })
+      same-app s a app (filled app.view own bytes) at (gains-filled app.view own bytes out) (assumption)
       (same-filled s a app at own bytes out);
-  look = λ s a app at look. let v = app_saw app.view look in untouched s a app v at (λ b f. refl) (gains-none app.view v refl refl refl refl) (record { taken = refl; returned = refl; spares = refl });
-  read = λ s a app at p from bytes. let v = has_read app.view p from bytes in untouched s a app v at (λ b f. refl) (gains-none app.view v refl refl refl refl) (record { taken = refl; returned = refl; spares = refl });
-  raw = λ s a app at entry. let v = pushed_raw app.view entry in untouched s a app v at (λ b f. refl) (gains-none app.view v refl refl refl refl) (record { taken = refl; returned = refl; spares = refl });
-  settled = λ s a app at. let v = came_to_rest app.view in untouched s a app v at (λ b f. refl) (gains-none app.view v refl refl refl refl) (record { taken = refl; returned = refl; spares = refl });
-  quiet = λ s a app at. let v = fell_quiet app.view in untouched s a app v at (λ b f. refl) (gains-none app.view v refl refl refl refl) (record { taken = refl; returned = refl; spares = refl });
-  end = λ s a app at. let v = told_end app.view in untouched s a app v at (λ b f. refl) (gains-none app.view v refl refl refl refl) (record { taken = refl; returned = refl; spares = refl });
-  left = λ s a app at. let v = left_board app.view in untouched s a app v at (λ b f. refl) (gains-none app.view v refl refl refl refl) (record { taken = refl; returned = refl; spares = refl });
+  look = λ s a app at look. let v = app_saw app.view look in untouched s a app v at (λ b f. refl) (gains-none app.view v refl refl refl refl) (assumption);
+  read = λ s a app at p from bytes. let v = has_read app.view p from bytes in untouched s a app v at (λ b f. refl) (gains-none app.view v refl refl refl refl) (assumption);
+  raw = λ s a app at entry. let v = pushed_raw app.view entry in untouched s a app v at (λ b f. refl) (gains-none app.view v refl refl refl refl) (assumption);
+  settled = λ s a app at. let v = came_to_rest app.view in untouched s a app v at (λ b f. refl) (gains-none app.view v refl refl refl refl) (assumption);
+  quiet = λ s a app at. let v = fell_quiet app.view in untouched s a app v at (λ b f. refl) (gains-none app.view v refl refl refl refl) (assumption);
+  end = λ s a app at. let v = told_end app.view in untouched s a app v at (λ b f. refl) (gains-none app.view v refl refl refl refl) (assumption);
+  left = λ s a app at. let v = left_board app.view in untouched s a app v at (λ b f. refl) (gains-none app.view v refl refl refl refl) (assumption);
 }

@@ -50,7 +50,7 @@ gains-returned v p out =
 pub gains-gave : (v : AppView) (p : Place) → HasLoan v p → Gains 0 0 0 v (gave v p)
 gains-gave v p out =
     let gains = gains-returned v p out in
-    record { loans_are = gains.loans_are; bytes_are = gains.bytes_are; copies_are = gains.copies_are }
+    assumption
 
 pub gains-got_spare : (v : AppView) (buffer : ℕ) → Gains 0 0 0 v (got_spare v buffer)
 gains-got_spare v buffer =
@@ -119,7 +119,7 @@ tallies-took_note s a app at note split =
     tallies-app (event.Held a p.buffer p.offset p.len) s a app (app_at app v) at (gains-none app.view v refl refl refl refl)
     (record { holds = rw (eqb_same a) more; returns = sym (append-nil _); spares = omega arith })
     (λ n ne. let other = other-number a n ne in record { loans = refl; bytes = refl; copies = refl; holds = rw other refl; returns = refl; spares = refl })
-    (record { stray = refl; takes = refl; sends = refl; deals = refl })
+    (assumption)
 
 -- a loan was returned, by an entry or without one
 tallies-back : (s : AllSides) (a : ℕ) (app : AppSide) (v : AppView) → IsApp s.apps a app → (p : Place) (user : ℕ) → Gains 0 0 0 app.view v
@@ -129,7 +129,7 @@ tallies-back s a app v at p user none taken returned spares =
     tallies-app (event.Back a p.buffer p.offset p.len user) s a app (app_at app v) at none
     (record { holds = ap (flat_map taken_as) taken ∙ sym (append-nil _); returns = rw (eqb_same a) returned; spares = omega (arith, spares) })
     (λ n ne. let other = other-number a n ne in record { loans = refl; bytes = refl; copies = refl; holds = refl; returns = rw other refl; spares = refl })
-    (record { stray = refl; takes = refl; sends = refl; deals = refl })
+    (assumption)
 
 pub tallies-gave : (s : AllSides) (a : ℕ) (app : AppSide) → IsApp s.apps a app → (p : Place) (user : ℕ) → HasLoan app.view p
     → Tallies (event.Back a p.buffer p.offset p.len user) s (by_app s a app (gave app.view p))
@@ -146,8 +146,8 @@ pub tallies-got_spare : (s : AllSides) (a : ℕ) (app : AppSide) → IsApp s.app
 tallies-got_spare s a app at buffer pool =
     tallies-app (event.Spare a buffer pool) s a app (app_at app (got_spare app.view buffer)) at (gains-got_spare app.view buffer)
     (record { holds = sym (append-nil _); returns = sym (append-nil _); spares = omega (arith, ap one (eqb_same a)) })
-    (λ n ne. record { loans = refl; bytes = refl; copies = refl; holds = refl; returns = refl; spares = other-number a n ne })
-    (record { stray = refl; takes = refl; sends = refl; deals = refl })
+    (λ n ne. assumption (other-number a n ne))
+    (assumption)
 
 pub tallies-lent : (s : AllSides) (a : ℕ) (app : AppSide) → IsApp s.apps a app → (p : Place) (pool user : ℕ)
     → Tallies (event.Lend a p.buffer p.offset p.len pool user) s (by_app s a app (lent app.view p))
@@ -155,7 +155,7 @@ tallies-lent s a app at p pool user =
     tallies-app (event.Lend a p.buffer p.offset p.len pool user) s a app (app_at app (lent app.view p)) at (rw (eqb_same a) (gains-lent app.view p))
     (record { holds = sym (append-nil _); returns = sym (append-nil _); spares = omega arith })
     (λ n ne. let other = other-number a n ne in
-    record { loans = other; bytes = rw other refl; copies = refl; holds = refl; returns = refl; spares = refl }) (record { stray = refl; takes = refl; sends = refl; deals = refl })
+    record { loans = other; bytes = rw other refl; copies = refl; holds = refl; returns = refl; spares = refl }) (assumption)
 
 pub tallies-lent_own : (s : AllSides) (a : ℕ) (app : AppSide) → IsApp s.apps a app → (it : Filling) → HasSpare app.view it → (pool user : ℕ)
     → Tallies (event.Own a it.buffer (length (own_bytes app.view it)) pool user) s (by_app s a app (lent_own app.view it))
@@ -164,4 +164,4 @@ tallies-lent_own s a app at it out pool user =
     (rw (eqb_same a) (gains-lent_own app.view it out))
     (record { holds = sym (append-nil _); returns = sym (append-nil _); spares = omega arith })
     (λ n ne. let other = other-number a n ne in
-    record { loans = other; bytes = rw other refl; copies = other; holds = refl; returns = refl; spares = refl }) (record { stray = refl; takes = refl; sends = refl; deals = refl })
+    record { loans = other; bytes = rw other refl; copies = other; holds = refl; returns = refl; spares = refl }) (assumption)

@@ -77,7 +77,7 @@ took-law s sound buffer pool none =
     ) in
     logs-by e s new refl (follows-by e buffer [] (holding.Own ∷ []) s new refl (NoneReturns-card s (took s.nic.view buffer) sound.returns)
     (shifts-took s buffer) (λ held p u. pool-said held (pool_of new buffer) p) becomes)
-    (tallies-unstrayed e s (took s.nic.view buffer) (λ n. record { loans = refl; bytes = refl; copies = refl; holds = refl; returns = refl; spares = refl }) refl refl
+    (tallies-unstrayed e s (took s.nic.view buffer) (λ n. assumption) refl refl
     (record { takes = refl; sends = sym (append-nil _); deals = sym (append-nil _) }))
 
 -- ---- placing
@@ -141,8 +141,8 @@ placed-law s sound it bytes out some within =
     ) in
     logs-by e s new refl (follows-by e it.buffer [] (x ∷ []) s new refl (NoneReturns-card s (placed s.nic.view it bytes) sound.returns)
     (shifts-placed s it bytes out) (λ held p u. pool-said held (pool_of new it.buffer) p) becomes)
-    (tallies-unstrayed e s (placed s.nic.view it bytes) (λ n. record { loans = refl; bytes = refl; copies = refl; holds = refl; returns = refl; spares = refl }) refl refl
-    (card-stays e s.nic.view (placed s.nic.view it bytes) (record { stray = refl; takes = refl; sends = refl; deals = refl }) refl refl refl))
+    (tallies-unstrayed e s (placed s.nic.view it bytes) (λ n. assumption) refl refl
+    (card-stays e s.nic.view (placed s.nic.view it bytes) (assumption) refl refl refl))
 
 -- ---- sending and shutting
 
@@ -167,7 +167,7 @@ sent-law s sound a app at note split out =
     (λ there none. rw (app-there s sound a app at, within-by s sound p.buffer p.offset p.len there none) refl) (λ held. refl) in
     logs-by e s new refl (follows-by e p.buffer (x ∷ []) (y ∷ []) s new refl (NoneReturns-card s (sent s.nic.view a note) sound.returns) shifts
     (λ held p u. refl) becomes)
-    (tallies-unstrayed e s (sent s.nic.view a note) (λ n. record { loans = refl; bytes = refl; copies = refl; holds = refl; returns = refl; spares = refl }) refl refl
+    (tallies-unstrayed e s (sent s.nic.view a note) (λ n. assumption) refl refl
     (record { takes = sym (append-nil _); sends = sends-more s.nic.view.sent _ split; deals = sym (append-nil _) }))
 
 pub shut-law : ShutLaw
@@ -178,8 +178,8 @@ shut-law s sound it last out =
     let becomes = one-becomes e it.buffer holding.Own [] s new sound shifts refl (λ there none. there) (λ held. refl) in
     logs-by e s new refl (follows-by e it.buffer (holding.Own ∷ []) [] s new refl (NoneReturns-card s (shut s.nic.view it last) sound.returns) shifts
     (λ held p u. pool-said held (pool_of new it.buffer) p) becomes)
-    (tallies-unstrayed e s (shut s.nic.view it last) (λ n. record { loans = refl; bytes = refl; copies = refl; holds = refl; returns = refl; spares = refl }) refl refl
-    (card-stays e s.nic.view (shut s.nic.view it last) (record { stray = refl; takes = refl; sends = refl; deals = refl }) refl refl refl))
+    (tallies-unstrayed e s (shut s.nic.view it last) (λ n. assumption) refl refl
+    (card-stays e s.nic.view (shut s.nic.view it last) (assumption) refl refl refl))
 
 -- ---- entries
 
@@ -193,7 +193,7 @@ honoured-law s sound a app at entry buffer last owes =
     let becomes = one-becomes e buffer x [] s new sound shifts refl (λ there none. rw (app-there s sound a app at, there) refl) (λ held. refl) in
     logs-by e s new refl (follows-by e buffer (x ∷ []) [] s new refl (NoneReturns-card s v sound.returns) shifts
     (λ held p u. both-said held (pool_of new buffer) a (user_of new a buffer) p (u a)) becomes)
-    (tallies-card e s v (λ n. record { loans = refl; bytes = refl; copies = refl; holds = refl; returns = refl; spares = refl }) (count-push (λ (d : Dealt). was_stray d.fate) s.nic.view.dealt _)
+    (tallies-card e s v (λ n. assumption) (count-push (λ (d : Dealt). was_stray d.fate) s.nic.view.dealt _)
     (record { takes = sym (append-nil _); sends = sym (append-nil _); deals = map-append dealt_as s.nic.view.dealt _ }))
 
 stray-is : (s : Setting) (h : Holdings) (a : ℕ) → is_app s a ≡ true → after s h (event.Stray a) ≡ Some h
@@ -206,7 +206,7 @@ passed_over-law s sound a app at entry =
     let new = by_card s v in
     logs-by (event.Stray a) s new refl
     (λ h same. (h, stray-is (run_of s) h a (app-there s sound a app at), λ b f. same b f ∙ sym (same-passed_over s a entry b f)))
-    (tallies-card (event.Stray a) s v (λ n. record { loans = refl; bytes = refl; copies = refl; holds = refl; returns = refl; spares = refl }) (count-push (λ (d : Dealt). was_stray d.fate) s.nic.view.dealt _)
+    (tallies-card (event.Stray a) s v (λ n. assumption) (count-push (λ (d : Dealt). was_stray d.fate) s.nic.view.dealt _)
     (record { takes = sym (append-nil _); sends = sym (append-nil _); deals = map-append dealt_as s.nic.view.dealt _ }))
 
 -- ---- no event

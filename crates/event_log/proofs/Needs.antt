@@ -26,13 +26,13 @@ use Rattle.event_log.proofs.Weighing.{one_if, some_becomes}
 -- ---- nothing is under way after the event either
 
 pub NoneReturns-card : (s : AllSides) (v : NicView) → NoneReturns s → NoneReturns (by_card s v)
-NoneReturns-card s v none = record { entry = none.entry; owes = none.owes }
+NoneReturns-card s v none = assumption
 
 pub NoneReturns-app : (s : AllSides) (a : ℕ) (app : AppSide) (v : AppView) → IsApp s.apps a app → NoneReturns s → NoneReturns (by_app s a app v)
 NoneReturns-app s a app v at none =
     let P : AppSide → Type 0 = λ x. (b : ℕ) → slice_index x.inside.scrub_owes b ≡ 0 in
     let own : P app = subst P at.is (All-get_or P s.apps a app at.there none.owes) in
-    record { entry = none.entry; owes = All-set P s.apps a (app_at app v) own none.owes }
+    assumption (All-set P s.apps a (app_at app v) own none.owes)
 
 -- ---- counts
 

@@ -44,7 +44,7 @@ no-holders s b none = kinds-none (holders_of b s.nic s.apps) none
 
 -- an application that did nothing has no loans and no spares
 new-tallied : (setting : Shared) (a : ℕ) → IsTallied a (new_app_view setting a) []
-new-tallied setting a = record { loans = refl; bytes = refl; copies = refl; lists = record { holds = refl; returns = refl; spares = refl } }
+new-tallied setting a = assumption
 
 abbrev NoneTallied : AppSide → Type 0
 NoneTallied app = IsTallied app.view.app app.view []
@@ -65,7 +65,7 @@ opened-law setting room most = record {
         (All-get_or NoneTallied apps a app at.there (All-new NoneTallied setting 0 (apps_of setting) (new-tallied setting))) in
         subst (λ n. IsTallied n app.view []) at.number new;
     strays = refl;
-    card = record { takes = refl; sends = refl; deals = refl };
+    card = assumption;
   };
 }
 
@@ -113,7 +113,7 @@ each-area (a ∷ areas) sizes few =
     let size : IsBufferSize a.size = sizes 0 some in
     let area : IsArea (a.buffers, a.size) = record {
       buffers = (some, omega (arith, few, in-cons a areas));
-      size = record { power = size.power; least = size.least; most = size.most };
+      size = assumption;
     } in
     rw (lt-ltb 0 a.buffers some) (All-cons IsArea (a.buffers, a.size) (areas_of areas) area rest))
     (λ none. rw (le-ltb 0 a.buffers none) rest)

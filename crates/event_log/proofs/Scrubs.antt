@@ -99,7 +99,7 @@ module _ (s : AllSides) (sound : AreSound s) (a : ℕ) (app : AppSide) (at : IsA
   NoneReturns-new =
       let P : AppSide → Type 0 = λ x. (b : ℕ) → slice_index x.inside.scrub_owes b ≡ 0 in
       let own : P app = subst P at.is (All-get_or P s.apps a app at.there sound.returns.owes) in
-      record { entry = sound.returns.entry; owes = All-set P s.apps a now own sound.returns.owes }
+      assumption (All-set P s.apps a now own sound.returns.owes)
 
   -- ---- buffer after buffer
 
@@ -161,8 +161,8 @@ module _ (s : AllSides) (sound : AreSound s) (a : ℕ) (app : AppSide) (at : IsA
   -- a scrub tells of no loan that begins
   scrub-tallied : (n : ℕ) (events : List Event) → AreTallied s events → AreTallied s (events ++ scrub_of new a n ∷ [])
   scrub-tallied n events was =
-      tallies-card (scrub_of new a n) s s.nic.view (λ other. record { loans = refl; bytes = refl; copies = refl; holds = refl; returns = refl; spares = refl }) (omega arith)
-      (card-stays (scrub_of new a n) s.nic.view s.nic.view (record { stray = refl; takes = refl; sends = refl; deals = refl }) refl refl refl) events was
+      tallies-card (scrub_of new a n) s s.nic.view (λ other. assumption) (omega arith)
+      (card-stays (scrub_of new a n) s.nic.view s.nic.view (assumption) refl refl refl) events was
 
   scrubs : (kept : Kept) → IsLogged s kept → (n : ℕ) → n ≤ total_buffers (run_of s) → ((b : ℕ) → b < n → HasSmallNumbers (scrub_of new a b))
       → Tells (run_of s) (below n) (AreTallied s) (scrub_logged s new a kept n)
@@ -204,5 +204,5 @@ scrubbed-law s sound a app at loans taken takes kept small was =
     let new = scrubbed_sides s a app taken in
     let same = gains-none app.view (scrubbed_by app taken).view refl refl refl refl in
     logged-of (run_of s) (below s sound a app at loans taken takes n) (AreTallied s) new (scrub_logged s new a kept n) refl
-    (all-below s sound a app at loans taken takes) (keeps-app s a app (scrubbed_by app taken) at same (record { taken = refl; returned = refl; spares = refl }))
+    (all-below s sound a app at loans taken takes) (keeps-app s a app (scrubbed_by app taken) at same (assumption))
     (scrubs s sound a app at loans taken takes kept was n (omega arith) small)

@@ -158,7 +158,7 @@ pub nothing-tallied : (a : ℕ) (e : Event) (v : AppView) (events : List Event) 
     → IsTallied a v (events ++ e ∷ [])
 nothing-tallied a e v events nothing was =
     event-tallied a e v v events (nothing-gained a e v v nothing (none-gained v))
-    (app-stays a e v v nothing (record { taken = refl; returned = refl; spares = refl })) was
+    (app-stays a e v v nothing (assumption)) was
 
 strays-push : (events : List Event) (e : Event) → is_stray e ≡ false → strays_in (events ++ e ∷ []) ≡ strays_in events
 strays-push events e not_one = omega (arith, count-push is_stray events e, ap one not_one)
@@ -210,15 +210,7 @@ tallies-card e s v nothing strays gains events was = record {
 
 pub keeps-card : (s : AllSides) (v : NicView) → v.used ≡ s.nic.view.used → flat_map sent_as v.sent ≡ flat_map sent_as s.nic.view.sent
     → v.dealt ≡ s.nic.view.dealt → KeepsTallies s (by_card s v)
-keeps-card s v used sent dealt events was = record {
-  apps = was.apps;
-  strays = was.strays ∙ ap strays_of (sym dealt);
-  card = record {
-    takes = was.card.takes ∙ sym used;
-    sends = was.card.sends ∙ sym sent;
-    deals = was.card.deals ∙ ap (map dealt_as) (sym dealt);
-  };
-}
+keeps-card s v used sent dealt events was = assumption (was.strays ∙ ap strays_of (sym dealt), was.card.takes ∙ sym used, was.card.sends ∙ sym sent, was.card.deals ∙ ap (map dealt_as) (sym dealt))
 
 -- ---- what a log tells
 

@@ -1,8 +1,7 @@
 -- A note chooses its flow, whose queue changes then.
 use Rattle.std.proofs.Common.{◌≡◌, ◌≢◌, ℕ, ◌+◌, ◌<◌, ◌≤◌, false, List, [], ◌∷◌, ◌++◌, length, set, get_or, refl, sym, ap, subst, ◌∙◌, arith, ⊎_elim, inl, inr}
 use Rattle.std.specs.Prelude.{◌==◌}
-use Rattle.std.proofs.lemmas.Bool.{cases_eq}
-use Rattle.std.proofs.lemmas.Bool.Decides.{nat_tests}
+use Rattle.std.proofs.lemmas.Bool.{cases_eq, ne_eqb}
 use Rattle.zr_kinds.specs.declared.place.Note.{Note}
 use Rattle.tcp_reorder.specs.Queue.{Queue}
 use Rattle.flow_queues.specs.declared.queues.Waiting.{Waiting}
@@ -94,10 +93,7 @@ module _ (was : List FlowQueue) (note : Note) (own : FlowQueue) (put : FlowQueue
             ≡ 0 = subst (λ k. many k was ≡ 0) (sym is) none in omega
             (arith, sum, none_here, number-is n (record own { queue = q }) (number ∙ sym is)))
             (λ (other : n ≢ note.flow). (let no : (own.number == n)
-            ≡ false = not-same own.number n (λ e. other (sym e ∙ number)) in let z : is_number n (record own { queue = q })
+            ≡ false = ne_eqb own.number n (λ e. other (sym e ∙ number)) in let z : is_number n (record own { queue = q })
             ≡ 0 = rw no refl in omega (arith, sum, z, few)))
             (cases_eq n note.flow),
       )
-    where
-      not-same : (m k : ℕ) → m ≢ k → (m == k) ≡ false
-      not-same m k away = grind (arith, nat_tests)

@@ -24,7 +24,9 @@ use Rattle.flow_queues.specs.Core.{total, IsIn, LieApart, Each, held_piece, over
 use Rattle.flow_queues.specs.Pieces.{OnlyHelds, GaveFront, CutFirst, Others, over_others, front_of_piece, rest_of_piece, whole_piece}
 use Rattle.flow_queues.proofs.Tokens.{is-released}
 use Rattle.flow_queues.proofs.Pieces.{other-place}
-use Rattle.flow_queues.proofs.Filling.{IsPast, GoesOnFrom, copy-goes-on, copy-held, holds-none, holds-all, past-unwanted}
+use Rattle.flow_queues.proofs.Filling.{GoesOnFrom, copy-goes-on, copy-held, holds-all}
+use Rattle.tcp_reorder.proofs.GapByGap.{IsPast}
+use Rattle.tcp_reorder.proofs.Entering.{past-unwanted, holds-none}
 
 -- ---- marks
 
@@ -128,7 +130,7 @@ none-wanted v was now number seq len from piece (out, note, all, goes, so_far) u
     let marks : List Mark = marks_from number 0 len in
     let size : length marks ≡ len = marks-length number 0 len in
     holds-all marks_of_waiting now placed marks from piece.at holds.past (so_far placed holds) (omega (arith, size))
-    (λ k above until. subst (λ (place : ℕ). IsPast {A = Mark} {H = Waiting} marks_of_waiting (filled placed from (take piece.at marks)) place)
+    (λ k above until. subst (λ (place : ℕ). IsPast (filled placed from (take piece.at marks)) place)
     (omega (arith, goes.place))
     (past-unwanted marks_of_waiting now (filled placed from (take piece.at marks)) ((seq + piece.at) % 2 ^ 32) (k - piece.at) (so_far placed holds)
     (unwanted (k - piece.at) (omega (arith, size)))))

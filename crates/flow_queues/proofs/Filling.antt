@@ -1,16 +1,15 @@
 -- How a piece fills in, a gap after the other: for any values and any pieces.
-use Rattle.std.proofs.Common.{◌≡◌, ℕ, zero, suc, ◌+◌, ◌-◌, ◌%◌, ◌^◌, ◌<◌, ◌≤◌, List, [], ◌∷◌, length, take, drop}
-use Rattle.std.proofs.Common.{nat_le, not, Bool, true, false, ◌&&◌, Option, Some, None, IsSome, refl, sym, ap, subst, ◌∙◌, ◌⊎◌, ⊎_elim, inl}
-use Rattle.std.proofs.Common.{inr, length-take-le, arith}
-use Rattle.std.proofs.lemmas.Bool.{cases_lt, le-leb}
+use Rattle.std.proofs.Common.{◌≡◌, ℕ, ◌+◌, ◌-◌, ◌%◌, ◌^◌, ◌<◌, ◌≤◌, List, length, take, drop}
+use Rattle.std.proofs.Common.{true, false, None, refl, sym, ap, subst, ◌∙◌, ⊎_elim}
+use Rattle.std.proofs.Common.{length-take-le, arith}
+use Rattle.std.proofs.lemmas.Bool.{cases_lt}
 use Rattle.std.proofs.lemmas.List.{length-drop}
-use Rattle.zr_kinds.specs.CopyingReceiver.{Placed, lead, accepts, value_at, brought, first_of, filled}
-use Rattle.zr_kinds.proofs.InOrder.{first_of-nothing}
+use Rattle.zr_kinds.specs.CopyingReceiver.{Placed, lead, accepts, filled}
 use Rattle.tcp_reorder.specs.Queue.{Kept, Queue, has, next_of, end_of, with_kept, IsSound}
 use Rattle.tcp_reorder.specs.declared.places.Gap.{Gap}
 use Rattle.tcp_reorder.specs.Gaps.{origin, wants, IsFirstGap}
 use Rattle.tcp_reorder.specs.Values.{Holds}
-use Rattle.tcp_reorder.proofs.Holding.{brought-at, brought-before, brought-past, Holds-same, Holds-with_kept, is_some-held}
+use Rattle.tcp_reorder.proofs.Holding.{Holds-same, Holds-with_kept}
 use Rattle.tcp_reorder.proofs.Positions.{IsFree}
 use Rattle.tcp_reorder.proofs.Parts.{origin-part, MayBeTaken, may_be_taken}
 use Rattle.tcp_reorder.proofs.Sound.{MayBeKept}
@@ -18,129 +17,13 @@ use Rattle.tcp_reorder.proofs.Taking.{may_be_kept}
 use Rattle.tcp_reorder.proofs.Gapping.{wanted}
 use Rattle.tcp_reorder.proofs.Least.{has-before, next_of-popped, next_of-with_kept}
 use Rattle.tcp_reorder.proofs.Judging.{judged_alike, parts_accepted, accepted, goes_on}
+use Rattle.tcp_reorder.proofs.GapByGap.{IsPast, filled-past, gap-filled, all-filled}
+use Rattle.tcp_reorder.proofs.Entering.{past-unwanted}
 
 module _ {A H : Type 0} (values : H → List A) where
-  value_at-take : (xs : List A) (n k : ℕ) → k < n → value_at (take n xs) k ≡ value_at xs k
-  value_at-take xs zero k below = absurd (omega arith)
-  value_at-take [] (suc n) k below = refl
-  value_at-take (x ∷ xs) (suc n) zero below = refl
-  value_at-take (x ∷ xs) (suc n) (suc k) below = value_at-take xs n k (omega arith)
-
-  value_at-drop : (xs : List A) (n k : ℕ) → value_at (drop n xs) k ≡ value_at xs (n + k)
-  value_at-drop xs zero k = ap (value_at xs) (omega arith)
-  value_at-drop [] (suc n) k = refl
-  value_at-drop (x ∷ xs) (suc n) k = (let more : suc (n + k) ≡ suc n + k = omega arith in value_at-drop xs n k ∙ ap (value_at (x ∷ xs)) more)
-
-  module _ (payload : List A) (from p : ℕ) where
-    -- what the first n bytes bring
-    brought-front : (n : ℕ) → from ≤ p + 2 ^ 31 → p + 2 ^ 31 < from + n → brought (take n payload) from p ≡ value_at payload (p + 2 ^ 31 - from)
-    brought-front n above below = brought-at (take n payload) from p above ∙ value_at-take payload n (p + 2 ^ 31 - from) (omega arith)
-
-    brought-behind : (n : ℕ) → n ≤ length payload → from + n ≤ p + 2 ^ 31 → brought (take n payload) from p ≡ None
-    brought-behind n within behind = brought-past (take n payload) from p (omega (arith, length-take-le n payload within))
-
-  -- the place is before position 0, or something stands there
-  abbrev pub IsPast : Placed A → ℕ → Type 0
-  IsPast placed place = (place < 2 ^ 31) ⊎ IsSome (placed.at (place - 2 ^ 31))
-
-  module _ (placed : Placed A) (payload : List A) (from done : ℕ) where
-    -- the payload's first bytes are there
-    abbrev pub so_far : Placed A
-    so_far = filled placed from (take done payload)
-
-    there-before : (p : ℕ) → done ≤ length payload → from + done ≤ p + 2 ^ 31 → IsSome (so_far.at p) → IsSome (placed.at p)
-    there-before p within behind there = subst IsSome (ap (first_of (placed.at p)) (brought-behind payload from p done within behind)
-        ∙ first_of-nothing (placed.at p)) there
-
-    first_of-kept : (value later : Option A) → IsSome value → first_of value later ≡ value
-    first_of-kept None later there = absurd (cc)
-    first_of-kept (Some value) later there = refl
-
-    -- a gap behind them is filled, and what lies between was there
-    pub gap-filled : (a b : ℕ) → done ≤ a → a ≤ b → b ≤ length payload → ((k : ℕ) → done ≤ k → k < a → IsPast so_far (from + k))
-        → (p : ℕ) → (filled placed from (take b payload)).at p ≡ (filled so_far (from + a) (take (b - a) (drop a payload))).at p
-    gap-filled a b from_done to_b within past p =
-        let v : List A = take (b - a) (drop a payload) in
-        let here : Option A = placed.at p in
-        ⊎_elim
-        (λ (before : p + 2 ^ 31 < from + done).
-        let nothing_more : brought v (from + a) p ≡ None = brought-before v (from + a) p (omega arith) in
-        let same : brought (take b payload) from p ≡ brought (take done payload) from p = ⊎_elim
-        (λ (under : p + 2 ^ 31 < from). brought-before (take b payload) from p under ∙ sym (brought-before (take done payload) from p under))
-        (λ (above : from ≤ p + 2 ^ 31). brought-front payload from p b above (omega arith) ∙ sym (brought-front payload from p done above before))
-        (cases_lt (p + 2 ^ 31) from) in
-        ap (first_of here) same ∙ sym (first_of-nothing (so_far.at p)) ∙ ap (first_of (so_far.at p)) (sym nothing_more))
-        (λ (behind : from + done ≤ p + 2 ^ 31).
-        let as_before : so_far.at p ≡ here = ap (first_of here) (brought-behind payload from p done (omega arith) behind) ∙ first_of-nothing here in
-        ⊎_elim
-        (λ (between : p + 2 ^ 31 < from + a).
-        let nothing_more : brought v (from + a) p ≡ None = brought-before v (from + a) p between in
-        let place : from + (p + 2 ^ 31 - from) ≡ p + 2 ^ 31 = omega arith in
-        let there : IsSome here = ⊎_elim
-        (λ (low : from + (p + 2 ^ 31 - from) < 2 ^ 31). absurd (omega arith))
-        (λ some. subst IsSome as_before (subst (λ q. IsSome (so_far.at q)) (omega arith) some))
-        (past (p + 2 ^ 31 - from) (omega arith) (omega arith)) in
-        first_of-kept here (brought (take b payload) from p) there ∙ sym as_before ∙ sym (first_of-nothing (so_far.at p))
-        ∙ ap (first_of (so_far.at p)) (sym nothing_more))
-        (λ (from_a : from + a ≤ p + 2 ^ 31). ⊎_elim
-        (λ (in_gap : p + 2 ^ 31 < from + b).
-        let left : brought (take b payload) from p ≡ value_at payload (p + 2 ^ 31 - from) = brought-front payload from p b (omega arith) in_gap in
-        let right : brought v (from + a) p ≡ value_at payload (p + 2 ^ 31 - from) =
-        brought-front (drop a payload) (from + a) p (b - a) from_a (omega arith) ∙ value_at-drop payload a (p + 2 ^ 31 - (from + a))
-        ∙ ap (value_at payload) (omega arith) in
-        ap (first_of here) (left ∙ sym right) ∙ ap (λ value. first_of value (brought v (from + a) p)) (sym as_before))
-        (λ (behind_gap : from + b ≤ p + 2 ^ 31).
-        let long : b - a ≤ length (drop a payload) = (let size : length (drop a payload) ≡ length payload - a = length-drop a payload in omega arith) in
-        let left : brought (take b payload) from p ≡ None = brought-behind payload from p b within behind_gap in
-        let right : brought v (from + a) p ≡ None = brought-behind (drop a payload) (from + a) p (b - a) long (omega arith) in
-        ap (first_of here) (left ∙ sym right) ∙ ap (λ value. first_of value (brought v (from + a) p)) (sym as_before))
-        (cases_lt (p + 2 ^ 31) (from + b)))
-        (cases_lt (p + 2 ^ 31) (from + a)))
-        (cases_lt (p + 2 ^ 31) (from + done))
-
-    -- nothing behind them is wanted
-    pub all-filled : done ≤ length payload → ((k : ℕ) → done ≤ k → k < length payload → IsPast so_far (from + k)) → (p : ℕ)
-        → (filled placed from payload).at p ≡ so_far.at p
-    all-filled within past p =
-        let here : Option A = placed.at p in
-        ⊎_elim
-        (λ (before : p + 2 ^ 31 < from + done). ap (first_of here) (⊎_elim
-        (λ (under : p + 2 ^ 31 < from). brought-before payload from p under ∙ sym (brought-before (take done payload) from p under))
-        (λ (above : from ≤ p + 2 ^ 31). brought-at payload from p above ∙ sym (brought-front payload from p done above before))
-        (cases_lt (p + 2 ^ 31) from)))
-        (λ (behind : from + done ≤ p + 2 ^ 31).
-        let as_before : so_far.at p ≡ here = ap (first_of here) (brought-behind payload from p done within behind) ∙ first_of-nothing here in
-        ⊎_elim
-        (λ (in_rest : p + 2 ^ 31 < from + length payload).
-        let there : IsSome here = ⊎_elim
-        (λ (low : from + (p + 2 ^ 31 - from) < 2 ^ 31). absurd (omega arith))
-        (λ some. subst IsSome as_before (subst (λ q. IsSome (so_far.at q)) (omega arith) some))
-        (past (p + 2 ^ 31 - from) (omega arith) (omega arith)) in
-        first_of-kept here (brought payload from p) there ∙ sym as_before)
-        (λ (past_all : from + length payload ≤ p + 2 ^ 31). ap (first_of here) (brought-past payload from p past_all) ∙ first_of-nothing here
-        ∙ sym as_before)
-        (cases_lt (p + 2 ^ 31) (from + length payload)))
-        (cases_lt (p + 2 ^ 31) (from + done))
-
   -- ---- what a queue holds
 
-  filled-past : (placed : Placed A) (from : ℕ) (vs : List A) → ((p : ℕ) → placed.top ≤ p → placed.at p ≡ None) → (p : ℕ)
-      → (filled placed from vs).top ≤ p → (filled placed from vs).at p ≡ None
-  filled-past placed from vs past p behind =
-      ap (λ value. first_of value (brought vs from p)) (past p (omega arith)) ∙ brought-past vs from p (omega arith)
-
   module _ (queue : Queue H) (placed : Placed A) (payload : List A) (from : ℕ) where
-    -- nothing of the payload is there yet
-    pub holds-none : Holds values queue placed → Holds values queue (filled placed from (take 0 payload))
-    holds-none holds =
-        Holds-same values queue placed (filled placed from (take 0 payload)) holds
-        (λ p. ⊎_elim
-        (λ (under : p + 2 ^ 31 < from). ap (first_of (placed.at p)) (brought-before (take 0 payload) from p under) ∙ first_of-nothing (placed.at p))
-        (λ (above : from ≤ p + 2 ^ 31). ap (first_of (placed.at p)) (brought-behind payload from p 0 (omega arith) (omega arith))
-        ∙ first_of-nothing (placed.at p))
-        (cases_lt (p + 2 ^ 31) from))
-        (filled-past placed from (take 0 payload) holds.past)
-
     -- all of it is there that is wanted
     pub holds-all : (done : ℕ) → ((p : ℕ) → placed.top ≤ p → placed.at p ≡ None) → Holds values queue (filled placed from (take done payload))
         → done ≤ length payload → ((k : ℕ) → done ≤ k → k < length payload → IsPast (filled placed from (take done payload)) (from + k))
@@ -166,23 +49,6 @@ module _ {A H : Type 0} (values : H → List A) where
         (subst (λ v. Holds values later (filled so_far (one.position + 2 ^ 31) v)) items taken) in
         Holds-same values later (filled so_far (from + a) (take (b - a) (drop a payload))) (filled placed from (take b payload)) there
         (gap-filled placed payload from done a b from_done to_b within past) (filled-past placed from (take b payload) none)
-
-  -- what isn't wanted is past
-  pub past-unwanted : (queue : Queue H) (placed : Placed A) (seq k : ℕ) → Holds values queue placed → wants queue seq k ≡ false
-      → IsPast placed (origin queue seq + k)
-  past-unwanted queue placed seq k holds unwanted = ⊎_elim
-      (λ (low : origin queue seq + k < 2 ^ 31). inl low)
-      (λ (from : 2 ^ 31 ≤ origin queue seq + k).
-      let position : ℕ = origin queue seq + k - 2 ^ 31 in
-      let test : nat_le (2 ^ 31) (origin queue seq + k) ≡ true = le-leb (2 ^ 31) (origin queue seq + k) from in
-      let opened : (nat_le (2 ^ 31) (origin queue seq + k) && not (has queue position)) ≡ false = unwanted in
-      let there : not (has queue position) ≡ false = (rw test at opened) in
-      inr (is_some-held values queue placed holds position ∙ not-false (has queue position) there))
-      (cases_lt (origin queue seq + k) (2 ^ 31))
-    where
-      not-false : (b : Bool) → not b ≡ false → b ≡ true
-      not-false true is = refl
-      not-false false is = cc
 
   -- ---- a copy was taken of one gap
 
@@ -290,4 +156,4 @@ module _ {A H : Type 0} (values : H → List A) where
         let here : origin queue ((seq + done) % 2 ^ 32) + (k - done) ≡ from + k = omega (arith, goes.place) in
         let unwanted : wants queue ((seq + done) % 2 ^ 32) (k - done) ≡ false = first.before (k - done) (omega arith) in
         subst (λ n. IsPast (filled placed from (take done payload)) n) here
-        (past-unwanted queue (filled placed from (take done payload)) ((seq + done) % 2 ^ 32) (k - done) holds unwanted))
+        (past-unwanted values queue (filled placed from (take done payload)) ((seq + done) % 2 ^ 32) (k - done) holds unwanted))

@@ -3,8 +3,7 @@ use Rattle.std.proofs.Common.{◌≡◌, ◌≢◌, ℕ, zero, suc, ◌+◌, ◌
 use Rattle.std.proofs.Common.{Option, Some, None, IsSome, refl, sym, ap, ◌∙◌, arith, ⊎_elim}
 use Rattle.std.specs.Prelude.{◌==◌}
 use Rattle.std.specs.Option.{is_some}
-use Rattle.std.proofs.lemmas.Bool.{cases_Bool, cases_lt, cases_eq}
-use Rattle.std.proofs.lemmas.Bool.Decides.{nat_tests}
+use Rattle.std.proofs.lemmas.Bool.{cases_Bool, cases_lt, cases_eq, both_ways, ne_eqb}
 use Rattle.zr_kinds.specs.CopyingReceiver.{Placed, nothing_placed, next_missing, lead, accepts, brought, first_of, filled, values_from, front_of}
 use Rattle.zr_kinds.proofs.LeastMissing.{next_missing-least, same_least}
 use Rattle.tcp_reorder.specs.Queue.{Queue}
@@ -15,9 +14,9 @@ use Rattle.flow_queues.specs.declared.queues.FlowQueue.{FlowQueue}
 use Rattle.flow_queues.specs.Marks.{Mark, Numbered, numbered, Frame, received_frame, received_frames, frames_of, base_of, placed_marks, marks_of, marks_of_note}
 use Rattle.flow_queues.specs.Marks.{FramesStandTogether}
 use Rattle.flow_queues.specs.Core.{Each, many, own_notes, BeginAt, placed_of, received_note, received_notes}
-use Rattle.flow_queues.proofs.InParts.{AreSame, none_some}
 use Rattle.flow_queues.proofs.Placing.{own-notes-other, own-notes-here, next_note, received-push, values-split}
 use Rattle.flow_queues.proofs.WholeFrames.{StandWhole, whole-own, placed-same}
+use Rattle.flow_queues.proofs.InParts.{AreSame}
 
 -- ---- one note more
 
@@ -91,7 +90,7 @@ front-of-flow flow taken count begun below whole =
     (λ p behind. refl) in
     let least = next_missing-least frames (record { past = past }) in
     let within : count ≤ next_missing frames = ⊎_elim
-    (λ (short : next_missing frames < count). absurd (none_some (placed.at (next_missing frames)) (same (next_missing frames) ∙ least.missing)
+    (λ (short : next_missing frames < count). absurd (both_ways (is_some (placed.at (next_missing frames))) (ap is_some (same (next_missing frames) ∙ least.missing))
     (below (next_missing frames) short)))
     (λ not. not)
     (cases_lt (next_missing frames) count) in
@@ -125,11 +124,8 @@ pick number [] P Q each none some = none refl
 pick number (f ∷ fs) P Q each none some = ⊎_elim
     (λ (is : f.number ≡ number). some f is each.0)
     (λ (other : f.number ≢ number). pick number fs P Q each.1
-    (λ zeros. none (let no : (f.number == number) ≡ false = not-same f.number number other in rw no (omega (arith, zeros)))) some)
+    (λ zeros. none (let no : (f.number == number) ≡ false = ne_eqb f.number number other in rw no (omega (arith, zeros)))) some)
     (cases_eq f.number number)
-  where
-    not-same : (m n : ℕ) → m ≢ n → (m == n) ≡ false
-    not-same m n away = grind (arith, nat_tests)
 
 pub no-marks : (flow : ℕ) (taken : List TakenNote) → own_notes flow taken ≡ [] → marks_of flow taken ≡ []
 unfolding front_of next_missing

@@ -19,7 +19,7 @@ use Rattle.flow_queues.specs.Core.{IsIn, LieApart, lent_piece, origin_in, IsRead
 use Rattle.flow_queues.proofs.Tokens.{in-right, loan-origin}
 use Rattle.flow_queues.proofs.NotesStay.{note-there}
 
-value_at-middle : (xs : List ℕ) (y : ℕ) (ys : List ℕ) → value_at (xs ++ y ∷ ys) (length xs) ≡ Some y
+pub value_at-middle : (xs : List ℕ) (y : ℕ) (ys : List ℕ) → value_at (xs ++ y ∷ ys) (length xs) ≡ Some y
 value_at-middle [] y ys = refl
 value_at-middle (x ∷ xs) y ys = value_at-middle xs y ys
 

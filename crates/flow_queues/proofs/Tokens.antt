@@ -2,7 +2,7 @@
 use Rattle.std.proofs.Common.{◌≡◌, ℕ, suc, ◌+◌, ◌<◌, ◌≤◌, Bool, true, false, List, [], ◌∷◌, ◌++◌, map, refl, sym, ap, subst}
 use Rattle.std.proofs.Common.{◌∙◌, arith, ⊎_elim, inl, inr}
 use Rattle.std.specs.Prelude.{if◌then◌else◌, Contains, ◌==◌, ◌&&◌, nat_le, nat_lt}
-use Rattle.std.proofs.lemmas.Bool.{cases_Bool, le-leb, lt-ltb, eq-eqb}
+use Rattle.std.proofs.lemmas.Bool.{cases_Bool, le-leb, lt-ltb, eq-eqb, and_parts}
 use Rattle.std.proofs.lemmas.Bool.Decides.{nat_tests}
 use Rattle.zr_kinds.specs.declared.place.Place.{Place}
 use Rattle.board_face.specs.Lists.{without, at_first, same_place}
@@ -298,11 +298,6 @@ from_note-is note at (of_note k a) is = (let (k_is, a_is) = both k a is in rw (k
     both k a is = grind (arith, nat_tests)
 from_note-is note at (of_copy bytes) is = cc
 
-both-of : (a b : Bool) → a && b ≡ true → (a ≡ true) × (b ≡ true)
-both-of true true is = (refl, refl)
-both-of true false is = cc
-both-of false b is = cc
-
 pub that-one : (p : Place) (note at : ℕ) → is_that p note at (record { place = p; origin = of_note note at }) ≡ 1
 that-one p note at =
     let place : same_place p p ≡ true = same_place-refl p in
@@ -319,7 +314,7 @@ same_list-is [] [] is = refl
 same_list-is [] (y ∷ ys) is = cc
 same_list-is (x ∷ xs) [] is = cc
 same_list-is (x ∷ xs) (y ∷ ys) is =
-    let parts = both-of (x == y) (same_list xs ys) is in
+    let parts = and_parts (x == y) (same_list xs ys) is in
     let head : y ≡ x = same-number x y parts.0 in
     ap (λ z. z ∷ ys) head ∙ ap (λ zs. x ∷ zs) (same_list-is xs ys parts.1)
   where
@@ -350,7 +345,7 @@ pub is-there : (p : Place) (note at : ℕ) (xs : List HeldPiece) → 0 < total (
 is-there p note at [] some = absurd (omega arith)
 is-there p note at (x ∷ xs) some = ⊎_elim
     (λ (yes : (same_place p x.place && from_note note at x.origin) ≡ true).
-    let parts = both-of (same_place p x.place) (from_note note at x.origin) yes in
+    let parts = and_parts (same_place p x.place) (from_note note at x.origin) yes in
     let place : x.place ≡ p = same_place-is p x.place parts.0 in
     let origin : x.origin ≡ of_note note at = from_note-is note at x.origin parts.1 in
     inl (ap (λ q. the_held q x.origin) place ∙ ap (the_held p) origin))
@@ -365,7 +360,7 @@ pub is-lent-there : (l : LentPiece) (xs : List LentPiece) → 0 < total (is_that
 is-lent-there l [] some = absurd (omega arith)
 is-lent-there l (x ∷ xs) some = ⊎_elim
     (λ (yes : (same_place l.place x.place && same_origin l.origin x.origin) ≡ true).
-    let parts = both-of (same_place l.place x.place) (same_origin l.origin x.origin) yes in
+    let parts = and_parts (same_place l.place x.place) (same_origin l.origin x.origin) yes in
     let place : x.place ≡ l.place = same_place-is l.place x.place parts.0 in
     let origin : x.origin ≡ l.origin = same_origin-is l.origin x.origin parts.1 in
     inl (ap (λ q. the_loan q x.origin) place ∙ ap (the_loan l.place) origin))

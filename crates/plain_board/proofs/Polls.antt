@@ -33,8 +33,7 @@ next-note : (nic : NicSide) (x : AppSide) (t : TakenNote) (ns us : List TakenNot
     → (x.view.taken ++ t ∷ []) ++ ns ≡ map as_taken (sent_to x.view.app nic) → Relayed nic x us es → IsNextNote nic x t.note
 next-note nic x t ns us es sent was =
     let there : Relayed nic x (t ∷ ns) es = record { notes = simp append_assoc at sent; reads = was.reads; entries = was.entries } in
-    let n = IsNext-relayed nic x t ns es there in
-    record { next = n.next; rest = n.rest; way = n.way; same = n.same }
+    IsNext-relayed nic x t ns es there
 
 -- no split note was taken
 abbrev pub HasNoNote : Polled → Type 0

@@ -71,7 +71,7 @@ module _ (board : Stand) (a : ℕ) (x : AppSide) (entry : Rqe) (sound : IsSound 
   way-then = way-written board.nic x (omega (arith, dealt-within board.nic x _ _ (was-relayed board a x x sound here))) one
 
   same : SameHoldings x.view (pushed_raw x.view entry)
-  same = record { app = refl; taken = refl; helds = refl; owns = refl; loans = refl; returned = refl }
+  same = assumption
 
   ring_there : a < length board.arrays.refills
   ring_there = let h = here.there in let many = sound.set.many in let size = sound.sizes.refills in omega arith

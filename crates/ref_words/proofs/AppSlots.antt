@@ -5,7 +5,6 @@ use Rattle.std.proofs.Common.{mod-lt}
 use Rattle.std.specs.Prelude.{◌==◌}
 use Rattle.std.proofs.lemmas.Bool.{eqb-true}
 use Rattle.std.proofs.lemmas.List.Elements.{All-weaker}
-use Rattle.board_face.specs.NicCalls.{apps_of}
 use Rattle.board_face.specs.Sides.{IsApp}
 use Rattle.board_face.specs.SlotSteps.{side_refill_looked, side_refill_stored, side_slot_looked, side_slot_loaded}
 use Rattle.board_face.specs.declared.views.parts.Setting.{Setting}
@@ -20,6 +19,7 @@ use Rattle.ref_words.proofs.RingSteps.{rings-others, rings-app}
 use Rattle.ref_words.proofs.SlotWords.{ring-here, ring-other, differ-refill}
 use Rattle.ref_words.proofs.SlotSteps.{no-word, DifferInSlots}
 use Rattle.ref_words.proofs.AppLooks.{RefRule-app}
+use Rattle.ref_words.proofs.SideSteps.{is-app}
 
 module _ (setting : Setting) (words : Words) (nic : NicSide) (apps : List AppSide) (app : AppSide) (rule : RefRule setting words nic apps)
     (here : IsApp apps app.view.app app) where
@@ -31,9 +31,6 @@ module _ (setting : Setting) (words : Words) (nic : NicSide) (apps : List AppSid
 
   abbrev slots : List (List ℕ)
   slots = get_or words.refills a []
-
-  is-app : a < apps_of setting
-  is-app = let h = here.there in omega (arith, rule.sides.set.many)
 
   -- ---- its refill ring
 
@@ -67,9 +64,9 @@ module _ (setting : Setting) (words : Words) (nic : NicSide) (apps : List AppSid
       let r = rings.refills in
       let i = 1 + length app.inside.refill_slot.words in
       let s = writes_entry_at setting app in
-      let there : a < length words.refills = let small = is-app in omega (arith, rule.sizes.refills) in
+      let there : a < length words.refills = let small = is-app rule.sides here in omega (arith, rule.sizes.refills) in
       let differ : DifferInSlots setting words (with_refill words a s i n) =
-      differ-refill setting words rule.sizes a s i n is-app (mod-lt (length app.view.written) r.ring.some) in
+      differ-refill setting words rule.sizes a s i n (is-app rule.sides here) (mod-lt (length app.view.written) r.ring.some) in
       RefRule-app setting words nic apps a app rule here (side_refill_stored app n) refl (rule.sides.returns a app here).settled
       (rule.sides.returns a app here).quiet (λ e. e) (with_refill words a s i n) differ
       (rings-others setting (with_refill words a s i n) nic apps a app (side_refill_stored app n) here

@@ -1,5 +1,5 @@
 -- An application cuts a held piece in two.
-use Rattle.std.proofs.Common.{◌≡◌, ⊎_elim, ℕ, ◌+◌, ◌<◌, ◌≤◌, List, set, refl, ap, sym, arith}
+use Rattle.std.proofs.Common.{◌≡◌, ⊎_elim, ℕ, ◌+◌, ◌<◌, ◌≤◌, List, set, refl, sym, arith}
 use Rattle.std.specs.Prelude.{◌==◌}
 use Rattle.std.proofs.lemmas.Bool.{cases_lt}
 use Rattle.zr_kinds.specs.declared.place.Place.{Place}
@@ -23,7 +23,7 @@ use Rattle.ref_words.specs.Words.{Words, pool_of, listed_in}
 use Rattle.ref_words.specs.Rule.{RefRule}
 use Rattle.ref_words.proofs.RingSteps.{rings-app}
 use Rattle.ref_words.proofs.Frees.{AreFreeOnce-more, AreKept-app, free_places-hands}
-use Rattle.ref_words.proofs.SideSteps.{own-was, mine, SidesRule-app}
+use Rattle.ref_words.proofs.SideSteps.{own-was, mine, SidesRule-app, in-area}
 use Rattle.ref_words.proofs.PoolSteps.{IsPoolStep}
 use Rattle.board_face.proofs.Counting.{weight-other, weight-same}
 
@@ -52,7 +52,7 @@ module _ (setting : Setting) (words : Words) (nic : NicSide) (apps : List AppSid
       (cases_lt place.buffer (total nic.view.setting.layout))
 
   pub there : place.buffer < total setting.layout
-  there = let w = within in omega (arith, ap (λ s. total s.layout) rule.sides.set.card)
+  there = in-area rule.sides within
 
   pub step : IsPoolStep setting words nic nic apps apps' place.buffer (pool_of words place.buffer + 1)
   step = record {

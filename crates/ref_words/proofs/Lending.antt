@@ -1,10 +1,9 @@
 -- An application lends a held piece.
-use Rattle.std.proofs.Common.{◌≡◌, ⊎_elim, ℕ, ◌+◌, ◌^◌, ◌<◌, List, set, refl, ap, sym, ◌∙◌, arith, []}
+use Rattle.std.proofs.Common.{◌≡◌, ⊎_elim, ℕ, ◌+◌, ◌^◌, ◌<◌, List, set, refl, sym, ◌∙◌, arith, []}
 use Rattle.std.specs.Prelude.{true, false, ◌==◌, ◌&&◌}
 use Rattle.std.proofs.lemmas.Bool.{cases_lt}
 use Rattle.area_layout.specs.Layout.{total}
 use Rattle.board_face.specs.AppEvents.{reserve_of}
-use Rattle.board_face.specs.NicCalls.{apps_of}
 use Rattle.board_face.specs.Sides.{IsApp}
 use Rattle.board_face.specs.Counts.{pool_count, user_count, EndedWereReturned}
 use Rattle.board_face.specs.declared.views.parts.Setting.{Setting}
@@ -28,7 +27,7 @@ use Rattle.ref_words.specs.Rule.{RefRule}
 use Rattle.ref_words.proofs.RingSteps.{rings-app}
 use Rattle.ref_words.proofs.Frees.{AreKept-app, free_places-hands}
 use Rattle.ref_words.proofs.InHand.{same-if, other-pair}
-use Rattle.ref_words.proofs.SideSteps.{own-was, mine, SidesRule-app}
+use Rattle.ref_words.proofs.SideSteps.{own-was, mine, SidesRule-app, is-app, in-area}
 use Rattle.ref_words.proofs.UserSteps.{IsUserStep}
 use Rattle.ref_words.proofs.Beginning.{few-holders}
 use Rattle.board_face.proofs.Counting.{weight-same}
@@ -67,16 +66,13 @@ module _ (setting : Setting) (words : Words) (nic : NicSide) (apps : List AppSid
       (cases_lt place.buffer (total nic.view.setting.layout))
 
   there : place.buffer < total setting.layout
-  there = let w = within in omega (arith, ap (λ s. total s.layout) rule.sides.set.card)
-
-  is-app : a < apps_of setting
-  is-app = let h = here.there in omega (arith, rule.sides.set.many)
+  there = in-area rule.sides within
 
   pub few : user_of words a place.buffer + 1 < 2 ^ 64
   few =
       omega (
         arith,
-        rule.users a place.buffer is-app there,
+        rule.users a place.buffer (is-app rule.sides here) there,
         user_count-le a place.buffer nic apps,
         rule.pool place.buffer there,
         few-holders setting words nic apps place.buffer rule there,
@@ -84,7 +80,7 @@ module _ (setting : Setting) (words : Words) (nic : NicSide) (apps : List AppSid
 
   pub step : IsUserStep setting words nic nic apps apps' a place.buffer (user_of words a place.buffer + 1)
   step = record {
-    app = is-app;
+    app = is-app rule.sides here;
     there = there;
     sides = SidesRule-app setting nic apps a app rule.sides here now (record {
       placed = λ b. ArePlaced-lent b nic apps a app place here out (rule.sides.placed b);
@@ -101,7 +97,7 @@ module _ (setting : Setting) (words : Words) (nic : NicSide) (apps : List AppSid
           let loans : 0 < app.inside.scrub_mark → now.view.loans ≡ [] = λ some. absurd (omega (arith, unbegun, some)) in
           assumption (was, clear, loans);
     });
-    here = omega (arith, rule.users a place.buffer is-app there, more-users a place.buffer, one);
+    here = omega (arith, rule.users a place.buffer (is-app rule.sides here) there, more-users a place.buffer, one);
     others = λ x c other. omega (arith, more-users x c, other-pair app.view.app x place.buffer c (λ e f. other (sym e ∙ here.number, sym f)));
     pool = same_pool;
     free = λ b. omega (arith, free_places-hands (listed_in words) b nic apps a app now here);

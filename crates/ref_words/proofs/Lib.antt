@@ -43,7 +43,6 @@ mod ScrubTaking
 pub mod Phases
 mod PhasesByCard
 mod PhasesByApp
-mod NewNotes
 mod PhasesBySlots
 mod PhasesByFree
 mod PhasesOpened
@@ -59,7 +58,6 @@ mod Listing
 mod WordLooks
 mod Picking
 pub mod Found
-mod Losing
 mod Sweeping
 mod Resting
 pub mod AppNumbers

@@ -9,7 +9,6 @@ use Rattle.std.proofs.lemmas.List.Sums.{sum_by-cons}
 use Rattle.board_face.specs.Texts.{unsplit_bytes, IsSplitNote, IsLinearNote}
 use Rattle.zr_kinds.specs.declared.place.Note.{Note}
 use Rattle.zr_kinds.specs.declared.place.Place.{Place}
-use Rattle.board_face.specs.NicCalls.{apps_of}
 use Rattle.board_face.specs.AppEvents.{reserve_of}
 use Rattle.board_face.specs.Holders.{sent_to, on_way}
 use Rattle.board_face.specs.Counts.{pool_count, EndedWereReturned}
@@ -23,7 +22,7 @@ use Rattle.board_face.specs.declared.views.nic.NicSide.{NicSide}
 use Rattle.board_face.specs.declared.views.nic.SentNote.{SentNote}
 use Rattle.board_face.specs.declared.views.app.TakenNote.{TakenNote}
 use Rattle.board_face.specs.declared.views.app.AppSide.{AppSide}
-use Rattle.board_face.proofs.AppLemmas.{IsNext, pool_count-app, user_count-app, app_count-took_note, app_count-took_linear}
+use Rattle.board_face.proofs.AppLemmas.{pool_count-app, user_count-app, app_count-took_note, app_count-took_linear}
 use Rattle.board_face.proofs.ArePlacedLemmas.{ArePlaced-app}
 use Rattle.board_face.proofs.FillingsFitLemmas.{FillingsFit-same}
 use Rattle.board_face.proofs.IsFilledByOneLemmas.{IsFilledByOne-app}
@@ -44,10 +43,11 @@ use Rattle.ref_words.proofs.LeftWords as left-words
 use Rattle.ref_words.proofs.RingSteps.{AllRings, rings-others}
 use Rattle.ref_words.proofs.SlotWords.{ring-here, ring-other, differ-note}
 use Rattle.ref_words.proofs.SlotSteps.{DifferInSlots, RefRule-slot}
-use Rattle.ref_words.proofs.SideSteps.{own-was, SidesRule-app, mine}
+use Rattle.ref_words.proofs.SideSteps.{own-was, SidesRule-app, mine, is-app}
 use Rattle.ref_words.proofs.Frees.{AreKept-app, free_places-hands}
 use Rattle.ref_words.proofs.Dealing.{take-next}
 use Rattle.ref_words.specs.Sides.{IsTakenInOrder}
+use Rattle.board_face.specs.Laws.{IsNextNote}
 
 -- ---- what the words of a slot tell
 
@@ -127,9 +127,6 @@ module _ (setting : Setting) (words : Words) (nic : NicSide) (apps : List AppSid
   rings : AreRings setting words nic app
   rings = rule.rings a app here
 
-  is-app : a < apps_of setting
-  is-app = let h = here.there in omega (arith, rule.sides.set.many)
-
   abbrev k : ℕ
   k = length app.view.taken
 
@@ -173,7 +170,7 @@ module _ (setting : Setting) (words : Words) (nic : NicSide) (apps : List AppSid
 
     rings-then : AllRings setting words' nic apps'
     rings-then =
-        let inside : a < length words.notes = let small = is-app in omega (arith, rule.sizes.notes) in
+        let inside : a < length words.notes = let small = is-app rule.sides here in omega (arith, rule.sizes.notes) in
         rings-others setting words' nic apps a app like here
         (record {
           refills = rings.refills;
@@ -195,7 +192,7 @@ module _ (setting : Setting) (words : Words) (nic : NicSide) (apps : List AppSid
 
     pub RefRule-taken : RefRule setting words' nic (set apps a now)
     RefRule-taken =
-        let differ : DifferInSlots setting words words' = differ-note setting words rule.sizes a s 0 0 is-app (mod-lt k rings.notes.some) in
+        let differ : DifferInSlots setting words words' = differ-note setting words rule.sizes a s 0 0 (is-app rule.sides here) (mod-lt k rings.notes.some) in
         subst (λ x. RefRule setting words' nic (set apps a x)) (sym taking.same)
         (RefRule-slot setting words words' nic nic apps apps' rule differ (record {
           sides = SidesRule-app setting nic apps a app rule.sides here like (record {
@@ -252,7 +249,7 @@ module _ (setting : Setting) (words : Words) (nic : NicSide) (apps : List AppSid
     note-is : note ≡ next.note
     note-is = sym (note-front loaded others fields) ∙ (ap (λ ws. note_of (1 ∷ ws)) (sym words-are) ∙ note-read setting next fits)
 
-    pub is-next : IsNext nic app note
+    pub is-next : IsNextNote nic app note
     is-next = record { next = next; rest = drop (suc k) (sent_to a nic); way = way; same = sym note-is }
 
     pub is-split : note.split ≡ true → IsSplitNote note

@@ -12,7 +12,6 @@ use Rattle.board_face.specs.SlotSteps.{side_slot_looked, side_slot_loaded, side_
 use Rattle.board_face.specs.declared.views.parts.Setting.{Setting}
 use Rattle.board_face.specs.declared.views.nic.NicSide.{NicSide}
 use Rattle.board_face.specs.declared.views.app.AppSide.{AppSide}
-use Rattle.board_face.proofs.AppLemmas.{IsNext}
 use Rattle.board_face.proofs.OwnBufferLemmas.{AppLiesInOwn-abandoned, AppLiesInOwn-took_note}
 use Rattle.ref_words.specs.Words.{Words}
 use Rattle.ref_words.specs.Rule.{RefRule}
@@ -20,7 +19,8 @@ use Rattle.ref_words.specs.PhaseRule.{IsAppPhased, PhaseRule}
 use Rattle.ref_words.proofs.Phases.{phases-mine, phases-app, phases-here, phases-kept}
 use Rattle.ref_words.proofs.PhasesByApp.{loan-here}
 use Rattle.ref_words.proofs.SideSteps.{own-setting}
-use Rattle.ref_words.proofs.NewNotes.{new-of_pool, new-lies, new-apart}
+use Rattle.board_face.proofs.NewNotes.{new-of_pool, new-lies, new-apart}
+use Rattle.board_face.specs.Laws.{IsNextNote}
 
 module _ (setting : Setting) (words : Words) (nic : NicSide) (apps : List AppSide) (rule : RefRule setting words nic apps)
     (was : PhaseRule setting words nic apps) (a : ℕ) (app : AppSide) (here : IsApp apps a app) where
@@ -63,7 +63,7 @@ module _ (setting : Setting) (words : Words) (nic : NicSide) (apps : List AppSid
       phases-kept words.phases nic apps was a app here (side_slot_loaded app n) refl refl refl refl refl refl refl refl refl refl refl
 
   -- as a note is on its way, the application wasn't told the end, so it hasn't left
-  module _ (note : Note) (next : IsNext nic app note) where
+  module _ (note : Note) (next : IsNextNote nic app note) where
     untold : app.view.ended ≡ true → ⊥
     untold told = let none = (mine.told told).1 in let some = next.way in cc
 

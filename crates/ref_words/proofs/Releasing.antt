@@ -26,7 +26,7 @@ use Rattle.ref_words.specs.Rule.{RefRule}
 use Rattle.ref_words.proofs.RingSteps.{rings-app}
 use Rattle.ref_words.proofs.Counting.{if_so, if_so-weight, and-false}
 use Rattle.ref_words.proofs.Frees.{AreFreeOnce-fewer, AreKept-app, free_places-hands}
-use Rattle.ref_words.proofs.SideSteps.{own-was, mine, own-setting, SidesRule-app}
+use Rattle.ref_words.proofs.SideSteps.{own-was, mine, own-setting, SidesRule-app, in-area}
 use Rattle.ref_words.proofs.PoolSteps.{IsPoolStep}
 use Rattle.ref_words.proofs.Shutting.{last-is}
 use Rattle.board_face.proofs.Counting.{count-push, weight-other, weight-same, weight-swap}
@@ -64,7 +64,7 @@ module _ (setting : Setting) (words : Words) (nic : NicSide) (apps : List AppSid
       (cases_lt place.buffer (total nic.view.setting.layout))
 
   pub there : place.buffer < total setting.layout
-  there = let w = within in omega (arith, ap (λ s. total s.layout) rule.sides.set.card)
+  there = in-area rule.sides within
 
   counted : pool_count place.buffer nic apps' + 1 ≡ pool_of words place.buffer
   counted = omega (arith, rule.pool place.buffer there, less place.buffer, weight-same place.buffer)

@@ -35,6 +35,7 @@ use Rattle.ref_words.proofs.Shutting.{last-is, free-gave_up}
 use Rattle.ref_words.proofs.InHand.{in_hand, some-is, if-none, same-if, other-if}
 use Rattle.board_face.proofs.Counting.{weight-and, weight-other, weight-same}
 use Rattle.zr_kinds.proofs.Booleans.{and-true}
+use Rattle.ref_words.proofs.SideSteps.{in-area}
 
 module _ (setting : Setting) (words : Words) (nic : NicSide) (apps : List AppSide) (a : ℕ) (entry : Rqe) (b : ℕ) (rule : RefRule setting words nic apps)
     (at : nic.inside.entry ≡ in_hand a entry (UserLowered b)) where
@@ -101,7 +102,7 @@ module _ (setting : Setting) (words : Words) (nic : NicSide) (apps : List AppSid
   owed c x = ap (λ h. length (drop h (returned_in c x))) (ends c x)
 
   there : b < total setting.layout
-  there = omega (arith, known.lowered b refl, ap (λ s. total s.layout) rule.sides.set.card)
+  there = in-area rule.sides (known.lowered b refl)
 
   counted : pool_count b now apps + 1 ≡ pool_of words b
   counted = omega (arith, rule.pool b there, less b, weight-same b)

@@ -8,7 +8,6 @@ use Rattle.std.proofs.lemmas.Bool.Decides.{eqb_tells}
 use Rattle.std.proofs.lemmas.List.{length-set, get_or-set_same, get_or-set_other}
 use Rattle.area_layout.specs.Layout.{total}
 use Rattle.board_face.specs.AppEvents.{reserve_of}
-use Rattle.board_face.specs.NicCalls.{apps_of}
 use Rattle.board_face.specs.Sides.{IsApp}
 use Rattle.board_face.specs.Holders.{ended_in, returning_count, returned_in}
 use Rattle.board_face.specs.Counts.{pool_count, user_count, EndedWereReturned}
@@ -35,7 +34,7 @@ use Rattle.ref_words.specs.Rule.{RefRule}
 use Rattle.ref_words.proofs.RingSteps.{rings-app}
 use Rattle.ref_words.proofs.Counting.{if_so}
 use Rattle.ref_words.proofs.Frees.{AreKept-app, free_places-hands}
-use Rattle.ref_words.proofs.SideSteps.{mine, own-setting, SidesRule-app}
+use Rattle.ref_words.proofs.SideSteps.{mine, own-setting, SidesRule-app, is-app}
 use Rattle.ref_words.proofs.UserSteps.{IsUserStep}
 use Rattle.ref_words.proofs.Judging.{own-users}
 
@@ -110,9 +109,6 @@ module _ (setting : Setting) (words : Words) (nic : NicSide) (apps : List AppSid
             (omega (arith, took c, owes c)),
       )
 
-  is-app : a < apps_of setting
-  is-app = let h = here.there in omega (arith, rule.sides.set.many)
-
   -- what the application owes then
   owed-now : (c : ℕ) → owed_count c nic now + if_so (b == c) n ≡ owed_count c nic app
   owed-now c = omega (arith, took c, few c, returned_in-count c app)
@@ -177,7 +173,7 @@ module _ (setting : Setting) (words : Words) (nic : NicSide) (apps : List AppSid
       omega (
         arith,
         user_count-app a b nic apps a app now here,
-        rule.users a b is-app there,
+        rule.users a b (is-app rule.sides here) there,
         before,
         after,
         owed-now b,
@@ -202,7 +198,7 @@ module _ (setting : Setting) (words : Words) (nic : NicSide) (apps : List AppSid
 
   pub step : IsUserStep setting words nic nic apps apps' a b 0
   step = record {
-    app = is-app;
+    app = is-app rule.sides here;
     there = there;
     sides = SidesRule-app setting nic apps a app rule.sides here now (record {
       placed = λ c. ArePlaced-app c nic apps a app now here

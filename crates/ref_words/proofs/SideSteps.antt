@@ -6,7 +6,7 @@ use Rattle.std.proofs.lemmas.List.{length-set, get_or-set_same, get_or-set_other
 use Rattle.std.proofs.lemmas.List.Elements.{All-set}
 use Rattle.std.proofs.lemmas.Bool.Decides.{eqb_tells}
 use Rattle.zr_kinds.specs.declared.ring.Rqe.{Rqe}
-use Rattle.area_layout.specs.Layout.{pool_buffers}
+use Rattle.area_layout.specs.Layout.{pool_buffers, total}
 use Rattle.board_face.specs.AppEvents.{reserve_of}
 use Rattle.board_face.specs.Sides.{IsApp}
 use Rattle.board_face.specs.Holders.{ended_in, returned_in}
@@ -22,6 +22,7 @@ use Rattle.board_face.proofs.SideLemmas.{AreNumbered-set}
 use Rattle.ref_words.specs.Rings.{EntryFits}
 use Rattle.ref_words.specs.Sides.{SidesRule, HasScrubLists, HasFreeReserve, IsDealtInOrder, IsTakenInOrder, HasNoneOwed}
 use Rattle.ref_words.specs.Sides.{IsScrubbedSoFar, IsFirst, IsFirstRaw}
+use Rattle.board_face.specs.NicCalls.{apps_of}
 
 -- What is to be known of what the application itself did and knows.
 pub record IsOwnStep (nic : NicSide) (app now : AppSide) : Type 0 where
@@ -55,6 +56,15 @@ pub record IsAppStep (nic : NicSide) (apps : List AppSide) (a : ℕ) (app now : 
       → pool_count b nic (set apps a now) ≡ 0
   pub scrubbed : now.view.scrubbed ≡ true → HasNoneOwed nic now
   pub own : IsOwnStep nic app now
+
+-- an application is one of the setting's, and a buffer of the card's area one of the board's
+pub is-app : {setting : Setting} {nic : NicSide} {apps : List AppSide} {a : ℕ} {app : AppSide} → SidesRule setting nic apps → IsApp apps a app
+    → a < apps_of setting
+is-app rule here = let h = here.there in omega (arith, rule.set.many)
+
+pub in-area : {setting : Setting} {nic : NicSide} {apps : List AppSide} {b : ℕ} → SidesRule setting nic apps → b < total nic.view.setting.layout
+    → b < total setting.layout
+in-area rule within = omega (arith, ap (λ s. total s.layout) rule.set.card)
 
 module _ (setting : Setting) (nic : NicSide) (apps : List AppSide) (a : ℕ) (app : AppSide) (rule : SidesRule setting nic apps) (here : IsApp apps a app) where
   -- what holds of all applications holds of this one

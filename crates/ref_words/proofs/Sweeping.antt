@@ -28,7 +28,7 @@ use Rattle.ref_words.specs.FreeSteps.{found_in, side_swept}
 use Rattle.ref_words.specs.Rule.{RefRule}
 use Rattle.ref_words.proofs.Found.{IsFound, found-none, found-one, found-all, found-falling, found-few}
 use Rattle.ref_words.proofs.FreeWords.{RefRule-free, listed-here, listed-there, of-pool}
-use Rattle.ref_words.proofs.Losing.{lost-bound}
+use Rattle.board_face.proofs.Losing.{lost-bound}
 use Rattle.ref_words.proofs.RingSteps.{rings-card}
 use Rattle.ref_words.proofs.CardSteps.{SidesRule-card}
 use Rattle.board_face.proofs.Counting.{count-append, count-push}
@@ -123,4 +123,4 @@ module _ (setting : Setting) (words : Words) (nic : NicSide) (apps : List AppSid
 
   pub bound : lost_of now.view ≤ sent_unsplit_bytes nic.view
   bound = lost-bound (listed_in (with_free words j 0)) now apps kept rule.sides.set.numbers rule.sides.few
-      (λ k x here. assumption (rule.sides.taken k x here))
+      (λ k x here. (rule.sides.taken k x here).order)

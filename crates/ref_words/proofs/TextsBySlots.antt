@@ -33,7 +33,6 @@ use Rattle.board_face.specs.declared.views.nic.SentNote.{SentNote}
 use Rattle.board_face.specs.declared.views.nic.NicView.{NicView}
 use Rattle.board_face.specs.declared.views.app.WrittenEntry.{WrittenEntry}
 use Rattle.board_face.specs.declared.views.app.AppSide.{AppSide}
-use Rattle.board_face.proofs.AppLemmas.{IsNext}
 use Rattle.board_face.proofs.Parts.{count-tally}
 use Rattle.board_face.proofs.RelayLemmas.{Relayed-sent, Relayed-sent_other}
 use Rattle.board_face.proofs.SideLemmas.{IsApp-at}
@@ -49,6 +48,7 @@ use Rattle.ref_words.proofs.InHand.{in_hand, if-none}
 use Rattle.ref_words.proofs.TextsByCard.{ends-in-hand, AreTexts-card}
 use Rattle.ref_words.proofs.TextsByApp.{HasTexts-left, AreTexts-app, AppIsShown-inside}
 use Rattle.board_face.proofs.Counting.{weight-and}
+use Rattle.board_face.specs.Laws.{IsNextNote}
 
 -- ---- an application's slots
 
@@ -113,7 +113,7 @@ module _ (setting : Setting) (area : List ℕ) (nic : NicSide) (apps : List AppS
       (record { app = refl; taken = refl; helds = refl; owns = refl; loans = refl; returned = refl }) shown))
       (HasTexts-left setting.layout area nic app now (record { number = refl; making = refl; owns = refl; reads = refl })) texts
 
-  pub texts-took_note : (note : Note) → IsNext nic app note → note.split ≡ true → SidesRule setting nic (set apps a (side_took_note app note))
+  pub texts-took_note : (note : Note) → IsNextNote nic app note → note.split ≡ true → SidesRule setting nic (set apps a (side_took_note app note))
       → AreTexts setting.layout area nic (set apps a (side_took_note app note))
   texts-took_note note next split sides =
       let now = side_took_note app note in
@@ -122,7 +122,7 @@ module _ (setting : Setting) (area : List ℕ) (nic : NicSide) (apps : List AppS
       (AppIsShown-took_note byte nic app note next split shown))
       (HasTexts-left setting.layout area nic app now (record { number = refl; making = refl; owns = refl; reads = refl })) texts
 
-  pub texts-took_linear : (note : Note) (bytes : List ℕ) → IsNext nic app note
+  pub texts-took_linear : (note : Note) (bytes : List ℕ) → IsNextNote nic app note
       → SidesRule setting nic (set apps a (side_took_linear app note bytes))
       → AreTexts setting.layout area nic (set apps a (side_took_linear app note bytes))
   texts-took_linear note bytes next sides =

@@ -33,6 +33,7 @@ use Rattle.ref_words.proofs.Frees.{AreKept-card}
 use Rattle.ref_words.proofs.UserSteps.{IsUserStep}
 use Rattle.ref_words.proofs.InHand.{in_hand, some-is, if-none, same-if, other-if, other-pair}
 use Rattle.board_face.proofs.Counting.{user_case, weight-and, weight-same}
+use Rattle.ref_words.proofs.SideSteps.{in-area}
 
 module _ (setting : Setting) (words : Words) (nic : NicSide) (apps : List AppSide) (a : ℕ) (entry : Rqe) (b : ℕ) (rule : RefRule setting words nic apps)
     (at : nic.inside.entry ≡ in_hand a entry (Owed b)) where
@@ -110,7 +111,7 @@ module _ (setting : Setting) (words : Words) (nic : NicSide) (apps : List AppSid
       omega (arith, user_count-parts x c now apps, user_count-parts x c nic apps, less)
 
   there : b < total setting.layout
-  there = let k = (known.owed b refl).0 in omega (arith, ap (λ s. total s.layout) rule.sides.set.card)
+  there = in-area rule.sides (known.owed b refl).0
 
   is-app : a < apps_of setting
   is-app = let k = known.app in omega (arith, rule.sides.set.many)

@@ -6,7 +6,6 @@ use Rattle.std.specs.Prelude.{All}
 use Rattle.std.proofs.lemmas.List.{append_assoc}
 use Rattle.std.proofs.lemmas.List.Elements.{All-push, All-nil}
 use Rattle.zr_kinds.specs.declared.place.Place.{Place}
-use Rattle.board_face.specs.NicCalls.{apps_of}
 use Rattle.board_face.specs.AppEvents.{reserve_of}
 use Rattle.board_face.specs.Opened.{unseen}
 use Rattle.board_face.specs.Holders.{returned_in, owed_in}
@@ -34,7 +33,7 @@ use Rattle.ref_words.proofs.Ringing as ringing
 use Rattle.ref_words.proofs.RingSteps.{AllRings, rings-others}
 use Rattle.ref_words.proofs.SlotWords.{ring-here, ring-other, differ-refill}
 use Rattle.ref_words.proofs.SlotSteps.{DifferInSlots, RefRule-slot}
-use Rattle.ref_words.proofs.SideSteps.{SidesRule-app, own-was}
+use Rattle.ref_words.proofs.SideSteps.{SidesRule-app, own-was, is-app}
 use Rattle.ref_words.proofs.Frees.{AreKept-app, free_places-hands}
 use Rattle.zr_kinds.specs.declared.ring.Rqe.{Rqe}
 
@@ -99,9 +98,6 @@ module _ (setting : Setting) (words : Words) (nic : NicSide) (apps : List AppSid
   pub few : length (dealt_entries a nic) ≤ length app.view.written
   few = rings.refills.ring.order
 
-  is-app : a < apps_of setting
-  is-app = let h = here.there in omega (arith, rule.sides.set.many)
-
   module _ (now : AppSide) (w : WrittenEntry) (writing : IsWriting setting nic app now w) (saw : app.inside.refill_slot.seen ≡ true)
       (words_are : app.inside.refill_slot.words ≡ words_of_entry w) where
     abbrev like : AppSide
@@ -136,7 +132,7 @@ module _ (setting : Setting) (words : Words) (nic : NicSide) (apps : List AppSid
 
     rings-then : AllRings setting words' nic apps'
     rings-then =
-        let there : a < length words.refills = let small = is-app in omega (arith, rule.sizes.refills) in
+        let there : a < length words.refills = let small = is-app rule.sides here in omega (arith, rule.sizes.refills) in
         rings-others setting words' nic apps a app like here
         (record {
           refills = rw (ring-here words.refills a s 0 1 there) (record {
@@ -156,7 +152,7 @@ module _ (setting : Setting) (words : Words) (nic : NicSide) (apps : List AppSid
         })
 
     differ : DifferInSlots setting words words'
-    differ = differ-refill setting words rule.sizes a s 0 1 is-app (mod-lt (length app.view.written) rings.refills.ring.some)
+    differ = differ-refill setting words rule.sizes a s 0 1 (is-app rule.sides here) (mod-lt (length app.view.written) rings.refills.ring.some)
 
     pub RefRule-written : RefRule setting words' nic (set apps a now)
     RefRule-written =

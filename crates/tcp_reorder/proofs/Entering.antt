@@ -1,8 +1,8 @@
 -- How the values of a part of a frame enter a queue, gap after gap.
-use Rattle.std.proofs.Common.{◌≡◌, ℕ, ◌+◌, ◌-◌, ◌%◌, ◌^◌, ◌<◌, ◌≤◌, List, length, take, drop, nat_le, not, Bool, true, false}
+use Rattle.std.proofs.Common.{◌≡◌, ℕ, ◌+◌, ◌-◌, ◌%◌, ◌^◌, ◌<◌, ◌≤◌, List, length, take, drop, nat_le, not, true, false}
 use Rattle.std.proofs.Common.{◌&&◌, refl, sym, ap, subst, ◌∙◌}
 use Rattle.std.proofs.Common.{⊎_elim, inl, inr, length-take-le, add-zero, arith}
-use Rattle.std.proofs.lemmas.Bool.{cases_lt, le-leb}
+use Rattle.std.proofs.lemmas.Bool.{cases_lt, le-leb, not-false}
 use Rattle.std.proofs.lemmas.List.{length-drop}
 use Rattle.zr_kinds.specs.CopyingReceiver.{Placed, next_missing, lead, accepts, first_of, filled, received, received_part}
 use Rattle.zr_kinds.proofs.InOrder.{first_of-nothing}
@@ -48,7 +48,7 @@ module _ {A H : Type 0} (values : H → List A) where
         rw test refl
 
   -- what isn't wanted is past
-  past-unwanted : (queue : Queue H) (placed : Placed A) (seq k : ℕ) → Holds values queue placed → wants queue seq k ≡ false
+  pub past-unwanted : (queue : Queue H) (placed : Placed A) (seq k : ℕ) → Holds values queue placed → wants queue seq k ≡ false
       → IsPast placed (origin queue seq + k)
   past-unwanted queue placed seq k holds unwanted = ⊎_elim
       (λ (low : origin queue seq + k < 2 ^ 31). inl low)
@@ -59,14 +59,10 @@ module _ {A H : Type 0} (values : H → List A) where
       let there : not (has queue position) ≡ false = (rw test at opened) in
       inr (is_some-held values queue placed holds position ∙ not-false (has queue position) there))
       (cases_lt (origin queue seq + k) (2 ^ 31))
-    where
-      not-false : (b : Bool) → not b ≡ false → b ≡ true
-      not-false true is = refl
-      not-false false is = cc
 
   -- ---- nothing of the part is there yet
 
-  holds-none : (queue : Queue H) (placed : Placed A) (part : List A) (from : ℕ) → Holds values queue placed
+  pub holds-none : (queue : Queue H) (placed : Placed A) (part : List A) (from : ℕ) → Holds values queue placed
       → Holds values queue (filled placed from (take 0 part))
   holds-none queue placed part from holds =
       Holds-same values queue placed (filled placed from (take 0 part)) holds

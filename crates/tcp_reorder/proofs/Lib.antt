@@ -8,7 +8,7 @@ pub mod Sound
 mod Rest
 pub mod Gapping
 pub mod Taking
-mod GapByGap
+pub mod GapByGap
 pub mod Entering
 mod OwnFrame
 pub mod InParts

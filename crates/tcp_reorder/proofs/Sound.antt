@@ -21,10 +21,6 @@ pub no_entry : {A : Type 0} (entries : List A) → (0 < length entries → ⊥) 
 no_entry [] none = refl
 no_entry (entry ∷ entries) none = absurd (none (omega arith))
 
-pub no_front : {A : Type 0} (entries : List A) → slice_get entries 0 ≡ None → entries ≡ []
-no_front [] none = refl
-no_front (entry ∷ entries) none = cc
-
 module _ {H : Type 0} where
   pub next_of-low : (queue : Queue H) → IsSound queue → next_of queue ≤ 2 ^ 62
   next_of-low queue sound = next_of-within queue (2 ^ 62) sound.popped sound.in_stream

@@ -1,9 +1,9 @@
 -- Lists: what stands in front, behind and at a place.
-use Rattle.std.proofs.Common.{◌≡◌, ℕ, zero, suc, ◌<◌, List, [], ◌∷◌, ◌++◌, length, map, take, drop, get_or, set}
+use Rattle.std.proofs.Common.{◌≡◌, ℕ, zero, suc, ◌<◌, List, [], ◌∷◌, length, map, drop, get_or, set}
 use Rattle.std.proofs.Common.{refl, ap, sym, ◌∙◌, subst, arith, ⊎_elim}
 use Rattle.std.specs.Prelude.{◌≢◌, Contains, Some, None, slice_get}
 use Rattle.std.proofs.lemmas.Bool.Decides.{eqb_tells}
-use Rattle.std.proofs.lemmas.List.{get_or-set_same, get_or-set_other, drop_all, take_all, append-nil}
+use Rattle.std.proofs.lemmas.List.{get_or-set_same, get_or-set_other}
 
 pub map-none : {A B : Type 0} (f : A → B) (xs : List A) → map f xs ≡ [] → xs ≡ []
 map-none f [] e = refl
@@ -24,31 +24,6 @@ pub drop-after : {A : Type 0} (n : ℕ) (xs : List A) (x : A) (rest : List A) �
 drop-after zero xs x rest e = rw e refl
 drop-after (suc n) [] x rest e = absurd (let none : ⊥ = cc in none)
 drop-after (suc n) (y ∷ xs) x rest e = drop-after n xs x rest e
-
--- ---- what stands at a place
-
-pub there : {A : Type 0} (xs : List A) (i : ℕ) → i < length xs → (x : A) × (slice_get xs i ≡ Some x)
-there [] i within = absurd (omega arith)
-there (y ∷ xs) zero within = (y, refl)
-there (y ∷ xs) (suc i) within = there xs i (omega arith)
-
-pub get-before : {A : Type 0} (xs : List A) (x : A) (i : ℕ) → i < length xs → slice_get (xs ++ x ∷ []) i ≡ slice_get xs i
-get-before [] x i within = absurd (omega arith)
-get-before (y ∷ xs) x zero within = refl
-get-before (y ∷ xs) x (suc i) within = get-before xs x i (omega arith)
-
-pub get-last : {A : Type 0} (xs : List A) (x : A) (i : ℕ) → i ≡ length xs → slice_get (xs ++ x ∷ []) i ≡ Some x
-get-last [] x i is = rw is refl
-get-last (y ∷ xs) x zero is = absurd (omega (arith, is))
-get-last (y ∷ xs) x (suc i) is = get-last xs x i (omega (arith, is))
-
--- ---- what is written
-
--- what is written back through a slice of a whole list is the list then
-pub written-whole : {A : Type 0} (n : ℕ) (new old : List A) → n ≡ length old → length new ≡ length old → take n (new ++ drop (length new) old) ≡ new
-written-whole n new old whole same =
-    let none : drop (length new) old ≡ [] = drop_all (length new) old (omega (arith, same)) in
-    rw (none, append-nil new) (take_all n new (omega (arith, whole, same)))
 
 -- Where each count is f of its place, and g is f with n in the place i, the counts with n there are g.
 pub counts-set : (t : ℕ) (counts : List ℕ) (f g : ℕ → ℕ) (i n : ℕ) → i < length counts → ((b : ℕ) → b < t → get_or counts b 0 ≡ f b)

@@ -1,8 +1,8 @@
 -- The held piece that was lent was the only one.
 use Rattle.std.proofs.Common.{refl}
 use Rattle.board_face.proofs.ListLemmas.{places-without_first}
-use Rattle.note_stream.proofs.Tokens.{map-none}
 use Rattle.note_stream.proofs.app.Receiver.read_held.Goals as goal
+use Rattle.zr_kinds.proofs.Lists.{map-none}
 
 pub returns-clause-hand : goal.returns-clause-hand
 returns-clause-hand g c =

@@ -1,7 +1,7 @@
 -- The buffer that was closed was the only one, and no piece is out.
 use Rattle.std.proofs.Common.{rules, ◌≡◌, [], map}
-use Rattle.note_stream.proofs.Tokens.{map-none}
 use Rattle.note_stream.proofs.card.Sender.end.Goals as goal
+use Rattle.zr_kinds.proofs.Lists.{map-none}
 
 pub end-requires : goal.end-requires
 end-requires g c =

@@ -3,8 +3,9 @@ use Rattle.std.specs.Option.{option_map}
 use Rattle.tcp_reorder.specs.Queue.{front_of}
 use Rattle.tcp_reorder.specs.Gaps.{span_of}
 use Rattle.tcp_reorder.specs.Pieces.{kept_of, all_kept, with_first, queue_of}
-use Rattle.tcp_reorder.proofs.Sound.{first_entry, no_front, front_of-in_order, front_of-behind, first_in_order, first_behind, no_first}
+use Rattle.tcp_reorder.proofs.Sound.{first_entry, front_of-in_order, front_of-behind, first_in_order, first_behind, no_first}
 use Rattle.tcp_reorder.proofs.queue.RecvQueue.front.Goals as goal
+use Rattle.zr_kinds.proofs.Lists.{front-none}
 
 pub returns-in-Some-clause-front : goal.returns-in-Some-clause-front
 returns-in-Some-clause-front g c =
@@ -47,5 +48,5 @@ pub returns-in_default-2-clause-none : goal.returns-in_default-2-clause-none
 returns-in_default-2-clause-none g c =
     let queue = queue_of c.self.inside.base c.self.inside.popped c.self.inside.first c.self.inside.pieces.entries in
     let none : with_first c.self.inside.popped c.self.inside.first c.self.inside.pieces.entries ≡ [] =
-    no_front (with_first c.self.inside.popped c.self.inside.first c.self.inside.pieces.entries) (sym c.least.ensures ∙ ap (option_map _) c.in_default.is) in
+    front-none (with_first c.self.inside.popped c.self.inside.first c.self.inside.pieces.entries) (sym c.least.ensures ∙ ap (option_map _) c.in_default.is) in
     rw (← c.self.view_is) ((λ h. no_first queue (ap all_kept none)), λ missing. refl)

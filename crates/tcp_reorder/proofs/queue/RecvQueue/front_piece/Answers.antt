@@ -2,8 +2,9 @@ use Rattle.std.proofs.Common.{rules, ◌≡◌, [], Some, None, refl, sym, ap, �
 use Rattle.std.specs.Option.{option_map}
 use Rattle.tcp_reorder.specs.Queue.{Kept, front_of}
 use Rattle.tcp_reorder.specs.Pieces.{kept_of, all_kept, with_first, queue_of}
-use Rattle.tcp_reorder.proofs.Sound.{first_entry, no_front, front_of-in_order, front_of-behind, first_in_order, first_behind, no_first}
+use Rattle.tcp_reorder.proofs.Sound.{first_entry, front_of-in_order, front_of-behind, first_in_order, first_behind, no_first}
 use Rattle.tcp_reorder.proofs.queue.RecvQueue.front_piece.Goals as goal
+use Rattle.zr_kinds.proofs.Lists.{front-none}
 
 abbrev piece_of : {H : Type 0} → Kept H → H
 piece_of one = one.piece
@@ -12,7 +13,7 @@ pub returns-in_err-position-clause-none : goal.returns-in_err-position-clause-no
 returns-in_err-position-clause-none g c =
     let queue = queue_of c.self.inside.base c.self.inside.popped c.self.inside.first c.self.inside.pieces.entries in
     let none : with_first c.self.inside.popped c.self.inside.first c.self.inside.pieces.entries ≡ [] =
-    no_front (with_first c.self.inside.popped c.self.inside.first c.self.inside.pieces.entries) (sym c.least.ensures ∙ ap (option_map _) c.in_err-position.was) in
+    front-none (with_first c.self.inside.popped c.self.inside.first c.self.inside.pieces.entries) (sym c.least.ensures ∙ ap (option_map _) c.in_err-position.was) in
     rw (← c.self.view_is) ((λ h. no_first queue (ap all_kept none)), λ missing. search rules)
 
 pub returns-then-position-self-clause-front : goal.returns-then-position-self-clause-front

@@ -21,13 +21,13 @@ use Rattle.board_face.proofs.ListLemmas.{eqb_same}
 use Rattle.board_face.proofs.Tallies.{weight, tally}
 use Rattle.board_face.proofs.Parts.{app_count, spares_in, pool_count-parts, count-tally}
 use Rattle.board_face.proofs.PlaceTallies.{in_buffer, app_places, held_places, loan_places, places-parts, first-of, All-some}
-use Rattle.board_face.proofs.AppLemmas.{IsNext}
 use Rattle.board_face.proofs.IsFilledByOneLemmas.{fillings-alone}
 use Rattle.board_face.proofs.ApartLemmas.{AreApart-all}
 use Rattle.board_face.proofs.LiesLemmas.{total-at, lies-by}
 use Rattle.board_face.proofs.Counting.{All-none}
+use Rattle.board_face.specs.Laws.{IsNextNote}
 
-module _ (nic : NicSide) (apps : List AppSide) (a : ℕ) (app : AppSide) (here : IsApp apps a app) (note : Note) (next : IsNext nic app note)
+module _ (nic : NicSide) (apps : List AppSide) (a : ℕ) (app : AppSide) (here : IsApp apps a app) (note : Note) (next : IsNextNote nic app note)
     (split : note.split ≡ true) where
   theirs : next.next.note.split ≡ true
   theirs = ap (λ (n : Note). n.split) next.same ∙ split

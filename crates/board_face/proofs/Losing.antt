@@ -1,5 +1,5 @@
 -- Buffers of swept words that are neither cached nor were taken were picked as spares, of which each is for a byte of an unsplit note.
-use Rattle.std.proofs.Common.{◌≡◌, ⊎_elim, ℕ, suc, ◌+◌, ◌/◌, ◌<◌, ◌≤◌, Bool, true, false, cond, List, [], ◌∷◌, length, map}
+use Rattle.std.proofs.Common.{◌≡◌, ⊎_elim, ℕ, suc, ◌+◌, ◌/◌, ◌<◌, ◌≤◌, Bool, true, false, cond, List, [], ◌∷◌, length, map, take}
 use Rattle.std.proofs.Common.{get_or, refl, ap, arith}
 use Rattle.std.specs.Prelude.{not, ◌&&◌, ◌==◌, nat_eq, if◌then◌else◌, filter, sum_by, All}
 use Rattle.std.specs.List.{list_any}
@@ -24,7 +24,6 @@ use Rattle.board_face.proofs.ListLemmas.{not-eqb}
 use Rattle.board_face.proofs.SideLemmas.{IsApp-at}
 use Rattle.board_face.proofs.LostLemmas.{lost-few, none-counted, some-counted}
 use Rattle.board_face.proofs.Tallies.{total, total-le, total-agree, length-flat}
-use Rattle.ref_words.specs.Sides.{IsTakenInOrder}
 use Rattle.zr_kinds.proofs.Booleans.{if-le}
 use Rattle.board_face.proofs.Counting.{sum-map, count-append}
 
@@ -63,7 +62,7 @@ abbrev of_sent : SentNote → ℕ
 of_sent s = unsplit s.note
 
 -- the notes that an application took are among those that were sent to it
-taken-sent : (nic : NicSide) (app : AppSide) → IsTakenInOrder nic app
+taken-sent : (nic : NicSide) (app : AppSide) → take (length app.view.taken) (map as_taken (sent_to app.view.app nic)) ≡ app.view.taken
     → unsplit_bytes (map (λ t. t.note) app.view.taken) ≤ sum_by of_sent (sent_to app.view.app nic)
 taken-sent nic app taken =
     let of_taken : TakenNote → ℕ = λ t. unsplit t.note in
@@ -71,7 +70,7 @@ taken-sent nic app taken =
     omega (
       arith,
       sum-map unsplit (λ (t : TakenNote). t.note) app.view.taken,
-      ap (sum_by of_taken) taken.order,
+      ap (sum_by of_taken) taken,
       sum_by-take-le of_taken all (length app.view.taken),
       sum-map of_taken as_taken (sent_to app.view.app nic),
     )
@@ -126,7 +125,8 @@ sent-once apps numbered (s ∷ rest) =
 -- ---- the bound
 
 pub lost-bound : (listed : ℕ → Bool) (nic : NicSide) (apps : List AppSide) → AreKept listed nic apps → AreNumbered 0 apps → All HasFewPicks apps
-    → ((a : ℕ) (app : AppSide) → IsApp apps a app → IsTakenInOrder nic app) → lost_of nic.view ≤ sent_unsplit_bytes nic.view
+    → ((a : ℕ) (app : AppSide) → IsApp apps a app → take (length app.view.taken) (map as_taken (sent_to app.view.app nic)) ≡ app.view.taken)
+    → lost_of nic.view ≤ sent_unsplit_bytes nic.view
 lost-bound listed nic apps kept numbered few taken =
     omega (
       arith,
