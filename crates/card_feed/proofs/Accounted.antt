@@ -1,7 +1,8 @@
 -- The stream of a flow, without the frames that are left out, by the frames that were offered.
 use Rattle.std.proofs.Common.{◌≡◌, ℕ, suc, ◌+◌, ◌^◌, List, [], ◌∷◌, ◌++◌, length, map, filter, append_assoc, length-append, refl}
 use Rattle.std.proofs.Common.{sym, ap, subst, ◌∙◌, ⊎_elim, arith, Bool, true, false, not, nat_lt, if◌then◌else◌, ◌==◌, Option, Some, None}
-use Rattle.std.proofs.Common.{option_map, map-id}
+use Rattle.std.proofs.Common.{option_map}
+use Rattle.std.proofs.lemmas.List.{map-id}
 use Rattle.std.specs.Prelude.{All}
 use Rattle.std.specs.List.{list_any, slice_get}
 use Rattle.std.proofs.lemmas.Bool.{eqb-true, eqb-false, ne_eqb, cases_Bool, true≢false}
