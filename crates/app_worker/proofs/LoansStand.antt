@@ -38,13 +38,13 @@ lent-behind : (flow : ℕ) (p : Completion × Lending) (ps : List (Completion ×
 lent-behind flow p ps not = let no : (p.0.user_data == flow) ≡ false = grind (arith, nat_tests) in rw no refl
 
 -- the marks of the oldest loan are those that come next
-pub record IsNext (taken : List TakenNote) (own : FlowQueue) (l : Lending) (ps : List (Completion × Lending)) : Type 0 where
+pub record IsNextRead (taken : List TakenNote) (own : FlowQueue) (l : Lending) (ps : List (Completion × Lending)) : Type 0 where
   pub within : own.bytes + l.loan.len ≤ own.queue.popped
   pub marks : marks_of_loan l ≡ values_from (placed_of own taken).at l.loan.len own.bytes
   pub others : lent_marks own.number ps ≡ values_from (placed_of own taken).at (own.queue.popped - (own.bytes + l.loan.len)) (own.bytes + l.loan.len)
 
 pub is-next : (taken : List TakenNote) (p : Completion × Lending) (ps : List (Completion × Lending)) (own : FlowQueue) → p.0.user_data ≡ own.number
-    → FlowStands taken (p ∷ ps) own → IsNext taken own p.1 ps
+    → FlowStands taken (p ∷ ps) own → IsNextRead taken own p.1 ps
 is-next taken p ps own number stands =
     let l : Lending = p.1 in
     let at : ℕ → Option Mark = (placed_of own taken).at in
@@ -72,7 +72,7 @@ is-next taken p ps own number stands =
 pub flow-read : (taken : List TakenNote) (p : Completion × Lending) (ps : List (Completion × Lending)) (own : FlowQueue) → p.0.user_data ≡ own.number
     → FlowStands taken (p ∷ ps) own → FlowStands taken ps (record own { bytes = own.bytes + p.1.loan.len })
 flow-read taken p ps own number stands =
-    let next : IsNext taken own p.1 ps = is-next taken p ps own number stands in
+    let next : IsNextRead taken own p.1 ps = is-next taken p ps own number stands in
     record { begun = stands.begun; holds = stands.holds; notes = stands.notes; counted = next.within; lent = next.others }
 
 pub flow-read-other : (taken : List TakenNote) (p : Completion × Lending) (ps : List (Completion × Lending)) (f : FlowQueue) → f.number ≢ p.0.user_data
@@ -178,7 +178,7 @@ next-front : (taken : List TakenNote) (p : Completion × Lending) (ps : List (Co
 next-front taken p ps own most number stands part =
     let l : Lending = p.1 in
     let at : ℕ → Option Mark = (placed_of own taken).at in
-    let next : IsNext taken own l ps = is-next taken p ps own number stands in
+    let next : IsNextRead taken own l ps = is-next taken p ps own number stands in
     let rest : ℕ = l.loan.len - most in
     let len : l.loan.len ≡ most + rest = omega (arith, part) in
     let marks : marks_of_loan l ≡ marks_from l.note l.at most ++ marks_from l.note (l.at + most) rest = ap (marks_from l.note l.at) len

@@ -27,7 +27,7 @@ use Rattle.app_worker.specs.Flushing.{Flushes, loans_so_far}
 use Rattle.std.proofs.lemmas.Bool.{cases_Bool}
 use Rattle.app_worker.specs.Whole.{Torn, ReadOne, ReadQuit, ReadFailed, Appended}
 use Rattle.flow_queues.proofs.Standing.{At, split-at, each-right, each-changed, many-same, total-changed, parts-alike, is_number, number-is}
-use Rattle.app_worker.proofs.LoansStand.{IsNext, is-next, stands-read, tokens-read, appended, own-stands, oldest-out}
+use Rattle.app_worker.proofs.LoansStand.{IsNextRead, is-next, stands-read, tokens-read, appended, own-stands, oldest-out}
 use Rattle.app_worker.proofs.Shelved.{shelved-reaped, shelved-other}
 use Rattle.flow_queues.proofs.Tokens.{total-append, in-left}
 use Rattle.flow_queues.proofs.Entering.{marks-length}
@@ -77,7 +77,7 @@ front-other first kept now taken posted old new lent f only keeps stands shelved
 front-own : (first kept now : ℕ → Option (List ℕ)) (taken : List TakenNote) (old new : AppView) (own : FlowQueue) (l : Lending) (bytes most : ℕ)
     (ps : List (Completion × Lending)) (lent : List LentPiece) → l.note < length taken → IsIn (lent_piece taken l) lent → OnlyReads old new
     → own.bytes ≤ bytes → most ≤ l.loan.len
-    → ((q : ℕ) → q < own.queue.popped → IsSome ((placed_of own taken).at q)) → IsNext taken own l ps
+    → ((q : ℕ) → q < own.queue.popped → IsSome ((placed_of own taken).at q)) → IsNextRead taken own l ps
     → IsShelved first kept taken old.reads own → Gained (kept own.number) (now own.number) (IsReadOf taken new.reads l (bytes - own.bytes) most)
     → IsFrontShelved first now taken new.reads lent (record own { bytes = bytes })
 front-own first kept now taken old new own l bytes most ps lent known out only more part there next shelved gained =
@@ -173,7 +173,7 @@ module _ (was : State) (i : ℕ) (own : FlowQueue) (p : Completion × Lending) (
       (subst (λ es. Stands was.notes (at.before ++ own ∷ at.after) es (read_of was) old) all
       (subst (λ (fs : List FlowQueue). Stands was.notes fs (was.unread ++ was.posted.entries) (read_of was) old) at.is works.stands))
 
-  next : IsNext old.taken own p.1 (ps ++ was.posted.entries)
+  next : IsNextRead old.taken own p.1 (ps ++ was.posted.entries)
   next = is-next old.taken p (ps ++ was.posted.entries) own number
       (own-stands was.notes at.before at.after own (p ∷ (ps ++ was.posted.entries)) was.leaked.items old stood)
 

@@ -18,7 +18,7 @@ use Rattle.flow_queues.proofs.Tokens.{total-append}
 use Rattle.flow_queues.proofs.ReadLemmas.{all-grow, read-append}
 use Rattle.flow_queues.proofs.Placing.{values-split}
 use Rattle.flow_queues.proofs.Standing.{is_number, each-right, each-changed, many-same, number-is}
-use Rattle.app_worker.proofs.LoansStand.{IsNext, is-next, own-stands}
+use Rattle.app_worker.proofs.LoansStand.{IsNextRead, is-next, own-stands}
 
 gained-kept : (a b c : Option (List ℕ)) (P : List ℕ → Type 0) → Gained a b P → Keeps b c → Gained a c P
 gained-kept None b c P gained kept = tt
@@ -69,7 +69,7 @@ pub shelved-reaped : (first kept now : ℕ → Option (List ℕ)) (count : ℕ) 
 shelved-reaped first kept now count before after own p ps most due old new number only stands part appended shelved =
     let later : FlowQueue = record own { bytes = own.bytes + most } in
     let of_own : FlowStands old.taken (p ∷ ps) own = own-stands count before after own (p ∷ ps) due old stands in
-    let next : IsNext old.taken own p.1 ps = is-next old.taken p ps own number of_own in
+    let next : IsNextRead old.taken own p.1 ps = is-next old.taken p ps own number of_own in
     let taken : new.taken ≡ old.taken = ap (λ (v : AppView). v.taken) only.view in
     let same : (n : ℕ) → many n (before ++ later ∷ after) ≡ many n (before ++ own ∷ after) = many-same before after own later refl in
     let flows : Each (IsShelved first now old.taken new.reads) (before ++ later ∷ after) =

@@ -67,7 +67,7 @@ Because ReserveHeld was old = IsCaughtUp was old × HasCopyNext was
 Because NotQuiet was old = (was.bare ≡ true) × (was.ended ≡ true)
 
 -- On its way the turn came to a state and a view in which a note may be taken, and no note was taken before.
-pub record Polled (was now : State) (old new : AppView) : Type 0 where
+pub record HasPolled (was now : State) (old new : AppView) : Type 0 where
   pub then_state : State
   pub then_view : AppView
   pub works : Working then_state then_view
@@ -139,7 +139,7 @@ pub record Turns (was now : State) (old new : AppView) (kept kept_now : ℕ → 
   -- it leaves only where it says so
   pub here : result ≢ Finished → new.left ≡ old.left
   -- a note is taken only where that may be
-  pub polled : was.bare ≡ false → new.taken ≢ old.taken → Polled was now old new
+  pub polled : was.bare ≡ false → new.taken ≢ old.taken → HasPolled was now old new
   -- the shelf stops it only where that failed
   pub cause : was.stopped ≢ stop.Write → now.stopped ≡ stop.Write → Rose faults faults_now
   -- and want of memory only where this turn says so

@@ -19,8 +19,8 @@ use Rattle.app_worker.specs.declared.turning.Read.{Read}
 use Rattle.app_worker.specs.declared.turning.Read.TheVariants.{Did as read_it, NoneUnread, Quit, Failed}
 use Rattle.app_worker.specs.declared.reading.Pushed.{Pushed}
 use Rattle.app_worker.specs.declared.reading.Pushed.TheVariants.{Nothing as pushed_nothing, All as pushed_all, Part as pushed_part, InUse as pushed_none}
-use Rattle.app_worker.specs.declared.straying.Gave.{Gave}
-use Rattle.app_worker.specs.declared.straying.Gave.TheVariants.{Nothing as nothing_given, Did as given, Part as given_in_part, InUse as given_none}
+use Rattle.app_worker.specs.declared.straying.GivenBack.{GivenBack}
+use Rattle.app_worker.specs.declared.straying.GivenBack.TheVariants.{Nothing as nothing_given, Did as given, Part as given_in_part, InUse as given_none}
 use Rattle.app_worker.specs.declared.turning.Taken.{Taken}
 use Rattle.app_worker.specs.declared.turning.Taken.TheVariants.{Did as took, NoNote, Ended, Memory}
 use Rattle.flow_queues.specs.Entries.{Gives as GivesAll}
@@ -102,7 +102,7 @@ PushesLeft was now old new pushed_none = (now ≡ was) × AppOnlySaw RefillInUse
 abbrev pub IsDue : State → Type 0
 IsDue st = (st.due ≢ None) ⊎ (0 < st.stray.left)
 
-abbrev pub GivesBack : State → State → AppView → AppView → Gave → Type 0
+abbrev pub GivesBack : State → State → AppView → AppView → GivenBack → Type 0
 GivesBack was now old new nothing_given = (now ≡ was) × (new ≡ old) × (was.due ≡ None) × (was.stray.left ≡ 0)
 GivesBack was now old new given = GaveBack was now old new × (now.due ≡ None) × (now.stray.left ≡ 0)
 GivesBack was now old new given_in_part = GaveBack was now old new × AppRose RefillInUse old new

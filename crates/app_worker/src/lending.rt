@@ -11,6 +11,7 @@ ghost use Rattle.flow_queues.specs.Core.{LieApart, total, over_kept, marks_of_wa
 ghost use Rattle.flow_queues.specs.Core.{unsplit_len};
 ghost use Rattle.app_worker.specs.Steps.{Delivered, completion_of};
 ghost use Rattle.std.specs.Prelude.{◌-◌};
+ghost use Rattle.zr_kinds.specs.Limits.{longest_payload};
 ghost use Rattle.board_face.specs.declared.views.app.AppLook.TheVariants.{RawOnItsWay};
 
 use crate::stack::Delivery;
@@ -28,7 +29,7 @@ fn post<F: AppFace>(
     flush: &mut bool,
 )
     requires out { HasPlace (F.seen face.now) lending.loan }
-    requires few { lending.loan.len ≤ 65515 }
+    requires few { lending.loan.len ≤ longest_payload }
     requires room { length posted.old.entries ≢ posted.old.places }
     ensures post { posted.new ≡ ring (posted.old.entries ++ (completion_of (F.seen face.now).setting.layout flow lending, lending) ∷ []) posted.old.places }
     ensures flush { flush.new ≡ flush.old || (lending.loan.buffer == reserve_of (F.seen face.now)) }

@@ -10,7 +10,7 @@ ghost use Rattle.app_worker.specs.Stages.{kept_of, ReadsTo, LentSome, LendsAll, 
 
 use crate::letting::let_go;
 use crate::stack::{Delivery, Stack};
-use crate::straying::{Gave, give_back};
+use crate::straying::{GivenBack, give_back};
 use crate::turning::{Read, deliver_one, read_one};
 use board_face::AppFace;
 use zr_io::Shelf;
@@ -103,8 +103,8 @@ pub fn drain<F: AppFace, T: Shelf>(
         }
         did = true;
         match give_back(face, st) {
-            Gave::Part => return Drained::InUse,
-            Gave::InUse => return Drained::InUse,
+            GivenBack::Part => return Drained::InUse,
+            GivenBack::InUse => return Drained::InUse,
             _ => {}
         }
     }

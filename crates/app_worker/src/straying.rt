@@ -15,7 +15,7 @@ use board_face::AppFace;
 
 /// What giving back did.
 #[derive(Clone, Copy, Debug, PartialEq, Eq)]
-pub enum Gave {
+pub enum GivenBack {
     /// Nothing was to be given back.
     Nothing,
     /// All was given back and followed by its stray entries, or kept to the end.
@@ -42,7 +42,7 @@ fn push_left<F: AppFace>(face: &mut F, st: &mut Stack) -> Pushed
 }
 
 /// Gives all back that is due, with the entries that follow it. What was left of these comes first.
-pub fn give_back<F: AppFace>(face: &mut F, st: &mut Stack) -> Gave
+pub fn give_back<F: AppFace>(face: &mut F, st: &mut Stack) -> GivenBack
     requires here { IsHere (F.seen face.old) }
     requires working { Working (state_of st.old) (F.seen face.old) }
     requires common { Common (state_of st.old) (F.seen face.old) }
@@ -50,24 +50,24 @@ pub fn give_back<F: AppFace>(face: &mut F, st: &mut Stack) -> Gave
     ensures common { Common (state_of st.new) (F.seen face.new) }
     ensures goes { (kept : ℕ → Option (List ℕ)) → Goes (state_of st.old) (state_of st.new) (F.seen face.old) (F.seen face.new) kept kept }
     ensures gives { GivesBack (state_of st.old) (state_of st.new) (F.seen face.old) (F.seen face.new) result }
-    ensures told { result ≡ Gave.InUse → F.tells RefillInUse (app_gist (F.seen face.new)) (F.beside face.new) }
+    ensures told { result ≡ GivenBack.InUse → F.tells RefillInUse (app_gist (F.seen face.new)) (F.beside face.new) }
     ensures beside { F.beside face.new ≡ F.beside face.old }
 {
     match push_left(face, st) {
         Pushed::Nothing => {}
-        Pushed::All => return Gave::Did,
-        Pushed::Part => return Gave::Part,
-        Pushed::InUse => return Gave::InUse,
+        Pushed::All => return GivenBack::Did,
+        Pushed::Part => return GivenBack::Part,
+        Pushed::InUse => return GivenBack::InUse,
     }
     if st.due.is_none() {
-        return Gave::Nothing;
+        return GivenBack::Nothing;
     }
     if !give_one(face, st) {
-        return Gave::InUse;
+        return GivenBack::InUse;
     }
     match push_left(face, st) {
-        Pushed::Part => Gave::Part,
-        Pushed::InUse => Gave::Part,
-        _ => Gave::Did,
+        Pushed::Part => GivenBack::Part,
+        Pushed::InUse => GivenBack::Part,
+        _ => GivenBack::Did,
     }
 }

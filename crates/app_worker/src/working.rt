@@ -15,7 +15,7 @@ ghost use Rattle.app_worker.specs.Turns.{Passes, ScrubsIfQuiet, Turns, look_of, 
 use crate::letting::let_go;
 use crate::stack::Stack;
 use crate::stages::{Drained, Lent, drain, leave, lend_all, scrub};
-use crate::straying::{Gave, give_back};
+use crate::straying::{GivenBack, give_back};
 use crate::turn::{Turn, Why};
 use crate::turning::{Taken, take_note};
 use board_face::{AppFace, Polled};
@@ -239,10 +239,10 @@ pub fn turn<F: AppFace, T: Shelf>(
         return bare_turn(face, st);
     }
     match give_back(face, st) {
-        Gave::InUse => Turn::Idle(Why::RefillFull),
-        Gave::Part => Turn::Did,
-        Gave::Nothing => work(alloc, face, st, shelf),
-        Gave::Did => {
+        GivenBack::InUse => Turn::Idle(Why::RefillFull),
+        GivenBack::Part => Turn::Did,
+        GivenBack::Nothing => work(alloc, face, st, shelf),
+        GivenBack::Did => {
             let turn = work(alloc, face, st, shelf);
             after(true, turn)
         }

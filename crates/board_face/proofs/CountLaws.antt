@@ -5,7 +5,7 @@ use Rattle.std.specs.List.{flat_map}
 use Rattle.std.proofs.lemmas.Bool.{cases_eq, eq-eqb}
 use Rattle.board_face.specs.Laws.{AllSides, FitTogether, by_card, by_app, one_at, KeepsAll, GainsHolder, LosesHolder, GainsUser, TakeLaw, SweepLaw, PlaceLaw}
 use Rattle.board_face.specs.Laws.{SendLaw, ShutLaw, HonourLaw, StrayLaw, CardKeeps, PollLaw, CutLaw, LendLaw, ReleaseLaw, GiveLaw, SpareLaw, FillLaw}
-use Rattle.board_face.specs.Laws.{LendOwnLaw, AppKeeps, ScrubLaw}
+use Rattle.board_face.specs.Laws.{LendOwnLaw, AppKeepsAll, ScrubLaw}
 use Rattle.board_face.specs.NicEvents.{took, swept, placed, sent, sent_linear, gave_up, shut, passed_over, honoured, nic_saw, saw_leave, nic_ended}
 use Rattle.board_face.specs.AppEvents.{app_saw, took_note, took_linear, told_end, cut, released, lent, has_read, abandoned, gave, pushed_raw, came_to_rest}
 use Rattle.board_face.specs.AppEvents.{got_spare, filled, lent_own, fell_quiet, left_board}
@@ -213,7 +213,7 @@ same-holdings : (v w : AppView) → w.app ≡ v.app → w.taken ≡ v.taken → 
     → w.returned ≡ v.returned → SameHoldings v w
 same-holdings v w a t h o l r = record { app = a; taken = t; helds = h; owns = o; loans = l; returned = r }
 
-pub app_keeps : AppKeeps
+pub app_keeps : AppKeepsAll
 app_keeps = record {
   look = λ s a app here look. app-same s a app here (app_saw app.view look) (same-holdings _ _ refl refl refl refl refl refl);
   read = λ s a app here place from bytes. app-same s a app here (has_read app.view place from bytes) (same-holdings _ _ refl refl refl refl refl refl);

@@ -49,9 +49,9 @@ first-way nic app t ns (s ∷ rest) way e =
     record { next = s; rest = rest; way = way; same = ap (λ (x : TakenNote). x.note) first }
 
 -- the first note in the slots is the next
-pub IsNext-relayed : (nic : NicSide) (app : AppSide) (t : TakenNote) (ns : List TakenNote) (es : List Rqe) → Relayed nic app (t ∷ ns) es
+pub NoteComesNext-relayed : (nic : NicSide) (app : AppSide) (t : TakenNote) (ns : List TakenNote) (es : List Rqe) → Relayed nic app (t ∷ ns) es
     → IsNextNote nic app t.note
-IsNext-relayed nic app t ns es relayed = first-way nic app t ns (on_way nic app) refl (way-taken nic app (t ∷ ns) es relayed)
+NoteComesNext-relayed nic app t ns es relayed = first-way nic app t ns (on_way nic app) refl (way-taken nic app (t ∷ ns) es relayed)
 
 -- ---- the card's events
 

@@ -242,7 +242,7 @@ LendOwnLaw =
     → GainsUser a own.buffer s (by_app s a app (lent_own app.view own))
 
 -- all other events of an application
-pub record AppKeeps : Type 0 where
+pub record AppKeepsAll : Type 0 where
   pub look : (s : AllSides) (a : ℕ) (app : AppSide) → IsApp s.apps a app → (look : AppLook) → KeepsAll s (by_app s a app (app_saw app.view look))
   pub read : (s : AllSides) (a : ℕ) (app : AppSide) → IsApp s.apps a app → (place : Place) (from : ℕ) (bytes : List ℕ)
       → KeepsAll s (by_app s a app (has_read app.view place from bytes))

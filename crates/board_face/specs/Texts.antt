@@ -1,5 +1,6 @@
 -- Notes, and the bytes that they tell of.
 use Rattle.std.specs.Prelude.{◌≡◌, ℕ, ◌+◌, ◌-◌, ◌≤◌, true, false, if◌then◌else◌, List, drop, sum_by}
+use Rattle.zr_kinds.specs.Limits.{longest_payload}
 use Rattle.zr_kinds.specs.declared.place.Note.{Note}
 use Rattle.zr_kinds.specs.declared.place.Place.{Place}
 use Rattle.board_face.specs.declared.views.app.Origin.{Origin}
@@ -9,7 +10,7 @@ use Rattle.board_face.specs.declared.views.app.Origin.TheVariants.{Note as of_no
 pub record IsSplitNote (note : Note) : Type 0 where
   pub split : note.split ≡ true
   pub within : note.at + note.place.len ≤ note.total
-  pub bounded : note.total ≤ 65515
+  pub bounded : note.total ≤ longest_payload
 
 -- the fields of a note in which the whole payload travels
 pub record IsLinearNote (note : Note) : Type 0 where

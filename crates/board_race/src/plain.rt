@@ -1,5 +1,6 @@
 //! The stream over the board for one thread: the two halves have it in turn.
 ghost use Rattle.std.specs.Prelude.{◌≡◌, ◌<◌, ◌≤◌, length, true, None, IsTrue, IfOk};
+ghost use Rattle.zr_kinds.specs.Limits.{longest_payload};
 ghost use Rattle.note_stream.specs.Halves.{IsSender, IsReceiver};
 ghost use Rattle.plain_board.specs.Board.{side_of};
 
@@ -11,7 +12,7 @@ use std::alloc::{AllocError, Global};
 /// The card's half has the board, and sends what it can.
 fn send_turn(board: PlainBoard, sender: &mut Sender, notes: u32, text: &mut [u8]) -> PlainBoard
     requires card { IsSender board.nic.view sender.old.own sender.old.piece }
-    requires fits { length text.old ≤ 65515 }
+    requires fits { length text.old ≤ longest_payload }
     ensures card { IsSender result.nic.view sender.new.own sender.new.piece }
     ensures room { length text.new ≡ length text.old }
     ensures apps { result.apps ≡ board.apps }
@@ -93,7 +94,7 @@ pub fn run_plain(alloc: Global, plan: &Plan) -> Result<Option<u32>, AllocError>
     requires one { plan.now.layout.reserves ≡ 1 }
     requires some { 1 ≤ plan.now.places }
     requires few { plan.now.places ≤ 256 }
-    requires fits { plan.now.bytes ≤ 65515 }
+    requires fits { plan.now.bytes ≤ longest_payload }
 {
     let mut text = vec![in alloc; 0; plan.bytes as usize]?;
     let mut into = vec![in alloc; 0; plan.bytes as usize]?;

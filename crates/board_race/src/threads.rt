@@ -1,5 +1,6 @@
 //! The stream over the board on words by a thread for each role, and what the board has at the end.
 ghost use Rattle.std.specs.Prelude.{◌≡◌, ◌≤◌, [], length, true, None, IsTrue, All, IfOk};
+ghost use Rattle.zr_kinds.specs.Limits.{longest_payload};
 ghost use Rattle.board_face.specs.NicCalls.{apps_of};
 ghost use Rattle.note_stream.specs.Halves.{IsSender, IsReceiver};
 ghost use Rattle.board_race.specs.Lanes.{AreAt, SayLeft, HaveRun};
@@ -28,7 +29,7 @@ pub fn run_threads<R: Threads + Sync>(
 ) -> Result<Option<Passed>, AllocError>
     requires some { 1 ≤ plan.now.places }
     requires few { plan.now.places ≤ 256 }
-    requires fits { plan.now.bytes ≤ 65515 }
+    requires fits { plan.now.bytes ≤ longest_payload }
 {
     let apps = plan.layout.total() - plan.layout.buffers();
     let (board, mut desk) = WordBoard::open(alloc, plan.layout, apps, plan.places)?;
@@ -57,7 +58,7 @@ fn run_all<R: Threads + Sync>(
     lanes: &mut [Lane<'_>],
 ) -> bool
     requires card { IsSender nic.old.side.view None None }
-    requires fits { length text.old ≤ 65515 }
+    requires fits { length text.old ≤ longest_payload }
     requires lanes { All (λ lane. IsReceiver lane.seat.side.view lane.receiver.loan) lanes.old }
     ensures ended { IsTrue result → nic.new.side.view.ended ≡ true }
     ensures board { nic.new.board ≡ nic.old.board }

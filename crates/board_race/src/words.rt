@@ -1,5 +1,6 @@
 //! The stream over the board on words by one thread, which has both seats.
 ghost use Rattle.std.specs.Prelude.{◌≡◌, ◌≤◌, true, None, IsTrue};
+ghost use Rattle.zr_kinds.specs.Limits.{longest_payload};
 ghost use Rattle.note_stream.specs.Halves.{IsSender, IsReceiver};
 
 use crate::plan::{LOOKS, Plan};
@@ -54,7 +55,7 @@ pub fn run_words(alloc: Global, plan: &Plan) -> Result<Option<u32>, AllocError>
     requires one { plan.now.layout.reserves ≡ 1 }
     requires some { 1 ≤ plan.now.places }
     requires few { plan.now.places ≤ 256 }
-    requires fits { plan.now.bytes ≤ 65515 }
+    requires fits { plan.now.bytes ≤ longest_payload }
 {
     let mut text = vec![in alloc; 0; plan.bytes as usize]?;
     let mut into = vec![in alloc; 0; plan.bytes as usize]?;

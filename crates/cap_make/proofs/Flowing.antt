@@ -6,7 +6,7 @@ use Rattle.std.proofs.lemmas.List.{map-append}
 use Rattle.frame_headers.specs.FrameClass.{TcpSegment, class_of}
 use Rattle.frame_headers.specs.Seen.{segment_of}
 use Rattle.frame_headers.specs.declared.segment.Addr.TheVariants.{V4}
-use Rattle.flow_table.specs.Steered.{Steered, segments_of, steered_of, steered_from}
+use Rattle.flow_table.specs.Steered.{SteeredTcp, segments_of, steered_of, steered_from}
 use Rattle.flow_table.specs.Flows.{Flow, flows_of, flows_after, flows_with, number_of_flow}
 use Rattle.flow_table.proofs.Laws.{steered_from-append, flows_after-append}
 use Rattle.cap_make.specs.GeneratedCapture.{base, drawn, frame_of, payload_of, piece_of}
@@ -25,7 +25,7 @@ segment f seq payload = record {
   payload = payload;
 }
 
-abbrev steered : ℕ → ℕ → ℕ → List ℕ → Steered
+abbrev steered : ℕ → ℕ → ℕ → List ℕ → SteeredTcp
 steered number f seq payload = record { record_number = number; app = f; segment = segment f seq payload }
 
 -- the port of a flow is that of its application

@@ -11,7 +11,7 @@ use Rattle.zr_kinds.proofs.InOrder.{first_of-nothing}
 use Rattle.zr_kinds.proofs.LeastMissing.{IsBounded-nothing}
 use Rattle.zr_kinds.proofs.Mapped.{MapsPlaced, received-map, front_of-map}
 use Rattle.board_face.specs.declared.views.nic.SentNote.{SentNote}
-use Rattle.flow_table.specs.Steered.{Steered, first_byte}
+use Rattle.flow_table.specs.Steered.{SteeredTcp, first_byte}
 use Rattle.flow_table.specs.CountedPart.{FlowClose, not_closed, closed_by, counted_part}
 use Rattle.flow_table.specs.Flows.{Flow, flows_of, flows_with, number_of_flow, of_flow_after}
 use Rattle.flow_table.specs.Stream.{received_all, stream_of}
@@ -70,7 +70,7 @@ same_close : (found : Option Flow) → close_of found ≡ close_or found
 same_close None = refl
 same_close (Some flow) = refl
 
-module _ (flows : List Flow) (s : Steered) (number : ℕ) where
+module _ (flows : List Flow) (s : SteeredTcp) (number : ℕ) where
   closed-by : (mine : Bool) → (number_of_flow flows s == number) ≡ mine
       → close_of (slice_get (flows_with flows s) number)
       ≡ (if mine then closed_by (close_of (slice_get flows number)) s.segment else close_of (slice_get flows number))
@@ -118,11 +118,11 @@ module _ (left_out : List ℕ) (number base : ℕ) where
       → mine_of number left_out (o ∷ os) ≡ o ∷ mine_of number left_out os
   taken o os mine stays some = rw (some, stays, mine) refl
 
-  abbrev received_if : Bool → Placed ℕ → Steered → List ℕ → Placed ℕ
+  abbrev received_if : Bool → Placed ℕ → SteeredTcp → List ℕ → Placed ℕ
   received_if out placed s part = if out then placed else received base placed (first_byte s.segment) part
 
   -- the flow was closed so before these segments
-  of_flow_like : (flows : List Flow) (close : FlowClose) (steered : List Steered) (one other : Placed ℕ) → close ≡ close_of (slice_get flows number)
+  of_flow_like : (flows : List Flow) (close : FlowClose) (steered : List SteeredTcp) (one other : Placed ℕ) → close ≡ close_of (slice_get flows number)
       → IsLike one other
       → IsLike (received_all base left_out close one (of_flow_after number flows steered))
       (received_offered base other (mine_of number left_out (offered_after flows steered)))
@@ -213,7 +213,7 @@ any_base b base (o ∷ os) same = ap (λ k. received_offered k nothing_placed (o
 
 -- Where the notes to an application show its frames, and what was read is what was sent, the bytes at a flow's first marks
 -- are a front of the flow's stream, without the frames that are left out; and those at all marks are the stream.
-pub stream_accounted : (split number : ℕ) (left_out : List ℕ) (steered : List Steered) (flow : Flow) (os : List Offered) (notes : List SentNote)
+pub stream_accounted : (split number : ℕ) (left_out : List ℕ) (steered : List SteeredTcp) (flow : Flow) (os : List Offered) (notes : List SentNote)
     (v : AppView) (bytes : List ℕ)
     → slice_get (flows_of steered) number ≡ Some flow → ShowFrames split os notes → Ascend os → HaveBytes os
     → filter (λ o. o.flow == number) os ≡ mine_of number left_out (offered_after [] steered)

@@ -85,14 +85,14 @@ end-found slow was now more found counts = ap (λ (s : PoolStats). s.empty) coun
 end-found empty was now more found counts = absurd (found refl)
 
 -- what it counted, where it is one of at most so many
-record Looked (most : ℕ) (was now : PoolStats) (old new : NicView) : Type 0 where
+record CountedLooks (most : ℕ) (was now : PoolStats) (old new : NicView) : Type 0 where
   more : List Dealt
   dealt : new.dealt ≡ old.dealt ++ more
   strays : IsRaised was.strays (strays_in more) now.strays
   searches : searches_in now ≤ searches_in was + most
 
 looked : (need most : ℕ) → (0 < need → 1 ≤ most) → (current : Option Filling) (was now : PoolStats) (old new : NicView) (how : Option SearchEnd)
-    → AreInType now → LooksFor need current was now old new how → Looked most was now old new
+    → AreInType now → LooksFor need current was now old new how → CountedLooks most was now old new
 looked need most some current was now old new _ fits (not_needed none stats same) = record {
   more = [];
   dealt = ap (λ (v : NicView). v.dealt) same ∙ sym (append-nil old.dealt);

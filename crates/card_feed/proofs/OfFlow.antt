@@ -4,7 +4,7 @@ use Rattle.std.proofs.Common.{None, option_to_list, ⊎_elim, refl, sym, ap, sub
 use Rattle.std.specs.List.{slice_get}
 use Rattle.std.proofs.lemmas.Bool.{cases_Bool, eq-eqb, eqb-true}
 use Rattle.frame_headers.specs.FrameClass.{TcpSegment}
-use Rattle.flow_table.specs.Steered.{Steered, app_of, steer, steer_to, steered_from, steered_of, segments_of}
+use Rattle.flow_table.specs.Steered.{SteeredTcp, app_of, steer, steer_to, steered_from, steered_of, segments_of}
 use Rattle.flow_table.specs.Flows.{Flow, flows_of, flows_with, flows_after, number_of_flow}
 use Rattle.flow_table.proofs.FlowLaws.{HaveApps, flows_with-keeps, flows_with-grow, flows_with-app, flows_with-apps}
 use Rattle.page_pool.specs.Frames.{Offered}
@@ -13,20 +13,20 @@ use Rattle.card_feed.specs.Offered.{base_of, offered_after}
 
 -- ---- steered segments go to the application of their port
 
-abbrev pub AreSteered : List ℕ → List Steered → Type 0
+abbrev pub AreSteered : List ℕ → List SteeredTcp → Type 0
 AreSteered ports [] = Unit {0}
 AreSteered ports (s ∷ ss) = (app_of ports s.segment.dport ≡ Some s.app) × AreSteered ports ss
 
-port-steered : (ports : List ℕ) (n : ℕ) (segment : TcpSegment) (app : Option ℕ) (s : Steered) → app_of ports segment.dport ≡ app
+port-steered : (ports : List ℕ) (n : ℕ) (segment : TcpSegment) (app : Option ℕ) (s : SteeredTcp) → app_of ports segment.dport ≡ app
     → steer_to n segment app ≡ Some s
     → app_of ports s.segment.dport ≡ Some s.app
 port-steered ports n segment None s place is = absurd (cc)
-port-steered ports n segment (Some app) s place is = subst (λ (t : Steered). app_of ports t.segment.dport ≡ Some t.app) (same is) place
+port-steered ports n segment (Some app) s place is = subst (λ (t : SteeredTcp). app_of ports t.segment.dport ≡ Some t.app) (same is) place
   where
-    same : {a b : Steered} → Some a ≡ Some b → a ≡ b
+    same : {a b : SteeredTcp} → Some a ≡ Some b → a ≡ b
     same e = cc
 
-one-steered : (ports : List ℕ) (n : ℕ) (segment : Option TcpSegment) (s : Steered) → steer ports n segment ≡ Some s
+one-steered : (ports : List ℕ) (n : ℕ) (segment : Option TcpSegment) (s : SteeredTcp) → steer ports n segment ≡ Some s
     → app_of ports s.segment.dport ≡ Some s.app
 one-steered ports n None s is = absurd (cc)
 one-steered ports n (Some segment) s is = port-steered ports n segment (app_of ports segment.dport) s refl is
@@ -35,7 +35,7 @@ steered-from : (ports : List ℕ) (n : ℕ) (segments : List (Option TcpSegment)
 steered-from ports n [] = tt
 steered-from ports n (segment ∷ segments) = by_next (steered-from ports (suc n) segments) (steer ports n segment) refl
   where
-    by_next : AreSteered ports (steered_from ports (suc n) segments) → (next : Option Steered) → steer ports n segment ≡ next
+    by_next : AreSteered ports (steered_from ports (suc n) segments) → (next : Option SteeredTcp) → steer ports n segment ≡ next
         → AreSteered ports (option_to_list (steer ports n segment) ++ steered_from ports (suc n) segments)
     by_next others None is = rw is others
     by_next others (Some s) is = rw is (one-steered ports n segment s is, others)
@@ -55,7 +55,7 @@ record Stays (own last : Flow) : Type 0 where
   app_is : last.app ≡ own.app
   base_is : last.base ≡ own.base
 
-stays : (flows : List Flow) (steered : List Steered) (i : ℕ) (own last : Flow) → slice_get flows i ≡ Some own → slice_get
+stays : (flows : List Flow) (steered : List SteeredTcp) (i : ℕ) (own last : Flow) → slice_get flows i ≡ Some own → slice_get
     (flows_after flows steered) i ≡ Some last
     → Stays own last
 stays flows [] i own last at now = record { app_is = cc; base_is = cc }
@@ -70,7 +70,7 @@ abbrev pub AreOfFlow : ℕ → Flow → List Offered → Type 0
 AreOfFlow number flow [] = Unit {0}
 AreOfFlow number flow (o ∷ os) = (o.flow ≡ number → (o.app ≡ flow.app) × (o.base ≡ flow.base)) × AreOfFlow number flow os
 
-of_flow : (ports : List ℕ) (flows : List Flow) (steered : List Steered) (number : ℕ) (flow : Flow) → HaveApps ports flows → AreSteered ports steered
+of_flow : (ports : List ℕ) (flows : List Flow) (steered : List SteeredTcp) (number : ℕ) (flow : Flow) → HaveApps ports flows → AreSteered ports steered
     → slice_get (flows_after flows steered) number ≡ Some flow → AreOfFlow number flow (offered_after flows steered)
 of_flow ports flows [] number flow have are last = tt
 of_flow ports flows (s ∷ ss) number flow have are last =

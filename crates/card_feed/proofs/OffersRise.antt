@@ -4,7 +4,7 @@ use Rattle.std.proofs.Common.{Some, None, option_to_list, ⊎_elim, refl, sym, a
 use Rattle.std.proofs.lemmas.Bool.{cases_Bool}
 use Rattle.std.proofs.lemmas.List.Elements.{All-nil, All-cons, filter-append}
 use Rattle.frame_headers.specs.FrameClass.{TcpSegment}
-use Rattle.flow_table.specs.Steered.{Steered, app_of, steer, steer_to, steered_from, steered_of, segments_of}
+use Rattle.flow_table.specs.Steered.{SteeredTcp, app_of, steer, steer_to, steered_from, steered_of, segments_of}
 use Rattle.flow_table.specs.Flows.{Flow, flows_of, flows_with, flows_after}
 use Rattle.page_pool.specs.Frames.{Offered}
 use Rattle.frames_read.specs.Ending.{steered_in, steered_next}
@@ -28,14 +28,14 @@ rise-filter p n (o ∷ os) rise = ⊎_elim
     (λ (not_so : p o ≡ false). rw not_so (rise-lower n (suc o.frame) (filter p os) (omega (arith, rise.0)) (rise-filter p (suc o.frame) os rise.1)))
     (cases_Bool (p o))
 
-number-steered : (n : ℕ) (segment : TcpSegment) (app : Option ℕ) (s : Steered) → steer_to n segment app ≡ Some s → s.record_number ≡ n
+number-steered : (n : ℕ) (segment : TcpSegment) (app : Option ℕ) (s : SteeredTcp) → steer_to n segment app ≡ Some s → s.record_number ≡ n
 number-steered n segment None s is = absurd (cc)
-number-steered n segment (Some app) s is = sym (ap (λ (t : Steered). t.record_number) (same is))
+number-steered n segment (Some app) s is = sym (ap (λ (t : SteeredTcp). t.record_number) (same is))
   where
-    same : {a b : Steered} → Some a ≡ Some b → a ≡ b
+    same : {a b : SteeredTcp} → Some a ≡ Some b → a ≡ b
     same e = cc
 
-steered-number : (ports : List ℕ) (n : ℕ) (segment : Option TcpSegment) (s : Steered) → steer ports n segment ≡ Some s → s.record_number ≡ n
+steered-number : (ports : List ℕ) (n : ℕ) (segment : Option TcpSegment) (s : SteeredTcp) → steer ports n segment ≡ Some s → s.record_number ≡ n
 steered-number ports n None s is = absurd (cc)
 steered-number ports n (Some segment) s is = number-steered n segment (app_of ports segment.dport) s is
 
@@ -45,7 +45,7 @@ rise-from ports flows n [] = tt
 rise-from ports flows n (segment ∷ segments) = by_next (λ later. rise-from ports later (suc n) segments) (steer ports n segment) refl
   where
     by_next : ((later : List Flow) → RiseFrom (suc n) (offered_after later (steered_from ports (suc n) segments)))
-        → (next : Option Steered) → steer ports n segment ≡ next
+        → (next : Option SteeredTcp) → steer ports n segment ≡ next
         → RiseFrom n (offered_after flows (option_to_list (steer ports n segment) ++ steered_from ports (suc n) segments))
     by_next others None is = rw is (rise-lower n (suc n) _ (omega arith) (others flows))
     by_next others (Some s) is =
@@ -71,12 +71,12 @@ below-last n (p ∷ os) o rise = All-cons (λ (q : Offered). q.frame < o.frame) 
 
 -- ---- one frame more
 
-offered_after-more : (flows : List Flow) (xs ys : List Steered) → offered_after flows (xs ++ ys) ≡ offered_after flows xs ++ offered_after
+offered_after-more : (flows : List Flow) (xs ys : List SteeredTcp) → offered_after flows (xs ++ ys) ≡ offered_after flows xs ++ offered_after
     (flows_after flows xs) ys
 offered_after-more flows [] ys = refl
 offered_after-more flows (x ∷ xs) ys = ap (λ more. offered_one flows x ∷ more) (offered_after-more (flows_with flows x) xs ys)
 
-offers-one : (flows : List Flow) (next : Option Steered) → filter has_payload (offered_after flows (option_to_list next)) ≡ option_to_list
+offers-one : (flows : List Flow) (next : Option SteeredTcp) → filter has_payload (offered_after flows (option_to_list next)) ≡ option_to_list
     (offer_one flows next)
 offers-one flows None = refl
 offers-one flows (Some s) = by_test (has_payload (offered_one flows s))
@@ -88,7 +88,7 @@ offers-one flows (Some s) = by_test (has_payload (offered_one flows s))
 pub offers-more : (ports : List ℕ) (frames : List (List ℕ)) (frame : List ℕ)
     → offers_of (steered_in ports (frames ++ frame ∷ [])) ≡ offers_of (steered_in ports frames) ++ option_to_list (offer_next ports frames frame)
 offers-more ports frames frame =
-    let next : Option Steered = steered_next ports frames frame in
+    let next : Option SteeredTcp = steered_next ports frames frame in
     ap offers_of (steered-more ports frames frame)
     ∙ ap (filter has_payload) (offered_after-more [] (steered_in ports frames) (option_to_list next))
     ∙ filter-append has_payload (offered_after [] (steered_in ports frames)) (offered_after (flows_of (steered_in ports frames)) (option_to_list next))

@@ -8,7 +8,7 @@ use Rattle.std.proofs.lemmas.List.Quantifiers.{position-Some}
 use Rattle.zr_kinds.specs.CopyingReceiver.{nothing_placed, next_missing, front_of}
 use Rattle.board_face.specs.Relay.{as_taken}
 use Rattle.board_face.specs.declared.views.nic.SentNote.{SentNote}
-use Rattle.flow_table.specs.Steered.{Steered}
+use Rattle.flow_table.specs.SteeredTcp.{SteeredTcp}
 use Rattle.flow_table.specs.Flows.{Flow, flows_with, flows_after, number_of_flow}
 use Rattle.flow_table.proofs.FlowLaws.{HaveApps, flows_with-keeps, flows_with-grow, flows_with-app, flows_with-apps}
 use Rattle.app_worker.specs.Marks.{Mark, Numbered, numbered, of_flow, frames_of, received_frames, base_of}
@@ -27,7 +27,7 @@ abbrev pub HaveFlows : List Flow → List Offered → Type 0
 HaveFlows flows [] = Unit {0}
 HaveFlows flows (o ∷ os) = HasFlow flows o × HaveFlows flows os
 
-remains : (flows : List Flow) (steered : List Steered) (i : ℕ) (own : Flow) → slice_get flows i ≡ Some own
+remains : (flows : List Flow) (steered : List SteeredTcp) (i : ℕ) (own : Flow) → slice_get flows i ≡ Some own
     → (last : Flow) × (slice_get (flows_after flows steered) i ≡ Some last) × (last.app ≡ own.app)
 remains flows [] i own is = (own, is, refl)
 remains flows (s ∷ ss) i own is =
@@ -35,7 +35,7 @@ remains flows (s ∷ ss) i own is =
     let (last, last_is, app) = remains (flows_with flows s) ss i later later_is in
     (last, last_is, app ∙ same.app_is)
 
-pub have-flows : (ports : List ℕ) (flows : List Flow) (steered : List Steered) → HaveApps ports flows → AreSteered ports steered
+pub have-flows : (ports : List ℕ) (flows : List Flow) (steered : List SteeredTcp) → HaveApps ports flows → AreSteered ports steered
     → HaveFlows (flows_after flows steered) (offered_after flows steered)
 have-flows ports flows [] have are = tt
 have-flows ports flows (s ∷ ss) have are =
@@ -114,7 +114,7 @@ own-marks flows a notes own number other =
 
 -- ---- applications
 
-pub steered-within : (ports : List ℕ) (flows : List Flow) (steered : List Steered) → AreSteered ports steered
+pub steered-within : (ports : List ℕ) (flows : List Flow) (steered : List SteeredTcp) → AreSteered ports steered
     → All (λ (o : Offered). o.app < length ports) (offered_after flows steered)
 steered-within ports flows [] are = All-nil (λ (o : Offered). o.app < length ports)
 steered-within ports flows (s ∷ ss) are =

@@ -9,7 +9,7 @@ use Rattle.zr_kinds.specs.declared.fault.Fault.TheVariants.{Memory, TooManyFlows
 use Rattle.frame_headers.specs.FrameClass.{TcpSegment}
 use Rattle.zr_kinds.specs.CopyingReceiver.{lead}
 use Rattle.page_pool.specs.Frames.{Offered}
-use Rattle.flow_table.specs.Steered.{Steered, app_of, steer_to, first_byte}
+use Rattle.flow_table.specs.Steered.{SteeredTcp, app_of, steer_to, first_byte}
 use Rattle.flow_table.specs.CountedPart.{FlowClose, before_fin, counted_len, counted_part}
 use Rattle.flow_table.specs.Flows.{Flow, number_of_flow, flows_with}
 use Rattle.flow_table.specs.KnownFlows.{KnownFlows}
@@ -52,7 +52,7 @@ placed-most flows flow segment len is =
 -- ---- where it goes
 
 module _ (old : KnownFlows) (segment : TcpSegment) (number : ℕ) where
-  abbrev pub next : Option Steered
+  abbrev pub next : Option SteeredTcp
   next = steer_to number segment (app_of old.ports segment.dport)
 
   not_last : (app : ℕ) → number_of_flow old.flows (steered_to app segment number) ≢ 65535 → flow_ending old.flows
@@ -128,7 +128,7 @@ module _ (old : KnownFlows) (segment : TcpSegment) (number : ℕ) where
       → number_for old segment number ≢ Some 65535 → r.frame ≡ number
       → Steers split old new next (Ok (Some r))
   goes split new r placed ports few frame =
-      let s : Steered = steered_to r.app segment number in
+      let s : SteeredTcp = steered_to r.app segment number in
       let flows : new.flows ≡ flows_with old.flows s = placed.flows_are number in
       let flow : r.flow ≡ number_of_flow old.flows s = placed.flow_is number in
       let base : base_of (slice_get (flows_with old.flows s) (number_of_flow old.flows s)) ≡ r.base =

@@ -2,6 +2,7 @@
 use Rattle.std.proofs.Common.{◌≡◌, ◌≢◌, ℕ, suc, ◌+◌, ◌<◌, List, [], ◌∷◌, ◌++◌, length, take, nat_lt, Bool, true, false, not, Option}
 use Rattle.std.proofs.Common.{Some, None, is_some, option_to_list, Ok, Err, refl, sym, ap, subst, ◌∙◌, append-nil, arith, ◌==◌, if◌then◌else◌}
 use Rattle.std.proofs.lemmas.Bool.{ne_eqb, lt-ltb}
+use Rattle.zr_kinds.specs.Limits.{most_records}
 use Rattle.zr_kinds.specs.declared.fault.Fault.{Fault}
 use Rattle.zr_kinds.specs.declared.fault.Fault.TheVariants.{Memory, Usage, NotPcap, Version, LinkType, Cut, LongRecord, Read, Write, TooManyFlows}
 use Rattle.zr_kinds.specs.declared.fault.Fault.TheVariants.{TooManyFrames, BadBlock, BadRun}
@@ -9,7 +10,7 @@ use Rattle.zr_kinds.specs.declared.outcome.Tally.{Tally}
 use Rattle.frame_headers.specs.FrameClass.{TcpSegment, class_of}
 use Rattle.frame_headers.specs.Seen.{class_seen, segment_seen, segment_of}
 use Rattle.frame_headers.specs.declared.segment.Seen.{Seen}
-use Rattle.flow_table.specs.Steered.{Steered, app_of, steer, steer_to}
+use Rattle.flow_table.specs.Steered.{SteeredTcp, app_of, steer, steer_to}
 use Rattle.flow_table.specs.Flows.{flows_of}
 use Rattle.flow_table.specs.KnownFlows.{KnownFlows}
 use Rattle.flow_table.proofs.FlowLaws.{flows_of-push}
@@ -27,16 +28,16 @@ use Rattle.card_feed.specs.Intake.{RoutesTo, Steers, Knows}
 
 -- ---- the segment of a frame
 
-segment-steered : (ports : List ℕ) (number : ℕ) (segment : Option TcpSegment) (s : Steered) → steer ports number segment ≡ Some s
+segment-steered : (ports : List ℕ) (number : ℕ) (segment : Option TcpSegment) (s : SteeredTcp) → steer ports number segment ≡ Some s
     → segment ≡ Some s.segment
 segment-steered ports number None s is = absurd (cc)
 segment-steered ports number (Some segment) s is = by_app (app_of ports segment.dport) is
   where
     by_app : (app : Option ℕ) → steer_to number segment app ≡ Some s → Some segment ≡ Some s.segment
     by_app None is = absurd (cc)
-    by_app (Some app) is = ap (λ (t : Steered). Some t.segment) (same is)
+    by_app (Some app) is = ap (λ (t : SteeredTcp). Some t.segment) (same is)
       where
-        same : {a b : Steered} → Some a ≡ Some b → a ≡ b
+        same : {a b : SteeredTcp} → Some a ≡ Some b → a ≡ b
         same e = cc
 
 module _ (split : ℕ) (ports : List ℕ) (frames : List (List ℕ)) (frame : List ℕ) (old : Intake) (knows : Knows ports frames old) where
@@ -50,21 +51,21 @@ module _ (split : ℕ) (ports : List ℕ) (frames : List (List ℕ)) (frame : Li
       ∙ ap (λ (k : KnownFlows). steer k.ports (suc (length frames)) (segment_seen found)) knows.known
       ∙ ap (steer ports (suc (length frames))) (seen-segment found ∙ ap segment_of class)
 
-  pub below-limit : old.counting.tally.records ≢ 16777216 → length frames ≢ 16777216
+  pub below-limit : old.counting.tally.records ≢ most_records → length frames ≢ most_records
   below-limit few limit = few (ap (λ (t : Tally). t.records) knows.tally ∙ limit)
 
   -- ---- it was taken
 
-  is_found : (known new : KnownFlows) (next : Option Steered) (found : Option Route) → RoutesTo known new next found → is_some found ≡ is_some next
+  is_found : (known new : KnownFlows) (next : Option SteeredTcp) (found : Option Route) → RoutesTo known new next found → is_some found ≡ is_some next
   is_found known new None None routes = refl
   is_found known new (Some s) (Some r) routes = refl
   is_found known new None (Some r) routes = absurd routes
   is_found known new (Some s) None routes = absurd routes
 
-  abbrev known_at : List Steered → KnownFlows
+  abbrev known_at : List SteeredTcp → KnownFlows
   known_at steered = record { ports = ports; flows = flows_of steered }
 
-  known-more : (new : KnownFlows) (next : Option Steered) (found : Option Route) → RoutesTo (known_at (steered_in ports frames)) new next found
+  known-more : (new : KnownFlows) (next : Option SteeredTcp) (found : Option Route) → RoutesTo (known_at (steered_in ports frames)) new next found
       → new ≡ known_at (steered_in ports frames ++ option_to_list next)
   known-more new None None routes = routes ∙ ap known_at (sym (append-nil (steered_in ports frames)))
   known-more new (Some s) (Some r) routes = routes.known ∙ ap (λ flows. record { ports = ports; flows = flows })
@@ -79,7 +80,7 @@ module _ (split : ℕ) (ports : List ℕ) (frames : List (List ℕ)) (frame : Li
       let some : (length (b ∷ bs) == 0) ≡ false = ne_eqb (length (b ∷ bs)) 0 (λ e. omega (arith, e, there)) in
       rw (some, lt-ltb 0 (length (b ∷ bs)) there) refl
 
-  hand-is : (new : KnownFlows) (next : Option Steered) (found : Option Route) → ((s : Steered) → next ≡ Some s → payload_in frame ≡ s.segment.payload)
+  hand-is : (new : KnownFlows) (next : Option SteeredTcp) (found : Option Route) → ((s : SteeredTcp) → next ≡ Some s → payload_in frame ≡ s.segment.payload)
       → RoutesTo (known_at (steered_in ports frames)) new next found
       → at_hand (with_payload found) frame ≡ offer_one (flows_of (steered_in ports frames)) next
   hand-is new None None payload routes = refl
@@ -96,7 +97,7 @@ module _ (split : ℕ) (ports : List ℕ) (frames : List (List ℕ)) (frame : Li
   hand-is new None (Some r) payload routes = absurd routes
   hand-is new (Some s) None payload routes = absurd routes
 
-  pub frame-taken : (seen : Seen) → class_seen seen ≡ class_of frame → old.counting.tally.records ≢ 16777216 → (found : Option Route)
+  pub frame-taken : (seen : Seen) → class_seen seen ≡ class_of frame → old.counting.tally.records ≢ most_records → (found : Option Route)
       (tally : Tally) (new : KnownFlows)
       → Steers split old.table new (steer old.table.ports (old.counting.tally.records + 1) (segment_seen seen)) (Ok found)
       → tally ≡ counted old.counting.tally (class_seen seen) (is_some found)
@@ -108,11 +109,11 @@ module _ (split : ℕ) (ports : List ℕ) (frames : List (List ℕ)) (frame : Li
       }))
       × (at_hand (with_payload found) frame ≡ offer_next ports frames frame)
   frame-taken seen class few found tally new steers counts =
-      let next : Option Steered = steered_next ports frames frame in
+      let next : Option SteeredTcp = steered_next ports frames frame in
       let is = next-is seen class in
       let here : Steers split (known_at (steered_in ports frames)) new next (Ok found) =
       subst (λ (k : KnownFlows). Steers split k new next (Ok found)) knows.known
-      (subst (λ (n : Option Steered). Steers split old.table new n (Ok found)) is steers) in
+      (subst (λ (n : Option SteeredTcp). Steers split old.table new n (Ok found)) is steers) in
       let more = steered-more ports frames frame in (
         ending-flow ports frames frame (below-limit few) ∙ here.0,
         (
@@ -130,12 +131,12 @@ module _ (split : ℕ) (ports : List ℕ) (frames : List (List ℕ)) (frame : Li
 
   -- ---- it ends the reading
 
-  pub frame-ends : (seen : Seen) → class_seen seen ≡ class_of frame → old.counting.tally.records ≢ 16777216 → (fault : Fault) (new : KnownFlows)
+  pub frame-ends : (seen : Seen) → class_seen seen ≡ class_of frame → old.counting.tally.records ≢ most_records → (fault : Fault) (new : KnownFlows)
       → Steers split old.table new (steer old.table.ports (old.counting.tally.records + 1) (segment_seen seen)) (Err fault)
       → EndsAt (WantsRoom split ports) ports frames frame fault × (new ≡ record { ports = ports; flows = flows_of (steered_in ports frames) })
   frame-ends seen class few fault new steers =
       by_fault fault (subst (λ (k : KnownFlows). Steers split k new (steered_next ports frames frame) (Err fault)) knows.known
-      (subst (λ (n : Option Steered). Steers split old.table new n (Err fault)) (next-is seen class) steers))
+      (subst (λ (n : Option SteeredTcp). Steers split old.table new n (Err fault)) (next-is seen class) steers))
     where
       ends : (end : Option Fault) → flow_ending (flows_of (steered_in ports frames)) (steered_next ports frames frame) ≡ end
           → ending_at ports frames frame ≡ end
@@ -157,5 +158,5 @@ module _ (split : ℕ) (ports : List ℕ) (frames : List (List ℕ)) (frame : Li
       by_fault BadBlock (is, same) = (ends (Some BadBlock) is, same)
       by_fault BadRun (is, same) = (ends (Some BadRun) is, same)
 
-  pub frame-limit : old.counting.tally.records ≡ 16777216 → ending_at ports frames frame ≡ Some TooManyFrames
+  pub frame-limit : old.counting.tally.records ≡ most_records → ending_at ports frames frame ≡ Some TooManyFrames
   frame-limit limit = ending-limit ports frames frame (sym (ap (λ (t : Tally). t.records) knows.tally) ∙ limit)

@@ -26,7 +26,7 @@ use Rattle.card_feed.specs.Hand.{at_hand}
 use Rattle.card_feed.specs.declared.intake.Route.{Route}
 use Rattle.card_feed.specs.Intake.{Knows, OnlyOpens, TakesIn, IsReadable, IsTimely, counts_as}
 use Rattle.card_feed.specs.Feed.{FeedState, FeedKnows, FeedStands, WantsRecord}
-use Rattle.card_feed.specs.Turns.{ReadsOne, OnlyReads, MayArrive, Receives, Settles, Plays, drains, offers, finishes, rests, KeepsUp, IsAwaiting}
+use Rattle.card_feed.specs.Turns.{ReadsOne, OnlyReads, MayArrive, Receives, Settles, FeedPlays, drains, offers, finishes, rests, KeepsUp, IsAwaiting}
 use Rattle.card_feed.specs.Turns.{FeedSteps, FeedTurns, HasLooked}
 use Rattle.card_feed.specs.Parts.{feed_of}
 use Rattle.card_feed.specs.Counts.{AreCounted, AreFound, found_in}
@@ -156,7 +156,7 @@ module _ (ports : List ℕ) (split : ℕ) where
       (unused-trans old mid new (sends-unused was.pool pool old mid puts_off.sends) (drains-unused pool now.pool mid new count drained))
       (drained-counted frames was now pool old mid new count fits puts_off.sends drained stands.counted)
 
-  pub played : (frames : List (List ℕ)) (was now : FeedState) (old new : NicView) → AreInType now.pool.stats → Plays was now old new
+  pub played : (frames : List (List ℕ)) (was now : FeedState) (old new : NicView) → AreInType now.pool.stats → FeedPlays was now old new
       → FeedKnows ports split frames was old → FeedKnows ports split frames now new
   played frames was now old new fits (drains closed count drained same) stands =
       let pool_is : now.pool ≡ record was.pool { stats = now.pool.stats } = ap (λ (f : FeedState). f.pool) same in
@@ -226,7 +226,7 @@ settles-stage was now old new o Accepted (accepts, same) = ap (λ (f : FeedState
 settles-stage was now old new o (NoRoom cached need) (refuses, same) = ap (λ (f : FeedState). f.stage) same
 settles-stage was now old new o Busy (pool, mid, count, puts_off, drained, same) = ap (λ (f : FeedState). f.stage) same
 
-pub plays-stage : (was now : FeedState) (old new : NicView) → Plays was now old new → now.stage ≡ was.stage
+pub plays-stage : (was now : FeedState) (old new : NicView) → FeedPlays was now old new → now.stage ≡ was.stage
 plays-stage was now old new (drains closed count drained same) = ap (λ (f : FeedState). f.stage) same
 plays-stage was now old new (offers on o here by) = settles-stage was now old new by.offer by.verdict by.settles
 plays-stage was now old new (finishes on none over (pool, mid, sends, inl (sent, closes, same))) = ap (λ (f : FeedState). f.stage) same
@@ -329,7 +329,7 @@ module _ (ports : List ℕ) (split : ℕ) (frames : List (List ℕ)) (was : Inta
   }
 
   module _ (now : Intake) (came : Arrived) (end : FeedState) (new : NicView) (has : HasReceived now came) (fits : AreInType end.pool.stats) where
-    pub stepped : ¬ IsAwaiting (feed_of was pool closed) came → Plays (feed_of now pool closed) end old new
+    pub stepped : ¬ IsAwaiting (feed_of was pool closed) came → FeedPlays (feed_of now pool closed) end old new
         → FeedSteps ports split frames came (feed_of was pool closed) end old new
     stepped there plays = record {
       taken = feed_of now pool closed;
@@ -391,7 +391,7 @@ readable-cases intake = by_hand intake.hand refl
 module _ {S : Type 0} (left : S → Option (List ℕ)) (faults : S → ℕ) (first later : S) (ports : List ℕ) (split : ℕ) (frames : List (List ℕ))
     (was opened : Intake) (pool : PoolState) (closed : Bool) (came : Arrived) (end : FeedState) (old new : NicView)
     (steps : FeedSteps ports split frames came (feed_of opened pool closed) end old new) where
-  plays-of : ¬ IsAwaiting (feed_of opened pool closed) came → Plays steps.taken end old new
+  plays-of : ¬ IsAwaiting (feed_of opened pool closed) came → FeedPlays steps.taken end old new
   plays-of there = ⊎_elim (λ plays. plays.1) (λ keeps. absurd (there keeps.0)) steps.done
 
   -- a record was wanted, and came or didn't

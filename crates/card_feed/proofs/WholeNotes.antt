@@ -7,7 +7,7 @@ use Rattle.zr_kinds.specs.declared.place.Place.{Place}
 use Rattle.board_face.specs.Relay.{as_taken, IsProper}
 use Rattle.board_face.specs.declared.views.nic.SentNote.{SentNote}
 use Rattle.board_face.specs.declared.views.app.TakenNote.{TakenNote}
-use Rattle.flow_queues.specs.Marks.{Numbered, numbered, AreOfOthers, Follows, Fits, AllStand, FramesStandTogether}
+use Rattle.flow_queues.specs.Marks.{Numbered, numbered, AreOfOthers, Follows, LiesInFrame, AllStand, FramesStandTogether}
 use Rattle.page_pool.specs.Frames.{Offered, IsNoteOf, ShowRest, ShowsFrame, ShowFrames}
 use Rattle.card_feed.specs.Sent.{FirstFramesStandTogether}
 use Rattle.card_feed.proofs.NotesShown.{AreAbove, Ascend, HaveBytes}
@@ -123,7 +123,7 @@ pub first-linked : (taken later : List TakenNote) → LinkTogether (numbered 0 (
 first-linked [] later linked = tt
 first-linked (t ∷ taken) later linked = (linked.0, linked-first 1 _ taken later linked.1)
 
-first_fits : (y : Numbered) (ns : List Numbered) → AllStand y ns → Fits y
+first_fits : (y : Numbered) (ns : List Numbered) → AllStand y ns → LiesInFrame y
 first_fits y [] all = all
 first_fits y (n ∷ ns) all = all.0
 
@@ -146,7 +146,7 @@ first-whole (t ∷ taken) later whole = (whole.0, stand-first 1 _ taken later wh
 
 -- ---- notes that may be sent
 
-proper-fits : (k : ℕ) (s : SentNote) → IsProper s → Fits (at_number k s)
+proper-fits : (k : ℕ) (s : SentNote) → IsProper s → LiesInFrame (at_number k s)
 proper-fits k s proper = ⊎_elim
     (λ (split : s.note.split ≡ true). let is = proper.split split in record { within = is.within; bounded = is.bounded })
     (λ (linear : s.note.split ≡ false).

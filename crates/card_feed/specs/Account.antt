@@ -9,7 +9,7 @@ use Rattle.zr_kinds.specs.declared.behaviour.Stopped.{Stopped}
 use Rattle.zr_kinds.specs.declared.behaviour.Stopped.TheVariants as stop
 use Rattle.zr_kinds.specs.declared.outcome.AppLine.{AppLine}
 use Rattle.zr_io.specs.Moved.{Gained}
-use Rattle.flow_table.specs.Steered.{Steered}
+use Rattle.flow_table.specs.SteeredTcp.{SteeredTcp}
 use Rattle.flow_table.specs.Flows.{Flow, flows_of}
 use Rattle.flow_table.specs.Stream.{stream_of}
 use Rattle.frames_read.specs.Ending.{steered_in}
@@ -34,7 +34,7 @@ use Rattle.card_feed.specs.Plan.{layout_of, how_of}
 -- ---- the account
 
 -- the frames that are offered to an application, but those that are left out
-abbrev pub offered_to : ℕ → List ℕ → List Steered → List Offered
+abbrev pub offered_to : ℕ → List ℕ → List SteeredTcp → List Offered
 offered_to a left_out steered = filter (λ o. o.app == a) (without left_out (offers_of steered))
 
 -- what the shelf of an application keeps of a flow
@@ -50,7 +50,7 @@ pub record IsFlowRead (app : AppSide) (stopped : Stopped) (number : ℕ) (bytes 
 -- loans it gave back or abandoned and how many spares it was given, and that it wrote all that these loans had where it wasn't
 -- stopped, and no more where it was. Where it wasn't, it kept back as many loans as it was to, or all outside its reserve where
 -- these are fewer; and so many strays followed each entry of a loan, but for those that may be left out (`HasReturned`).
-pub record AppAccounts (how : Behaviour) (split : ℕ) (steered : List Steered) (left_out : List ℕ) (nic : NicSide) (a : ℕ) (app : AppSide)
+pub record AppAccounts (how : Behaviour) (split : ℕ) (steered : List SteeredTcp) (left_out : List ℕ) (nic : NicSide) (a : ℕ) (app : AppSide)
     (line : AppLine) : Type 0 where
   pub has_left : app.view.left ≡ true
   pub notes : ShowFrames split (offered_to a left_out steered) (sent_to a nic)

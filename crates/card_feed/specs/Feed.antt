@@ -55,7 +55,7 @@ pub record WantsRecord (feed : FeedState) : Type 0 where
 
 -- The tokens and pending notes are those of this feed's turns. Once the card was closed, nothing is pending and nothing
 -- read any more.
-pub record Fits (feed : FeedState) (v : NicView) : Type 0 where
+pub record FeedFits (feed : FeedState) (v : NicView) : Type 0 where
   pub stands : PoolStands feed.pool v
   pub apps : length feed.ports ≡ apps_of v.setting
   pub on : feed.closed ≡ false → IsOpen v
@@ -66,7 +66,7 @@ pub record Fits (feed : FeedState) (v : NicView) : Type 0 where
 
 -- and between two turns a frame is at hand only behind pending notes
 pub record IsReady (feed : FeedState) (v : NicView) : Type 0 where
-  pub fits : Fits feed v
+  pub fits : FeedFits feed v
   pub waits : feed.at_hand ≢ None → 0 < pending_count feed.pool
 
 -- These frames came. They are counted, their flows are known, the notes that were sent and those that are pending show what was

@@ -1,6 +1,7 @@
 -- The frame that is at hand, and what always holds of it.
 use Rattle.std.specs.Prelude.{◌≡◌, ℕ, ◌<◌, ◌≤◌, nat_lt, if◌then◌else◌, List, length, take, Option, Some, None}
 use Rattle.std.specs.List.{slice_get}
+use Rattle.zr_kinds.specs.Limits.{longest_payload}
 use Rattle.flow_table.specs.Steered.{app_of}
 use Rattle.flow_table.specs.Flows.{Flow}
 use Rattle.page_pool.specs.Frames.{Offered}
@@ -18,13 +19,13 @@ pub record HandFits (ports frame : List ℕ) (route : Route) : Type 0 where
   pub app : route.app < length ports
   pub len : route.len ≤ length (payload_in frame)
   pub some : 0 < route.len
-  pub most : route.len ≤ 65515
+  pub most : route.len ≤ longest_payload
 
 -- where a segment goes, by its payload
 pub record RouteFits (ports payload : List ℕ) (route : Route) : Type 0 where
   pub app : route.app < length ports
   pub len : route.len ≤ length payload
-  pub most : length payload ≤ 65515
+  pub most : length payload ≤ longest_payload
 
 -- a frame of which no byte counts isn't offered
 abbrev pub with_payload : Option Route → Option Route

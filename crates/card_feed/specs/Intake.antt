@@ -2,7 +2,7 @@
 use Rattle.std.specs.Prelude.{◌≡◌, ℕ, ◌⊎◌, false, List, [], ◌∷◌, ◌++◌, length, take, Option, Some, None, Result, Ok, Err}
 use Rattle.zr_kinds.specs.declared.fault.Fault.{Fault}
 use Rattle.zr_kinds.specs.declared.fault.Fault.TheVariants.{Memory}
-use Rattle.flow_table.specs.Steered.{Steered}
+use Rattle.flow_table.specs.SteeredTcp.{SteeredTcp}
 use Rattle.flow_table.specs.Flows.{flows_of, flows_with}
 use Rattle.flow_table.specs.KnownFlows.{KnownFlows}
 use Rattle.frames_read.specs.Ending.{steered_in, flow_ending, BeginsFlow, ending_at}
@@ -19,19 +19,19 @@ use Rattle.card_feed.specs.Offered.{offered_one, offer_one, offer_next, WantsRoo
 use Rattle.card_feed.specs.Hand.{offered_by, at_hand}
 
 -- the segment goes where the definition says, and its flow has seen it
-pub record IsRouteOf (old new : KnownFlows) (s : Steered) (r : Route) : Type 0 where
+pub record IsRouteOf (old new : KnownFlows) (s : SteeredTcp) (r : Route) : Type 0 where
   pub offered_is : offered_by r (take r.len s.segment.payload) ≡ offered_one old.flows s
   pub len : r.len ≡ length (offered_one old.flows s).payload
   pub known : new ≡ record { ports = old.ports; flows = flows_with old.flows s }
 
-abbrev pub RoutesTo : KnownFlows → KnownFlows → Option Steered → Option Route → Type 0
+abbrev pub RoutesTo : KnownFlows → KnownFlows → Option SteeredTcp → Option Route → Type 0
 RoutesTo old new None None = new ≡ old
 RoutesTo old new (Some s) (Some r) = IsRouteOf old new s r
 RoutesTo old new None (Some r) = ⊥
 RoutesTo old new (Some s) None = ⊥
 
 -- what became of a segment that is steered so
-abbrev pub Steers : ℕ → KnownFlows → KnownFlows → Option Steered → Result (Option Route) Fault → Type 0
+abbrev pub Steers : ℕ → KnownFlows → KnownFlows → Option SteeredTcp → Result (Option Route) Fault → Type 0
 Steers split old new next (Ok found) = (flow_ending old.flows next ≡ None) × RoutesTo old new next found
 Steers split old new next (Err Memory) = (flow_ending old.flows next ≡ None) × (BeginsFlow old.flows next ⊎ IsLong split (offer_one old.flows next)) × (new ≡ old)
 Steers split old new next (Err fault) = (flow_ending old.flows next ≡ Some fault) × (new ≡ old)

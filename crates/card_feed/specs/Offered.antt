@@ -5,7 +5,7 @@ use Rattle.std.specs.Prelude.{All, AllPairs, Contains}
 use Rattle.std.specs.List.{list_any, slice_get}
 use Rattle.frame_headers.specs.FrameClass.{TcpSegment, class_of}
 use Rattle.frame_headers.specs.Seen.{segment_of}
-use Rattle.flow_table.specs.Steered.{Steered, first_byte, has_fin}
+use Rattle.flow_table.specs.Steered.{SteeredTcp, first_byte, has_fin}
 use Rattle.flow_table.specs.CountedPart.{FlowClose, not_closed, counted_part}
 use Rattle.flow_table.specs.Flows.{Flow, flows_of, flows_with, number_of_flow}
 use Rattle.page_pool.specs.Frames.{Offered, ShowFrames}
@@ -25,7 +25,7 @@ close_of None = not_closed
 close_of (Some flow) = flow.close
 
 -- a steered frame as it is offered, where these flows were there before it
-abbrev pub offered_one : List Flow → Steered → Offered
+abbrev pub offered_one : List Flow → SteeredTcp → Offered
 offered_one flows s = record {
   app = s.app;
   frame = s.record_number;
@@ -40,7 +40,7 @@ abbrev pub has_payload : Offered → Bool
 has_payload o = not (length o.payload == 0)
 
 -- the frame that is offered, if it is steered and some of its payload counts
-abbrev pub offer_one : List Flow → Option Steered → Option Offered
+abbrev pub offer_one : List Flow → Option SteeredTcp → Option Offered
 offer_one flows None = None
 offer_one flows (Some s) = if has_payload (offered_one flows s) then Some (offered_one flows s) else None
 
@@ -59,12 +59,12 @@ payload_in frame = payload_of (segment_of (class_of frame))
 
 -- ---- all frames
 
-abbrev pub offered_after : List Flow → List Steered → List Offered
+abbrev pub offered_after : List Flow → List SteeredTcp → List Offered
 offered_after flows [] = []
 offered_after flows (s ∷ others) = offered_one flows s ∷ offered_after (flows_with flows s) others
 
 -- the frames that are offered, of these steered ones
-abbrev pub offers_of : List Steered → List Offered
+abbrev pub offers_of : List SteeredTcp → List Offered
 offers_of steered = filter has_payload (offered_after [] steered)
 
 -- those whose numbers aren't among these

@@ -95,12 +95,12 @@ Finishes was now old new =
 
 -- ---- a turn, once it has read what it reads
 
-pub data Plays (was now : FeedState) (old new : NicView) : Type 0 where
+pub data FeedPlays (was now : FeedState) (old new : NicView) : Type 0 where
   drains : was.closed ≡ true → (count : ℕ) → DrainsRings was.pool.stats now.pool.stats old new count
-      → now ≡ record was { pool = record was.pool { stats = now.pool.stats } } → Plays was now old new
-  offers : was.closed ≡ false → (o : Offered) → was.at_hand ≡ Some o → OffersHand was now old new o → Plays was now old new
-  finishes : was.closed ≡ false → was.at_hand ≡ None → is_over was.stage ≡ true → Finishes was now old new → Plays was now old new
-  rests : was.closed ≡ false → was.at_hand ≡ None → is_over was.stage ≡ false → now ≡ was → new ≡ old → Plays was now old new
+      → now ≡ record was { pool = record was.pool { stats = now.pool.stats } } → FeedPlays was now old new
+  offers : was.closed ≡ false → (o : Offered) → was.at_hand ≡ Some o → OffersHand was now old new o → FeedPlays was now old new
+  finishes : was.closed ≡ false → was.at_hand ≡ None → is_over was.stage ≡ true → Finishes was now old new → FeedPlays was now old new
+  rests : was.closed ≡ false → was.at_hand ≡ None → is_over was.stage ≡ false → now ≡ was → new ≡ old → FeedPlays was now old new
 
 -- A turn: a record is read where one is wanted, and then the rest is done.
 pub record FeedTurns {S : Type 0} (left : S → Option (List ℕ)) (faults : S → ℕ) (first source : S) (ports : List ℕ) (split : ℕ)
@@ -110,7 +110,7 @@ pub record FeedTurns {S : Type 0} (left : S → Option (List ℕ)) (faults : S �
   pub only : OnlyReads was read
   pub reads : WantsRecord was → ReadsOne ports read frames more
   pub waits : ¬ WantsRecord was → (read ≡ was) × (more ≡ frames)
-  pub plays : Plays read now old new
+  pub plays : FeedPlays read now old new
   pub stands : FeedStands left faults first source ports split more now new
 
 -- ---- a step, by what arrived
@@ -134,7 +134,7 @@ pub record FeedSteps (ports : List ℕ) (split : ℕ) (frames : List (List ℕ))
   pub more : List (List ℕ)
   pub only : OnlyReads was taken
   pub receives : Receives split ports was taken frames more came
-  pub done : (¬ IsAwaiting was came × Plays taken now old new) ⊎ (IsAwaiting was came × KeepsUp taken now old new)
+  pub done : (¬ IsAwaiting was came × FeedPlays taken now old new) ⊎ (IsAwaiting was came × KeepsUp taken now old new)
   pub stage_is : now.stage ≡ taken.stage
   pub knows : FeedKnows ports split more now new
 

@@ -2,6 +2,7 @@
 
 ghost use Rattle.std.specs.Prelude.{◌≡◌, ◌<◌, ◌≤◌, true, length, get_or, is_some, IfOk, None, Some, option_map, vec_len};
 ghost use Rattle.std.specs.List.{slice_get};
+ghost use Rattle.zr_kinds.specs.Limits.{most_records};
 ghost use Rattle.flow_table.specs.Flows.{Flow};
 ghost use Rattle.flow_table.specs.Placing.{info_of};
 ghost use Rattle.card_feed.specs.Plan.{IsPlan};
@@ -100,7 +101,7 @@ impl Feed {
     /// How many records were read so far.
     pub fn records(&self) -> u32
         ensures count { result ≡ self.now.tally.records }
-        ensures most { result ≤ 16777216 }
+        ensures most { result ≤ most_records }
     {
         self.intake.counting.tally.records
     }

@@ -30,7 +30,7 @@ pub fn shown_notes_are_whole()
 
 /// The first notes of whole frames are whole frames, of which the last may lack pieces. It does nothing: its contract is
 /// the law.
-pub fn first_notes_are_whole()
+pub fn first_frames_stand_together()
     ensures { FirstFramesStandTogether }
 {}
 

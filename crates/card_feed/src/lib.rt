@@ -18,7 +18,7 @@ pub use feed::Feed;
 pub use intake::Stage;
 pub use laws::{
     accounts_give_streams, closed_feeds_show, feeds_send_own, feeds_send_whole,
-    first_notes_are_whole, new_feeds_stand, offers_have_apps, own_notes_mark_no_other,
+    first_frames_stand_together, new_feeds_stand, offers_have_apps, own_notes_mark_no_other,
     shown_notes_are_own, shown_notes_are_whole,
 };
 pub use outcome::Outcome;

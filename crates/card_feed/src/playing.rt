@@ -1,6 +1,7 @@
 //! The part of a turn that is played at the face: the frame at hand is offered, or the card finishes.
 
 ghost use Rattle.std.specs.Prelude.{◌≡◌, ◌≢◌, ◌⊎◌, ℕ, ◌<◌, ◌≤◌, Bool, length, take, true, false, Some, None};
+ghost use Rattle.zr_kinds.specs.Limits.{longest_payload};
 ghost use Rattle.board_face.specs.Looks.{NicRose};
 ghost use Rattle.board_face.specs.NicCalls.{apps_of, IsOpen};
 ghost use Rattle.board_face.specs.NicEvents.{nic_gist};
@@ -12,8 +13,8 @@ ghost use Rattle.page_pool.specs.Pool.{PoolStands, HasNonePending, IsNextApp, pe
 ghost use Rattle.card_feed.specs.Offered.{payload_in};
 ghost use Rattle.card_feed.specs.Hand.{offered_by};
 ghost use Rattle.card_feed.specs.Coming.{is_over};
-ghost use Rattle.card_feed.specs.Feed.{Fits, card_steps};
-ghost use Rattle.card_feed.specs.Turns.{OffersHand, Finishes, KeepsUp, Plays, HasLooked, IsIdle};
+ghost use Rattle.card_feed.specs.Feed.{FeedFits, card_steps};
+ghost use Rattle.card_feed.specs.Turns.{OffersHand, Finishes, KeepsUp, FeedPlays, HasLooked, IsIdle};
 ghost use Rattle.card_feed.specs.Parts.{feed_of};
 ghost use Rattle.card_feed.specs.declared.intake.Intake.{Intake as TheIntake};
 
@@ -25,7 +26,7 @@ use page_pool::{Offer, Pool, Verdict, nic_close, nic_drain, nic_flush, nic_offer
 /// The payload in a frame, or none.
 pub fn payload_in(frame: &[u8]) -> &[u8]
     ensures payload { result.now ≡ payload_in frame.now }
-    ensures most { length result.now ≤ 65515 }
+    ensures most { length result.now ≤ longest_payload }
 {
     match read_frame(frame) {
         Seen::Tcp(segment) => segment.payload,
@@ -40,7 +41,7 @@ fn offer<F: NicFace>(route: &Route, frame: &[u8], pool: &mut Pool, face: &mut F)
     requires app { route.now.app < apps_of (F.seen face.old).setting }
     requires len { route.now.len ≤ length (payload_in frame.now) }
     requires some { 0 < route.now.len }
-    requires most { route.now.len ≤ 65515 }
+    requires most { route.now.len ≤ longest_payload }
     ensures stands { PoolStands pool.new (F.seen face.new) }
     ensures offers { (o : TheOffer) × (offered o ≡ offered_by route.now (take route.now.len (payload_in frame.now)))
         × Offers pool.old pool.new (F.seen face.old) (F.seen face.new) o result }
@@ -161,12 +162,12 @@ pub fn play<F: NicFace>(
     closed: &mut bool,
     face: &mut F,
 ) -> bool
-    requires fits { Fits (feed_of intake.old pool.old closed.old) (F.seen face.old) }
+    requires fits { FeedFits (feed_of intake.old pool.old closed.old) (F.seen face.old) }
     requires split { pool.old.split ≡ intake.old.split }
-    ensures fits { Fits (feed_of intake.new pool.new closed.new) (F.seen face.new) }
+    ensures fits { FeedFits (feed_of intake.new pool.new closed.new) (F.seen face.new) }
     ensures waits { intake.new.hand ≢ None → 0 < pending_count pool.new }
     ensures split { pool.new.split ≡ intake.new.split }
-    ensures plays { Plays (feed_of intake.old pool.old closed.old) (feed_of intake.new pool.new closed.new) (F.seen face.old) (F.seen face.new) }
+    ensures plays { FeedPlays (feed_of intake.old pool.old closed.old) (feed_of intake.new pool.new closed.new) (F.seen face.old) (F.seen face.new) }
     ensures same { (intake.new.stage ≡ intake.old.stage) × (intake.new.counting.tally ≡ intake.old.counting.tally)
         × (intake.new.table.ports ≡ intake.old.table.ports) }
     ensures later { card_steps closed.old (F.seen face.old) ≤ card_steps closed.new (F.seen face.new) }

@@ -2,6 +2,7 @@
 
 ghost use Rattle.std.specs.Prelude.{◌≡◌, ◌≢◌, ℕ, ◌+◌, ◌<◌, ◌≤◌, ◌↔◌, List, length, true, false, None, Some, Err, IfOk, IfSome, IsTrue};
 ghost use Rattle.std.specs.Prelude.{vec_capacity, MatchResult};
+ghost use Rattle.zr_kinds.specs.Limits.{longest_payload};
 ghost use Rattle.frame_headers.specs.Seen.{shown, segment_seen};
 ghost use Rattle.zr_kinds.specs.declared.fault.Fault.TheVariants.{Memory};
 ghost use Rattle.flow_table.specs.Steered.{steer as steered};
@@ -23,7 +24,7 @@ use zr_kinds::Fault;
 
 /// Whether a segment is steered, and so many bytes of it would count that it may be refused.
 fn may_be_refused(table: &FlowTable, split: u32, segment: &Segment<'_>) -> bool
-    requires size { length segment.now.payload.now ≤ 65515 }
+    requires size { length segment.now.payload.now ≤ longest_payload }
     ensures long { result ≡ true → (frame : ℕ)
         → Steers split table.now table.now (steered table.now.ports frame (Some (shown segment.now))) (Err Memory) }
     ensures short { result ≡ false → (frame len : ℕ) → number_for table.now (shown segment.now) frame ≢ Some 65535
@@ -41,7 +42,7 @@ fn steer(
     frame: u32,
     segment: &Segment<'_>,
 ) -> Result<Option<Route>, Fault>
-    requires size { length segment.now.payload.now ≤ 65515 }
+    requires size { length segment.now.payload.now ≤ longest_payload }
     requires apps { HaveApps table.old.ports table.old.flows }
     ensures apps { HaveApps table.new.ports table.new.flows }
     ensures ports { table.new.ports ≡ table.old.ports }
@@ -87,7 +88,7 @@ fn steer_seen(
     frame: u32,
     seen: &Seen<'_>,
 ) -> Result<Option<Route>, Fault>
-    requires size { IfSome (segment_seen seen.now) (λ segment. length segment.payload ≤ 65515) }
+    requires size { IfSome (segment_seen seen.now) (λ segment. length segment.payload ≤ longest_payload) }
     requires apps { HaveApps table.old.ports table.old.flows }
     ensures apps { HaveApps table.new.ports table.new.flows }
     ensures ports { table.new.ports ≡ table.old.ports }

@@ -11,7 +11,7 @@ use Rattle.command_words.specs.Asking.{AreApart, app_for}
 use Rattle.command_words.proofs.Lookups.{built_app, default_faults, defaults_of_flags, none_required, rules, shape_for, with_flags}
 use Rattle.command_words.proofs.Matching.{joined, once_nothing, shows_nothing}
 use Rattle.command_words.proofs.Walking.{AllText, Ends, IsRefused, both}
-use Rattle.command_words.proofs.Defaults.{Tells, tells}
+use Rattle.command_words.proofs.Defaults.{TellsOptions, tells}
 
 or_nothing : (kinds : Kinds) → or_else kinds [] ≡ kinds
 or_nothing [] = refl
@@ -24,7 +24,7 @@ joined_first (Some said) = refl
 -- how the parse comes out: refused where the words say nothing, and else with rows that tell what they say
 abbrev pub Comes : List Text → List Text → Kinds → List Row → Option Said → Type 0
 Comes names flags faults rows None = IsRefused faults
-Comes names flags faults rows (Some said) = (faults ≡ []) × Tells names flags rows said
+Comes names flags faults rows (Some said) = (faults ≡ []) × TellsOptions names flags rows said
 
 module _ (names flags : List Text) (apart : AreApart names flags) where
   -- the level's fault is that of its walk and of what is held at its end

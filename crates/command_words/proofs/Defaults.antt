@@ -60,13 +60,13 @@ abbrev pub flag_value : Bool → Text
 flag_value said = cond said (codes "true") (codes "false")
 
 -- the rows at the end: as Shows, with a value for each flag
-pub record Tells (names flags : List Text) (rows : List Row) (said : Said) : Type 0 where
+pub record TellsOptions (names flags : List Text) (rows : List Row) (said : Said) : Type 0 where
   pub options : (id : Text) → is_among names id ≡ true → all_of id rows ≡ option_map (λ v. v ∷ []) (value_said id said.options)
   pub flagged : (id : Text) → is_among flags id ≡ true → all_of id rows ≡ Some (flag_value (is_among said.flags id) ∷ [])
   pub words : all_of port_id rows ≡ if_any said.words
 
 pub tells : (names flags : List Text) → AreApart names flags → (rows : List Row) (said : Said) → Shows names flags rows said
-    → Tells names flags (with_flags flags rows) said
+    → TellsOptions names flags (with_flags flags rows) said
 tells names flags apart rows said shows = record {
   options = λ id here. with_all flags id rows ∙ rw (no_flag id here (is_among flags id) refl) (shows.options id here);
   flagged = λ id here. with_all flags id rows ∙ rw (here, shows.flagged id here) (valued (is_among said.flags id));

@@ -108,7 +108,7 @@ make writes a capture: a seed to 4294967295, 0 to 1000000 frames. zcrx(1) has th
 
 /// What was said of `replay` so far.
 #[derive(Drop)]
-struct Said<'a> {
+struct SaidSoFar<'a> {
     named: [bool; NAMES.len()],
     flagged: [bool; FLAGS.len()],
     areas: Option<&'a str>,
@@ -118,9 +118,9 @@ struct Said<'a> {
     ports: ArrayVec<u16, 8>,
 }
 
-impl<'a> Said<'a> {
-    fn nothing() -> Said<'a> {
-        Said {
+impl<'a> SaidSoFar<'a> {
+    fn nothing() -> SaidSoFar<'a> {
+        SaidSoFar {
             named: [false; NAMES.len()],
             flagged: [false; FLAGS.len()],
             areas: None,
@@ -245,7 +245,7 @@ fn parted(name: &str) -> (&str, Option<&str>) {
 
 /// What is wrong with the words behind `replay`.
 fn wrong_replay<'a>(words: &[&'a str]) -> Result<Option<Wrong<'a>>, Wrong<'a>> {
-    let mut said = Said::nothing();
+    let mut said = SaidSoFar::nothing();
     let mut words = words.iter();
     let mut options = true;
     while let Some(word) = words.next() {

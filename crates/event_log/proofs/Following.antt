@@ -7,7 +7,7 @@ use Rattle.std.proofs.lemmas.Bool.{eq-eqb}
 use Rattle.std.proofs.lemmas.Bool.Decides.{eqb_tells}
 use Rattle.run_records.specs.declared.event.Event.{Event}
 use Rattle.run_records.specs.declared.holding.Holding.{Holding}
-use Rattle.run_records.specs.Setting.{Setting}
+use Rattle.run_records.specs.Setting.{most_events, Setting}
 use Rattle.run_records.specs.Holders.{Holdings, after, all_after, no_holdings, buffer_of, changed, has_counts, is_in_range, is_same, is_user}
 use Rattle.run_records.specs.Holders.{with_holders}
 use Rattle.run_records.specs.LegalRun.{HasSmallNumbers}
@@ -51,7 +51,7 @@ weights_of s b f = weight f (plain_holders s b)
 -- All events lead to holders that weigh as much, and their tallies are these. The log has the first of them. So it tells of a
 -- board where these are the weights of the board's holders, and its tallies.
 pub record Tells (run : Setting) (weights : Weights) (tallied : List Event → Type 0) (kept : Kept) : Type 0 where
-  pub most : kept.room ≤ 1000000
+  pub most : kept.room ≤ most_events
   pub all : List Event
   pub log_is : kept ≡ log_of kept.room all
   pub small : AllByRecursion HasSmallNumbers all

@@ -3,7 +3,7 @@ use Rattle.std.specs.Prelude.{◌≡◌, ℕ, ◌≤◌, List, All, slice_index,
 use Rattle.std.specs.List.{AllByRecursion}
 use Rattle.area_layout.specs.Layout.{IsLayout}
 use Rattle.run_records.specs.declared.event.Event.{Event}
-use Rattle.run_records.specs.Setting.{Setting}
+use Rattle.run_records.specs.Setting.{most_events, Setting}
 use Rattle.run_records.specs.Holders.{Holdings, no_holdings, all_after}
 use Rattle.run_records.specs.LegalRun.{HasSmallNumbers}
 use Rattle.board_face.specs.Fillings.{IsFilledByOne, FillingsFit}
@@ -22,7 +22,7 @@ run_of s = setting_of s.nic.view.setting.layout
 -- `all` are events that lead from no holders to those of the sides, and tell what the roles did. The log has the first of them, as
 -- many as it has room for, and is whole where these are all.
 pub record IsLogged (s : AllSides) (kept : Kept) : Type 0 where
-  pub most : kept.room ≤ 1000000
+  pub most : kept.room ≤ most_events
   pub all : List Event
   pub log_is : kept ≡ log_of kept.room all
   pub small : AllByRecursion HasSmallNumbers all

@@ -1,5 +1,6 @@
 -- The log of a board from its opening to its end.
 use Rattle.std.specs.Prelude.{◌≡◌, ℕ, ◌≤◌, true, [], IsTrue}
+use Rattle.run_records.specs.Setting.{most_events}
 use Rattle.area_layout.specs.Layout.{IsLayout}
 use Rattle.run_records.specs.LegalRun.{IsLegalRun}
 use Rattle.board_face.specs.Laws.{AllSides, pool_of}
@@ -17,7 +18,7 @@ abbrev pub opened_log : ℕ → Kept
 opened_log room = record { events = []; whole = true; room = room }
 
 abbrev pub OpenedLaw : Type 0
-OpenedLaw = (setting : Shared) (room : ℕ) → room ≤ 1000000 → IsLogged (opened_sides setting) (opened_log room)
+OpenedLaw = (setting : Shared) (room : ℕ) → room ≤ most_events → IsLogged (opened_sides setting) (opened_log room)
 
 -- What the log tells is a legal run, if no buffer has a holder any more where the log is whole.
 abbrev pub EndedLaw : Type 0

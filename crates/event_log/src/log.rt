@@ -1,5 +1,6 @@
 //! A log with room for so many events.
 ghost use Rattle.std.specs.Prelude.{◌≡◌, ◌≤◌, true, [], IfOk};
+ghost use Rattle.run_records.specs.Setting.{most_events};
 ghost use Rattle.run_records.specs.LegalRun.{HasSmallNumbers};
 ghost use Rattle.event_log.specs.Logs.{logged};
 
@@ -28,7 +29,7 @@ impl Model for EventLog {
 impl EventLog {
     /// Has room for `room` events, and takes their memory here.
     pub fn open(alloc: Global, room: u32) -> Result<EventLog, AllocError>
-        requires few { room ≤ 1000000 }
+        requires few { room ≤ most_events }
         ensures { IfOk result (λ log. log ≡ record { events = []; whole = true; room = room }) }
     {
         let events = Vec::with_capacity(alloc, room as usize)?;

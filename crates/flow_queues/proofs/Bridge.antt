@@ -5,7 +5,7 @@ use Rattle.std.specs.Prelude.{◌==◌}
 use Rattle.std.proofs.lemmas.Bool.{cases_Bool, cases_eq, eq-eqb, eqb-true}
 use Rattle.board_face.proofs.ListLemmas.{not-eqb}
 use Rattle.zr_kinds.specs.CopyingReceiver.{Placed, nothing_placed, next_missing, lead, received_part}
-use Rattle.flow_queues.specs.Marks.{Mark, Numbered, Frame, frame_from, with_note, frames_of, received_frame, received_frames, marks_of_note, Follows, Fits}
+use Rattle.flow_queues.specs.Marks.{Mark, Numbered, Frame, frame_from, with_note, frames_of, received_frame, received_frames, marks_of_note, Follows, LiesInFrame}
 use Rattle.flow_queues.specs.Core.{received_note, received_notes}
 use Rattle.flow_queues.proofs.InParts.{IsReceived, AreSame, parts, in_parts}
 use Rattle.flow_queues.proofs.Entering.{marks-length}
@@ -55,10 +55,10 @@ apart_frames m n xs (g ∷ gs) other = ⊎_elim
     (cases_Bool (g.number == n.note.frame))
 
 abbrev pub StandOn : Numbered → List Numbered → Type 0
-StandOn m [] = Fits m
-StandOn m (n ∷ ns) = Fits m × Follows m.note n.note × StandOn n ns
+StandOn m [] = LiesInFrame m
+StandOn m (n ∷ ns) = LiesInFrame m × Follows m.note n.note × StandOn n ns
 
-fits-first : (m : Numbered) (ns : List Numbered) → StandOn m ns → Fits m
+fits-first : (m : Numbered) (ns : List Numbered) → StandOn m ns → LiesInFrame m
 fits-first m [] stand = stand
 fits-first m (n ∷ ns) stand = stand.0
 
@@ -105,7 +105,7 @@ pieces-are-frames base (n ∷ ns) m xs placed later is is_later stand size same 
     (subst (λ fs. AreSame (received_notes base (received_note base later n) ns) (received_frames base placed2 fs)) (sym (as-front n (frames_of ns))) tail)))
     (cases_eq n.note.frame m.note.frame)
   where
-    fits : Fits n
+    fits : LiesInFrame n
     fits = fits-first n ns stand.2
 
     next_is : IsReceived (received_note base later n)
@@ -117,7 +117,7 @@ pub notes-are-frames : (base : ℕ) (n : Numbered) (ns : List Numbered) → Stan
     → AreSame (received_notes base nothing_placed (n ∷ ns)) (received_frames base nothing_placed (frames_of (n ∷ ns)))
 unfolding received_part
 notes-are-frames base n ns stand starts =
-    let fits : Fits n = fits-first n ns stand in
+    let fits : LiesInFrame n = fits-first n ns stand in
     let n_len : length (marks_of_note n) ≡ n.note.place.len = marks-length n.number 0 n.note.place.len in
     let first_is : IsReceived (received_note base nothing_placed n) = parts.received base nothing_placed n.note.seq n.note.total n.note.at
     (marks_of_note n) parts.nothing (omega (arith, n_len, fits.within)) in

@@ -30,7 +30,7 @@ use Rattle.board_face.specs.declared.views.app.TakenNote.{TakenNote}
 use Rattle.board_face.specs.declared.views.app.LentPiece.{LentPiece}
 use Rattle.board_face.specs.declared.views.app.AppView.{AppView}
 use Rattle.board_face.proofs.ListLemmas.{same_filling-refl}
-use Rattle.flow_queues.specs.declared.queues.Piece.{Piece}
+use Rattle.flow_queues.specs.declared.queues.NotePiece.{NotePiece}
 use Rattle.flow_queues.specs.declared.queues.Short.{Short}
 use Rattle.flow_queues.specs.declared.queues.Lending.{Lending}
 use Rattle.flow_queues.specs.declared.queues.FlowQueue.{FlowQueue}
@@ -43,7 +43,7 @@ use Rattle.flow_queues.specs.Core.{is_copy, total, IsIn, held_piece, LieApart, h
 use Rattle.flow_queues.specs.Core.{short_bytes, marks_of_waiting}
 use Rattle.flow_queues.specs.Core.{unsplit_len}
 use Rattle.flow_queues.specs.Lent.{IsNext, is_short, LentNext}
-use Rattle.flow_queues.proofs.Tokens.{total-append, not-odd, Lent, is-lent, is_that_loan, that-loan, is-lent-there}
+use Rattle.flow_queues.proofs.Tokens.{total-append, not-odd, TokenLent, is-lent, is_that_loan, that-loan, is-lent-there}
 use Rattle.flow_queues.proofs.Entering.{marks-length}
 use Rattle.flow_queues.proofs.Looks.{looks-same, looks-more}
 
@@ -108,7 +108,7 @@ may-spare v queue next sized room = subst (λ n. v.spares < n) (unsplit-is v.tak
 -- ---- origins
 
 -- the loan of a piece in the area has the piece's origin
-pub area-origin : (taken : List TakenNote) (p : Piece) → IsInArea taken p
+pub area-origin : (taken : List TakenNote) (p : NotePiece) → IsInArea taken p
     → lent_piece taken (record { note = p.note; at = p.at; loan = p.held }) ≡ record { place = p.held; origin = of_note p.note p.at }
 area-origin taken p of =
     let origin : origin_in (slice_get taken p.note) p.note p.at p.held.len ≡ of_note p.note p.at = rw (of.is, of.split) refl in
@@ -233,7 +233,7 @@ module _ (v : AppView) (b : ℕ) (bytes : List ℕ) (owns : v.owns ≡ []) where
 abbrev pub short_at : Short → Place → Lending
 short_at s place = record { note = s.note; at = s.at; loan = place }
 
-abbrev pub piece_at : Piece → Place → Lending
+abbrev pub piece_at : NotePiece → Place → Lending
 piece_at p place = record { note = p.note; at = p.at; loan = place }
 
 -- few bytes at the begin of a pool buffer, or of the application's reserve
@@ -279,11 +279,11 @@ module _ (v w : AppView) (was : FlowQueue) (q : Queue Waiting) (span : Span) (be
     ap is_copy (copy-origin v.taken s b of),
   )
 
-  pub piece-lent : (p : Piece) → LosesFirst was.queue q (InArea p) span → IsInArea v.taken p → IsIn (held_piece p) v.helds
+  pub piece-lent : (p : NotePiece) → LosesFirst was.queue q (InArea p) span → IsInArea v.taken p → IsIn (held_piece p) v.helds
       → w ≡ lent v p.held → place ≡ p.held
       → LentNext v w was (record was { queue = q }) (piece_at p place) × (is_copy (lent_piece v.taken (piece_at p place)) ≡ 0)
   piece-lent p loses of out is place_is =
-      let step : Lent v lie (held_piece p) = is-lent v lie (held_piece p) out in
+      let step : TokenLent v lie (held_piece p) = is-lent v lie (held_piece p) out in
       rw (is, place_is) (
         record {
           piece = InArea p;

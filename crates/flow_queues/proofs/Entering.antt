@@ -16,7 +16,7 @@ use Rattle.tcp_reorder.proofs.Judging.{parts_accepted}
 use Rattle.board_face.specs.AppEvents.{released}
 use Rattle.board_face.specs.declared.views.app.HeldPiece.{HeldPiece}
 use Rattle.board_face.specs.declared.views.app.AppView.{AppView}
-use Rattle.flow_queues.specs.declared.queues.Piece.{Piece}
+use Rattle.flow_queues.specs.declared.queues.NotePiece.{NotePiece}
 use Rattle.flow_queues.specs.declared.queues.Waiting.{Waiting}
 use Rattle.flow_queues.specs.declared.queues.Waiting.TheVariants.{InArea}
 use Rattle.flow_queues.specs.Marks.{Mark, marks_from}
@@ -74,7 +74,7 @@ each-with_kept P (first ∷ others) one here each = ⊎_elim
 -- ---- the loop
 
 -- So much of the piece is there; the rest, if there is any, is out and goes on so.
-abbrev pub IsLeft : AppView → Queue Waiting → Queue Waiting → ℕ → ℕ → ℕ → ℕ → Option Piece → Type 0
+abbrev pub IsLeft : AppView → Queue Waiting → Queue Waiting → ℕ → ℕ → ℕ → ℕ → Option NotePiece → Type 0
 IsLeft v was now number seq len from None =
     (placed : Placed Mark) → Holds marks_of_waiting was placed → Holds marks_of_waiting now (filled placed from (marks_from number 0 len))
 IsLeft v was now number seq len from (Some piece) =
@@ -84,7 +84,7 @@ IsLeft v was now number seq len from (Some piece) =
     ((placed : Placed Mark) → Holds marks_of_waiting was placed
     → Holds marks_of_waiting now (filled placed from (take piece.at (marks_from number 0 len))))
 
-abbrev pub left_len : Option Piece → ℕ
+abbrev pub left_len : Option NotePiece → ℕ
 left_len None = 0
 left_len (Some piece) = suc piece.held.len
 
@@ -123,7 +123,7 @@ ignored queue note number placed refused holds =
     rw (next, refused) holds
 
 -- no byte of the rest is wanted
-pub none-wanted : (v : AppView) (was now : Queue Waiting) (number seq len from : ℕ) (piece : Piece) → IsLeft v was now number seq len from (Some piece)
+pub none-wanted : (v : AppView) (was now : Queue Waiting) (number seq len from : ℕ) (piece : NotePiece) → IsLeft v was now number seq len from (Some piece)
     → ((place : ℕ) → place < piece.held.len → wants now ((seq + piece.at) % 2 ^ 32) place ≡ false)
     → (placed : Placed Mark) → Holds marks_of_waiting was placed → Holds marks_of_waiting now (filled placed from (marks_from number 0 len))
 none-wanted v was now number seq len from piece (out, note, all, goes, so_far) unwanted placed holds =
@@ -137,7 +137,7 @@ none-wanted v was now number seq len from piece (out, note, all, goes, so_far) u
 
 -- ---- a gap is taken
 
-module _ (v v1 v2 : AppView) (was now : Queue Waiting) (number seq len from : ℕ) (piece wanted first : Piece) (others : Option Piece) (gap : Gap)
+module _ (v v1 v2 : AppView) (was now : Queue Waiting) (number seq len from : ℕ) (piece wanted first : NotePiece) (others : Option NotePiece) (gap : Gap)
     (sound : IsSound now) (fits : len ≤ 2 ^ 30)
     (left : IsLeft v was now number seq len from (Some piece)) (is_gap : IsFirstGap now ((seq + piece.at) % 2 ^ 32) piece.held.len gap)
     (gave : GaveFront v v1 piece gap.skip wanted) (cut : CutFirst v1 v2 wanted gap.len first others) where
@@ -187,7 +187,7 @@ module _ (v v1 v2 : AppView) (was now : Queue Waiting) (number seq len from : �
   then-holds placed holds = copy-held marks_of_waiting now sound seq marks piece.at from fits' before' goes' gap gap' (InArea first) items placed holds.past
       (left.4 placed holds)
 
-  left-with : (more : Option Piece) → Others v2 wanted gap.len more → IsLeft v2 was later number seq len from more
+  left-with : (more : Option NotePiece) → Others v2 wanted gap.len more → IsLeft v2 was later number seq len from more
   left-with None whole = λ placed holds.
       let wanted_len : wanted.held.len ≡ piece.held.len - gap.skip = ap (λ p. p.held.len) gave.rest in
       let all : piece.at + gap.skip + gap.len ≡ len = omega (arith, whole, wanted_len, left.2, is_gap.within) in
@@ -209,7 +209,7 @@ module _ (v v1 v2 : AppView) (was now : Queue Waiting) (number seq len from : �
   pub still-left : IsLeft v2 was later number seq len from others
   still-left = left-with others cut.rest
 
-  shorter-with : (more : Option Piece) → Others v2 wanted gap.len more → left_len more < left_len (Some piece)
+  shorter-with : (more : Option NotePiece) → Others v2 wanted gap.len more → left_len more < left_len (Some piece)
   shorter-with None whole = omega arith
   shorter-with (Some rest) (below, is, out) =
       let wanted_len : wanted.held.len ≡ piece.held.len - gap.skip = ap (λ p. p.held.len) gave.rest in
@@ -233,17 +233,17 @@ module _ (v v1 v2 : AppView) (was now : Queue Waiting) (number seq len from : �
 
 -- ---- there was no memory, and all of it is given up
 
-pub others-still : (v1 v2 : AppView) (wanted first : Piece) (others : Option Piece) (n : ℕ) → 0 < n → (cut : CutFirst v1 v2 wanted n first others)
+pub others-still : (v1 v2 : AppView) (wanted first : NotePiece) (others : Option NotePiece) (n : ℕ) → 0 < n → (cut : CutFirst v1 v2 wanted n first others)
     → IfSome others (λ p. IsIn (held_piece p) (released v2 first.held).helds)
 others-still v1 v2 wanted first others n some cut = by others cut.rest
   where
-    by : (more : Option Piece) → Others v2 wanted n more → IfSome more (λ p. IsIn (held_piece p) (released v2 first.held).helds)
+    by : (more : Option NotePiece) → Others v2 wanted n more → IfSome more (λ p. IsIn (held_piece p) (released v2 first.held).helds)
     by None whole = tt
     by (Some rest) (below, is, out) =
         let away : same_place first.held rest.held ≡ false = rw (cut.front, is) (other-place wanted.held n some) in
         (is-released v2 cut.only.apart (held_piece first) cut.out).others (held_piece rest) out away
 
-pub all-given : (v0 v v1 v2 v4 : AppView) (now : Queue Waiting) (piece wanted first : Piece) (others : Option Piece) (gap : Gap)
+pub all-given : (v0 v v1 v2 v4 : AppView) (now : Queue Waiting) (piece wanted first : NotePiece) (others : Option NotePiece) (gap : Gap)
     (gone : (HeldPiece → ℕ) → ℕ) → OnlyHelds v0 v gone (λ f. over_others f (Some piece) + over_kept f now)
     → GaveFront v v1 piece gap.skip wanted → CutFirst v1 v2 wanted gap.len first others
     → OnlyHelds (released v2 first.held) v4 (λ f. over_others f others) (λ f. 0) → OnlyHelds v0 v4 gone (λ f. over_kept f now)
@@ -258,7 +258,7 @@ all-given v0 v v1 v2 v4 now piece wanted first others gap gone only gave cut las
     }
 
 -- the last piece is given up
-pub rest-given : (v0 v : AppView) (gone : (HeldPiece → ℕ) → ℕ) (now : Queue Waiting) (piece : Piece)
+pub rest-given : (v0 v : AppView) (gone : (HeldPiece → ℕ) → ℕ) (now : Queue Waiting) (piece : NotePiece)
     → OnlyHelds v0 v gone (λ f. over_others f (Some piece) + over_kept f now) → IsIn (held_piece piece) v.helds
     → OnlyHelds v0 (released v piece.held) gone (λ f. over_kept f now)
 rest-given v0 v gone now piece only out =
@@ -269,7 +269,7 @@ rest-given v0 v gone now piece only out =
       moved = λ f. omega (arith, only.moved f, then.moved f);
     }
 
-pub entered-nothing : (v : AppView) → LieApart v → (piece : Piece) (queue : Queue Waiting) → IsIn (held_piece piece) v.helds
+pub entered-nothing : (v : AppView) → LieApart v → (piece : NotePiece) (queue : Queue Waiting) → IsIn (held_piece piece) v.helds
     → OnlyHelds v (released v piece.held) (λ f. f (held_piece piece) + over_kept f queue) (λ f. over_kept f queue)
 entered-nothing v lie piece queue out =
     let then = is-released v lie (held_piece piece) out in

@@ -6,7 +6,7 @@ use Rattle.tcp_reorder.specs.Gaps.{LosesFirst}
 use Rattle.board_face.specs.AppEvents.{came_to_rest}
 use Rattle.board_face.specs.declared.views.app.HeldPiece.{HeldPiece}
 use Rattle.board_face.specs.declared.views.app.AppView.{AppView}
-use Rattle.flow_queues.specs.declared.queues.Piece.{Piece}
+use Rattle.flow_queues.specs.declared.queues.NotePiece.{NotePiece}
 use Rattle.flow_queues.specs.declared.queues.Waiting.{Waiting}
 use Rattle.flow_queues.specs.declared.queues.Waiting.TheVariants.{InArea, Copied}
 use Rattle.flow_queues.specs.Core.{total, IsIn, LieApart, Each, held_piece, over_waiting, over_kept, short_len, short_bytes}
@@ -32,7 +32,7 @@ pub each-first : (P : Waiting → Type 0) (old new : Queue Waiting) (piece : Wai
 each-first P old new piece span loses each = subst (Each (λ k. P k.piece)) loses.first each
 
 -- it is out
-pub first-out : (v : AppView) (old new : Queue Waiting) (piece : Piece) (span : Span) → LosesFirst old new (InArea piece) span
+pub first-out : (v : AppView) (old new : Queue Waiting) (piece : NotePiece) (span : Span) → LosesFirst old new (InArea piece) span
     → ((f : HeldPiece → ℕ) → over_kept f old ≤ total f v.helds) → IsIn (held_piece piece) v.helds
 first-out v old new piece span loses out =
     let test : HeldPiece → ℕ = is_that piece.held piece.note piece.at in

@@ -7,7 +7,7 @@ use Rattle.board_face.specs.Texts.{front_place, rest_place}
 use Rattle.board_face.specs.AppEvents.{cut, released}
 use Rattle.board_face.specs.declared.views.app.HeldPiece.{HeldPiece}
 use Rattle.board_face.specs.declared.views.app.AppView.{AppView}
-use Rattle.flow_queues.specs.declared.queues.Piece.{Piece}
+use Rattle.flow_queues.specs.declared.queues.NotePiece.{NotePiece}
 use Rattle.flow_queues.specs.Core.{IsIn, LieApart, held_piece}
 use Rattle.flow_queues.specs.Pieces.{OnlyHelds, GaveFront, CutFirst, front_of_piece, rest_of_piece}
 use Rattle.flow_queues.proofs.Tokens.{Cut, is-cut, Released, is-released}
@@ -16,21 +16,21 @@ use Rattle.flow_queues.proofs.Tokens.{Cut, is-cut, Released, is-released}
 pub other-place : (p : Place) (n : ℕ) → 0 < n → same_place (front_place p n) (rest_place p n) ≡ false
 other-place p n some = grind (arith, nat_tests)
 
-zero-rest : (piece : Piece) → piece ≡ rest_of_piece piece 0
+zero-rest : (piece : NotePiece) → piece ≡ rest_of_piece piece 0
 zero-rest piece = (
     let at : piece.at + 0 ≡ piece.at = omega arith in
     let offset : piece.held.offset + 0 ≡ piece.held.offset = omega arith in
     let len : piece.held.len - 0 ≡ piece.held.len = omega arith in
     rw (at, offset, len) refl)
 
-pub nothing-skipped : (v : AppView) → LieApart v → (piece : Piece) (n : ℕ) → n ≡ 0 → IsIn (held_piece piece) v.helds → GaveFront v v piece n piece
+pub nothing-skipped : (v : AppView) → LieApart v → (piece : NotePiece) (n : ℕ) → n ≡ 0 → IsIn (held_piece piece) v.helds → GaveFront v v piece n piece
 nothing-skipped v lie piece n none is = record {
   only = record { view = refl; apart = lie; moved = λ f. refl };
   rest = zero-rest piece ∙ ap (rest_of_piece piece) (sym none);
   out = is;
 }
 
-pub skipped : (v : AppView) → LieApart v → (piece : Piece) (n : ℕ) → IsIn (held_piece piece) v.helds → 0 < n → n < piece.held.len
+pub skipped : (v : AppView) → LieApart v → (piece : NotePiece) (n : ℕ) → IsIn (held_piece piece) v.helds → 0 < n → n < piece.held.len
     → GaveFront v (released (cut v piece.held n) (front_place piece.held n)) piece n (rest_of_piece piece n)
 skipped v lie piece n is some below =
     let h : HeldPiece = held_piece piece in
@@ -44,7 +44,7 @@ skipped v lie piece n is some below =
       out = then.others (held_piece (rest_of_piece piece n)) first.rest_out (other-place piece.held n some);
     }
 
-pub taken-whole : (v : AppView) → LieApart v → (piece : Piece) (n : ℕ) → n ≡ piece.held.len → IsIn (held_piece piece) v.helds
+pub taken-whole : (v : AppView) → LieApart v → (piece : NotePiece) (n : ℕ) → n ≡ piece.held.len → IsIn (held_piece piece) v.helds
     → CutFirst v v piece n piece None
 taken-whole v lie piece n whole is = record {
   only = record { view = refl; apart = lie; moved = λ f. omega arith };
@@ -53,7 +53,7 @@ taken-whole v lie piece n whole is = record {
   rest = whole;
 }
 
-pub taken-off : (v : AppView) → LieApart v → (piece : Piece) (n : ℕ) → IsIn (held_piece piece) v.helds → 0 < n → n < piece.held.len
+pub taken-off : (v : AppView) → LieApart v → (piece : NotePiece) (n : ℕ) → IsIn (held_piece piece) v.helds → 0 < n → n < piece.held.len
     → CutFirst v (cut v piece.held n) piece n (front_of_piece piece n) (Some (rest_of_piece piece n))
 taken-off v lie piece n is some below =
     let first : Cut v lie (held_piece piece) n = is-cut v lie (held_piece piece) n is some below in
@@ -64,7 +64,7 @@ taken-off v lie piece n is some below =
       rest = (below, refl, first.rest_out);
     }
 
-pub given-up : (v : AppView) → LieApart v → (piece : Piece) → IsIn (held_piece piece) v.helds
+pub given-up : (v : AppView) → LieApart v → (piece : NotePiece) → IsIn (held_piece piece) v.helds
     → OnlyHelds v (released v piece.held) (λ f. f (held_piece piece)) (λ f. 0)
 given-up v lie piece is =
     let then = is-released v lie (held_piece piece) is in

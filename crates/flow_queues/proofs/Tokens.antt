@@ -4,6 +4,7 @@ use Rattle.std.proofs.Common.{◌∙◌, arith, ⊎_elim, inl, inr}
 use Rattle.std.specs.Prelude.{if◌then◌else◌, Contains, ◌==◌, ◌&&◌, nat_le, nat_lt}
 use Rattle.std.proofs.lemmas.Bool.{cases_Bool, le-leb, lt-ltb, eq-eqb, and_parts}
 use Rattle.std.proofs.lemmas.Bool.Decides.{nat_tests}
+use Rattle.zr_kinds.specs.Limits.{longest_payload}
 use Rattle.zr_kinds.specs.declared.place.Place.{Place}
 use Rattle.board_face.specs.Lists.{without, at_first, same_place}
 use Rattle.board_face.specs.Texts.{further, front_place, rest_place}
@@ -60,7 +61,7 @@ has-first p some =
     let until : nat_lt p.offset (p.offset + p.len) ≡ true = lt-ltb p.offset (p.offset + p.len) (omega arith) in
     rw (b, from, until) refl
 
-pub even-bytes : (layout : Shape) (p : Place) → is_odd layout p ≡ 0 → (0 < p.len) × (p.len ≤ 65515)
+pub even-bytes : (layout : Shape) (p : Place) → is_odd layout p ≡ 0 → (0 < p.len) × (p.len ≤ longest_payload)
 even-bytes layout p is = (grind (arith, nat_tests), grind (arith, nat_tests))
 
 pub even-lies : (layout : Shape) (p : Place) → is_odd layout p ≡ 0 → LiesIn layout p
@@ -69,7 +70,7 @@ even-lies layout p is = record { buffer = grind (arith, nat_tests); bytes = grin
 pub some-bytes : (layout : Shape) (p : Place) → is_odd layout p ≡ 0 → 0 < p.len
 some-bytes layout p is = (even-bytes layout p is).0
 
-pub not-odd : (layout : Shape) (p : Place) → 0 < p.len → p.len ≤ 65515 → LiesIn layout p → is_odd layout p ≡ 0
+pub not-odd : (layout : Shape) (p : Place) → 0 < p.len → p.len ≤ longest_payload → LiesIn layout p → is_odd layout p ≡ 0
 not-odd layout p some few lies =
     let buffer : p.buffer < buffers_of layout = lies.buffer in
     let bytes : p.offset + p.len ≤ size_of layout p.buffer = lies.bytes in
@@ -131,7 +132,7 @@ module _ (v : AppView) (lie : LieApart v) where
   pub held-some : (h : HeldPiece) → IsIn h v.helds → 0 < h.place.len
   held-some h is = some-bytes v.setting.layout h.place (omega (arith, in-total (λ h. is_odd v.setting.layout h.place) h v.helds is, lie.some))
 
-  pub held-few : (h : HeldPiece) → IsIn h v.helds → h.place.len ≤ 65515
+  pub held-few : (h : HeldPiece) → IsIn h v.helds → h.place.len ≤ longest_payload
   held-few h is = (even-bytes v.setting.layout h.place (omega (arith, in-total (λ h. is_odd v.setting.layout h.place) h v.helds is, lie.some))).1
 
   pub held-lies : (h : HeldPiece) → IsIn h v.helds → LiesIn v.setting.layout h.place
@@ -179,7 +180,7 @@ module _ (v : AppView) (lie : LieApart v) where
   pub is-cut : (h : HeldPiece) (at : ℕ) → IsIn h v.helds → 0 < at → at < h.place.len → Cut h at
   is-cut h at is above below =
       let some : 0 < h.place.len = held-some h is in
-      let few : h.place.len ≤ 65515 = held-few h is in
+      let few : h.place.len ≤ longest_payload = held-few h is in
       let others : List HeldPiece = without (λ z. same_place h.place z.place) v.helds in
       let origin = found-at (λ h. h.place) (λ (z : HeldPiece). z.origin) (of_copy []) h v.helds is some helds-once in
       let view : (cut v h.place at).helds ≡ others ++ front h at ∷ rest h at ∷ [] = rw origin refl in
@@ -208,17 +209,17 @@ module _ (v : AppView) (lie : LieApart v) where
   abbrev pub as_loan : HeldPiece → LentPiece
   as_loan h = record { place = h.place; origin = h.origin }
 
-  pub record Lent (h : HeldPiece) : Type 0 where
+  pub record TokenLent (h : HeldPiece) : Type 0 where
     pub view : lent v h.place ≡ record v { helds = (lent v h.place).helds; loans = v.loans ++ as_loan h ∷ [] }
     pub apart : LieApart (lent v h.place)
     pub helds : (f : HeldPiece → ℕ) → total f (lent v h.place).helds + f h ≡ total f v.helds
     pub loans : (f : LentPiece → ℕ) → total f (lent v h.place).loans ≡ total f v.loans + f (as_loan h)
 
-  pub is-lent : (h : HeldPiece) → IsIn h v.helds → Lent h
+  pub is-lent : (h : HeldPiece) → IsIn h v.helds → TokenLent h
   is-lent h is =
       let some : 0 < h.place.len = held-some h is in
       let origin = found-at (λ h. h.place) (λ (z : HeldPiece). z.origin) (of_copy []) h v.helds is some helds-once in
-      let few : h.place.len ≤ 65515 = held-few h is in
+      let few : h.place.len ≤ longest_payload = held-few h is in
       let view : (lent v h.place).loans ≡ v.loans ++ as_loan h ∷ [] = rw origin refl in
       let helds : (f : HeldPiece → ℕ) → total f (lent v h.place).helds + f h
       ≡ total f v.helds = λ f. taken-out (λ h. h.place) f h v.helds is some helds-once in
@@ -241,12 +242,12 @@ module _ (v : AppView) (lie : LieApart v) where
       }
 
   -- a loan was given back
-  pub record Gave (l : LentPiece) : Type 0 where
+  pub record TokenGiven (l : LentPiece) : Type 0 where
     pub apart : LieApart (gave v l.place)
     pub loans : (f : LentPiece → ℕ) → total f (gave v l.place).loans + f l ≡ total f v.loans
     pub returned : (gave v l.place).returned ≡ v.returned ++ l ∷ []
 
-  pub is-given : (l : LentPiece) → IsIn l v.loans → Gave l
+  pub is-given : (l : LentPiece) → IsIn l v.loans → TokenGiven l
   is-given l is =
       let some : 0 < l.place.len = loan-some l is in
       let origin = found-at (λ l. l.place) (λ (z : LentPiece). z.origin) (of_copy []) l v.loans is some loans-once in

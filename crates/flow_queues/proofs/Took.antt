@@ -5,6 +5,7 @@ use Rattle.std.specs.Prelude.{◌==◌, All}
 use Rattle.std.proofs.lemmas.Bool.{cases_lt, cases_eq, ne_eqb}
 use Rattle.std.proofs.lemmas.Bool.Decides.{nat_tests}
 use Rattle.std.proofs.lemmas.List.Elements.{All-head, All-tail}
+use Rattle.zr_kinds.specs.Limits.{longest_payload}
 use Rattle.zr_kinds.specs.declared.place.Place.{Place}
 use Rattle.zr_kinds.specs.declared.place.Note.{Note}
 use Rattle.zr_kinds.specs.declared.ring.Completion.{Completion}
@@ -98,7 +99,7 @@ is-took old mid note number held lie count took =
     the_held : Place → ℕ → HeldPiece
     the_held place n = record { place = place; origin = of_note n 0 }
 
-    few : note.place.len ≤ 65515
+    few : note.place.len ≤ longest_payload
     few = omega (arith, took.fields.within, took.fields.bounded)
 
     once : (b x : ℕ) → total (λ h. has_at b x h.place) mid.helds ≡ total (λ h. has_at b x h.place) old.helds + has_at b x note.place

@@ -7,7 +7,7 @@ use Rattle.std.proofs.lemmas.Bool.Decides.{nat_tests}
 use Rattle.zr_kinds.specs.CopyingReceiver.{nothing_placed}
 use Rattle.board_face.specs.declared.views.app.TakenNote.{TakenNote}
 use Rattle.flow_queues.specs.declared.queues.FlowQueue.{FlowQueue}
-use Rattle.flow_queues.specs.Marks.{Numbered, of_flow, base_of, frames_of, received_frames, placed_marks, AreOfOthers, Follows, Fits, AllStand}
+use Rattle.flow_queues.specs.Marks.{Numbered, of_flow, base_of, frames_of, received_frames, placed_marks, AreOfOthers, Follows, LiesInFrame, AllStand}
 use Rattle.flow_queues.specs.Core.{received_notes, own_notes, placed_of, BeginAt}
 use Rattle.flow_queues.proofs.Bridge.{StandOn, notes-are-frames}
 use Rattle.flow_queues.proofs.InParts.{AreSame}
@@ -42,11 +42,11 @@ module _ (flow : ℕ) where
       (cases_eq n.note.frame y.note.frame)
   passed-by m y n ns own (inr (away, behind)) follows apart other = inr (other, behind.1)
 
-  first-fits : (n : Numbered) (ns : List Numbered) → AllStand n ns → Fits n
+  first-fits : (n : Numbered) (ns : List Numbered) → AllStand n ns → LiesInFrame n
   first-fits n [] all = all
   first-fits n (k ∷ ks) all = all.0
 
-  own-stand : (m y : Numbered) (ns : List Numbered) → m.note.flow ≡ flow → Fits m → IsLast m y ns → AllStand y ns → StandOn m (of_flow flow ns)
+  own-stand : (m y : Numbered) (ns : List Numbered) → m.note.flow ≡ flow → LiesInFrame m → IsLast m y ns → AllStand y ns → StandOn m (of_flow flow ns)
   own-stand m y [] own fits last all = fits
   own-stand m y (n ∷ ns) own fits last all = ⊎_elim
       (λ (yes : (n.note.flow == flow) ≡ true).

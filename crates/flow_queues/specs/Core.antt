@@ -2,6 +2,7 @@
 use Rattle.std.specs.Prelude.{◌≡◌, ℕ, ◌+◌, ◌-◌, ◌≤◌, nat_lt, nat_le, ◌==◌, ◌&&◌, ◌||◌, ◌⊎◌, ◌<◌, Bool}
 use Rattle.std.specs.Prelude.{false, if◌then◌else◌}
 use Rattle.std.specs.Prelude.{List, [], ◌∷◌, ◌++◌, length, take, drop, slice_get, Option, Some, None, MatchBool, true}
+use Rattle.zr_kinds.specs.Limits.{longest_payload}
 use Rattle.zr_kinds.specs.declared.place.Place.{Place}
 use Rattle.area_layout.specs.Layout.{Shape, size_of, total as buffers_of}
 use Rattle.zr_kinds.specs.declared.ring.Completion.{Completion}
@@ -15,7 +16,7 @@ use Rattle.board_face.specs.declared.views.app.LentPiece.{LentPiece}
 use Rattle.board_face.specs.declared.views.app.Reading.{Reading}
 use Rattle.board_face.specs.declared.views.app.TakenNote.{TakenNote}
 use Rattle.board_face.specs.declared.views.app.AppView.{AppView}
-use Rattle.flow_queues.specs.declared.queues.Piece.{Piece}
+use Rattle.flow_queues.specs.declared.queues.NotePiece.{NotePiece}
 use Rattle.flow_queues.specs.declared.queues.Short.{Short}
 use Rattle.flow_queues.specs.declared.queues.Waiting.{Waiting}
 use Rattle.flow_queues.specs.declared.queues.Waiting.TheVariants.{InArea, Copied}
@@ -51,7 +52,7 @@ lies_out layout p = nat_le (buffers_of layout) p.buffer || nat_lt (size_of layou
 
 -- 1 where the place has no byte, or more than a frame, or doesn't lie in one buffer
 abbrev pub is_odd : Shape → Place → ℕ
-is_odd layout p = if (p.len == 0) || (nat_lt 65515 p.len || lies_out layout p) then 1 else 0
+is_odd layout p = if (p.len == 0) || (nat_lt longest_payload p.len || lies_out layout p) then 1 else 0
 
 -- Each byte of a buffer lies in one piece or loan at most, and each of these has 1 to 65,515 bytes in one buffer.
 pub record LieApart (v : AppView) : Type 0 where
@@ -61,7 +62,7 @@ pub record LieApart (v : AppView) : Type 0 where
 -- ---- tokens
 
 -- what the face knows of a piece, and of a loan
-abbrev pub held_piece : Piece → HeldPiece
+abbrev pub held_piece : NotePiece → HeldPiece
 held_piece p = record { place = p.held; origin = of_note p.note p.at }
 
 -- where the bytes of a loan come from: so many of a note, from one of them on. They are those of the note's piece, or
@@ -111,7 +112,7 @@ abbrev pub held_len : HeldPiece → ℕ
 held_len h = h.place.len
 
 -- the place of what waits, and that of a loan, by their marks
-abbrev pub marks_of_piece : Piece → List Mark
+abbrev pub marks_of_piece : NotePiece → List Mark
 marks_of_piece p = marks_from p.note p.at p.held.len
 
 abbrev pub marks_of_waiting : Waiting → List Mark
@@ -124,7 +125,7 @@ marks_of_loan l = marks_from l.note l.at l.loan.len
 -- ---- the notes of what waits
 
 -- a piece in the area is of a note that tells of one
-pub record IsInArea (taken : List TakenNote) (p : Piece) : Type 0 where
+pub record IsInArea (taken : List TakenNote) (p : NotePiece) : Type 0 where
   pub note : TakenNote
   pub is : slice_get taken p.note ≡ Some note
   pub split : note.note.split ≡ true

@@ -3,6 +3,7 @@
 -- piece.
 use Rattle.std.specs.Prelude.{◌≡◌, ◌≢◌, ℕ, zero, suc, ◌+◌, ◌≤◌, ◌==◌, if◌then◌else◌, List, [], ◌∷◌, ◌++◌}
 use Rattle.std.specs.Prelude.{filter}
+use Rattle.zr_kinds.specs.Limits.{longest_payload}
 use Rattle.zr_kinds.specs.declared.place.Note.{Note}
 use Rattle.zr_kinds.specs.CopyingReceiver.{Placed, nothing_placed, next_missing, lead, accepts, filled, front_of}
 use Rattle.board_face.specs.declared.views.app.TakenNote.{TakenNote}
@@ -98,14 +99,14 @@ AreOfOthers frame [] = Unit {0}
 AreOfOthers frame (n ∷ ns) = (n.note.frame ≢ frame) × AreOfOthers frame ns
 
 -- the piece lies in its frame, which is no longer than a frame may be
-pub record Fits (n : Numbered) : Type 0 where
+pub record LiesInFrame (n : Numbered) : Type 0 where
   pub within : n.note.at + n.note.place.len ≤ n.note.total
-  pub bounded : n.note.total ≤ 65515
+  pub bounded : n.note.total ≤ longest_payload
 
 -- All of these follow each other, from the one before them on. Once another frame begins, no piece of the one before comes.
 abbrev pub AllStand : Numbered → List Numbered → Type 0
-AllStand y [] = Fits y
-AllStand y (n ∷ ns) = Fits y × Follows y.note n.note × (n.note.frame ≢ y.note.frame → AreOfOthers y.note.frame ns) × AllStand n ns
+AllStand y [] = LiesInFrame y
+AllStand y (n ∷ ns) = LiesInFrame y × Follows y.note n.note × (n.note.frame ≢ y.note.frame → AreOfOthers y.note.frame ns) × AllStand n ns
 
 -- The pieces of each frame stand together, in order, from its first on. A frame may lack its last pieces, and frames come in any order.
 abbrev pub StandTogether : List Numbered → Type 0

@@ -5,17 +5,17 @@ use Rattle.zr_kinds.specs.declared.place.Place.{Place}
 use Rattle.board_face.specs.Texts.{front_place, rest_place}
 use Rattle.board_face.specs.declared.views.app.HeldPiece.{HeldPiece}
 use Rattle.board_face.specs.declared.views.app.AppView.{AppView}
-use Rattle.flow_queues.specs.declared.queues.Piece.{Piece}
+use Rattle.flow_queues.specs.declared.queues.NotePiece.{NotePiece}
 use Rattle.flow_queues.specs.declared.queues.Waiting.{Waiting}
 use Rattle.flow_queues.specs.declared.queues.Waiting.TheVariants.{InArea, Copied}
 use Rattle.board_face.specs.AppEvents.{released}
 use Rattle.flow_queues.specs.Core.{total, IsIn, LieApart, held_piece}
 
 -- the first bytes of a piece, and the others
-abbrev pub front_of_piece : Piece → ℕ → Piece
+abbrev pub front_of_piece : NotePiece → ℕ → NotePiece
 front_of_piece p n = record p { held = front_place p.held n }
 
-abbrev pub rest_of_piece : Piece → ℕ → Piece
+abbrev pub rest_of_piece : NotePiece → ℕ → NotePiece
 rest_of_piece p n = record { note = p.note; at = p.at + n; held = rest_place p.held n }
 
 -- Held pieces changed, and nothing else: `gone` went from the face's side to where it was counted, f by f.
@@ -25,22 +25,22 @@ pub record OnlyHelds (old new : AppView) (gone come : (HeldPiece → ℕ) → �
   pub moved : (f : HeldPiece → ℕ) → total f new.helds + gone f ≡ total f old.helds + come f
 
 -- the first bytes of a piece were given up
-pub record GaveFront (old new : AppView) (piece : Piece) (n : ℕ) (result : Piece) : Type 0 where
+pub record GaveFront (old new : AppView) (piece : NotePiece) (n : ℕ) (result : NotePiece) : Type 0 where
   pub only : OnlyHelds old new (λ f. f (held_piece piece)) (λ f. f (held_piece result))
   pub rest : result ≡ rest_of_piece piece n
   pub out : IsIn (held_piece result) new.helds
 
 -- the others, if there are any
-abbrev pub Others : AppView → Piece → ℕ → Option Piece → Type 0
+abbrev pub Others : AppView → NotePiece → ℕ → Option NotePiece → Type 0
 Others v piece n None = n ≡ piece.held.len
 Others v piece n (Some rest) = (n < piece.held.len) × (rest ≡ rest_of_piece piece n) × IsIn (held_piece rest) v.helds
 
-abbrev pub over_others : (HeldPiece → ℕ) → Option Piece → ℕ
+abbrev pub over_others : (HeldPiece → ℕ) → Option NotePiece → ℕ
 over_others f None = 0
 over_others f (Some rest) = f (held_piece rest)
 
 -- the first bytes of a piece were taken off
-pub record CutFirst (old new : AppView) (piece : Piece) (n : ℕ) (first : Piece) (others : Option Piece) : Type 0 where
+pub record CutFirst (old new : AppView) (piece : NotePiece) (n : ℕ) (first : NotePiece) (others : Option NotePiece) : Type 0 where
   pub only : OnlyHelds old new (λ f. f (held_piece piece)) (λ f. f (held_piece first) + over_others f others)
   pub front : first ≡ front_of_piece piece n
   pub out : IsIn (held_piece first) new.helds
@@ -58,5 +58,5 @@ given_back v (InArea p) = released v p.held
 given_back v (Copied s) = v
 
 -- a whole piece
-abbrev pub whole_piece : ℕ → Place → Piece
+abbrev pub whole_piece : ℕ → Place → NotePiece
 whole_piece number place = record { note = number; at = 0; held = place }

@@ -9,7 +9,7 @@ use Rattle.board_face.specs.AppEvents.{released}
 use Rattle.board_face.specs.declared.views.app.HeldPiece.{HeldPiece}
 use Rattle.board_face.specs.declared.views.app.TakenNote.{TakenNote}
 use Rattle.board_face.specs.declared.views.app.AppView.{AppView}
-use Rattle.flow_queues.specs.declared.queues.Piece.{Piece}
+use Rattle.flow_queues.specs.declared.queues.NotePiece.{NotePiece}
 use Rattle.flow_queues.specs.declared.queues.Waiting.{Waiting}
 use Rattle.flow_queues.specs.declared.queues.FlowQueue.{FlowQueue}
 use Rattle.flow_queues.specs.Marks.{Mark, Numbered}
@@ -39,7 +39,7 @@ pub record Receives (was now : Queue Waiting) (n : Numbered) (IsSuch : TakenNote
 -- ---- a piece
 
 -- some of the piece entered, and the rest was given up
-pub record EntersPiece (old new : AppView) (was now : Queue Waiting) (piece : Piece) : Type 0 where
+pub record EntersPiece (old new : AppView) (was now : Queue Waiting) (piece : NotePiece) : Type 0 where
   pub only : OnlyHelds old new (λ f. f (held_piece piece) + over_kept f was) (λ f. over_kept f now)
   pub fewer : total held_len new.helds ≤ total held_len old.helds
   pub short : short_bytes now ≡ short_bytes was

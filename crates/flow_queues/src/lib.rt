@@ -12,5 +12,5 @@ mod taking;
 pub use lending::{Next, lend_next};
 pub use letting::release_all;
 pub use places::find;
-pub use queues::{FlowQueue, Lending, Piece, Short, Waiting, Wanting};
+pub use queues::{FlowQueue, Lending, NotePiece, Short, Waiting, Wanting};
 pub use taking::{take_payload, take_piece};

@@ -18,7 +18,7 @@ use zr_kinds::Note;
 
 /// A piece of a note that waits in a flow's queue: bytes of the note that was taken as this one, from one of its bytes on.
 #[derive(Drop)]
-pub struct Piece {
+pub struct NotePiece {
     pub note: u64,
     pub at: u32,
     pub held: Held,
@@ -36,7 +36,7 @@ pub struct Short {
 #[derive(Drop)]
 pub enum Waiting {
     /// A piece that lies in the area.
-    InArea(Piece),
+    InArea(NotePiece),
     /// Bytes that are copied into a buffer when it is their turn.
     Copied(Short),
 }
@@ -70,7 +70,7 @@ pub struct FlowQueue {
 }
 
 /// Gives the first bytes of a piece up.
-fn skip<F: AppFace>(face: &mut F, piece: Piece, n: u32) -> Piece
+fn skip<F: AppFace>(face: &mut F, piece: NotePiece, n: u32) -> NotePiece
     requires here { IsHere (F.seen face.old) }
     requires apart { LieApart (F.seen face.old) }
     requires out { IsIn (held_piece piece) (F.seen face.old).helds }
@@ -82,10 +82,10 @@ fn skip<F: AppFace>(face: &mut F, piece: Piece, n: u32) -> Piece
     if n == 0 {
         return piece;
     }
-    let Piece { note, at, held } = piece;
+    let NotePiece { note, at, held } = piece;
     let (front, rest) = face.cut(held, n);
     face.release(front);
-    Piece {
+    NotePiece {
         note,
         at: at + n,
         held: rest,
@@ -93,7 +93,7 @@ fn skip<F: AppFace>(face: &mut F, piece: Piece, n: u32) -> Piece
 }
 
 /// Takes the first bytes of a piece off, and the others if there are any.
-fn split<F: AppFace>(face: &mut F, piece: Piece, n: u32) -> (Piece, Option<Piece>)
+fn split<F: AppFace>(face: &mut F, piece: NotePiece, n: u32) -> (NotePiece, Option<NotePiece>)
     requires here { IsHere (F.seen face.old) }
     requires apart { LieApart (F.seen face.old) }
     requires out { IsIn (held_piece piece) (F.seen face.old).helds }
@@ -106,15 +106,15 @@ fn split<F: AppFace>(face: &mut F, piece: Piece, n: u32) -> (Piece, Option<Piece
     if n == piece.held.place().len {
         return (piece, None);
     }
-    let Piece { note, at, held } = piece;
+    let NotePiece { note, at, held } = piece;
     let (front, rest) = face.cut(held, n);
     (
-        Piece {
+        NotePiece {
             note,
             at,
             held: front,
         },
-        Some(Piece {
+        Some(NotePiece {
             note,
             at: at + n,
             held: rest,
@@ -155,7 +155,7 @@ pub fn enter<F: AppFace>(
         return Ok(());
     }
     let seq = note.seq.wrapping_add(note.at);
-    let mut left = Some(Piece {
+    let mut left = Some(NotePiece {
         note: number,
         at: 0,
         held,
@@ -196,7 +196,7 @@ pub fn give_back<F: AppFace>(face: &mut F, waiting: Waiting)
 }
 
 /// Gives a piece up, if there is one.
-fn give_up<F: AppFace>(face: &mut F, piece: Option<Piece>)
+fn give_up<F: AppFace>(face: &mut F, piece: Option<NotePiece>)
     requires here { IsHere (F.seen face.old) }
     requires apart { LieApart (F.seen face.old) }
     requires out { IfSome piece (λ p. IsIn (held_piece p) (F.seen face.old).helds) }

@@ -4,7 +4,7 @@ use Rattle.std.proofs.Common.{if◌then◌else◌, ◌==◌, arith}
 use Rattle.std.specs.List.{slice_get}
 use Rattle.std.proofs.lemmas.Bool.{cond-false, ne_eqb}
 use Rattle.std.proofs.lemmas.Bool.Decides.{nat_tests}
-use Rattle.flow_table.specs.Steered.{Steered}
+use Rattle.flow_table.specs.SteeredTcp.{SteeredTcp}
 use Rattle.flow_table.specs.CountedPart.{FlowClose, not_closed, closed_by}
 use Rattle.flow_table.specs.Flows.{Flow, number_of_flow, with_segment, flows_with, flows_after, flows_of, of_flow_after, of_flow}
 use Rattle.flow_table.proofs.FlowLaws.{number_of_flow-within}
@@ -27,7 +27,7 @@ if-suc k n a b = ap (λ t. if t then a else b) (let e : (k == n) ≡ (suc k == s
 other : (k n : ℕ) → k ≢ n → (before after : FlowClose) → before ≡ (if k == n then after else before)
 other k n differ before after = sym (cond-false (k == n) after before (ne_eqb k n differ))
 
-with_segment-close : (flows : List Flow) (k n : ℕ) (s : Steered) → k ≤ length flows
+with_segment-close : (flows : List Flow) (k n : ℕ) (s : SteeredTcp) → k ≤ length flows
     → close_at (with_segment flows k s) n ≡ (if k == n then closed_by (close_at flows n) s.segment else close_at flows n)
 with_segment-close [] zero zero s within = refl
 with_segment-close [] zero (suc n) s within = other 0 (suc n) (λ e. omega arith) not_closed (closed_by not_closed s.segment)
@@ -39,19 +39,19 @@ with_segment-close (flow ∷ flows) (suc k) zero s within = other (suc k) 0 (λ 
 with_segment-close (flow ∷ flows) (suc k) (suc n) s within =
     with_segment-close flows k n s (omega arith) ∙ if-suc k n (closed_by (close_at flows n) s.segment) (close_at flows n)
 
-pub flows_with-close : (flows : List Flow) (s : Steered) (n : ℕ)
+pub flows_with-close : (flows : List Flow) (s : SteeredTcp) (n : ℕ)
     → close_at (flows_with flows s) n ≡ (if number_of_flow flows s == n then closed_by (close_at flows n) s.segment else close_at flows n)
 unfolding flows_with
 flows_with-close flows s n = with_segment-close flows (number_of_flow flows s) n s (number_of_flow-within flows s)
 
 -- ---- all of them
 
-own_or_not : (own : Bool) (close : FlowClose) (s : Steered) (others : List Steered)
+own_or_not : (own : Bool) (close : FlowClose) (s : SteeredTcp) (others : List SteeredTcp)
     → closed_after (if own then closed_by close s.segment else close) others ≡ closed_after close ((if own then s ∷ [] else []) ++ others)
 own_or_not true close s others = refl
 own_or_not false close s others = refl
 
-pub flows_after-close : (flows : List Flow) (xs : List Steered) (n : ℕ)
+pub flows_after-close : (flows : List Flow) (xs : List SteeredTcp) (n : ℕ)
     → close_at (flows_after flows xs) n ≡ closed_after (close_at flows n) (of_flow_after n flows xs)
 flows_after-close flows [] n = refl
 flows_after-close flows (s ∷ xs) n =
@@ -59,6 +59,6 @@ flows_after-close flows (s ∷ xs) n =
     ∙ ap (λ close. closed_after close (of_flow_after n (flows_with flows s) xs)) (flows_with-close flows s n)
     ∙ own_or_not (number_of_flow flows s == n) (close_at flows n) s (of_flow_after n (flows_with flows s) xs)
 
-pub flows_of-close : (xs : List Steered) (n : ℕ) (flow : Flow) → slice_get (flows_of xs) n ≡ Some flow
+pub flows_of-close : (xs : List SteeredTcp) (n : ℕ) (flow : Flow) → slice_get (flows_of xs) n ≡ Some flow
     → flow.close ≡ closed_after not_closed (of_flow n xs)
 flows_of-close xs n flow at = sym (ap close_or at) ∙ flows_after-close [] xs n

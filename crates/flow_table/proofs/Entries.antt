@@ -6,7 +6,7 @@ use Rattle.std.specs.List.{slice_get}
 use Rattle.std.proofs.lemmas.List.{map-append, length-map}
 use Rattle.std.proofs.lemmas.Option.{slice_get-map, slice_get-get_or}
 use Rattle.indexmap.specs.IndexMap.{IndexMap, get}
-use Rattle.flow_table.specs.Steered.{Steered}
+use Rattle.flow_table.specs.SteeredTcp.{SteeredTcp}
 use Rattle.flow_table.specs.Flows.{Flow, Numbered, same_key, newest, seen_by, with_segment}
 use Rattle.flow_table.specs.declared.entry.Key.{Key}
 use Rattle.flow_table.specs.declared.entry.FlowEntry.{FlowEntry}
@@ -20,7 +20,7 @@ pub shown_at : (entries : List FlowEntry) (n : ℕ) (d : FlowEntry) → n < leng
 shown_at entries n d below =
     slice_get-map entry_shown entries n ∙ ap (option_map entry_shown) (slice_get-get_or entries n d (omega (arith, length-map entries entry_shown)))
 
-pub entries-seen : (entries : List FlowEntry) (n : ℕ) (steered : Steered) (d later : FlowEntry) → n < length entries
+pub entries-seen : (entries : List FlowEntry) (n : ℕ) (steered : SteeredTcp) (d later : FlowEntry) → n < length entries
     → entry_shown later ≡ seen_by (entry_shown (get_or entries n d)) steered.segment
     → map entry_shown (set entries n later) ≡ with_segment (map entry_shown entries) n steered
 entries-seen [] n steered d later below seen = absurd (omega arith)
@@ -28,7 +28,7 @@ entries-seen (entry ∷ entries) zero steered d later below seen = ap (λ f. f �
 entries-seen (entry ∷ entries) (suc n) steered d later below seen =
     ap (λ fs. entry_shown entry ∷ fs) (entries-seen entries n steered d later (omega arith) seen)
 
-pub HasNewest-seen : (entries after : List FlowEntry) (numbers : IndexMap Key ℕ RandomState) (n : ℕ) (steered : Steered)
+pub HasNewest-seen : (entries after : List FlowEntry) (numbers : IndexMap Key ℕ RandomState) (n : ℕ) (steered : SteeredTcp)
     → n < length (map entry_shown entries) → map entry_shown after ≡ with_segment (map entry_shown entries) n steered → HasNewest entries numbers
     → HasNewest after numbers
 HasNewest-seen entries after numbers n steered below seen has key =

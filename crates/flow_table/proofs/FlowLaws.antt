@@ -6,7 +6,7 @@ use Rattle.std.specs.List.{slice_get}
 use Rattle.std.proofs.lemmas.Bool.{cases_lt, eqb-true}
 use Rattle.std.proofs.lemmas.List.{append-nil}
 use Rattle.frame_headers.specs.FrameClass.{TcpSegment}
-use Rattle.flow_table.specs.Steered.{Steered, app_of, steer, steered_from, steered_of}
+use Rattle.flow_table.specs.Steered.{SteeredTcp, app_of, steer, steered_from, steered_of}
 use Rattle.flow_table.specs.Flows.{Flow, FlowKey, Numbered, same_addr, same_key, key_of, later_or, newest_from, newest, begins_anew, number_among}
 use Rattle.flow_table.specs.Flows.{number_of_flow, new_flow, seen_by, with_segment, flows_with, flows_of, of_flow}
 use Rattle.flow_table.specs.Placing.{steered_to}
@@ -29,22 +29,22 @@ pub steer-none : (ports : List ℕ) (segment : TcpSegment) (record_number : ℕ)
     → steer ports record_number (Some segment) ≡ None
 steer-none ports segment record_number place = rw place refl
 
-pub flows_of-push : (xs : List Steered) (x : Steered) → flows_of (xs ++ x ∷ []) ≡ flows_with (flows_of xs) x
+pub flows_of-push : (xs : List SteeredTcp) (x : SteeredTcp) → flows_of (xs ++ x ∷ []) ≡ flows_with (flows_of xs) x
 flows_of-push xs x = flows_after-append [] xs (x ∷ [])
 
-pub of_flow-push : (n : ℕ) (xs : List Steered) (x : Steered)
+pub of_flow-push : (n : ℕ) (xs : List SteeredTcp) (x : SteeredTcp)
     → of_flow n (xs ++ x ∷ []) ≡ of_flow n xs ++ (if number_of_flow (flows_of xs) x == n then x ∷ [] else [])
 of_flow-push n xs x = of_flow_after-append n [] xs (x ∷ [])
     ∙ ap (λ more. of_flow n xs ++ more) (append-nil (if number_of_flow (flows_of xs) x == n then x ∷ [] else []))
 
 -- ---- how many there are
 
-pub number_of_flow-within : (flows : List Flow) (steered : Steered) → number_of_flow flows steered ≤ length flows
+pub number_of_flow-within : (flows : List Flow) (steered : SteeredTcp) → number_of_flow flows steered ≤ length flows
 unfolding number_of_flow
 number_of_flow-within flows steered = number_among-within flows steered.segment
 
 -- one more exactly where the segment begins it
-pub length-flows_with : (flows : List Flow) (steered : Steered)
+pub length-flows_with : (flows : List Flow) (steered : SteeredTcp)
     → length (flows_with flows steered) ≡ length flows + (if number_of_flow flows steered == length flows then 1 else 0)
 unfolding flows_with
 length-flows_with flows steered = by (number_of_flow flows steered) (number_of_flow-within flows steered)
@@ -55,20 +55,20 @@ length-flows_with flows steered = by (number_of_flow flows steered) (number_of_f
 
 -- ---- the flow of the segment, and the others
 
-pub with_segment-here : (flows : List Flow) (number : ℕ) (steered : Steered) (own : Flow) → slice_get flows number ≡ Some own
+pub with_segment-here : (flows : List Flow) (number : ℕ) (steered : SteeredTcp) (own : Flow) → slice_get flows number ≡ Some own
     → slice_get (with_segment flows number steered) number ≡ Some (seen_by own steered.segment)
 with_segment-here [] number steered own is = absurd (cc)
 with_segment-here (flow ∷ flows) zero steered own is = (let same : flow ≡ own = cc in rw same refl)
 with_segment-here (flow ∷ flows) (suc number) steered own is = with_segment-here flows number steered own is
 
-pub with_segment-next : (flows : List Flow) (number : ℕ) (steered : Steered) → number ≡ length flows
+pub with_segment-next : (flows : List Flow) (number : ℕ) (steered : SteeredTcp) → number ≡ length flows
     → slice_get (with_segment flows number steered) number ≡ Some (new_flow steered)
 with_segment-next [] zero steered is = refl
 with_segment-next [] (suc number) steered is = absurd (omega arith)
 with_segment-next (flow ∷ flows) zero steered is = absurd (omega arith)
 with_segment-next (flow ∷ flows) (suc number) steered is = with_segment-next flows number steered (omega arith)
 
-with_segment-other : (flows : List Flow) (number f : ℕ) (steered : Steered) → number < length flows → f ≢ number
+with_segment-other : (flows : List Flow) (number f : ℕ) (steered : SteeredTcp) → number < length flows → f ≢ number
     → slice_get (with_segment flows number steered) f ≡ slice_get flows f
 with_segment-other [] number f steered within other = absurd (omega arith)
 with_segment-other (flow ∷ flows) zero zero steered within other = absurd (other refl)
@@ -76,7 +76,7 @@ with_segment-other (flow ∷ flows) zero (suc f) steered within other = refl
 with_segment-other (flow ∷ flows) (suc number) zero steered within other = refl
 with_segment-other (flow ∷ flows) (suc number) (suc f) steered within other = with_segment-other flows number f steered (omega arith) (λ e. other (ap suc e))
 
-module _ (flows : List Flow) (steered : Steered) where
+module _ (flows : List Flow) (steered : SteeredTcp) where
   pub flows_with-here : (own : Flow) → slice_get flows (number_of_flow flows steered) ≡ Some own
       → slice_get (flows_with flows steered) (number_of_flow flows steered) ≡ Some (seen_by own steered.segment)
   unfolding flows_with
@@ -124,7 +124,7 @@ seen_later flow segment = record { key_is = refl; app_is = refl; base_is = refl 
 same_later : (flow : Flow) → IsLater flow flow
 same_later flow = record { key_is = refl; app_is = refl; base_is = refl }
 
-with_segment-keeps : (flows : List Flow) (n : ℕ) (steered : Steered) (i : ℕ) (flow : Flow) → slice_get flows i ≡ Some flow → (later : Flow)
+with_segment-keeps : (flows : List Flow) (n : ℕ) (steered : SteeredTcp) (i : ℕ) (flow : Flow) → slice_get flows i ≡ Some flow → (later : Flow)
     × (slice_get (with_segment flows n steered) i ≡ Some later) × IsLater flow later
 with_segment-keeps [] n steered i flow at = cc
 with_segment-keeps (f ∷ flows) zero steered zero flow at = let same : f ≡ flow = cc in
@@ -133,7 +133,7 @@ with_segment-keeps (f ∷ flows) zero steered (suc i) flow at = (flow, at, same_
 with_segment-keeps (f ∷ flows) (suc n) steered zero flow at = (flow, at, same_later flow)
 with_segment-keeps (f ∷ flows) (suc n) steered (suc i) flow at = with_segment-keeps flows n steered i flow at
 
-pub flows_with-keeps : (flows : List Flow) (steered : Steered) (i : ℕ) (flow : Flow) → slice_get flows i ≡ Some flow → (later : Flow)
+pub flows_with-keeps : (flows : List Flow) (steered : SteeredTcp) (i : ℕ) (flow : Flow) → slice_get flows i ≡ Some flow → (later : Flow)
     × (slice_get (flows_with flows steered) i ≡ Some later) × IsLater flow later
 unfolding flows_with
 flows_with-keeps flows steered i flow at = with_segment-keeps flows (number_of_flow flows steered) steered i flow at
@@ -143,7 +143,7 @@ flows_with-keeps flows steered i flow at = with_segment-keeps flows (number_of_f
 abbrev pub HaveApps : List ℕ → List Flow → Type 0
 HaveApps ports flows = (i : ℕ) (flow : Flow) → slice_get flows i ≡ Some flow → app_of ports flow.key.dport ≡ Some flow.app
 
-with_segment-apps : (ports : List ℕ) (flows : List Flow) (n : ℕ) (steered : Steered) → app_of ports steered.segment.dport ≡ Some steered.app
+with_segment-apps : (ports : List ℕ) (flows : List Flow) (n : ℕ) (steered : SteeredTcp) → app_of ports steered.segment.dport ≡ Some steered.app
     → HaveApps ports flows → HaveApps ports (with_segment flows n steered)
 with_segment-apps ports [] n steered place have zero flow at = let same : new_flow steered ≡ flow = cc in
     subst (λ (g : Flow). app_of ports g.key.dport ≡ Some g.app) same place
@@ -154,7 +154,7 @@ with_segment-apps ports (f ∷ flows) zero steered place have (suc i) flow at = 
 with_segment-apps ports (f ∷ flows) (suc n) steered place have zero flow at = have 0 flow at
 with_segment-apps ports (f ∷ flows) (suc n) steered place have (suc i) flow at = with_segment-apps ports flows n steered place (λ j. have (suc j)) i flow at
 
-pub flows_with-apps : (ports : List ℕ) (flows : List Flow) (steered : Steered) → app_of ports steered.segment.dport ≡ Some steered.app
+pub flows_with-apps : (ports : List ℕ) (flows : List Flow) (steered : SteeredTcp) → app_of ports steered.segment.dport ≡ Some steered.app
     → HaveApps ports flows → HaveApps ports (flows_with flows steered)
 unfolding flows_with
 flows_with-apps ports flows steered place have = with_segment-apps ports flows (number_of_flow flows steered) steered place have
@@ -190,14 +190,14 @@ same_dport : (a b : FlowKey) → same_key a b ≡ true → a.dport ≡ b.dport
 same_dport a b same = eqb-true a.dport b.dport (last_of_four (same_addr a.src b.src) (same_addr a.dst b.dst) (a.sport == b.sport) (a.dport == b.dport) same)
 
 -- flows of one key have one application
-same_app : (ports : List ℕ) (flow : Flow) (steered : Steered) → same_key flow.key (key_of steered.segment) ≡ true
+same_app : (ports : List ℕ) (flow : Flow) (steered : SteeredTcp) → same_key flow.key (key_of steered.segment) ≡ true
     → app_of ports flow.key.dport ≡ Some flow.app → app_of ports steered.segment.dport ≡ Some steered.app → flow.app ≡ steered.app
 same_app ports flow steered same here place =
     let dport : flow.key.dport ≡ steered.segment.dport = same_dport flow.key (key_of steered.segment) same in
     let both : Some flow.app ≡ Some steered.app = sym here ∙ ap (app_of ports) dport ∙ place in
     cc
 
-with_segment-at : (flows : List Flow) (n : ℕ) (steered : Steered) (f flow : Flow) → slice_get flows n ≡ Some f
+with_segment-at : (flows : List Flow) (n : ℕ) (steered : SteeredTcp) (f flow : Flow) → slice_get flows n ≡ Some f
     → slice_get (with_segment flows n steered) n ≡ Some flow → flow.app ≡ f.app
 with_segment-at [] n steered f flow before after = cc
 with_segment-at (g ∷ flows) zero steered f flow before after =
@@ -205,13 +205,13 @@ with_segment-at (g ∷ flows) zero steered f flow before after =
     sym (ap (λ (x : Flow). x.app) other) ∙ ap (λ (x : Flow). x.app) one
 with_segment-at (g ∷ flows) (suc n) steered f flow before after = with_segment-at flows n steered f flow before after
 
-with_segment-app_at_end : (flows : List Flow) (steered : Steered) (flow : Flow)
+with_segment-app_at_end : (flows : List Flow) (steered : SteeredTcp) (flow : Flow)
     → slice_get (with_segment flows (length flows) steered) (length flows) ≡ Some flow → flow.app ≡ steered.app
 with_segment-app_at_end [] steered flow at = let same : new_flow steered ≡ flow = cc in sym (ap (λ (x : Flow). x.app) same)
 with_segment-app_at_end (f ∷ flows) steered flow at = with_segment-app_at_end flows steered flow at
 
 -- the flow of a segment has the segment's application
-pub flows_with-app : (ports : List ℕ) (flows : List Flow) (steered : Steered) (flow : Flow) → app_of ports steered.segment.dport ≡ Some steered.app
+pub flows_with-app : (ports : List ℕ) (flows : List Flow) (steered : SteeredTcp) (flow : Flow) → app_of ports steered.segment.dport ≡ Some steered.app
     → HaveApps ports flows → slice_get (flows_with flows steered) (number_of_flow flows steered) ≡ Some flow → flow.app ≡ steered.app
 unfolding number_of_flow flows_with
 flows_with-app ports flows steered flow place have at =

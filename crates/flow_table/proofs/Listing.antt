@@ -6,7 +6,7 @@ use Rattle.std.proofs.lemmas.Bool.Decides.{nat_tests}
 use Rattle.std.specs.List.{slice_get}
 use Rattle.std.proofs.lemmas.Option.{slice_get_within}
 use Rattle.frame_headers.specs.FrameClass.{TcpSegment}
-use Rattle.flow_table.specs.Steered.{Steered}
+use Rattle.flow_table.specs.SteeredTcp.{SteeredTcp}
 use Rattle.flow_table.specs.Flows.{Flow, FlowKey, Numbered, same_key, key_of, later_or, newest_from, newest, begins_anew, number_among, new_flow, seen_by}
 use Rattle.flow_table.specs.Flows.{with_segment}
 
@@ -94,7 +94,7 @@ same_number : (b : Bool) (n : ℕ) (flow seen : Flow)
 same_number true n flow seen = refl
 same_number false n flow seen = refl
 
-newest_from-seen : (first : ℕ) (key : FlowKey) (flows : List Flow) (n : ℕ) (steered : Steered) → n < length flows
+newest_from-seen : (first : ℕ) (key : FlowKey) (flows : List Flow) (n : ℕ) (steered : SteeredTcp) → n < length flows
     → number_in (newest_from first key (with_segment flows n steered)) ≡ number_in (newest_from first key flows)
 newest_from-seen first key [] n steered below = absurd (omega arith)
 newest_from-seen first key (flow ∷ flows) zero steered below =
@@ -104,30 +104,30 @@ newest_from-seen first key (flow ∷ flows) (suc n) steered below =
     later_or-number (newest_from (suc first) key (with_segment flows n steered)) (newest_from (suc first) key flows) _ _
     (newest_from-seen (suc first) key flows n steered (omega arith)) refl
 
-pub newest-seen : (key : FlowKey) (flows : List Flow) (n : ℕ) (steered : Steered) → n < length flows
+pub newest-seen : (key : FlowKey) (flows : List Flow) (n : ℕ) (steered : SteeredTcp) → n < length flows
     → number_in (newest key (with_segment flows n steered)) ≡ number_in (newest key flows)
 newest-seen key flows n steered below = newest_from-seen 0 key flows n steered below
 
 -- ---- the list itself
 
-pub with_segment-last : (flows : List Flow) (n : ℕ) (steered : Steered) → n ≡ length flows
+pub with_segment-last : (flows : List Flow) (n : ℕ) (steered : SteeredTcp) → n ≡ length flows
     → with_segment flows n steered ≡ flows ++ new_flow steered ∷ []
 with_segment-last [] n steered past = refl
 with_segment-last (flow ∷ flows) zero steered past = absurd (omega arith)
 with_segment-last (flow ∷ flows) (suc n) steered past = ap (λ fs. flow ∷ fs) (with_segment-last flows n steered (omega arith))
 
-pub length-with_segment-seen : (flows : List Flow) (n : ℕ) (steered : Steered) → n < length flows → length (with_segment flows n steered) ≡ length flows
+pub length-with_segment-seen : (flows : List Flow) (n : ℕ) (steered : SteeredTcp) → n < length flows → length (with_segment flows n steered) ≡ length flows
 length-with_segment-seen [] n steered below = absurd (omega arith)
 length-with_segment-seen (flow ∷ flows) zero steered below = refl
 length-with_segment-seen (flow ∷ flows) (suc n) steered below = ap suc (length-with_segment-seen flows n steered (omega arith))
 
-pub with_segment-seen : (flows : List Flow) (n : ℕ) (steered : Steered) → n < length flows → (n < length (with_segment flows n steered))
+pub with_segment-seen : (flows : List Flow) (n : ℕ) (steered : SteeredTcp) → n < length flows → (n < length (with_segment flows n steered))
     × (length (with_segment flows n steered) ≡ length flows + (if n == length flows then 1 else 0))
 with_segment-seen flows n steered below =
     let same : length (with_segment flows n steered) ≡ length flows = length-with_segment-seen flows n steered below in
     (omega (arith, same), same ∙ grind (arith, nat_tests))
 
-pub with_segment-begun : (flows : List Flow) (n : ℕ) (steered : Steered) → n ≡ length flows → (n < length (with_segment flows n steered))
+pub with_segment-begun : (flows : List Flow) (n : ℕ) (steered : SteeredTcp) → n ≡ length flows → (n < length (with_segment flows n steered))
     × (length (with_segment flows n steered) ≡ length flows + (if n == length flows then 1 else 0))
 with_segment-begun flows n steered last =
     let count : length (with_segment flows n steered) ≡ length flows + 1 = ap length (with_segment-last flows n steered last)
@@ -135,7 +135,7 @@ with_segment-begun flows n steered last =
     (omega (arith, count), count ∙ grind (arith, nat_tests))
 
 -- a flow that begins is the last
-pub begun-with_segment : {E : Type 0} (r : Result ℕ E) (old new : List Flow) (begun : Flow) (steered : ℕ → Steered) → IfOk r (λ n. n ≡ length old)
+pub begun-with_segment : {E : Type 0} (r : Result ℕ E) (old new : List Flow) (begun : Flow) (steered : ℕ → SteeredTcp) → IfOk r (λ n. n ≡ length old)
     → OnOk r (new ≡ old ++ begun ∷ []) → ((k : ℕ) → begun ≡ new_flow (steered k))
     → IfOk r (λ n. (k : ℕ) → new ≡ with_segment old n (steered k))
 begun-with_segment (Ok n) old new begun steered last pushed is = λ k. pushed ∙ ap (λ f. old ++ f ∷ []) (is k)

@@ -6,7 +6,7 @@ use Rattle.std.specs.Str.{bytes_eq}
 use Rattle.frame_headers.specs.FrameClass.{TcpSegment}
 use Rattle.frame_headers.specs.declared.segment.Addr.{Addr}
 use Rattle.frame_headers.specs.declared.segment.Addr.TheVariants.{V4, V6}
-use Rattle.flow_table.specs.Steered.{Steered, has_syn, first_byte}
+use Rattle.flow_table.specs.Steered.{SteeredTcp, has_syn, first_byte}
 use Rattle.flow_table.specs.CountedPart.{FlowClose, not_closed, closed_by}
 
 -- what knows a flow; an address has its version
@@ -60,10 +60,10 @@ abbrev pub number_among : ℕ → TcpSegment → Option Numbered → ℕ
 number_among next segment None = next
 number_among next segment (Some found) = if begins_anew found.flow segment then next else found.number
 
-unfoldable pub number_of_flow : List Flow → Steered → ℕ
+unfoldable pub number_of_flow : List Flow → SteeredTcp → ℕ
 number_of_flow flows steered = number_among (length flows) steered.segment (newest (key_of steered.segment) flows)
 
-abbrev pub new_flow : Steered → Flow
+abbrev pub new_flow : SteeredTcp → Flow
 new_flow steered = record {
   key = key_of steered.segment;
   app = steered.app;
@@ -75,27 +75,27 @@ abbrev pub seen_by : Flow → TcpSegment → Flow
 seen_by flow segment = record { key = flow.key; app = flow.app; base = flow.base; close = closed_by flow.close segment }
 
 -- the flows, with this one of them having seen the segment; at the number behind the last a new flow begins
-abbrev pub with_segment : List Flow → ℕ → Steered → List Flow
+abbrev pub with_segment : List Flow → ℕ → SteeredTcp → List Flow
 with_segment [] number steered = new_flow steered ∷ []
 with_segment (flow ∷ flows) zero steered = seen_by flow steered.segment ∷ flows
 with_segment (flow ∷ flows) (suc number) steered = flow ∷ with_segment flows number steered
 
-unfoldable pub flows_with : List Flow → Steered → List Flow
+unfoldable pub flows_with : List Flow → SteeredTcp → List Flow
 flows_with flows steered = with_segment flows (number_of_flow flows steered) steered
 
 -- the flows after more steered segments
-abbrev pub flows_after : List Flow → List Steered → List Flow
+abbrev pub flows_after : List Flow → List SteeredTcp → List Flow
 flows_after flows [] = flows
 flows_after flows (steered ∷ others) = flows_after (flows_with flows steered) others
 
-abbrev pub flows_of : List Steered → List Flow
+abbrev pub flows_of : List SteeredTcp → List Flow
 flows_of steered = flows_after [] steered
 
 -- the steered segments that belong to the flow of a number
-abbrev pub of_flow_after : ℕ → List Flow → List Steered → List Steered
+abbrev pub of_flow_after : ℕ → List Flow → List SteeredTcp → List SteeredTcp
 of_flow_after number flows [] = []
 of_flow_after number flows (steered ∷ others) =
     (if number_of_flow flows steered == number then steered ∷ [] else []) ++ of_flow_after number (flows_with flows steered) others
 
-abbrev pub of_flow : ℕ → List Steered → List Steered
+abbrev pub of_flow : ℕ → List SteeredTcp → List SteeredTcp
 of_flow number steered = of_flow_after number [] steered

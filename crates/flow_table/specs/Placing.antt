@@ -4,7 +4,7 @@ use Rattle.std.specs.Prelude.{◌≡◌, ℕ, ◌+◌, List, length, ◌==◌, i
 use Rattle.std.specs.List.{slice_get}
 use Rattle.std.specs.Option.{option_and_then}
 use Rattle.frame_headers.specs.FrameClass.{TcpSegment}
-use Rattle.flow_table.specs.Steered.{Steered, app_of, has_fin, first_byte}
+use Rattle.flow_table.specs.Steered.{SteeredTcp, app_of, has_fin, first_byte}
 use Rattle.flow_table.specs.CountedPart.{counted_len}
 use Rattle.flow_table.specs.Flows.{Flow, number_of_flow, flows_with}
 use Rattle.flow_table.specs.KnownFlows.{KnownFlows}
@@ -13,7 +13,7 @@ use Rattle.flow_table.specs.declared.placed.Steered.TheVariants as answer
 use Rattle.flow_table.specs.declared.placed.FlowInfo.{FlowInfo}
 
 -- a segment of a record, steered to an application
-abbrev pub steered_to : ℕ → TcpSegment → ℕ → Steered
+abbrev pub steered_to : ℕ → TcpSegment → ℕ → SteeredTcp
 steered_to app segment record_number = record { record_number = record_number; app = app; segment = segment }
 
 -- the number of the flow that a segment to an application belongs to, or of the one that it would begin
@@ -47,7 +47,7 @@ abbrev pub counted_for : KnownFlows → TcpSegment → ℕ → Option ℕ
 counted_for known segment record_number = option_and_then (λ app. counted_behind known.flows (steered_to app segment record_number))
     (app_of known.ports segment.dport)
   where
-    counted_behind : List Flow → Steered → Option ℕ
+    counted_behind : List Flow → SteeredTcp → Option ℕ
     counted_behind flows s = counted_at (flows_with flows s) (number_of_flow flows s) s.segment
 
 -- what is told of a flow

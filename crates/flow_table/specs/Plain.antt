@@ -2,7 +2,7 @@
 use Rattle.std.specs.Prelude.{ℕ, List, Option, option_map, find, ◌==◌}
 use Rattle.frame_headers.specs.Seen.{shown}
 use Rattle.zr_kinds.specs.CopyingReceiver.{Placed}
-use Rattle.flow_table.specs.Steered.{Steered}
+use Rattle.flow_table.specs.SteeredTcp.{SteeredTcp}
 use Rattle.flow_table.specs.Flows.{Flow, Numbered}
 use Rattle.flow_table.specs.Kept.{close_shown}
 use Rattle.flow_table.specs.declared.plain.steered.SteeredSegment.{SteeredSegment}
@@ -10,7 +10,7 @@ use Rattle.flow_table.specs.declared.plain.flows.PlainFlow.{PlainFlow}
 use Rattle.flow_table.specs.declared.plain.placed.PlacedByte.{PlacedByte}
 use Rattle.flow_table.specs.declared.plain.placed.PlainPlaced.{PlainPlaced}
 
-abbrev pub steered_shown : SteeredSegment → Steered
+abbrev pub steered_shown : SteeredSegment → SteeredTcp
 steered_shown s = record { record_number = s.record_number; app = s.app; segment = shown s.segment }
 
 abbrev pub flow_shown : PlainFlow → Flow

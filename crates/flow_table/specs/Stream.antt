@@ -3,12 +3,12 @@
 use Rattle.std.specs.Prelude.{ℕ, List, [], ◌∷◌, Option, Some, None, ◌==◌, if◌then◌else◌}
 use Rattle.std.specs.List.{list_any, slice_get}
 use Rattle.zr_kinds.specs.CopyingReceiver.{Placed, nothing_placed, received, front_of}
-use Rattle.flow_table.specs.Steered.{Steered, first_byte}
+use Rattle.flow_table.specs.Steered.{SteeredTcp, first_byte}
 use Rattle.flow_table.specs.CountedPart.{FlowClose, not_closed, closed_by, counted_part}
 use Rattle.flow_table.specs.Flows.{Flow, flows_of, of_flow}
 
 -- What stands after these segments were received, but those that are left out. The flow was closed so before them.
-abbrev pub received_all : ℕ → List ℕ → FlowClose → Placed ℕ → List Steered → Placed ℕ
+abbrev pub received_all : ℕ → List ℕ → FlowClose → Placed ℕ → List SteeredTcp → Placed ℕ
 received_all base left_out close placed [] = placed
 received_all base left_out close placed (steered ∷ others) =
     received_all base left_out (closed_by close steered.segment)
@@ -16,9 +16,9 @@ received_all base left_out close placed (steered ∷ others) =
     placed else received base placed (first_byte steered.segment) (counted_part (closed_by close steered.segment) steered.segment))
     others
 
-abbrev pub stream_from : Option Flow → List ℕ → List Steered → List ℕ
+abbrev pub stream_from : Option Flow → List ℕ → List SteeredTcp → List ℕ
 stream_from None left_out steered = []
 stream_from (Some flow) left_out steered = front_of (received_all flow.base left_out not_closed nothing_placed steered)
 
-unfoldable pub stream_of : List Steered → List ℕ → ℕ → List ℕ
+unfoldable pub stream_of : List SteeredTcp → List ℕ → ℕ → List ℕ
 stream_of steered left_out number = stream_from (slice_get (flows_of steered) number) left_out (of_flow number steered)

@@ -3,6 +3,7 @@
 ghost use Rattle.std.specs.Prelude.{◌≡◌, ◌≢◌, ℕ, ◌<◌, ◌≤◌, ◌↔◌, [], length, Ok, Err, Some, None, slice_get, option_map, nat_eq};
 ghost use Rattle.std.specs.Prelude.{IfOk, IfSome, OnErr, IsTrue, ◌⊎◌};
 ghost use Rattle.std.specs.List.{IsDistinct};
+ghost use Rattle.zr_kinds.specs.Limits.{longest_payload};
 ghost use Rattle.frame_headers.specs.Seen.{shown};
 ghost use Rattle.flow_table.specs.Steered.{app_of};
 ghost use Rattle.flow_table.specs.Placing.{number_for, counted_for, Places, info_of};
@@ -56,7 +57,7 @@ impl FlowTable {
     ///
     /// `TooManyFlows` decides before any memory is asked for.
     pub fn place(&mut self, segment: &Segment<'_>) -> Result<Steered, FlowFault>
-        requires size { length (shown segment.now).payload ≤ 65515 }
+        requires size { length (shown segment.now).payload ≤ longest_payload }
         ensures placed { IfOk result (Places self.old self.new (shown segment.now)) }
         ensures elsewhere { (result ≡ Ok Steered.Elsewhere) ↔ (app_of self.old.ports segment.now.dport ≡ None) }
         ensures too_many { (record_number : ℕ)
@@ -98,7 +99,7 @@ impl FlowTable {
     /// How many bytes of a segment would count, where it is steered and belongs to a flow, or begins one that isn't one too many:
     /// `place` refuses it for want of memory alone. The key is looked up.
     pub fn admits(&self, segment: &Segment<'_>) -> Option<u32>
-        requires size { length (shown segment.now).payload ≤ 65515 }
+        requires size { length (shown segment.now).payload ≤ longest_payload }
         ensures steered { IfSome result (λ len. app_of self.now.ports segment.now.dport ≢ None) }
         ensures few { IfSome result (λ len. (record_number : ℕ) → number_for self.now (shown segment.now) record_number ≢ Some 65535) }
         ensures counted { IfSome result (λ len. (record_number : ℕ) → counted_for self.now (shown segment.now) record_number ≡ Some len) }

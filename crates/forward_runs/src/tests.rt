@@ -9,7 +9,7 @@ use std::test::*;
 use word_board::{NicSeat, WordBoard};
 use worker_runs::{Card, CardCall, Told, card_call};
 use zc_forward::{Carrier, Forward, ShelfCarrier};
-use zc_poll::{LoanStream, Poured, Ran, Rests, Waits};
+use zc_poll::{LoanStream, PollTurn, Poured, Rests, Waits};
 use zr_io::MemShelf;
 use zr_kinds::{Note, Place, Stopped};
 
@@ -105,9 +105,9 @@ fn forwards<C: Carrier + Drop>(
     let mut work = Forward::new(LoanStream::new(alloc, seat, 0), carrier);
     for _turn in 0..20_000u32 {
         match work.turn() {
-            Ran::Did => {}
-            Ran::Idle(why) => feed(&mut nic, &mut hand, script, why),
-            Ran::Ended(poured) => {
+            PollTurn::Did => {}
+            PollTurn::Idle(why) => feed(&mut nic, &mut hand, script, why),
+            PollTurn::Ended(poured) => {
                 let (seat, carrier) = work.parts();
                 if !hand.card.ended() {
                     return Err(Fail::from("the card goes on"));

@@ -1,4 +1,5 @@
 ghost use Rattle.std.specs.Prelude.{◌≡◌, ◌≤◌, ◌<◌, ◌^◌, length, IfSome};
+ghost use Rattle.zr_kinds.specs.Limits.{longest_payload};
 ghost use Rattle.frame_headers.specs.FrameClass.{class_of, packet_class};
 ghost use Rattle.frame_headers.specs.Seen.{class_seen, segment_seen};
 
@@ -32,7 +33,7 @@ const IPV6: u16 = 0x86dd;
 pub fn read_frame(frame: &[u8]) -> Seen<'_>
     ensures class { class_seen result ≡ class_of frame.now }
     // An IP packet's length is a number of two bytes, and a TCP header has at least 20.
-    ensures size { IfSome (segment_seen result) (λ segment. length segment.payload ≤ 65515) }
+    ensures size { IfSome (segment_seen result) (λ segment. length segment.payload ≤ longest_payload) }
 {
     if frame.len() < HEADER {
         return Seen::CutShort;
@@ -53,7 +54,7 @@ pub fn read_frame(frame: &[u8]) -> Seen<'_>
 fn read_packet(frame: &[u8], ether_type: u16, at: usize) -> Seen<'_>
     requires { at < 2 ^ 16 }
     ensures class { class_seen result ≡ packet_class frame.now ether_type at }
-    ensures size { IfSome (segment_seen result) (λ segment. length segment.payload ≤ 65515) }
+    ensures size { IfSome (segment_seen result) (λ segment. length segment.payload ≤ longest_payload) }
 {
     match ether_type {
         IPV4 => read_ipv4(frame, at),

@@ -1,4 +1,5 @@
 ghost use Rattle.std.specs.Prelude.{◌≡◌, ◌+◌, ◌≤◌, ◌<◌, ◌^◌, length, IfSome};
+ghost use Rattle.zr_kinds.specs.Limits.{longest_payload};
 ghost use Rattle.frame_headers.specs.FrameClass.{ipv4_class};
 ghost use Rattle.frame_headers.specs.Seen.{class_seen, segment_seen};
 
@@ -18,7 +19,7 @@ const FRAGMENT: u16 = 0x3fff;
 pub fn read_ipv4(frame: &[u8], at: usize) -> Seen<'_>
     requires { at < 2 ^ 16 }
     ensures class { class_seen result ≡ ipv4_class frame.now at }
-    ensures size { IfSome (segment_seen result) (λ segment. length segment.payload ≤ 65515) }
+    ensures size { IfSome (segment_seen result) (λ segment. length segment.payload ≤ longest_payload) }
 {
     if frame.len() < at + SHORTEST_HEADER {
         return Seen::CutShort;

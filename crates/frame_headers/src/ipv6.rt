@@ -1,4 +1,5 @@
 ghost use Rattle.std.specs.Prelude.{◌≡◌, ℕ, ◌+◌, ◌*◌, ◌≤◌, ◌<◌, ◌^◌, length, IfSome};
+ghost use Rattle.zr_kinds.specs.Limits.{longest_payload};
 ghost use Rattle.frame_headers.specs.FrameClass.{ipv6_class, ipv6_from, is_extension};
 ghost use Rattle.frame_headers.specs.Seen.{class_seen, segment_seen};
 
@@ -74,7 +75,7 @@ fn read_next(
 pub fn read_ipv6(frame: &[u8], at: usize) -> Seen<'_>
     requires { at < 2 ^ 16 }
     ensures class { class_seen result ≡ ipv6_class frame.now at }
-    ensures size { IfSome (segment_seen result) (λ segment. length segment.payload ≤ 65515) }
+    ensures size { IfSome (segment_seen result) (λ segment. length segment.payload ≤ longest_payload) }
 {
     if frame.len() < at + HEADER {
         return Seen::CutShort;

@@ -4,6 +4,7 @@ use Rattle.std.proofs.Common.{⊎_elim, inl, inr, append_assoc, append-nil, arit
 use Rattle.std.specs.Prelude.{IfSome, ◌==◌}
 use Rattle.std.specs.Io.KnownBytes.{IsAtEnd}
 use Rattle.std.proofs.lemmas.Bool.{cond_both}
+use Rattle.zr_kinds.specs.Limits.{most_records}
 use Rattle.zr_kinds.specs.declared.fault.Fault.{Fault}
 use Rattle.zr_kinds.specs.declared.fault.Fault.TheVariants.{Memory, Usage, NotPcap, Version, LinkType, Cut, LongRecord, Read, Write, TooManyFlows}
 use Rattle.zr_kinds.specs.declared.fault.Fault.TheVariants.{TooManyFrames, BadBlock, BadRun}
@@ -15,9 +16,9 @@ use Rattle.pcap_reader.proofs.Joined.{fronts-then, fronts-weaker, Took-both}
 use Rattle.pcapng_reader.specs.Records.{Going, records_from, records_of}
 use Rattle.pcapng_reader.specs.Capture.{IsOpeningFault, IsRecordFault, WantsMemory}
 use Rattle.pcapng_reader.proofs.Goings.{wanting-cut}
-use Rattle.flow_table.specs.Steered.{Steered}
+use Rattle.flow_table.specs.SteeredTcp.{SteeredTcp}
 use Rattle.flow_table.specs.Flows.{Flow, flows_of, number_of_flow}
-use Rattle.frames_read.specs.Ending.{Ended, ended_after, steered_in, steered_next, flow_ending, ending_at, frames_of, ended_of}
+use Rattle.frames_read.specs.Ending.{Ending, ended_after, steered_in, steered_next, flow_ending, ending_at, frames_of, ended_of}
 use Rattle.frames_read.specs.Reading.{Holds, GoesThrough, HasRead, HasEnded, ShowsEnding, TakenEnds, LacksMemory, EndsAt, IsEnding, IsReadToEnd}
 use Rattle.frames_read.specs.Reading.{RunsOut, RunsOutBefore, IsShown}
 use Rattle.frames_read.proofs.Reading.{Holds-more, frames-append, ended_after-none, GoesThrough-nothing, GoesThrough-more, ended_of-end, ended_of-fault}
@@ -63,13 +64,13 @@ abbrev IsNoneOr : Option Fault → Type 0
 IsNoneOr None = Unit {0}
 IsNoneOr (Some fault) = IsFrameEnding fault
 
-flow-kind : (flows : List Flow) (s : Option Steered) → IsNoneOr (flow_ending flows s)
+flow-kind : (flows : List Flow) (s : Option SteeredTcp) → IsNoneOr (flow_ending flows s)
 flow-kind flows None = tt
 flow-kind flows (Some s) = cond_both (number_of_flow flows s == 65535) _ _ IsNoneOr (λ _. tt) (λ _. tt)
 
 ending-kind : (ports : List ℕ) (frames : List (List ℕ)) (frame : List ℕ) → IsNoneOr (ending_at ports frames frame)
 unfolding ending_at
-ending-kind ports frames frame = cond_both (length frames == 16777216) _ _ IsNoneOr (λ _. tt)
+ending-kind ports frames frame = cond_both (length frames == most_records) _ _ IsNoneOr (λ _. tt)
     (λ _. flow-kind (flows_of (steered_in ports frames)) (steered_next ports frames frame))
 
 frame-kind : (ports : List ℕ) (frames : List (List ℕ)) (frame : List ℕ) (fault : Fault) → ending_at ports frames frame ≡ Some fault
@@ -114,10 +115,10 @@ kind-fault : (fault : Fault) → IsRecordFault fault → IsEnding (Some fault)
 kind-fault = record_cases (λ fault. IsEnding (Some fault)) tt tt tt tt tt tt tt
 
 -- the ending that nothing of the next record leads to
-abbrev Leads : Ended → List (List ℕ) → Records → Type 0
+abbrev Leads : Ending → List (List ℕ) → Records → Type 0
 Leads ended before records = (end : Option Fault) → records ≡ no_record end → ended ≡ record { before = before; fault = end }
 
-shown-fault : (ended : Ended) (before : List (List ℕ)) (records : Records) → Leads ended before records → (fault : Fault) → IsRecordFault fault
+shown-fault : (ended : Ending) (before : List (List ℕ)) (records : Records) → Leads ended before records → (fault : Fault) → IsRecordFault fault
     → ShowsFault records fault → ShowsEnding ended before (Some fault)
 shown-fault ended before records leads = record_cases (λ fault. ShowsFault records fault → ShowsEnding ended before (Some fault))
     (λ shows. tt) (λ shows. leads (Some Version) shows) (λ shows. leads (Some LinkType) shows) (λ shows. leads (Some Cut) shows)
@@ -125,13 +126,13 @@ shown-fault ended before records leads = record_cases (λ fault. ShowsFault reco
 
 -- ---- shorter fronts of what was taken
 
-runs-none : (ended : Ended) (before : List (List ℕ)) → ended ≡ record { before = before; fault = None } → RunsOut ended
-runs-none ended before is = inl (ap (λ (e : Ended). e.fault) is)
+runs-none : (ended : Ending) (before : List (List ℕ)) → ended ≡ record { before = before; fault = None } → RunsOut ended
+runs-none ended before is = inl (ap (λ (e : Ending). e.fault) is)
 
-runs-cut : (ended : Ended) (before : List (List ℕ)) → ended ≡ record { before = before; fault = Some Cut } → RunsOut ended
-runs-cut ended before is = inr (ap (λ (e : Ended). e.fault) is)
+runs-cut : (ended : Ending) (before : List (List ℕ)) → ended ≡ record { before = before; fault = Some Cut } → RunsOut ended
+runs-cut ended before is = inr (ap (λ (e : Ending). e.fault) is)
 
-runs-out : (ended : Ended) (before : List (List ℕ)) (records : Records) → Leads ended before records → BrokeOff records → RunsOut ended
+runs-out : (ended : Ending) (before : List (List ℕ)) (records : Records) → Leads ended before records → BrokeOff records → RunsOut ended
 runs-out ended before records leads broke =
     ⊎_elim (λ none. runs-none ended before (leads None none)) (λ cut. runs-cut ended before (leads (Some Cut) cut)) broke
 

@@ -2,6 +2,7 @@
 use Rattle.std.proofs.Common.{◌≡◌, ◌≢◌, ℕ, suc, ◌+◌, List, [], ◌∷◌, ◌++◌, length, Some, option_to_list}
 use Rattle.std.proofs.Common.{refl, ap, ◌∙◌, arith}
 use Rattle.std.proofs.lemmas.Bool.{eq-eqb, ne_eqb}
+use Rattle.zr_kinds.specs.Limits.{most_records}
 use Rattle.zr_kinds.specs.declared.fault.Fault.TheVariants.{TooManyFrames}
 use Rattle.frame_headers.specs.FrameClass.{class_of}
 use Rattle.frame_headers.specs.Seen.{class_seen, segment_seen, segment_of}
@@ -33,15 +34,15 @@ steered-more ports frames frame =
 
 -- ---- the ending
 
-pub ending-limit : (ports : List ℕ) (frames : List (List ℕ)) (frame : List ℕ) → length frames ≡ 16777216
+pub ending-limit : (ports : List ℕ) (frames : List (List ℕ)) (frame : List ℕ) → length frames ≡ most_records
     → ending_at ports frames frame ≡ Some TooManyFrames
 unfolding ending_at
-ending-limit ports frames frame limit = rw (eq-eqb (length frames) 16777216 limit) refl
+ending-limit ports frames frame limit = rw (eq-eqb (length frames) most_records limit) refl
 
-pub ending-flow : (ports : List ℕ) (frames : List (List ℕ)) (frame : List ℕ) → length frames ≢ 16777216
+pub ending-flow : (ports : List ℕ) (frames : List (List ℕ)) (frame : List ℕ) → length frames ≢ most_records
     → ending_at ports frames frame ≡ flow_ending (flows_of (steered_in ports frames)) (steered_next ports frames frame)
 unfolding ending_at
-ending-flow ports frames frame below = rw (ne_eqb (length frames) 16777216 below) refl
+ending-flow ports frames frame below = rw (ne_eqb (length frames) most_records below) refl
 
 -- what was seen, as the definition has it
 pub seen-segment : (found : Seen) → segment_seen found ≡ segment_of (class_seen found)

@@ -1,29 +1,30 @@
 -- Where the reading of a list of frames ends, and which frames came before.
 use Rattle.std.specs.Prelude.{◌≡◌, ℕ, suc, List, [], ◌∷◌, ◌++◌, length, map, ◌==◌, if◌then◌else◌, Option, Some, None}
+use Rattle.zr_kinds.specs.Limits.{most_records}
 use Rattle.zr_kinds.specs.declared.fault.Fault.{Fault}
 use Rattle.zr_kinds.specs.declared.fault.Fault.TheVariants.{TooManyFlows, TooManyFrames}
 use Rattle.pcap_reader.specs.Records.{Captured}
 use Rattle.pcapng_reader.specs.Records.{records_of}
 use Rattle.frame_headers.specs.FrameClass.{class_of}
 use Rattle.frame_headers.specs.Seen.{segment_of}
-use Rattle.flow_table.specs.Steered.{Steered, steered_of, segments_of, steer}
+use Rattle.flow_table.specs.Steered.{SteeredTcp, steered_of, segments_of, steer}
 use Rattle.flow_table.specs.Flows.{Flow, flows_of, number_of_flow}
 
 -- the steered segments of a list of frames
-abbrev pub steered_in : List ℕ → List (List ℕ) → List Steered
+abbrev pub steered_in : List ℕ → List (List ℕ) → List SteeredTcp
 steered_in ports frames = steered_of ports (segments_of frames)
 
 -- the next frame's segment, where it is steered
-abbrev pub steered_next : List ℕ → List (List ℕ) → List ℕ → Option Steered
+abbrev pub steered_next : List ℕ → List (List ℕ) → List ℕ → Option SteeredTcp
 steered_next ports before frame = steer ports (suc (length before)) (segment_of (class_of frame))
 
 -- a segment that would begin the 65,536th flow ends the reading
-abbrev pub flow_ending : List Flow → Option Steered → Option Fault
+abbrev pub flow_ending : List Flow → Option SteeredTcp → Option Fault
 flow_ending flows None = None
 flow_ending flows (Some steered) = if number_of_flow flows steered == 65535 then Some TooManyFlows else None
 
 -- a flow begins with the segment
-abbrev pub BeginsFlow : List Flow → Option Steered → Type 0
+abbrev pub BeginsFlow : List Flow → Option SteeredTcp → Type 0
 BeginsFlow flows None = ⊥
 BeginsFlow flows (Some steered) = number_of_flow flows steered ≡ length flows
 
@@ -31,20 +32,20 @@ BeginsFlow flows (Some steered) = number_of_flow flows steered ≡ length flows
 -- this decides before the flow.
 unfoldable pub ending_at : List ℕ → List (List ℕ) → List ℕ → Option Fault
 ending_at ports before frame =
-    if length before == 16777216 then Some TooManyFrames
+    if length before == most_records then Some TooManyFrames
     else flow_ending (flows_of (steered_in ports before)) (steered_next ports before frame)
 
 -- the frames before the ending, and the fault that ended the reading, if any
-pub record Ended : Type 0 where
+pub record Ending : Type 0 where
   pub before : List (List ℕ)
   pub fault : Option Fault
 
-abbrev pub ended_or : Option Fault → List (List ℕ) → Ended → Ended
+abbrev pub ended_or : Option Fault → List (List ℕ) → Ending → Ending
 ended_or None before later = later
 ended_or (Some fault) before later = record { before = before; fault = Some fault }
 
 -- The reading of more frames, behind which the bytes end by this fault or without one.
-unfoldable pub ended_after : List ℕ → List (List ℕ) → List (List ℕ) → Option Fault → Ended
+unfoldable pub ended_after : List ℕ → List (List ℕ) → List (List ℕ) → Option Fault → Ending
 ended_after ports before [] fault = record { before = before; fault = fault }
 ended_after ports before (frame ∷ frames) fault =
     ended_or (ending_at ports before frame) before (ended_after ports (before ++ frame ∷ []) frames fault)
@@ -53,5 +54,5 @@ abbrev pub frames_of : List Captured → List (List ℕ)
 frames_of records = map (λ found. found.frame) records
 
 -- the reading of a capture's bytes
-unfoldable pub ended_of : List ℕ → List ℕ → Ended
+unfoldable pub ended_of : List ℕ → List ℕ → Ending
 ended_of ports bytes = ended_after ports [] (frames_of (records_of bytes).all) (records_of bytes).fault

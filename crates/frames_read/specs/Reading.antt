@@ -9,7 +9,7 @@ use Rattle.pcap_reader.specs.Capture.{IsOutOfForm, OfFronts}
 use Rattle.pcapng_reader.specs.Records.{Going, records_from, records_of}
 use Rattle.pcapng_reader.specs.Capture.{WantsMemory}
 use Rattle.flow_table.specs.Flows.{flows_of}
-use Rattle.frames_read.specs.Ending.{Ended, steered_in, steered_next, BeginsFlow, ending_at, frames_of, ended_after, ended_of}
+use Rattle.frames_read.specs.Ending.{Ending, steered_in, steered_next, BeginsFlow, ending_at, frames_of, ended_after, ended_of}
 
 -- more records, before these
 abbrev pub with_records : List Captured → Records → Records
@@ -26,7 +26,7 @@ GoesThrough ports frames = (more : List (List ℕ)) (fault : Option Fault)
     → ended_after ports [] (frames ++ more) fault ≡ ended_after ports frames more fault
 
 -- The reading of these bytes runs out: it comes to their end, or they are cut.
-abbrev pub RunsOut : Ended → Type 0
+abbrev pub RunsOut : Ending → Type 0
 RunsOut ended = (ended.fault ≡ None) ⊎ (ended.fault ≡ Some Cut)
 
 -- these bytes end with what ends their reading, if anything does: the reading of each shorter front runs out
@@ -42,13 +42,13 @@ pub record HasRead (going : Going) (left_at_first left : Option (List ℕ)) (fau
   pub through : GoesThrough ports (frames_of records)
 
 -- All bytes show this ending. Want of memory and a failed read show in none.
-abbrev pub ShowsEnding : Ended → List (List ℕ) → Option Fault → Type 0
+abbrev pub ShowsEnding : Ending → List (List ℕ) → Option Fault → Type 0
 ShowsEnding ended before (Some Memory) = Unit {0}
 ShowsEnding ended before (Some Read) = Unit {0}
 ShowsEnding ended before fault = ended ≡ record { before = before; fault = fault }
 
 -- The bytes that were taken end at a record's end, or within what they begin.
-abbrev pub BreaksOff : Ended → List (List ℕ) → Type 0
+abbrev pub BreaksOff : Ending → List (List ℕ) → Type 0
 BreaksOff ended before = (ended ≡ record { before = before; fault = None }) ⊎ (ended ≡ record { before = before; fault = Some Cut })
 
 -- a flow begins with this frame

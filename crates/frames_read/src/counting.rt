@@ -1,6 +1,7 @@
 //! Counts records by the class of their frames.
 
 ghost use Rattle.std.specs.Prelude.{◌≡◌, ◌≤◌, ◌<◌, ◌+◌, IsTrue, ◌↔◌};
+ghost use Rattle.zr_kinds.specs.Limits.{most_records};
 ghost use Rattle.frame_headers.specs.Seen.{class_seen};
 ghost use Rattle.frames_read.specs.Tally.{no_tally, counted};
 
@@ -14,7 +15,7 @@ const MAX_RECORDS: u32 = 16_777_216;
 #[derive(Clone, Copy, Debug)]
 pub struct Counting {
     pub tally: Tally,
-    ghost limit: { tally.records ≤ 16777216 },
+    ghost limit: { tally.records ≤ most_records },
     ghost parts: { (tally.tcp ≤ tally.records) × (tally.steered ≤ tally.records) × (tally.other ≤ tally.records) × (tally.fragment ≤ tally.records)
         × (tally.cut ≤ tally.records) × (tally.bad ≤ tally.records) },
 }
@@ -38,14 +39,14 @@ impl Counting {
 
     /// Whether as many records were counted as are read at most.
     pub fn is_full(&self) -> bool
-        ensures { IsTrue result ↔ (self.now.tally.records ≡ 16777216) }
+        ensures { IsTrue result ↔ (self.now.tally.records ≡ most_records) }
     {
         self.tally.records == MAX_RECORDS
     }
 
     /// Counts a record by what was seen of its frame, and whether that is a steered segment.
     pub fn count(&mut self, seen: &Seen<'_>, is_steered: bool)
-        requires { self.old.tally.records < 16777216 }
+        requires { self.old.tally.records < most_records }
         ensures { self.new.tally ≡ counted self.old.tally (class_seen seen.now) is_steered }
     {
         let mut tally = self.tally;

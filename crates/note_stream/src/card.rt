@@ -1,5 +1,6 @@
 //! The card's half: it sends a stream of notes to each application.
 ghost use Rattle.std.specs.Prelude.{◌≡◌, ◌<◌, ◌≤◌, length, true, None, IsTrue};
+ghost use Rattle.zr_kinds.specs.Limits.{longest_payload};
 ghost use Rattle.board_face.specs.NicCalls.{apps_of};
 ghost use Rattle.note_stream.specs.Halves.{IsSender, IsSenderWith};
 
@@ -36,7 +37,7 @@ impl Sender {
     /// text. It answers whether it sent one; where it sent none it deals with the entries that have come.
     pub fn go<F: NicFace>(&mut self, face: &mut F, notes: u32, text: &mut [u8]) -> bool
         requires hand { IsSender (F.seen face.old) self.old.own self.old.piece }
-        requires fits { length text.old ≤ 65515 }
+        requires fits { length text.old ≤ longest_payload }
         ensures hand { IsSender (F.seen face.new) self.new.own self.new.piece }
         ensures room { length text.new ≡ length text.old }
         ensures beside { F.beside face.new ≡ F.beside face.old }
@@ -61,7 +62,7 @@ impl Sender {
         requires hand { IsSender (F.seen face.old) self.old.own self.old.piece }
         requires apps { apps ≡ apps_of (F.seen face.old).setting }
         requires some { 1 ≤ apps }
-        requires fits { length text.old ≤ 65515 }
+        requires fits { length text.old ≤ longest_payload }
         ensures hand { IsSender (F.seen face.new) self.new.own self.new.piece }
         ensures room { length text.new ≡ length text.old }
         ensures apps { (F.seen face.new).setting ≡ (F.seen face.old).setting }
@@ -97,7 +98,7 @@ impl Sender {
     fn place_next<F: NicFace>(&mut self, face: &mut F, text: &[u8])
         requires hand { IsSender (F.seen face.old) self.old.own self.old.piece }
         requires none { self.old.piece ≡ None }
-        requires fits { length text.now ≤ 65515 }
+        requires fits { length text.now ≤ longest_payload }
         ensures hand { IsSender (F.seen face.new) self.new.own self.new.piece }
         ensures setting { (F.seen face.new).setting ≡ (F.seen face.old).setting }
         ensures beside { F.beside face.new ≡ F.beside face.old }
@@ -162,7 +163,7 @@ pub fn send_all<F: NicFace>(
     text: &mut [u8],
 ) -> bool
     requires hand { IsSender (F.seen face.old) sender.old.own sender.old.piece }
-    requires fits { length text.old ≤ 65515 }
+    requires fits { length text.old ≤ longest_payload }
     ensures ended { IsTrue result → (F.seen face.new).ended ≡ true }
     ensures beside { F.beside face.new ≡ F.beside face.old }
 {

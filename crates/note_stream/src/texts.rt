@@ -1,5 +1,6 @@
 //! The texts that are sent: each byte is told by its application, its note's number and its place.
 ghost use Rattle.std.specs.Prelude.{◌≡◌, ◌≤◌, length};
+ghost use Rattle.zr_kinds.specs.Limits.{longest_payload};
 ghost use Rattle.board_face.specs.Texts.{IsSplitNote};
 
 use zr_kinds::{Note, Place};
@@ -40,7 +41,7 @@ pub fn is_text(app: u32, number: u32, bytes: &[u8]) -> bool {
 
 /// The note of a text that lies in one piece.
 pub fn note_of(app: u32, number: u32, place: Place) -> Note
-    requires { place.len ≤ 65515 }
+    requires { place.len ≤ longest_payload }
     ensures fields { IsSplitNote result }
     ensures place { result.place ≡ place }
 {

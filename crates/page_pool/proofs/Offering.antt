@@ -5,6 +5,7 @@ use Rattle.std.specs.Prelude.{◌≢◌, option_to_list}
 use Rattle.std.proofs.lemmas.List.{append-nil}
 use Rattle.std.proofs.Math.Seq.{take-length}
 use Rattle.std.proofs.lemmas.List.Elements.{All-nil}
+use Rattle.zr_kinds.specs.Limits.{longest_payload}
 use Rattle.zr_kinds.specs.declared.outcome.PoolStats.{PoolStats}
 use Rattle.area_layout.specs.Layout.{IsLayout, least_size}
 use Rattle.area_layout.proofs.Words.{in_order}
@@ -32,28 +33,28 @@ use Rattle.page_pool.proofs.PlacedParts.{PiecesStand-part, still_needed}
 
 -- ---- closing and looking for buffers
 
-pub record Keeps (old new : NicView) : Type 0 where
+pub record ClosesOnly (old new : NicView) : Type 0 where
   pub view : new ≡ record old { cache = new.cache; swept = new.swept; owns = new.owns; dealt = new.dealt; looks = new.looks }
   pub looks : NicLooksStay old new
 
-pub ClosesCurrent-keeps : (current : Option Filling) (old new : NicView) → ClosesCurrent current old new → Keeps old new
+pub ClosesCurrent-keeps : (current : Option Filling) (old new : NicView) → ClosesCurrent current old new → ClosesOnly old new
 ClosesCurrent-keeps None old new same = rw same (record { view = refl; looks = NicLooksStay-same old old refl })
 ClosesCurrent-keeps (Some own) old new closed = record {
   view = rw closed.event refl;
   looks = rw closed.event (record { later = λ look. times-more same_nic_look look (holder_look closed.last own.buffer) old.looks });
 }
 
-pub Searches-keeps : (need : ℕ) (was now : PoolStats) (old new : NicView) (how : SearchEnd) → Searches need was now old new how → Keeps old new
+pub Searches-keeps : (need : ℕ) (was now : PoolStats) (old new : NicView) (how : SearchEnd) → Searches need was now old new how → ClosesOnly old new
 Searches-keeps need was now old new how searches = record { view = rw searches.view refl; looks = searches.looks }
 
-Keeps-trans : (u v w : NicView) → Keeps u v → Keeps v w → Keeps u w
+Keeps-trans : (u v w : NicView) → ClosesOnly u v → ClosesOnly v w → ClosesOnly u w
 Keeps-trans u v w first then = record {
   view = rw then.view (rw first.view refl);
   looks = NicLooksStay-trans u v w first.looks then.looks;
 }
 
 pub LooksFor-keeps : (need : ℕ) (current : Option Filling) (was now : PoolStats) (old new : NicView) (how : Option SearchEnd)
-    → LooksFor need current was now old new how → Keeps old new
+    → LooksFor need current was now old new how → ClosesOnly old new
 LooksFor-keeps need current was now old new _ (not_needed none stats same) = rw same (record { view = refl; looks = NicLooksStay-same old old refl })
 LooksFor-keeps need current was now old new _ (searched begin how some closes searches) =
     Keeps-trans old begin new (ClosesCurrent-keeps current old begin closes) (Searches-keeps need was now begin new how searches)
@@ -86,7 +87,7 @@ PiecesStand-none v none = record { places_are = rw none refl; apps = All-nil _; 
 
 -- it went to the current buffer
 pub PlacesSplit-current : (was : PoolState) (old new : NicView) (o : Offer) (current : Option Filling) (pieces : List Pending) → PoolStands was old
-    → HasNonePending was → o.app < apps_of old.setting → 0 < length (payload_of o) → length (payload_of o) ≤ 65515
+    → HasNonePending was → o.app < apps_of old.setting → 0 < length (payload_of o) → length (payload_of o) ≤ longest_payload
     → FillsCurrent o was.current current old new pieces → PlacesSplit was (record was { current = current; pieces = pieces }) old new o
 PlacesSplit-current was old new o current pieces stands none app some most fills =
     let own : Filling = fills.own in
@@ -127,7 +128,7 @@ PlacesSplit-current was old new o current pieces stands none app some most fills
 
 -- once the current buffer was closed and a search was made
 pub record Looked (was : PoolState) (old found : NicView) : Type 0 where
-  pub keeps : Keeps old found
+  pub keeps : ClosesOnly old found
   pub owns : found.owns ≡ []
   pub pieces : found.pieces ≡ []
 

@@ -7,8 +7,9 @@ use Rattle.std.proofs.lemmas.Grind.{div_ceil_times}
 use Rattle.std.proofs.Math.Nat.{lt_of_mul-lt-mul_right, mul-le-mul_right}
 use Rattle.std.proofs.lemmas.List.Sums.{sum_by-cons}
 use Rattle.std.proofs.lemmas.List.Elements.{All-nil, All-cons, All-head, All-tail}
+use Rattle.zr_kinds.specs.Limits.{longest_payload}
 use Rattle.page_pool.specs.Packing.{Current, Part, fresh, fits, buffers_for, fresh_parts, needed, packing, taken}
-use Rattle.page_pool.specs.Laws.{AreNeeded, LiesWell, PackingIsWhole, PackingIsShort}
+use Rattle.page_pool.specs.Laws.{AreEnough, LiesWell, PackingIsWhole, PackingIsShort}
 
 -- ---- fresh buffers
 
@@ -74,7 +75,7 @@ fresh_full least number (size ∷ sizes) (suc rest) some each =
 abbrev pub IsWhole : Option Current → List ℕ → ℕ → Type 0
 IsWhole own sizes len = (sum_by (λ (p : Part). p.len) (packing own sizes len) ≡ len) × All (LiesWell own sizes) (packing own sizes len)
 
-fresh_whole : (least : ℕ) (own : Option Current) (sizes : List ℕ) (len : ℕ) → 0 < least → AreNeeded least own sizes len → fits own len ≡ false
+fresh_whole : (least : ℕ) (own : Option Current) (sizes : List ℕ) (len : ℕ) → 0 < least → AreEnough least own sizes len → fits own len ≡ false
     → IsWhole own sizes len
 fresh_whole least own sizes len some are long =
     let many : buffers_for least len ≤ length sizes = rw long at are.many in
@@ -102,7 +103,7 @@ current_short : (least : ℕ) (own : Option Current) (sizes : List ℕ) (len : �
 current_short least None sizes len there = absurd (grind arith)
 current_short least (Some own) sizes len there = rw there (omega arith, omega arith)
 
-fresh_short : (least : ℕ) (own : Option Current) (sizes : List ℕ) (len : ℕ) → 1024 ≤ least → len ≤ 65515 → AreNeeded least own sizes len
+fresh_short : (least : ℕ) (own : Option Current) (sizes : List ℕ) (len : ℕ) → 1024 ≤ least → len ≤ longest_payload → AreEnough least own sizes len
     → fits own len ≡ false → IsShort least own sizes len
 fresh_short least own sizes len size most are long =
     let some : 0 < least = omega (arith, size) in

@@ -7,6 +7,7 @@ use Rattle.std.proofs.lemmas.Grind.{div_ceil_times}
 use Rattle.std.proofs.lemmas.List.Sums.{sum_by-cons, sum_by_push}
 use Rattle.std.proofs.Math.Nat.{lt_of_mul-lt-mul_right}
 use Rattle.std.proofs.lemmas.List.Elements.{All-push, All-nil, All-contains, Contains-push}
+use Rattle.zr_kinds.specs.Limits.{longest_payload}
 use Rattle.zr_kinds.specs.declared.place.Place.{Place}
 use Rattle.board_face.specs.Looks.{same_nic_look}
 use Rattle.area_layout.specs.Layout.{Shape, IsLayout, pool_buffers, least_size, size_of}
@@ -110,7 +111,7 @@ piece_notes-push (q ∷ qs) (u ∷ us) p t same = ap (λ ns. record { app = q.ap
 -- ---- one part more
 
 pub PiecesStand-part : (o : Offer) (at : ℕ) (pieces : List Pending) (v : NicView) (own : Filling) (bytes : List ℕ) → PiecesStand pieces v
-    → o.app < apps_of v.setting → length (payload_of o) ≤ 65515
+    → o.app < apps_of v.setting → length (payload_of o) ≤ longest_payload
     → at + length bytes ≤ length (payload_of o) → PiecesStand (pieces ++ part_of o at (next_place own (length bytes)) ∷ []) (placed v own bytes)
 PiecesStand-part o at pieces v own bytes stand app most within = record {
   places_are = simp map-append (rw stand.places_are refl);
@@ -129,7 +130,7 @@ pub FreshParts-part : (o : Offer) (buffers : List ℕ) (old v t : NicView) (own 
     → bytes ≡ take (min (size_of old.setting.layout own.buffer) (length (payload_of o) - room_in old.setting.layout buffers))
     (drop (room_in old.setting.layout buffers) (payload_of o))
     → length bytes ≡ min (size_of old.setting.layout own.buffer) (length (payload_of o) - room_in old.setting.layout buffers)
-    → room_in old.setting.layout buffers < length (payload_of o) → o.app < apps_of old.setting → length (payload_of o) ≤ 65515
+    → room_in old.setting.layout buffers < length (payload_of o) → o.app < apps_of old.setting → length (payload_of o) ≤ longest_payload
     → FreshParts o (buffers ++ own.buffer ∷ []) old (placed t own bytes) (pieces ++ part_of o (room_in old.setting.layout buffers) (next_place own
     (length bytes)) ∷ [])
 FreshParts-part o buffers old v t own pieces bytes parts took_one bytes_are len_is before app most =
@@ -277,7 +278,7 @@ cached-shut own old t u buffers bytes n same closed =
 pub FreshSoFar-next : (o : Offer) (old v t u : NicView) (own : Filling) (pieces : List Pending) (at n : ℕ) (bytes : List ℕ)
     → FreshSoFar o old v pieces at → TookBuffer v t own
     → n ≡ min own.size (length (payload_of o) - at) → bytes ≡ take n (drop at (payload_of o)) → length bytes ≡ n → at + n < length (payload_of o)
-    → o.app < apps_of old.setting → length (payload_of o) ≤ 65515
+    → o.app < apps_of old.setting → length (payload_of o) ≤ longest_payload
     → Closed (placed t own bytes) u (filled_by own n) → FreshSoFar o old u (pieces ++ part_of o at (next_place own n) ∷ []) (at + n)
 FreshSoFar-next o old v t u own pieces at n bytes so took_one n_is bytes_are len_is rest app most closed =
     let layout : Shape = old.setting.layout in
@@ -306,7 +307,7 @@ FreshSoFar-next o old v t u own pieces at n bytes so took_one n_is bytes_are len
 pub FreshSoFar-last : (o : Offer) (old v t : NicView) (own : Filling) (pieces : List Pending) (at n : ℕ) (bytes : List ℕ)
     → IsLayout old.setting.layout → FreshSoFar o old v pieces at → TookBuffer v t own
     → n ≡ min own.size (length (payload_of o) - at) → bytes ≡ take n (drop at (payload_of o)) → length bytes ≡ n → at < length (payload_of o)
-    → at + n ≡ length (payload_of o) → o.app < apps_of old.setting → length (payload_of o) ≤ 65515
+    → at + n ≡ length (payload_of o) → o.app < apps_of old.setting → length (payload_of o) ≤ longest_payload
     → FillsFresh o old (placed t own bytes) (pieces ++ part_of o at (next_place own n) ∷ []) (Some (filled_by own n))
 FreshSoFar-last o old v t own pieces at n bytes l so took_one n_is bytes_are len_is before all app most =
     let L : ℕ = length (payload_of o) in

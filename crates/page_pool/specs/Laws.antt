@@ -1,6 +1,7 @@
 -- Laws of packing, and of all frames that were offered.
 use Rattle.std.specs.Prelude.{◌≡◌, ℕ, ◌+◌, ◌%◌, ◌<◌, ◌≤◌, List, [], ◌∷◌, ◌++◌, length, sum_by, All, slice_get, Option}
 use Rattle.std.specs.Prelude.{Some, None}
+use Rattle.zr_kinds.specs.Limits.{longest_payload}
 use Rattle.board_face.specs.declared.views.nic.NicView.{NicView}
 use Rattle.page_pool.specs.declared.offer.Offer.{Offer}
 use Rattle.page_pool.specs.declared.offer.Verdict.{Verdict}
@@ -13,7 +14,7 @@ use Rattle.page_pool.specs.Offer.{Offers}
 -- ---- packing
 
 -- there are as many fresh buffers as are needed, and none has fewer than `least` bytes
-pub record AreNeeded (least : ℕ) (own : Option Current) (sizes : List ℕ) (len : ℕ) : Type 0 where
+pub record AreEnough (least : ℕ) (own : Option Current) (sizes : List ℕ) (len : ℕ) : Type 0 where
   pub each : All (λ size. least ≤ size) sizes
   pub many : needed least own len ≤ length sizes
 
@@ -32,12 +33,12 @@ pub record LiesWell (own : Option Current) (sizes : List ℕ) (part : Part) : Ty
 
 -- The parts of a packing have all bytes of the payload, and each lies well.
 abbrev pub PackingIsWhole : Type 0
-PackingIsWhole = (least : ℕ) (own : Option Current) (sizes : List ℕ) (len : ℕ) → 0 < least → AreNeeded least own sizes len
+PackingIsWhole = (least : ℕ) (own : Option Current) (sizes : List ℕ) (len : ℕ) → 0 < least → AreEnough least own sizes len
     → (sum_by (λ p. p.len) (packing own sizes len) ≡ len) × All (LiesWell own sizes) (packing own sizes len)
 
 -- No more fresh buffers are taken than are needed, and buffers of 1,024 bytes or more hold any payload in 64 parts.
 abbrev pub PackingIsShort : Type 0
-PackingIsShort = (least : ℕ) (own : Option Current) (sizes : List ℕ) (len : ℕ) → 1024 ≤ least → len ≤ 65515 → AreNeeded least own sizes len
+PackingIsShort = (least : ℕ) (own : Option Current) (sizes : List ℕ) (len : ℕ) → 1024 ≤ least → len ≤ longest_payload → AreEnough least own sizes len
     → (taken own sizes len ≤ needed least own len) × (length (packing own sizes len) ≤ 64)
 
 -- ---- frames offered

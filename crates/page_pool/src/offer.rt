@@ -1,4 +1,5 @@
 ghost use Rattle.std.specs.Prelude.{◌≡◌, ℕ, ◌<◌, ◌≤◌, [], length, None, Some, MatchBool, MatchResult, option_to_list};
+ghost use Rattle.zr_kinds.specs.Limits.{longest_payload};
 ghost use Rattle.board_face.specs.Looks.{NicRose};
 ghost use Rattle.board_face.specs.NicCalls.{apps_of, IsOpen, NicOnlySaw};
 ghost use Rattle.board_face.specs.NicEvents.{nic_gist, sent_linear};
@@ -106,7 +107,7 @@ pub(crate) fn place_in_current<F: NicFace>(
     requires open { IsOpen (F.seen face.old) }
     requires out { ((F.seen face.old).owns ≡ option_to_list current.old) × (pieces.old ≡ []) }
     requires some { 0 < length offer.now.payload.now }
-    requires most { length offer.now.payload.now ≤ 65515 }
+    requires most { length offer.now.payload.now ≤ longest_payload }
     ensures answer { MatchBool result
         (FillsCurrent offer.now current.old current.new (F.seen face.old) (F.seen face.new) pieces.new)
         (LeavesCurrent offer.now current.old current.new (F.seen face.old) (F.seen face.new) pieces.new) }
@@ -147,7 +148,7 @@ pub(crate) fn place_split<F: NicFace>(
     requires none { HasNonePending pool.old }
     requires app { offer.now.app < apps_of (F.seen face.old).setting }
     requires some { 0 < length offer.now.payload.now }
-    requires most { length offer.now.payload.now ≤ 65515 }
+    requires most { length offer.now.payload.now ≤ longest_payload }
     ensures answer { MatchResult result
         (λ _. PlacesSplit pool.old pool.new (F.seen face.old) (F.seen face.new) offer.now)
         (λ short. LacksRoom pool.old pool.new (F.seen face.old) (F.seen face.new) offer.now short.cached short.needed) }
@@ -175,7 +176,7 @@ pub fn nic_offer<F: NicFace>(face: &mut F, pool: &mut Pool, offer: &Offer<'_>) -
     requires stands { PoolStands pool.old (F.seen face.old) }
     requires app { offer.now.app < apps_of (F.seen face.old).setting }
     requires some { 0 < length offer.now.payload.now }
-    requires most { length offer.now.payload.now ≤ 65515 }
+    requires most { length offer.now.payload.now ≤ longest_payload }
     ensures stands { PoolStands pool.new (F.seen face.new) }
     ensures offers { Offers pool.old pool.new (F.seen face.old) (F.seen face.new) offer.now result }
     ensures rest { KeepsRest (F.seen face.old) (F.seen face.new) }

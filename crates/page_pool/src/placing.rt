@@ -1,4 +1,5 @@
 ghost use Rattle.std.specs.Prelude.{◌≡◌, ℕ, ◌+◌, ◌*◌, ◌<◌, ◌≤◌, [], ◌∷◌, ◌++◌, length, take, drop, List, option_to_list};
+ghost use Rattle.zr_kinds.specs.Limits.{longest_payload};
 ghost use Rattle.area_layout.specs.Layout.{IsLayout, least_size};
 ghost use Rattle.board_face.specs.NicCalls.{apps_of, IsOpen};
 ghost use Rattle.board_face.specs.NicEvents.{placed};
@@ -24,7 +25,7 @@ pub(crate) fn place_part<F: NicFace>(
     requires out { (F.seen face.old).owns ≡ own.old ∷ [] }
     requires some { 0 < len }
     requires within { at + len ≤ length offer.now.payload.now }
-    requires most { length offer.now.payload.now ≤ 65515 }
+    requires most { length offer.now.payload.now ≤ longest_payload }
     requires fits { own.old.start + len ≤ own.old.size }
     requires room { length pieces.old < 64 }
     ensures view { F.seen face.new ≡ placed (F.seen face.old) own.old (take len (drop at offer.now.payload.now)) }
@@ -62,7 +63,7 @@ pub(crate) fn place_fresh<F: NicFace>(
     requires out { ((F.seen face.old).owns ≡ []) × ((F.seen face.old).pieces ≡ []) × (pieces.old ≡ []) }
     requires app { offer.now.app < apps_of (F.seen face.old).setting }
     requires some { 0 < length offer.now.payload.now }
-    requires most { length offer.now.payload.now ≤ 65515 }
+    requires most { length offer.now.payload.now ≤ longest_payload }
     requires sound { IsLayout (F.seen face.old).setting.layout }
     requires few { buffers_for (least_size (F.seen face.old).setting.layout) (length offer.now.payload.now) ≤ 64 }
     requires enough { buffers_for (least_size (F.seen face.old).setting.layout) (length offer.now.payload.now) ≤ length (F.seen face.old).cache }

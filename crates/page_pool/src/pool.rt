@@ -1,4 +1,5 @@
 ghost use Rattle.std.specs.Prelude.{◌≡◌, ◌<◌, ◌≤◌};
+ghost use Rattle.zr_kinds.specs.Limits.{longest_payload};
 ghost use Rattle.board_face.specs.NicCalls.{HasNoToken};
 ghost use Rattle.board_face.specs.declared.views.nic.NicView.{NicView};
 ghost use Rattle.page_pool.specs.Offer.{fresh_for, packed};
@@ -113,7 +114,7 @@ impl Pool {
     /// How many fresh buffers a payload of so many bytes needs, where none has fewer than `size` bytes.
     pub fn needed(&self, len: u32, size: u32) -> u32
         requires size { 1024 ≤ size }
-        requires most { len ≤ 65515 }
+        requires most { len ≤ longest_payload }
         ensures value { result ≡ fresh_for self.now size len }
         ensures few { result ≤ 64 }
     {

@@ -10,7 +10,7 @@ use Rattle.zr_io.specs.Moved.{Took}
 use Rattle.zr_io.proofs.Moved.{Took-nothing, Took-consumed, Took-then, Took-weaker}
 use Rattle.pcap_reader.specs.Records.{ByteOrder, Records, no_record, with_record, captured_len, header_fault, records_in, records_of}
 use Rattle.pcap_reader.specs.Capture.{ShowsFault, BrokeOff, TakenShows, HeaderShows, TakenHeaderShows, IsOpeningFault, IsRecordFault, WantsMemory}
-use Rattle.pcap_reader.specs.Capture.{OfFronts, Reading, Opens, OpensBehind}
+use Rattle.pcap_reader.specs.Capture.{OfFronts, ClassicReading, Opens, OpensBehind}
 use Rattle.pcap_reader.specs.Steps.{Stops, HeaderStops, BreaksOff, IsHeaderOf, BodyStops}
 use Rattle.pcap_reader.specs.declared.capture.Record.{Record}
 use Rattle.pcap_reader.proofs.HeaderLaws.{records_of-fault, header_fault-cut}
@@ -174,7 +174,7 @@ header-alone a b c first four front fronts =
     (fronts-then _ first ys (fronts-short _ first (λ part short. header_fault-cut part (omega arith))) later)) front fronts
 
 -- the four bytes of a magic, and a header behind them
-pub Opens-behind : (a b c : Option (List ℕ)) (first : List ℕ) (result : Result Reading Fault) → length first ≡ 4 → Consumes a b first
+pub Opens-behind : (a b c : Option (List ℕ)) (first : List ℕ) (result : Result ClassicReading Fault) → length first ≡ 4 → Consumes a b first
     → OpensBehind first b c result → Opens a c result
 Opens-behind a b c first (Ok capture) four consumed opens =
     let front = Took-consumed a b first (λ xs. xs ≡ first) consumed refl in (

@@ -8,7 +8,7 @@ use Rattle.pcap_reader.specs.Records.{ByteOrder, Records, no_record, with_record
 use Rattle.pcap_reader.specs.declared.capture.Record.{Record}
 
 -- a capture as its callers see it: the order of its numbers, and the fault that ended its reading
-pub record Reading : Type 0 where
+pub record ClassicReading : Type 0 where
   pub order : ByteOrder
   pub fault : Option Fault
 
@@ -81,7 +81,7 @@ TakenHeaderShows found fault = found ≡ Some fault
 -- `Ok` took a file header: whatever follows it, the capture's records are the records of what follows. A fault is
 -- that of the file header, in all the bytes and in those that were taken. Nothing was taken behind it: each
 -- shorter front of a header is cut.
-abbrev pub Opens : Option (List ℕ) → Option (List ℕ) → Result Reading Fault → Type 0
+abbrev pub Opens : Option (List ℕ) → Option (List ℕ) → Result ClassicReading Fault → Type 0
 Opens old new (Ok capture) =
     (capture.fault ≡ None) × Took old new (λ taken. (rest : List ℕ) → records_of (taken ++ rest) ≡ records_in capture.order rest)
     × Took old new (OfFronts (λ front. header_fault front ≡ Some Cut))
@@ -91,7 +91,7 @@ Opens old new (Err fault) =
     × (IsOutOfForm fault → Took old new (OfFronts (λ front. header_fault front ≡ Some Cut)))
 
 -- The same where the first bytes were taken before.
-abbrev pub OpensBehind : List ℕ → Option (List ℕ) → Option (List ℕ) → Result Reading Fault → Type 0
+abbrev pub OpensBehind : List ℕ → Option (List ℕ) → Option (List ℕ) → Result ClassicReading Fault → Type 0
 OpensBehind first old new (Ok capture) =
     (capture.fault ≡ None) × Took old new (λ taken. (rest : List ℕ) → records_of ((first ++ taken) ++ rest) ≡ records_in capture.order rest)
     × Took old new (OfFronts (λ front. header_fault (first ++ front) ≡ Some Cut))

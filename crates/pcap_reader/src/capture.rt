@@ -28,9 +28,9 @@ pub struct Capture {
 }
 
 impl Model for Capture {
-    ghost use Rattle.pcap_reader.specs.Capture.{Reading};
+    ghost use Rattle.pcap_reader.specs.Capture.{ClassicReading};
 
-    ghost Value = { Reading };
+    ghost Value = { ClassicReading };
 
     ghost view = { λ c. record { order = c.order; fault = c.fault } };
 }

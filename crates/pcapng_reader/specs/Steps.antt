@@ -17,7 +17,7 @@ use Rattle.pcapng_reader.specs.Blocks.{interface_of, captured_len, original_len,
 use Rattle.pcapng_reader.specs.Capture.{IsRecordFault}
 
 -- a section as the code keeps it
-abbrev pub told : code.Section.Section → Section
+abbrev pub told : code.OpenSection.OpenSection → Section
 told s = record { order = s.order; interfaces = s.interfaces.items; others = s.others }
 
 -- ---- parts

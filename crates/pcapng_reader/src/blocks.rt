@@ -12,7 +12,7 @@ use crate::fill::{fill_part, read_end};
 use crate::head::{Head, START_LEN, read_head};
 use crate::kind::Kind;
 use crate::packet::packet_in;
-use crate::section::{Interface, Section};
+use crate::section::{Interface, OpenSection};
 use pcap_reader::{ByteOrder, Record, fill, read_body};
 use std::alloc::Global;
 use zr_io::Source;
@@ -23,7 +23,7 @@ const MAJOR_VERSION: u16 = 1;
 /// A pcapng capture that is being read.
 #[derive(Debug, Drop)]
 pub(crate) struct BlockCapture {
-    section: Section,
+    section: OpenSection,
     fault: Option<Fault>,
 }
 
@@ -38,7 +38,7 @@ impl BlockCapture {
         ensures opens { OpensBlocks first (S.left source.old) (S.left source.new) result }
         ensures cause { HasReadCause (S.faults source.old) (S.faults source.new) result }
     {
-        let mut section = Section {
+        let mut section = OpenSection {
             order: ByteOrder::Little,
             interfaces: Vec::new(alloc),
             others: 0,
@@ -81,7 +81,7 @@ impl BlockCapture {
 /// Reads blocks up to the next packet. `Ok(None)` is the end.
 fn read_next<S: Source>(
     source: &mut S,
-    section: &mut Section,
+    section: &mut OpenSection,
     into: &mut Vec<u8>,
 ) -> Result<Option<Record>, Fault>
     ensures gives { Gives (blocks (told section.old)) (blocks (told section.new)) (S.left source.old) (S.left source.new) into.new.items result }
@@ -116,7 +116,7 @@ fn read_start<S: Source>(source: &mut S) -> Result<Option<[u8; START_LEN]>, Faul
 /// Reads the rest of a block. `Ok(None)` is one that is no packet.
 fn read_block<S: Source>(
     source: &mut S,
-    section: &mut Section,
+    section: &mut OpenSection,
     start: [u8; START_LEN],
     into: &mut Vec<u8>,
 ) -> Result<Option<Record>, Fault>
@@ -139,7 +139,11 @@ fn read_block<S: Source>(
 }
 
 /// Reads the rest of a section header, and forgets the section before it.
-fn begin_section<S: Source>(source: &mut S, section: &mut Section, head: &Head) -> Result<(), Fault>
+fn begin_section<S: Source>(
+    source: &mut S,
+    section: &mut OpenSection,
+    head: &Head,
+) -> Result<(), Fault>
     requires head { IsHead (told section.old) head.now }
     requires kind { head.now.kind ≡ SectionHeader }
     ensures passes { PassesBlock IsHeaderFault (told section.old) (told section.new) (head_bytes head.now) (S.left source.old) (S.left source.new) result }
@@ -154,7 +158,11 @@ fn begin_section<S: Source>(source: &mut S, section: &mut Section, head: &Head) 
 }
 
 /// Reads the rest of an interface's block. Memory for the interface is asked for within it, behind the bytes of its head.
-fn add_interface<S: Source>(source: &mut S, section: &mut Section, head: &Head) -> Result<(), Fault>
+fn add_interface<S: Source>(
+    source: &mut S,
+    section: &mut OpenSection,
+    head: &Head,
+) -> Result<(), Fault>
     requires head { IsHead (told section.old) head.now }
     requires kind { head.now.kind ≡ InterfaceDescription }
     ensures passes { PassesBlock IsInterfaceFault (told section.old) (told section.new) (head_bytes head.now) (S.left source.old) (S.left source.new) result }
@@ -175,7 +183,7 @@ fn add_interface<S: Source>(source: &mut S, section: &mut Section, head: &Head) 
 }
 
 /// Reads the rest of a block that says nothing of packets.
-fn pass_over<S: Source>(source: &mut S, section: &mut Section, head: &Head) -> Result<(), Fault>
+fn pass_over<S: Source>(source: &mut S, section: &mut OpenSection, head: &Head) -> Result<(), Fault>
     requires head { IsHead (told section.old) head.now }
     requires kind { head.now.kind ≡ Other }
     ensures passes { PassesBlock IsHeaderFault (told section.old) (told section.new) (head_bytes head.now) (S.left source.old) (S.left source.new) result }
@@ -189,7 +197,7 @@ fn pass_over<S: Source>(source: &mut S, section: &mut Section, head: &Head) -> R
 /// Reads a packet's captured bytes into `into`, which keeps its memory, and the rest of its block.
 fn read_packet<S: Source>(
     source: &mut S,
-    section: &Section,
+    section: &OpenSection,
     head: &Head,
     into: &mut Vec<u8>,
 ) -> Result<Record, Fault>

@@ -5,7 +5,7 @@ ghost use Rattle.pcapng_reader.specs.Steps.{told, IsHead, TakesHead};
 
 use crate::fill::fill_part;
 use crate::kind::Kind;
-use crate::section::Section;
+use crate::section::OpenSection;
 use pcap_reader::ByteOrder;
 use zr_io::Source;
 use zr_kinds::Fault;
@@ -40,7 +40,7 @@ impl Head {
 /// Reads the begin of the block whose first eight bytes are `start`.
 pub(crate) fn read_head<S: Source>(
     source: &mut S,
-    section: &Section,
+    section: &OpenSection,
     start: [u8; START_LEN],
 ) -> Result<Head, Fault>
     ensures kind { IfOk result (λ head. head.kind ≡ kind_of section.now.order start) }
@@ -68,7 +68,7 @@ pub(crate) fn read_head<S: Source>(
 }
 
 /// The order of a block's numbers, which a section header tells itself.
-fn order_told(section: &Section, kind: Kind, bytes: &[u8]) -> Option<ByteOrder>
+fn order_told(section: &OpenSection, kind: Kind, bytes: &[u8]) -> Option<ByteOrder>
     requires { 12 ≤ length bytes.now }
     ensures { result ≡ order_told (told section.now) kind bytes.now }
 {

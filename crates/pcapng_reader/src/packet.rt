@@ -5,7 +5,7 @@ ghost use Rattle.pcapng_reader.specs.declared.kind.Kind.TheVariants.{EnhancedPac
 
 use crate::head::Head;
 use crate::kind::Kind;
-use crate::section::{Interface, Section};
+use crate::section::{Interface, OpenSection};
 use pcap_reader::Record;
 use zr_kinds::Fault;
 
@@ -14,7 +14,7 @@ const ETHERNET: u16 = 1;
 const MAX_CAPTURED: u32 = 262_144;
 
 /// The lengths of a packet that may be read.
-pub(crate) fn packet_in(section: &Section, head: &Head) -> Result<Record, Fault>
+pub(crate) fn packet_in(section: &OpenSection, head: &Head) -> Result<Record, Fault>
     requires head { IsHead (told section.now) head.now }
     requires kind { IsTrue (is_packet head.now.kind) }
     ensures { IsPacket (told section.now) head.now result }
@@ -28,7 +28,7 @@ pub(crate) fn packet_in(section: &Section, head: &Head) -> Result<Record, Fault>
     Ok(record)
 }
 
-fn enhanced<'a>(section: &'a Section, head: &Head) -> (Option<&'a Interface>, Record)
+fn enhanced<'a>(section: &'a OpenSection, head: &Head) -> (Option<&'a Interface>, Record)
     requires head { IsHead (told section.now) head.now }
     requires kind { head.now.kind ≡ EnhancedPacket }
     ensures { IsPacketOf (told section.now) head.now (option_copied result.0) result.1 }
@@ -41,7 +41,7 @@ fn enhanced<'a>(section: &'a Section, head: &Head) -> (Option<&'a Interface>, Re
     (section.interfaces.get(number as usize), record)
 }
 
-fn simple<'a>(section: &'a Section, head: &Head) -> (Option<&'a Interface>, Record)
+fn simple<'a>(section: &'a OpenSection, head: &Head) -> (Option<&'a Interface>, Record)
     requires head { IsHead (told section.now) head.now }
     requires kind { head.now.kind ≡ SimplePacket }
     ensures { IsPacketOf (told section.now) head.now (option_copied result.0) result.1 }

@@ -18,14 +18,14 @@ pub struct Interface {
 
 /// How a section goes on.
 #[derive(Debug, Drop)]
-pub(crate) struct Section {
+pub(crate) struct OpenSection {
     pub(crate) order: ByteOrder,
     pub(crate) interfaces: Vec<Interface>,
     /// How many blocks that are no packets came in the capture so far.
     pub(crate) others: u32,
 }
 
-impl Section {
+impl OpenSection {
     /// A block of this kind and total length may not come here.
     pub(crate) fn refuses(&self, kind: Kind, total: u32) -> bool
         ensures { result ≡ (is_too_many (told self.now) kind || misfits kind total) }

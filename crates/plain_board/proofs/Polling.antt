@@ -22,7 +22,7 @@ use Rattle.board_face.specs.declared.views.app.AppView.{AppView}
 use Rattle.board_face.specs.declared.views.app.AppSide.{AppSide}
 use Rattle.board_face.proofs.Parts.{app_count}
 use Rattle.board_face.proofs.AppLemmas.{app_count-took_note, app_count-took_linear}
-use Rattle.board_face.proofs.RelayLemmas.{way-taken, IsNext-relayed, Relayed-took}
+use Rattle.board_face.proofs.RelayLemmas.{way-taken, NoteComesNext-relayed, Relayed-took}
 use Rattle.board_face.proofs.LookLemmas.{AppRose-app_saw, AppTold-one}
 use Rattle.board_face.proofs.FillingsFitLemmas.{FillingsFit-same}
 use Rattle.board_face.proofs.IsFilledByOneLemmas.{IsFilledByOne-took_note, IsFilledByOne-took_linear}
@@ -87,7 +87,7 @@ module _ (board : Stand) (a : ℕ) (x : AppSide) (slot : NoteSlot) (rest : List 
   was = rw found at (sound.relayed.relayed a x here)
 
   pub is-next : IsNextNote board.nic x slot.note
-  is-next = IsNext-relayed board.nic x (taken_of slot) (map taken_of rest) _ was
+  is-next = NoteComesNext-relayed board.nic x (taken_of slot) (map taken_of rest) _ was
 
   abbrev took : List HeldPiece → TakenNote → AppSide
   took helds t = app_at x (record x.view { helds = helds; taken = x.view.taken ++ t ∷ [] })

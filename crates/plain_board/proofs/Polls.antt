@@ -16,7 +16,7 @@ use Rattle.board_face.specs.declared.views.app.AppLook.TheVariants.{NoNote}
 use Rattle.board_face.specs.declared.views.app.AppView.{AppView}
 use Rattle.board_face.specs.declared.views.app.AppSide.{AppSide}
 use Rattle.board_face.specs.declared.views.app.TakenNote.{TakenNote}
-use Rattle.board_face.proofs.RelayLemmas.{IsNext-relayed}
+use Rattle.board_face.proofs.RelayLemmas.{NoteComesNext-relayed}
 use Rattle.run_records.specs.declared.event.Event.{Event}
 use Rattle.run_records.specs.declared.event.Event.TheVariants as event
 use Rattle.run_records.specs.LegalRun.{HasSmallNumbers}
@@ -33,7 +33,7 @@ next-note : (nic : NicSide) (x : AppSide) (t : TakenNote) (ns us : List TakenNot
     → (x.view.taken ++ t ∷ []) ++ ns ≡ map as_taken (sent_to x.view.app nic) → Relayed nic x us es → IsNextNote nic x t.note
 next-note nic x t ns us es sent was =
     let there : Relayed nic x (t ∷ ns) es = record { notes = simp append_assoc at sent; reads = was.reads; entries = was.entries } in
-    IsNext-relayed nic x t ns es there
+    NoteComesNext-relayed nic x t ns es there
 
 -- no split note was taken
 abbrev pub HasNoNote : Polled → Type 0

@@ -64,7 +64,7 @@ abbrev pub others_of : Stand → ℕ → Others
 others_of board a = record { card = board.nic; apps = slice_set board.apps a blank_app; number = a; room = 0 }
 
 -- No count, no free place, no byte and no note changed.
-pub record IsUntouched (old new : Arrays) : Type 0 where
+pub record SameBuffers (old new : Arrays) : Type 0 where
   pub area : new.area ≡ old.area
   pub pool : new.pool ≡ old.pool
   pub users : new.users ≡ old.users

@@ -1,4 +1,5 @@
 ghost use Rattle.std.specs.Prelude.{◌≡◌, ◌<◌, ◌≤◌, All, IfOk};
+ghost use Rattle.run_records.specs.Setting.{most_events};
 ghost use Rattle.area_layout.specs.Layout.{pool_buffers};
 ghost use Rattle.plain_board.specs.Board.{new_board, stand_of, sides_of};
 ghost use Rattle.plain_board.specs.Finish.{IsOver, free_of, IsEachOnce, HasNoCounts, IsServed};
@@ -61,7 +62,7 @@ impl PlainBoard {
         requires reserves { layout.reserves ≡ apps }
         requires some { 1 ≤ places }
         requires few { places ≤ 256 }
-        requires room { events ≤ 1000000 }
+        requires room { events ≤ most_events }
         ensures { IfOk result (λ board. board ≡ new_board layout places events) }
     {
         let contents = Contents::open(alloc, layout, apps, places)?;

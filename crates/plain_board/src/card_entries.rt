@@ -1,7 +1,7 @@
 ghost use Rattle.std.specs.Prelude.{◌≡◌, ◌≢◌, ◌<◌, MatchOption};
 ghost use Rattle.board_face.specs.NicCalls.{apps_of, DealtWith};
 ghost use Rattle.plain_board.specs.Events.{IsNoReturn, GaveBack};
-ghost use Rattle.plain_board.specs.Stand.{IsUntouched};
+ghost use Rattle.plain_board.specs.Stand.{SameBuffers};
 ghost use Rattle.plain_board.specs.Seen.{IsJudged, CardSawSo};
 
 use crate::contents::Contents;
@@ -16,7 +16,7 @@ impl Contents {
     pub(crate) fn entry(&mut self, app: u32) -> (Entry, Option<u32>)
         requires { app < apps_of self.old.nic.view.setting }
         ensures view { DealtWith self.old.nic.view self.new.nic.view app result.0 }
-        ensures stray { result.0 ≡ Entry.Stray → IsUntouched self.old.arrays self.new.arrays }
+        ensures stray { result.0 ≡ Entry.Stray → SameBuffers self.old.arrays self.new.arrays }
         ensures judged { result.0 ≢ Entry.Empty → IsJudged self.old self.new app }
         ensures returned { MatchOption result.1 (IsNoReturn result.0) (λ buffer. GaveBack self.old self.new app buffer) }
         ensures told { CardSawSo self.old self.new }

@@ -4,7 +4,7 @@ ghost use Rattle.board_face.specs.NicEvents.{word_bits};
 ghost use Rattle.board_parts.specs.Free.{listed_in};
 ghost use Rattle.plain_board.specs.Board.{stand_of, sides_of, applications_of};
 ghost use Rattle.plain_board.specs.Recorded.{IsRecorded};
-ghost use Rattle.plain_board.specs.Stand.{IsUntouched};
+ghost use Rattle.plain_board.specs.Stand.{SameBuffers};
 ghost use Rattle.plain_board.specs.Sound.{IsSound};
 ghost use Rattle.plain_board.specs.Seen.{IsSeenByCard, IsJudged, CardSawSo};
 
@@ -115,7 +115,7 @@ impl NicFace for PlainNic {
         ensures view { DealtWith self.old.nic.view self.new.nic.view app result }
         ensures told { CardSawSo (stand_of self.old) (stand_of self.new) }
         ensures beside { applications_of self.new ≡ applications_of self.old }
-        ensures stray { result ≡ Entry.Stray → IsUntouched self.old.arrays self.new.arrays }
+        ensures stray { result ≡ Entry.Stray → SameBuffers self.old.arrays self.new.arrays }
         ensures judged { result ≢ Entry.Empty → IsJudged (stand_of self.old) (stand_of self.new) app }
     {
         self.board.contents.sound();

@@ -7,11 +7,12 @@ use Rattle.zr_kinds.specs.declared.fault.Fault.{Fault}
 use Rattle.zr_kinds.specs.declared.fault.Fault.TheVariants.{Memory, Usage, NotPcap, Version, LinkType, Cut, LongRecord, Read, Write, TooManyFlows}
 use Rattle.zr_kinds.specs.declared.fault.Fault.TheVariants.{TooManyFrames, BadBlock, BadRun}
 use Rattle.flow_table.specs.Flows.{Flow, flows_of, number_of_flow}
-use Rattle.flow_table.specs.Steered.{Steered}
+use Rattle.flow_table.specs.SteeredTcp.{SteeredTcp}
 use Rattle.frames_read.specs.Ending.{ending_at, flow_ending, steered_in, steered_next}
 use Rattle.frames_read.specs.Reading.{EndsAt, HasEnded}
 use Rattle.frames_read.proofs.Framing.{ending-flow}
 use Rattle.std.specs.Prelude.{All, option_to_list}
+use Rattle.zr_kinds.specs.Limits.{most_records}
 use Rattle.board_face.specs.declared.views.nic.NicView.{NicView}
 use Rattle.card_feed.specs.Coming.{Arrives, ComesTo, TookBytes, is_over}
 use Rattle.card_feed.specs.Feed.{FeedState, FeedStands, end_of}
@@ -36,7 +37,7 @@ use Rattle.replay_threads.proofs.ReaderTurns.{made-last}
 abbrev IsOwn : Option Fault → Type 0
 IsOwn end = (end ≡ Some Memory) ⊎ (end ≡ Some TooManyFlows)
 
-flow-own : (flows : List Flow) (next : Option Steered) (fault : Fault) → flow_ending flows next ≡ Some fault → fault ≡ TooManyFlows
+flow-own : (flows : List Flow) (next : Option SteeredTcp) (fault : Fault) → flow_ending flows next ≡ Some fault → fault ≡ TooManyFlows
 flow-own flows None fault is = absurd (cc)
 flow-own flows (Some s) fault is = by_number (number_of_flow flows s == 65535) is
   where
@@ -63,7 +64,7 @@ module _ (split : ℕ) (ports : List ℕ) where
   frame-own before frames (carried.Frame number found content) bytes fault many follows is by =
       by_fault fault by
     where
-      below : length frames ≢ 16777216
+      below : length frames ≢ most_records
       below limit = (let most = follows.limit in let numbered = follows.numbered in omega (arith, most, numbered, many, limit))
 
       shown : (fault : Fault) → ending_at ports frames bytes ≡ Some fault → IsOwn (Some fault)

@@ -10,7 +10,7 @@ use Rattle.card_feed.specs.Plan.{plain_behaviour}
 use Rattle.replay_threads.specs.declared.seated.Forwarding.{Forwarding}
 use Rattle.replay_threads.specs.declared.seated.Pouring.{Pouring}
 use Rattle.replay_threads.specs.declared.seated.Seated.TheVariants as seated
-use Rattle.replay_threads.specs.Seated.{ForwardsSince, Goes, PoursSince, RunsOn, StandsOn}
+use Rattle.replay_threads.specs.Seated.{ForwardsSince, SeatedGoes, PoursSince, RunsOn, StandsOn}
 
 -- what stood since a beginning
 pub stood : (Stands : (ℕ → Option (List ℕ)) → ℕ → Type 0) (v : AppView) (poured : Option Poured) → poured ≡ None → StandsOn Stands v poured
@@ -64,7 +64,7 @@ module _ {T : Type 0} (kept : T → ℕ → Option (List ℕ)) (losses : T → �
     Now = PoursSince kept losses now.stream
 
     pub pours : now.poured ≡ None → ((first : ℕ → Option (List ℕ)) (count : ℕ) → Since first count → Now first count)
-        → Goes kept losses (seated.Pouring was) (seated.Pouring now)
+        → SeatedGoes kept losses (seated.Pouring was) (seated.Pouring now)
     pours none gives = record {
       board = board;
       app = app;
@@ -78,7 +78,7 @@ module _ {T : Type 0} (kept : T → ℕ → Option (List ℕ)) (losses : T → �
 
     pub pours-out : (poured : Poured) → now.poured ≡ Some poured
         → LeavesWith Since (kept now.stream.shelf) (losses now.stream.shelf) now.stream.face.side.view poured
-        → Goes kept losses (seated.Pouring was) (seated.Pouring now)
+        → SeatedGoes kept losses (seated.Pouring was) (seated.Pouring now)
     pours-out poured some gives = record {
       board = board;
       app = app;
@@ -105,7 +105,7 @@ module _ {T : Type 0} (kept : T → ℕ → Option (List ℕ)) (losses : T → �
     NowThen = ForwardsSince kept losses now.forward
 
     pub forwards : now.poured ≡ None → ((first : ℕ → Option (List ℕ)) (count : ℕ) → SinceThen first count → NowThen first count)
-        → Goes kept losses (seated.Forwarding was) (seated.Forwarding now)
+        → SeatedGoes kept losses (seated.Forwarding was) (seated.Forwarding now)
     forwards none gives = record {
       board = board;
       app = app;
@@ -120,7 +120,7 @@ module _ {T : Type 0} (kept : T → ℕ → Option (List ℕ)) (losses : T → �
 
     pub forwards-out : (poured : Poured) → now.poured ≡ Some poured
         → LeavesWith SinceThen (kept now.forward.carrier.shelf) (losses now.forward.carrier.shelf) now.forward.face.side.view poured
-        → Goes kept losses (seated.Forwarding was) (seated.Forwarding now)
+        → SeatedGoes kept losses (seated.Forwarding was) (seated.Forwarding now)
     forwards-out poured some gives = record {
       board = board;
       app = app;

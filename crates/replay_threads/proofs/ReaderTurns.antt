@@ -1,6 +1,7 @@
 -- The reading goes on: messages are made behind messages, and turns come behind turns.
 use Rattle.std.proofs.Common.{◌≡◌, ℕ, suc, ◌+◌, ◌≤◌, List, [], ◌∷◌, ◌++◌, length, Option, Some, Vec, Global}
 use Rattle.std.proofs.Common.{refl, sym, ap, subst, ◌∙◌, append_assoc, append-nil, length-append, arith}
+use Rattle.zr_kinds.specs.Limits.{most_records}
 use Rattle.zr_kinds.specs.declared.fault.Fault.TheVariants.{TooManyFrames}
 use Rattle.pcap_reader.specs.declared.capture.Record.{Record}
 use Rattle.frames_read.proofs.Framing.{ending-limit}
@@ -12,7 +13,7 @@ use Rattle.card_feed.proofs.Further.{took-same, took-then}
 use Rattle.replay_threads.specs.declared.carried.Carried.{Carried}
 use Rattle.replay_threads.specs.declared.carried.Carried.TheVariants.{Over}
 use Rattle.replay_threads.specs.declared.reader.Reader.{Reader}
-use Rattle.replay_threads.specs.Made.{Makes, IsMade}
+use Rattle.replay_threads.specs.Made.{MakesMessage, IsMade}
 use Rattle.replay_threads.specs.Reader.{messages_of, ReaderGoes}
 
 module _ {S : Type 0} (left : S → Option (List ℕ)) (faults : S → ℕ) where
@@ -55,7 +56,7 @@ module _ {S : Type 0} (left : S → Option (List ℕ)) (faults : S → ℕ) wher
 
   -- the last of some messages, from the first on
   pub made-last : (a c : S) (s u : Stage) (before : List Carried) (message : Carried) → IsMade left faults 0 a s (before ++ message ∷ []) c u
-      → (mid : S) × (mid_stage : Stage) × IsMade left faults 0 a s before mid mid_stage × Makes left faults (length before) mid mid_stage message c u
+      → (mid : S) × (mid_stage : Stage) × IsMade left faults 0 a s before mid mid_stage × MakesMessage left faults (length before) mid mid_stage message c u
   made-last a c s u before message made =
       let split = made-split 0 a c s u before (message ∷ []) made in
       let (b, t, makes, end) = split.then in
@@ -63,9 +64,9 @@ module _ {S : Type 0} (left : S → Option (List ℕ)) (faults : S → ℕ) wher
         split.mid,
         split.mid_stage,
         split.first,
-        subst (λ (n : ℕ). Makes left faults n split.mid split.mid_stage message c u) many
-            (subst (λ (x : S). Makes left faults (0 + length before) split.mid split.mid_stage message x u) end.0
-            (subst (λ (x : Stage). Makes left faults (0 + length before) split.mid split.mid_stage message b x) end.1 makes)),
+        subst (λ (n : ℕ). MakesMessage left faults n split.mid split.mid_stage message c u) many
+            (subst (λ (x : S). MakesMessage left faults (0 + length before) split.mid split.mid_stage message x u) end.0
+            (subst (λ (x : Stage). MakesMessage left faults (0 + length before) split.mid split.mid_stage message b x) end.1 makes)),
       )
 
   -- what they took of the source
@@ -117,10 +118,10 @@ module _ {S : Type 0} (left : S → Option (List ℕ)) (faults : S → ℕ) wher
   -- ---- the last record that is read
 
   -- a record behind so many ends the reading
-  pub makes-limit : (a b : S) (s t : Stage) (count : ℕ) → count ≡ 16777216 → (found : Record) (bytes : Vec ℕ Global)
+  pub makes-limit : (a b : S) (s t : Stage) (count : ℕ) → count ≡ most_records → (found : Record) (bytes : Vec ℕ Global)
       → ((split : ℕ) (first : S) (ports : List ℕ) (frames : List (List ℕ)) → ComesTo (WantsRoom split ports) left faults first a ports s frames
       → Arrives (WantsRoom split ports) left faults first b ports t frames (Frame found bytes))
-      → TookBytes (left a) (left b) → faults a ≤ faults b → (later : Stage) → Makes left faults count a s (Over (Some TooManyFrames)) b later
+      → TookBytes (left a) (left b) → faults a ≤ faults b → (later : Stage) → MakesMessage left faults count a s (Over (Some TooManyFrames)) b later
   makes-limit a b s t count limit found bytes reads further rises later = record {
     brings = λ split first ports frames many comes.
         (reads split first ports frames comes).ends TooManyFrames (ending-limit ports frames bytes.items (many ∙ limit));

@@ -12,7 +12,7 @@ use Rattle.flow_queues.specs.Ends.{AppEnd}
 use Rattle.word_board.specs.Board.{TheBoard}
 use Rattle.replay_threads.specs.declared.lane.Lane.{Lane}
 use Rattle.replay_threads.specs.Lanes.{LanesGo, LanesFit, AreAtOpening}
-use Rattle.replay_threads.specs.Seated.{Begins, Goes, end_of, is_gone, seat_of, shelf_of}
+use Rattle.replay_threads.specs.Seated.{Begins, SeatedGoes, end_of, is_gone, seat_of, shelf_of}
 use Rattle.replay_threads.proofs.Leavings.{gone-left}
 
 -- ---- lists
@@ -46,8 +46,8 @@ module _ {T : Type 0} (kept : T → ℕ → Option (List ℕ)) (losses : T → �
     each = λ i d within.
         let less : i < length was = omega (arith, within, length-reverse was) in
         let same : length now - 1 - i ≡ length was - 1 - i = ap (λ n. n - 1 - i) go.many in
-        subst (λ (lane : Lane T). Goes kept losses lane.seated (slice_index_or (reverse now) i d).seated) (sym (get_or-reverse was i d less))
-        (subst (λ (lane : Lane T). Goes kept losses (slice_index_or was (length was - 1 - i) d).seated lane.seated)
+        subst (λ (lane : Lane T). SeatedGoes kept losses lane.seated (slice_index_or (reverse now) i d).seated) (sym (get_or-reverse was i d less))
+        (subst (λ (lane : Lane T). SeatedGoes kept losses (slice_index_or was (length was - 1 - i) d).seated lane.seated)
         (sym (get_or-reverse now i d (omega (arith, less, go.many)) ∙ ap (λ k. slice_index_or now k d) same))
         (go.each (length was - 1 - i) d (omega (arith, less))));
   }
@@ -65,17 +65,17 @@ module _ {T : Type 0} (kept : T → ℕ → Option (List ℕ)) (losses : T → �
 
   module _ (how : Behaviour) where
     -- an application's lane: nothing was done at the one, and the other came of it and has left
-    pub record Went (board : TheBoard) (number : ℕ) (was now : Lane T) : Type 0 where
+    pub record LaneWent (board : TheBoard) (number : ℕ) (was now : Lane T) : Type 0 where
       pub opened : seat_of was.seated ≡ record { board = board; side = new_app board.setting number }
       pub begins : Begins kept losses how was.seated
-      pub goes : Goes kept losses was.seated now.seated
+      pub goes : SeatedGoes kept losses was.seated now.seated
       pub gone : is_gone now.seated ≡ true
 
     abbrev pub HaveGone : TheBoard → ℕ → List (Lane T) → List (Lane T) → Type 0
     HaveGone board number [] [] = ⊤
     HaveGone board number [] (v ∷ vs) = ⊥
     HaveGone board number (u ∷ us) [] = ⊥
-    HaveGone board number (u ∷ us) (v ∷ vs) = Went board number u v × HaveGone board (suc number) us vs
+    HaveGone board number (u ∷ us) (v ∷ vs) = LaneWent board number u v × HaveGone board (suc number) us vs
 
     pub have-gone : (board : TheBoard) (number : ℕ) (us vs : List (Lane T)) → AreAtOpening board number us
         → All (λ (lane : Lane T). Begins kept losses how lane.seated) us → LanesGo kept losses us vs
@@ -91,24 +91,24 @@ module _ {T : Type 0} (kept : T → ℕ → Option (List ℕ)) (losses : T → �
     )
 
     -- the lane of an application, by its place
-    pub record IsAt (board : TheBoard) (number a : ℕ) (us vs : List (Lane T)) (end : AppEnd) : Type 0 where
+    pub record IsLaneAt (board : TheBoard) (number a : ℕ) (us vs : List (Lane T)) (end : AppEnd) : Type 0 where
       pub was : Lane T
       pub now : Lane T
-      pub went : Went board number was now
+      pub went : LaneWent board number was now
       pub end_is : end ≡ end_of now.seated
       pub shelf : slice_get (map (λ (lane : Lane T). shelf_of lane.seated) us) a ≡ Some (shelf_of was.seated)
       pub shelf_now : slice_get (map (λ (lane : Lane T). shelf_of lane.seated) vs) a ≡ Some (shelf_of now.seated)
       pub side : side_in (map (λ (lane : Lane T). (seat_of lane.seated).side) vs) a ≡ (seat_of now.seated).side
 
     pub is-at : (board : TheBoard) (number : ℕ) (us vs : List (Lane T)) → HaveGone board number us vs → (a n : ℕ) (end : AppEnd) → n ≡ number + a
-        → slice_get (map (λ (lane : Lane T). end_of lane.seated) vs) a ≡ Some end → IsAt board n a us vs end
+        → slice_get (map (λ (lane : Lane T). end_of lane.seated) vs) a ≡ Some end → IsLaneAt board n a us vs end
     is-at board number [] [] gone a n end is at = absurd (cc)
     is-at board number [] (v ∷ vs) gone a n end is at = absurd gone
     is-at board number (u ∷ us) [] gone a n end is at = absurd (cc)
     is-at board number (u ∷ us) (v ∷ vs) gone zero n end is at = record {
       was = u;
       now = v;
-      went = subst (λ k. Went board k u v) (let e : number ≡ n = omega (arith, is) in e) gone.0;
+      went = subst (λ k. LaneWent board k u v) (let e : number ≡ n = omega (arith, is) in e) gone.0;
       end_is = (let e : end ≡ end_of v.seated = cc in e);
       shelf = refl;
       shelf_now = refl;

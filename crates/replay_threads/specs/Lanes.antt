@@ -2,7 +2,7 @@
 use Rattle.std.specs.Prelude.{◌≡◌, ℕ, suc, ◌<◌, List, [], ◌∷◌, length, slice_index_or, All, Option, ⊤}
 use Rattle.board_face.specs.Opened.{new_app}
 use Rattle.word_board.specs.Board.{TheBoard}
-use Rattle.replay_threads.specs.Seated.{Fits, Goes, seat_of}
+use Rattle.replay_threads.specs.Seated.{Fits, SeatedGoes, seat_of}
 use Rattle.replay_threads.specs.declared.lane.Lane.{Lane}
 
 -- ---- turns
@@ -18,7 +18,7 @@ LaneFits kept losses lane = Fits kept losses lane.seated
 
 -- some turns of the application
 abbrev pub LaneGoes : {T : Type 0} → (T → ℕ → Option (List ℕ)) → (T → ℕ) → Lane T → Lane T → Type 0
-LaneGoes kept losses was now = Goes kept losses was.seated now.seated
+LaneGoes kept losses was now = SeatedGoes kept losses was.seated now.seated
 
 abbrev pub LanesFit : {T : Type 0} → (T → ℕ → Option (List ℕ)) → (T → ℕ) → List (Lane T) → Type 0
 LanesFit kept losses lanes = All (LaneFits kept losses) lanes

@@ -7,7 +7,7 @@ use Rattle.replay_threads.specs.declared.carried.Carried.{Carried}
 use Rattle.replay_threads.specs.Carried.{arrived_of}
 
 -- One step of the reading made this message: it brings what came behind any frames, so many, to which the reading had come.
-pub record Makes {S : Type 0} (left : S → Option (List ℕ)) (faults : S → ℕ) (count : ℕ) (from : S) (from_stage : Stage) (message : Carried)
+pub record MakesMessage {S : Type 0} (left : S → Option (List ℕ)) (faults : S → ℕ) (count : ℕ) (from : S) (from_stage : Stage) (message : Carried)
     (to : S) (to_stage : Stage) : Type 0 where
   pub brings : (split : ℕ) (first : S) (ports : List ℕ) (frames : List (List ℕ)) → length frames ≡ count
       → ComesTo (WantsRoom split ports) left faults first from ports from_stage frames
@@ -19,5 +19,5 @@ pub record Makes {S : Type 0} (left : S → Option (List ℕ)) (faults : S → �
 abbrev pub IsMade : {S : Type 0} → (S → Option (List ℕ)) → (S → ℕ) → ℕ → S → Stage → List Carried → S → Stage → Type 0
 IsMade left faults count from from_stage [] to to_stage = (from ≡ to) × (from_stage ≡ to_stage)
 IsMade {S} left faults count from from_stage (message ∷ messages) to to_stage =
-    (mid : S) × (mid_stage : Stage) × Makes left faults count from from_stage message mid mid_stage
+    (mid : S) × (mid_stage : Stage) × MakesMessage left faults count from from_stage message mid mid_stage
     × IsMade left faults (suc count) mid mid_stage messages to to_stage

@@ -106,7 +106,7 @@ Runs kept losses first count how (Forwarding own) = (how ≡ plain_behaviour)
     own.forward.face.side.view own.poured
 
 -- Some turns: what it keeps fits its side again, at the same seat, and it goes on with its part of the run.
-pub record Goes {T : Type 0} (kept : T → ℕ → Option (List ℕ)) (losses : T → ℕ) (was now : Seated T) : Type 0 where
+pub record SeatedGoes {T : Type 0} (kept : T → ℕ → Option (List ℕ)) (losses : T → ℕ) (was now : Seated T) : Type 0 where
   pub board : (seat_of now).board ≡ (seat_of was).board
   pub app : (seat_of now).side.view.app ≡ (seat_of was).side.view.app
   pub fits : Fits kept losses now

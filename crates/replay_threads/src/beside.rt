@@ -24,7 +24,7 @@ const LANE_PATIENCE: u32 = 10;
 
 /// The loops of a run.
 #[derive(Drop)]
-pub struct Beside {
+pub struct Loops {
     /// How many applications have begun their loops.
     begun: AtomicU64,
     /// The card takes turns.
@@ -45,10 +45,10 @@ pub struct Beside {
     lanes: [Sleeper; MOST_APPS],
 }
 
-impl Beside {
+impl Loops {
     /// No loop has begun.
-    pub fn new() -> Beside {
-        Beside {
+    pub fn new() -> Loops {
+        Loops {
             begun: AtomicU64::new(0),
             card: AtomicBool::new(false),
             reading: AtomicBool::new(false),

@@ -6,7 +6,7 @@ ghost use Rattle.card_feed.specs.Turns.{MayArrive};
 ghost use Rattle.rtrb.specs.Ring.{IsPair, known_items, received, sent};
 ghost use Rattle.replay_threads.specs.Cards.{CardGoes, CardLooks, CardTakes, Waits};
 
-use crate::beside::{Beside, IDLE};
+use crate::beside::{IDLE, Loops};
 use crate::carried::{Carried, InOrder};
 use crate::gate::Gate;
 use crate::pace::Pace;
@@ -137,7 +137,7 @@ fn went_by(did: bool) -> Went {
 
 /// Looks for so many buffers. `false` says that they aren't there, and that an application may have some on their way back: since
 /// the card asked it hasn't had a turn with nothing to do.
-fn look_for(beside: &Beside, pace: &mut Pace, needed: u32, card: &mut CardLane<'_>) -> bool
+fn look_for(beside: &Loops, pace: &mut Pace, needed: u32, card: &mut CardLane<'_>) -> bool
     requires ready { IsReady card.old.feed card.old.seat.side.view }
     requires few { needed ≤ 64 }
     ensures goes { CardGoes card.old card.new }
@@ -151,7 +151,7 @@ fn look_for(beside: &Beside, pace: &mut Pace, needed: u32, card: &mut CardLane<'
 }
 
 /// Whether a frame that needs so many buffers may be offered. Where they may not be free the card looks for them first.
-fn may_offer(beside: &Beside, pace: &mut Pace, needed: u32, card: &mut CardLane<'_>) -> bool
+fn may_offer(beside: &Loops, pace: &mut Pace, needed: u32, card: &mut CardLane<'_>) -> bool
     requires ready { IsReady card.old.feed card.old.seat.side.view }
     requires few { needed ≤ 64 }
     ensures goes { CardGoes card.old card.new }
@@ -165,7 +165,7 @@ fn may_offer(beside: &Beside, pace: &mut Pace, needed: u32, card: &mut CardLane<
 /// A turn of the card that offers the next frame, unless buffers for it are on their way back.
 fn offering_turn<G: Gate>(
     gate: &G,
-    beside: &Beside,
+    beside: &Loops,
     pace: &mut Pace,
     needed: u32,
     card: &mut CardLane<'_>,
@@ -190,7 +190,7 @@ fn offering_turn<G: Gate>(
 /// A turn of the card. It takes no other frame than the one whose buffers were looked for.
 pub fn paced_turn<G: Gate>(
     gate: &G,
-    beside: &Beside,
+    beside: &Loops,
     pace: &mut Pace,
     card: &mut CardLane<'_>,
 ) -> Went
@@ -214,7 +214,7 @@ pub fn paced_turn<G: Gate>(
 fn card_turns<G: Gate, R: Wait>(
     rt: &R,
     gate: &G,
-    beside: &Beside,
+    beside: &Loops,
     pace: &mut Pace,
     card: &mut CardLane<'_>,
 ) -> bool
@@ -240,13 +240,7 @@ fn card_turns<G: Gate, R: Wait>(
 }
 
 /// The turns of the card, until it is over, nothing is done in many, or an application stays behind.
-fn card_loop<G: Gate, R: Wait>(
-    rt: &R,
-    gate: &G,
-    beside: &Beside,
-    free: u32,
-    card: &mut CardLane<'_>,
-)
+fn card_loop<G: Gate, R: Wait>(rt: &R, gate: &G, beside: &Loops, free: u32, card: &mut CardLane<'_>)
     requires ready { IsReady card.old.feed card.old.seat.side.view }
     ensures goes { CardGoes card.old card.new }
 {
@@ -266,7 +260,7 @@ fn card_loop<G: Gate, R: Wait>(
 pub fn run_card<G: Gate, R: Wait>(
     rt: &R,
     gate: &G,
-    beside: &Beside,
+    beside: &Loops,
     free: u32,
     card: &mut CardLane<'_>,
 )

@@ -4,7 +4,7 @@ ghost use Rattle.std.proofs.Common.{◌∙◌};
 ghost use Rattle.replay_threads.specs.Lanes.{AllGo, LaneFits, LaneGoes};
 ghost use Rattle.replay_threads.specs.Seated.{is_gone};
 
-use crate::beside::{Beside, IDLE, MOST_APPS};
+use crate::beside::{IDLE, Loops, MOST_APPS};
 use crate::gate::Gate;
 use crate::seated::{Came, Seated};
 use crate::sits::Sits;
@@ -73,7 +73,7 @@ fn lane_turn<W: Sits, G: Gate>(alloc: Global, gate: &G, lane: &mut W) -> Came
 }
 
 /// A turn, of which the card is told where nothing was done. `false` says that nothing was.
-fn told_turn<W: Sits, G: Gate>(alloc: Global, gate: &G, beside: &Beside, lane: &mut W) -> bool
+fn told_turn<W: Sits, G: Gate>(alloc: Global, gate: &G, beside: &Loops, lane: &mut W) -> bool
     requires fits { W.fits lane.old }
     ensures goes { W.goes lane.old lane.new }
 {
@@ -91,7 +91,7 @@ fn lane_turns<W: Sits, G: Gate, R: Wait>(
     rt: &R,
     alloc: Global,
     gate: &G,
-    beside: &Beside,
+    beside: &Loops,
     lane: &mut W,
 ) -> bool
     requires fits { W.fits lane.old }
@@ -112,7 +112,7 @@ fn lane_loop<W: Sits, G: Gate, R: Wait>(
     rt: &R,
     alloc: Global,
     gate: &G,
-    beside: &Beside,
+    beside: &Loops,
     lane: &mut W,
 )
     requires fits { W.fits lane.old }
@@ -134,7 +134,7 @@ fn run_lane<W: Sits, G: Gate, R: Wait>(
     rt: &R,
     alloc: Global,
     gate: &G,
-    beside: &Beside,
+    beside: &Loops,
     lane: &mut W,
 )
     requires fits { W.fits lane.old }
@@ -150,7 +150,7 @@ pub fn run_lanes<W: Sits + Send, G: Gate + Sync, R: Threads + Wait + Sync>(
     rt: &R,
     alloc: Global,
     gate: &G,
-    beside: &Beside,
+    beside: &Loops,
     lanes: &mut [W],
 )
     requires fit { All W.fits lanes.old }
@@ -178,7 +178,7 @@ pub fn round<W: Sits + Send, G: Gate + Sync, R: Threads + Sync>(
     rt: &R,
     alloc: Global,
     gate: &G,
-    beside: &Beside,
+    beside: &Loops,
     lanes: &mut [W],
 ) -> bool
     requires fit { All W.fits lanes.old }

@@ -2,7 +2,7 @@
 //! No clause speaks of it: a search says how many there are. Where payloads travel in notes the cache alone is known, since
 //! applications take buffers from the free list then, to copy into.
 
-use crate::beside::Beside;
+use crate::beside::Loops;
 
 /// What the card knows of the buffers that are free.
 #[derive(Drop)]
@@ -23,7 +23,7 @@ impl Pace {
     }
 
     /// The asking behind which it waits. It asks once, however often it looks then.
-    pub fn ask(&mut self, beside: &Beside) -> u64 {
+    pub fn ask(&mut self, beside: &Loops) -> u64 {
         match self.asking {
             Some(asking) => asking,
             None => {

@@ -5,7 +5,7 @@ ghost use Rattle.replay_threads.specs.Cards.{CardGoes};
 ghost use Rattle.replay_threads.specs.Reader.{ReaderGoes};
 ghost use Rattle.replay_threads.specs.Lanes.{AllGo};
 
-use crate::beside::{Beside, IDLE};
+use crate::beside::{IDLE, Loops};
 use crate::card::{CardLane, Went, paced_turn, run_card};
 use crate::gate::Gate;
 use crate::lane::{have_left, lanes_go_on, round, run_lanes};
@@ -22,7 +22,7 @@ use zr_io::Source;
 fn join_reading<S: Source + Send, G: Gate + Sync, R: Threads + Wait + Sync>(
     rt: &R,
     gate: &G,
-    beside: &Beside,
+    beside: &Loops,
     free: u32,
     source: &mut S,
     reader: &mut Reader,
@@ -46,7 +46,7 @@ fn join_loops<S: Source + Send, W: Sits + Send, G: Gate + Sync, R: Threads + Wai
     rt: &R,
     alloc: Global,
     gate: &G,
-    beside: &Beside,
+    beside: &Loops,
     free: u32,
     source: &mut S,
     reader: &mut Reader,
@@ -93,7 +93,7 @@ fn play_beside<S: Source + Send, W: Sits + Send, G: Gate + Sync, R: Threads + Wa
     if !are_apart {
         return;
     }
-    let beside = Beside::new();
+    let beside = Loops::new();
     if card.feed.ended() {
         beside.stop_reading();
     }
@@ -139,7 +139,7 @@ fn play_rounds<S: Source, W: Sits + Send, G: Gate + Sync, R: Threads + Sync>(
     ensures left { IsTrue result → All (λ lane. W.gone lane ≡ true) lanes.new }
 {
     lanes_go_on::<W>();
-    let beside = Beside::new();
+    let beside = Loops::new();
     let mut pace = Pace::new(free);
     for _ in 0..IDLE {
         if are_over(card, lanes) {

@@ -1,6 +1,7 @@
 //! The reading between two of its turns.
 ghost use Rattle.std.specs.Prelude.{◌≡◌, ◌+◌, ◌≤◌, ◌++◌, length, option_to_list};
 ghost use Rattle.std.specs.Option.{ForSome};
+ghost use Rattle.zr_kinds.specs.Limits.{most_records};
 ghost use Rattle.rtrb.specs.Ring.{sent};
 ghost use Rattle.card_feed.specs.Coming.{is_over};
 ghost use Rattle.card_feed.specs.Feed.{one_if};
@@ -26,7 +27,7 @@ pub struct Reader {
     ghost held_fits: { ForSome held (MayFollow (sent ring)) },
     ghost counted: { length (sent ring ++ option_to_list held) ≡ count },
     ghost ended: { is_over stage ≡ has_end (sent ring ++ option_to_list held) },
-    ghost few: { count ≤ 16777216 + one_if (is_over stage) },
+    ghost few: { count ≤ most_records + one_if (is_over stage) },
 }
 
 impl Reader {

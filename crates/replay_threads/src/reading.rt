@@ -1,14 +1,15 @@
 //! The turns of the reading, and the loop of its thread: what it reads is sent to the card, or held where the ring is full.
 ghost use Rattle.std.specs.Prelude.{◌≡◌, ℕ, ◌+◌, ◌≤◌, false, List, [], ◌∷◌, ◌++◌, length, None, option_to_list, IfOk, IfSome};
+ghost use Rattle.zr_kinds.specs.Limits.{most_records};
 ghost use Rattle.rtrb.specs.Ring.{sent, SameProducer};
 ghost use Rattle.card_feed.specs.Coming.{is_over};
 ghost use Rattle.card_feed.specs.Feed.{one_if};
 ghost use Rattle.replay_threads.specs.Carried.{MayFollow, is_end, has_end};
-ghost use Rattle.replay_threads.specs.Made.{Makes};
+ghost use Rattle.replay_threads.specs.Made.{MakesMessage};
 ghost use Rattle.replay_threads.specs.Reader.{IsOpened, ReaderGoes};
 ghost use Rattle.replay_threads.specs.declared.carried.Carried.{Carried};
 
-use crate::beside::{Beside, IDLE};
+use crate::beside::{IDLE, Loops};
 use crate::carried::{Carried, InOrder};
 use crate::reader::Reader;
 use crate::sleeping::rest_reading;
@@ -36,7 +37,7 @@ pub struct Opened {
     pub spares: Producer<Vec<u8>>,
 }
 
-/// Makes the rings of a reading.
+/// MakesMessage the rings of a reading.
 pub fn open_reading(alloc: Global) -> Result<Opened, AllocError>
     ensures { IfOk result IsOpened }
 {
@@ -87,10 +88,10 @@ fn next_message<S: Source>(
     into: Vec<u8>,
 ) -> Carried
     requires goes { is_over stage.old ≡ false }
-    requires few { count ≤ 16777216 }
-    ensures makes { Makes S.left S.faults count source.old stage.old result source.new stage.new }
+    requires few { count ≤ most_records }
+    ensures makes { MakesMessage S.left S.faults count source.old stage.old result source.new stage.new }
     ensures over { is_over stage.new ≡ is_end result }
-    ensures few { count + 1 ≤ 16777216 + one_if (is_end result) }
+    ensures few { count + 1 ≤ most_records + one_if (is_end result) }
     ensures follows { (before : List Carried) → length before ≡ count → has_end before ≡ false → MayFollow before result }
 {
     match stage.read(alloc, source, into) {
@@ -109,7 +110,7 @@ fn next_message<S: Source>(
     }
 }
 
-/// Makes the next message, and sends or holds it.
+/// MakesMessage the next message, and sends or holds it.
 fn make_next<S: Source>(reader: &mut Reader, source: &mut S)
     requires none { reader.old.held ≡ None }
     requires goes { is_over reader.old.stage ≡ false }
@@ -143,7 +144,7 @@ pub fn read_turn<S: Source>(reader: &mut Reader, source: &mut S) -> bool
 #[tactic(auto, using(crate::proofs::ReaderTurns::reads_same, crate::proofs::ReaderTurns::reads_more))]
 fn read_turns<S: Source, R: Wait>(
     rt: &R,
-    beside: &Beside,
+    beside: &Loops,
     source: &mut S,
     reader: &mut Reader,
 ) -> bool
@@ -164,7 +165,7 @@ fn read_turns<S: Source, R: Wait>(
 
 /// The turns of the reading, until it is over or no more of it is wanted, or nothing is done in many and the card takes none.
 #[tactic(auto, using(crate::proofs::ReaderTurns::reads_same, crate::proofs::ReaderTurns::reads_more))]
-fn read_loop<S: Source, R: Wait>(rt: &R, beside: &Beside, source: &mut S, reader: &mut Reader)
+fn read_loop<S: Source, R: Wait>(rt: &R, beside: &Loops, source: &mut S, reader: &mut Reader)
     ensures goes { ReaderGoes S.left S.faults source.old source.new reader.old reader.new }
 {
     // The bound is never reached. By it the loop is seen to end.
@@ -176,7 +177,7 @@ fn read_loop<S: Source, R: Wait>(rt: &R, beside: &Beside, source: &mut S, reader
 }
 
 /// The loop of the reading.
-pub fn run_reader<S: Source, R: Wait>(rt: &R, beside: &Beside, source: &mut S, reader: &mut Reader)
+pub fn run_reader<S: Source, R: Wait>(rt: &R, beside: &Loops, source: &mut S, reader: &mut Reader)
     ensures goes { ReaderGoes S.left S.faults source.old source.new reader.old reader.new }
 {
     beside.set_reading(true);

@@ -3,14 +3,14 @@ ghost use Rattle.std.specs.Prelude.{◌≡◌, ℕ, List, true, false, Option, N
 ghost use Rattle.board_face.specs.Opened.{new_app};
 ghost use Rattle.card_feed.specs.Plan.{how_of};
 ghost use Rattle.card_feed.specs.declared.plan.Plan.{Plan};
-ghost use Rattle.replay_threads.specs.Seated.{Begins, Fits, Goes, IsStart, end_of, is_gone, left_end, seat_of, shelf_of};
+ghost use Rattle.replay_threads.specs.Seated.{Begins, Fits, SeatedGoes, IsStart, end_of, is_gone, left_end, seat_of, shelf_of};
 
 use app_worker::{Turn, Why, app_turn};
 use run_account::{Leaves, Worker};
 use std::alloc::Global;
 use word_board::AppSeat;
 use zc_forward::{Forward, ShelfCarrier};
-use zc_poll::{LoanStream, Poured, Ran, Rests, ToShelf, Waits};
+use zc_poll::{LoanStream, PollTurn, Poured, Rests, ToShelf, Waits};
 use zr_io::Shelf;
 use zr_kinds::AppLine;
 
@@ -113,7 +113,7 @@ fn rests_on(why: Rests) -> Came {
 fn take_turn<T: Shelf>(alloc: Global, own: &mut Turning<'_, T>) -> Came
     requires fits { Fits T.kept T.faults (Seated.Turning own.old) }
     requires here { own.old.worker.left ≡ false }
-    ensures goes { Goes T.kept T.faults (Seated.Turning own.old) (Seated.Turning own.new) }
+    ensures goes { SeatedGoes T.kept T.faults (Seated.Turning own.old) (Seated.Turning own.new) }
 {
     let turn = app_turn(alloc, &mut own.seat, &mut own.worker.state, &mut own.shelf);
     own.worker.left = matches!(turn, Turn::Finished);
@@ -124,12 +124,12 @@ fn take_turn<T: Shelf>(alloc: Global, own: &mut Turning<'_, T>) -> Came
 fn pour<T: Shelf>(own: &mut Pouring<'_, T>) -> Came
     requires fits { Fits T.kept T.faults (Seated.Pouring own.old) }
     requires here { own.old.poured ≡ None }
-    ensures goes { Goes T.kept T.faults (Seated.Pouring own.old) (Seated.Pouring own.new) }
+    ensures goes { SeatedGoes T.kept T.faults (Seated.Pouring own.old) (Seated.Pouring own.new) }
 {
     match own.stream.turn() {
-        Ran::Did => Came::Did,
-        Ran::Idle(why) => rests_on(why),
-        Ran::Ended(poured) => {
+        PollTurn::Did => Came::Did,
+        PollTurn::Idle(why) => rests_on(why),
+        PollTurn::Ended(poured) => {
             own.poured = Some(poured);
             Came::Did
         }
@@ -140,12 +140,12 @@ fn pour<T: Shelf>(own: &mut Pouring<'_, T>) -> Came
 fn forward<T: Shelf>(own: &mut Forwarding<'_, T>) -> Came
     requires fits { Fits T.kept T.faults (Seated.Forwarding own.old) }
     requires here { own.old.poured ≡ None }
-    ensures goes { Goes T.kept T.faults (Seated.Forwarding own.old) (Seated.Forwarding own.new) }
+    ensures goes { SeatedGoes T.kept T.faults (Seated.Forwarding own.old) (Seated.Forwarding own.new) }
 {
     match own.forward.turn() {
-        Ran::Did => Came::Did,
-        Ran::Idle(why) => rests_on(why),
-        Ran::Ended(poured) => {
+        PollTurn::Did => Came::Did,
+        PollTurn::Idle(why) => rests_on(why),
+        PollTurn::Ended(poured) => {
             own.poured = Some(poured);
             Came::Did
         }
@@ -198,7 +198,7 @@ impl<'b, T: Shelf> Seated<'b, T> {
     pub fn turn(&mut self, alloc: Global) -> Came
         requires fits { Fits T.kept T.faults self.old }
         requires here { is_gone self.old ≡ false }
-        ensures goes { Goes T.kept T.faults self.old self.new }
+        ensures goes { SeatedGoes T.kept T.faults self.old self.new }
     {
         match self {
             Seated::Turning(own) => take_turn(alloc, own),

@@ -16,7 +16,7 @@ use Rattle.app_worker.specs.Turns.{Because, look_of}
 use Rattle.app_worker.specs.declared.turn.Why.{Why}
 use Rattle.app_worker.specs.declared.turn.Why.TheVariants.{NoNote, RefillFull, Unsettled, ReserveHeld, NotQuiet}
 use Rattle.run_account.specs.Running.{AreOver}
-use Rattle.replay_turns.specs.Running.{Fits}
+use Rattle.replay_turns.specs.Running.{RunFits}
 use Rattle.replay_turns.specs.Stuck.{IsCardStuck, IsKeptBack, StuckRunsAreOver}
 use Rattle.run_account.specs.declared.run.Run.{Run}
 use Rattle.run_account.specs.declared.run.Worker.{Worker}
@@ -33,7 +33,7 @@ pub record WaitsForNote (board : Board) (a : ℕ) (w : Worker) : Type 0 where
 abbrev pub IsWaiting : Board → ℕ → Worker → Type 0
 IsWaiting board a w = (w.left ≡ true) ⊎ WaitsForNote board a w
 
-module _ (board : Board) (run : Run) (shelves : ℕ) (fits : Fits board run shelves) where
+module _ (board : Board) (run : Run) (shelves : ℕ) (fits : RunFits board run shelves) where
   pub apps-are : apps_of board.nic.view.setting ≡ length run.workers.items
   apps-are = ap (λ s. s.layout.reserves) fits.sound.set.card ∙ sym fits.many
 
@@ -69,7 +69,7 @@ module _ (board : Board) (run : Run) (shelves : ℕ) (fits : Fits board run shel
       let within : a < length run.workers.items = slice_get_within run.workers.items a w at in
       by-why a w at within (card.rings a (omega (arith, apps-are, within))) kept.why kept.because kept.seen
 
-module _ (board : Board) (run : Run) (shelves : ℕ) (fits : Fits board run shelves) (card : IsCardStuck board run)
+module _ (board : Board) (run : Run) (shelves : ℕ) (fits : RunFits board run shelves) (card : IsCardStuck board run)
     (waiting : (a : ℕ) (w : Worker) → slice_get run.workers.items a ≡ Some w → IsWaiting board a w) where
   -- the card was closed: a note that is on its way is an application's to take
   card-closed : run.feed.closed ≡ true

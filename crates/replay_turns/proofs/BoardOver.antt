@@ -10,9 +10,9 @@ use Rattle.plain_board.proofs.Ending.{boards-end_well}
 use Rattle.run_account.specs.Running.{AreOver}
 use Rattle.run_account.specs.declared.run.Run.{Run}
 use Rattle.run_account.proofs.Gone.{card-ended, all-left}
-use Rattle.replay_turns.specs.Running.{Fits}
+use Rattle.replay_turns.specs.Running.{RunFits}
 
-module _ (board : Board) (run : Run) (shelves : ℕ) (fits : Fits board run shelves) where
+module _ (board : Board) (run : Run) (shelves : ℕ) (fits : RunFits board run shelves) where
   pub many-sides : length board.apps ≡ length run.workers.items
   many-sides = fits.sound.set.many ∙ sym fits.many
 

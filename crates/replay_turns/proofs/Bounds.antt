@@ -7,6 +7,7 @@ use Rattle.std.proofs.lemmas.Option.{slice_get_within}
 use Rattle.card_feed.specs.Coming.{is_over}
 use Rattle.std.proofs.Math.Nat.{mul-le-mul_left}
 use Rattle.std.proofs.lemmas.List.{length-map}
+use Rattle.zr_kinds.specs.Limits.{most_records}
 use Rattle.board_face.specs.Holders.{sent_to}
 use Rattle.board_face.specs.Relay.{as_taken, dealt_entries}
 use Rattle.board_face.specs.declared.views.nic.Dealt.{Dealt}
@@ -20,7 +21,7 @@ use Rattle.app_worker.specs.State.{State, AppStands, Bare, Working, app_steps, f
 use Rattle.flow_queues.specs.Totals.{raw_entries, loan_entries, taken_len}
 use Rattle.app_worker.proofs.Measure.{working-within, bare-within, one-most}
 use Rattle.flow_queues.proofs.Tokens.{total-append}
-use Rattle.replay_turns.specs.Running.{Fits}
+use Rattle.replay_turns.specs.Running.{RunFits}
 use Rattle.replay_turns.specs.Steps.{worker_steps, steps_from, run_steps, most_bytes, entries_most, worker_most, run_most}
 use Rattle.replay_turns.specs.Steps.{RunsStayWithin}
 use Rattle.run_account.specs.declared.run.Run.{Run}
@@ -44,8 +45,8 @@ kinds (w ∷ ws) = omega (arith, kinds ws, kinds-one w.of_loan)
 
 -- ---- a run
 
-module _ (board : Board) (run : Run) (shelves : ℕ) (fits : Fits board run shelves)
-    (records : run.feed.tally.records ≤ 16777216) (dealt_all : All (λ (d : Dealt). d.app < length run.workers.items) board.nic.view.dealt)
+module _ (board : Board) (run : Run) (shelves : ℕ) (fits : RunFits board run shelves)
+    (records : run.feed.tally.records ≤ most_records) (dealt_all : All (λ (d : Dealt). d.app < length run.workers.items) board.nic.view.dealt)
     (notes : AreFew most_bytes board.nic.view.sent) (stray : ℕ)
     (hows : (a : ℕ) (w : Worker) → slice_get run.workers.items a ≡ Some w → w.state.how.stray ≡ stray) where
   -- what an application took is what was sent to it, or less

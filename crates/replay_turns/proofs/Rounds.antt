@@ -15,7 +15,7 @@ use Rattle.plain_board.specs.Seen.{card_of, self_of}
 use Rattle.app_worker.specs.declared.turn.Why.TheVariants.{NoNote}
 use Rattle.card_feed.specs.Feed.{FeedState, feed_steps}
 use Rattle.replay_turns.specs.Rounds.{StandsStill, DidNothing}
-use Rattle.replay_turns.specs.Running.{Fits}
+use Rattle.replay_turns.specs.Running.{RunFits}
 use Rattle.replay_turns.specs.Steps.{steps_from, run_steps}
 use Rattle.replay_turns.specs.Stuck.{IsCardStuck, IsKeptBack, IsAppStuck, AreStuck}
 use Rattle.replay_turns.specs.declared.role.Role.TheVariants.{Card, App}
@@ -70,7 +70,7 @@ module _ (board board_now : Board) (was now : Run) (same : StandsStill board boa
     seen = (ap (λ (v : NicView). v.ended) same.card ∙ waits.seen.0, notes-same a ∙ waits.seen.1);
   }
 
-  app-stays : (shelves : ℕ) → Fits board was shelves → IsCardStuck board was → (a : ℕ) → IsAppStuck board was a → IsAppStuck board_now now a
+  app-stays : (shelves : ℕ) → RunFits board was shelves → IsCardStuck board was → (a : ℕ) → IsAppStuck board was a → IsAppStuck board_now now a
   app-stays shelves fits card a stuck w at =
       let at_was : slice_get was.workers.items a ≡ Some w = ap (λ items. slice_get items a) (sym same.workers) ∙ at in
       ⊎_elim (λ left. inl left) (λ kept. inr (waits-on a w (kept-waits board was shelves fits a w at_was card kept))) (stuck w at_was)
@@ -96,7 +96,7 @@ begins board board_now was now false idle = record {
   answer = record { card = idle.stuck; app = λ a none. absurd (omega (arith, none)) };
 }
 
-pub turns : (first board board_now : Board) (begun was now : Run) (did more : Bool) (apps shelves : ℕ) → Fits board was shelves
+pub turns : (first board board_now : Board) (begun was now : Run) (did more : Bool) (apps shelves : ℕ) → RunFits board was shelves
     → GoesRound first board begun was did apps
     → MatchBool more (run_steps board was < run_steps board_now now) (DidNothing (App apps) board board_now was now)
     → GoesRound first board_now begun now (did || more) (apps + 1)

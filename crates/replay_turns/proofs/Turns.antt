@@ -3,6 +3,7 @@ use Rattle.std.proofs.Common.{◌≡◌, ◌≢◌, ℕ, ◌<◌, ◌≤◌, Lis
 use Rattle.std.proofs.Common.{subst, arith}
 use Rattle.std.proofs.lemmas.List.{length-set, drop-set-lt}
 use Rattle.std.specs.List.{slice_get}
+use Rattle.zr_kinds.specs.Limits.{most_records}
 use Rattle.board_face.specs.declared.views.app.AppSide.{AppSide}
 use Rattle.board_face.specs.declared.views.parts.Setting.{Setting}
 use Rattle.board_face.specs.Sides.{side_in}
@@ -13,10 +14,10 @@ use Rattle.card_feed.specs.Account.{kept_in}
 use Rattle.board_face.specs.declared.views.nic.Dealt.{Dealt}
 use Rattle.board_face.specs.declared.views.nic.NicSide.{NicSide}
 use Rattle.card_feed.specs.Feed.{FeedState, IsReady, FeedStands}
-use Rattle.card_feed.specs.Turns.{Plays as CardPlays}
+use Rattle.card_feed.specs.Turns.{FeedPlays as CardPlays}
 use Rattle.card_feed.specs.declared.plan.Plan.{Plan}
 use Rattle.run_account.specs.Running.{losses_in, Running, WorkerFits, WorkerRuns}
-use Rattle.replay_turns.specs.Running.{Fits, Plays}
+use Rattle.replay_turns.specs.Running.{RunFits, Plays}
 use Rattle.run_account.specs.declared.run.Run.{Run}
 use Rattle.run_account.specs.declared.run.Worker.{Worker}
 use Rattle.run_account.proofs.DealtEntries.{dealt-of}
@@ -47,7 +48,7 @@ setting-same board board_now sound sound_now apps some =
 
 module _ (board board_now : Board) (was now : Run) (workers : now.workers.items ≡ was.workers.items) (apps : board_now.apps ≡ board.apps)
     (sound_now : IsSound (stand_of board_now)) (ready : IsReady now.feed board_now.nic.view) where
-  pub card-fits : (n : ℕ) → Fits board was n → Fits board_now now n
+  pub card-fits : (n : ℕ) → RunFits board was n → RunFits board_now now n
   card-fits n fits = record {
     sound = sound_now;
     roles = record {
@@ -60,10 +61,10 @@ module _ (board board_now : Board) (was now : Run) (workers : now.workers.items 
   }
 
   pub card-runs : {S T : Type 0} (left : S → Option (List ℕ)) (faults : S → ℕ) (kept : T → ℕ → Option (List ℕ)) (losses : T → ℕ)
-      (first source source_now : S) (firsts shelves : List T) (plan : Plan) → Fits board was (length shelves)
+      (first source source_now : S) (firsts shelves : List T) (plan : Plan) → RunFits board was (length shelves)
       → (runs : Running left faults kept losses first source firsts shelves plan board.nic board.apps was)
       → (more : List (List ℕ)) → FeedStands left faults first source_now plan.ports.items plan.split more now.feed board_now.nic.view
-      → now.feed.tally.records ≤ 16777216 → (read : FeedState) → CardPlays read now.feed board.nic.view board_now.nic.view
+      → now.feed.tally.records ≤ most_records → (read : FeedState) → CardPlays read now.feed board.nic.view board_now.nic.view
       → Running left faults kept losses first source_now firsts shelves plan board_now.nic board_now.apps now
   card-runs left faults kept losses first source source_now firsts shelves plan fits runs more stands records read plays =
       let some : 0 < length board.apps =
@@ -98,7 +99,7 @@ module _ (board board_now : Board) (was now : Run) (app : ℕ) (w_was w_now : Wo
   get-now : (a : ℕ) (w : Worker) → slice_get now.workers.items a ≡ Some w → InSet was.workers.items app w_now a w
   get-now a w is = in-set was.workers.items app w_now a w (ap (λ items. slice_get items a) (sym items_are) ∙ is)
 
-  pub app-fits : (n : ℕ) → Fits board was n → WorkerFits (side_of board_now app).view w_now → Fits board_now now n
+  pub app-fits : (n : ℕ) → RunFits board was n → WorkerFits (side_of board_now app).view w_now → RunFits board_now now n
   app-fits n fits worker_now = record {
     sound = sound_now;
     roles = record {
@@ -159,7 +160,7 @@ module _ (board board_now : Board) (was now : Run) (app : ℕ) (w_was w_now : Wo
         ];
         many_shelves = length-set shelves app shelf_now ∙ runs.many_shelves;
         beyond = drop-set-lt (length plan.ports.items) shelves app shelf_now below ∙ runs.beyond;
-        records = subst (λ (f : FeedState). f.tally.records ≤ 16777216) (sym feed_is) runs.records;
+        records = subst (λ (f : FeedState). f.tally.records ≤ most_records) (sym feed_is) runs.records;
         dealt = subst (λ (nic : NicSide). All (λ (d : Dealt). d.app < length plan.ports.items) nic.view.dealt) (sym nic_is) runs.dealt;
       }
 

@@ -10,7 +10,7 @@ use Rattle.run_account.specs.Ran.{TellsOf, Ran, LacksMemory, told_of}
 use Rattle.replay_turns.specs.Following.{Follows, IsNewRun, RunsBy, moment, rounds_of}
 use Rattle.replay_turns.specs.Rounds.{IsOfPlan}
 use Rattle.run_account.specs.Running.{HasRun, Running, AreOver, ends_of}
-use Rattle.replay_turns.specs.Running.{Fits, Plays}
+use Rattle.replay_turns.specs.Running.{RunFits, Plays}
 use Rattle.run_account.specs.declared.run.Run.{Run}
 use Rattle.run_account.proofs.Ended.{end-well, end-told}
 use Rattle.run_account.proofs.Leaving.{has-run}
@@ -34,8 +34,8 @@ module _ {S T : Type 0} (left : S → Option (List ℕ)) (faults : S → ℕ) (k
   same-text = is_text ∙ back n text items (first.many ∙ ap length is ∙ sym size)
 
   -- the board fits after the text
-  pub text-fits : Fits played went (length was_text)
-  text-fits = subst (λ ws. Fits played went (length ws)) (sym same-text) first.fits
+  pub text-fits : RunFits played went (length was_text)
+  text-fits = subst (λ ws. RunFits played went (length ws)) (sym same-text) first.fits
 
   -- and the run is still one of its plan
   pub text-plan : (plan : Plan) → length plan.ports.items ≤ n

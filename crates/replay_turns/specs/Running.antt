@@ -7,7 +7,7 @@ use Rattle.run_account.specs.Running.{RolesFit, Running}
 use Rattle.run_account.specs.declared.run.Run.{Run}
 
 -- What is kept fits the board, and there is a shelf for each application.
-pub record Fits (board : Board) (run : Run) (shelves : ℕ) : Type 0 where
+pub record RunFits (board : Board) (run : Run) (shelves : ℕ) : Type 0 where
   pub sound : IsSound (stand_of board)
   pub roles : RolesFit board.nic board.apps run
   pub many : length run.workers.items ≡ board.arrays.layout.reserves
@@ -16,7 +16,7 @@ pub record Fits (board : Board) (run : Run) (shelves : ℕ) : Type 0 where
 -- Some turns: what is kept fits the board again, its log has room for as many events, and the run goes on.
 pub record Plays {S T : Type 0} (left : S → Option (List ℕ)) (faults : S → ℕ) (kept : T → ℕ → Option (List ℕ)) (losses : T → ℕ)
     (source source_now : S) (shelves shelves_now : List T) (board board_now : Board) (was now : Run) : Type 0 where
-  pub fits : Fits board_now now (length shelves_now)
+  pub fits : RunFits board_now now (length shelves_now)
   pub workers : length now.workers.items ≡ length was.workers.items
   pub many : length shelves_now ≡ length shelves
   pub room : board_now.log.room ≡ board.log.room

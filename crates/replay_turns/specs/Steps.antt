@@ -1,5 +1,6 @@
 -- How far a run has come, and how far it can come.
 use Rattle.std.specs.Prelude.{◌≡◌, ◌≢◌, ◌<◌, true, false, ℕ, suc, ◌+◌, ◌*◌, ◌≤◌, List, [], ◌∷◌, length, Option}
+use Rattle.zr_kinds.specs.Limits.{most_records}
 use Rattle.board_face.specs.declared.views.app.AppView.{AppView}
 use Rattle.plain_board.specs.Board.{Board, side_of}
 use Rattle.app_worker.specs.State.{app_steps, one_if}
@@ -10,7 +11,7 @@ use Rattle.app_worker.specs.declared.turn.Why.{Why}
 use Rattle.card_feed.specs.Feed.{feed_steps}
 use Rattle.card_feed.specs.declared.plan.Plan.{Plan}
 use Rattle.run_account.specs.Running.{Running}
-use Rattle.replay_turns.specs.Running.{Fits}
+use Rattle.replay_turns.specs.Running.{RunFits}
 use Rattle.run_account.specs.declared.run.Run.{Run}
 use Rattle.run_account.specs.declared.run.Worker.{Worker}
 
@@ -39,9 +40,6 @@ TurnsRise =
 
 -- ---- how far it can come
 
-abbrev pub most_records : ℕ
-most_records = 16777216
-
 -- A record has a payload of at most 65,515 bytes. Each note shows one of them at least, and each loan is of one at least.
 abbrev pub most_bytes : ℕ
 most_bytes = 1099159306240
@@ -62,5 +60,5 @@ run_most apps stray = most_records + most_bytes + 2 + apps * entries_most stray 
 abbrev pub RunsStayWithin : {S T : Type 0} → (S → Option (List ℕ)) → (S → ℕ) → (T → ℕ → Option (List ℕ)) → (T → ℕ) → Type 0
 RunsStayWithin {S} {T} left faults kept losses =
     (source source_now : S) (shelves shelves_now : List T) (plan : Plan) (board : Board) (run : Run)
-    → Fits board run (length shelves_now) → Running left faults kept losses source source_now shelves shelves_now plan board.nic board.apps run
+    → RunFits board run (length shelves_now) → Running left faults kept losses source source_now shelves shelves_now plan board.nic board.apps run
     → run_steps board run ≤ run_most (length plan.ports.items) plan.how.stray

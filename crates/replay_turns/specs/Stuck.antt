@@ -10,7 +10,7 @@ use Rattle.plain_board.specs.Seen.{IsSeenBy, IsSeenByCard}
 use Rattle.app_worker.specs.Turns.{Because, look_of}
 use Rattle.app_worker.specs.declared.turn.Why.{Why}
 use Rattle.run_account.specs.Running.{AreOver}
-use Rattle.replay_turns.specs.Running.{Fits}
+use Rattle.replay_turns.specs.Running.{RunFits}
 use Rattle.replay_turns.specs.declared.role.Role.{Role}
 use Rattle.replay_turns.specs.declared.role.Role.TheVariants.{Card, App}
 use Rattle.run_account.specs.declared.run.Run.{Run}
@@ -44,4 +44,4 @@ pub record AreStuck (board : Board) (run : Run) : Type 0 where
 
 -- Nobody waits for anybody but where all are gone.
 abbrev pub StuckRunsAreOver : Type 0
-StuckRunsAreOver = (board : Board) (run : Run) (shelves : ℕ) → Fits board run shelves → AreStuck board run → AreOver run
+StuckRunsAreOver = (board : Board) (run : Run) (shelves : ℕ) → RunFits board run shelves → AreStuck board run → AreOver run

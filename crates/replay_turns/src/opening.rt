@@ -1,11 +1,12 @@
 //! How a run begins.
 
 ghost use Rattle.std.specs.Prelude.{◌≡◌, ℕ, ◌≤◌, List, length, IfOk};
+ghost use Rattle.run_records.specs.Setting.{most_events};
 ghost use Rattle.card_feed.specs.Plan.{IsPlan, TakesTurns};
 ghost use Rattle.run_account.specs.Running.{Running};
 ghost use Rattle.replay_turns.specs.Events.{room_of};
 ghost use Rattle.replay_turns.specs.Following.{IsNewRun};
-ghost use Rattle.replay_turns.specs.Running.{Fits};
+ghost use Rattle.replay_turns.specs.Running.{RunFits};
 
 use card_feed::{Feed, Plan, new_feeds_stand};
 use plain_board::PlainBoard;
@@ -20,7 +21,7 @@ const MOST_EVENTS: u32 = 1_000_000;
 /// For how many events the board's log has room.
 fn room(plan: &Plan) -> u32
     ensures room { result ≡ room_of plan.now }
-    ensures most { result ≤ 1000000 }
+    ensures most { result ≤ most_events }
 {
     if plan.events { MOST_EVENTS } else { 0 }
 }
@@ -33,7 +34,7 @@ pub fn open<S: Source, T: Shelf>(
 ) -> Result<(PlainBoard, Run), AllocError>
     requires plan { IsPlan plan.now }
     requires turns_only { TakesTurns plan.now }
-    ensures fits { IfOk result (λ it. (shelves : ℕ) → length plan.now.ports.items ≤ shelves → Fits it.0 it.1 shelves) }
+    ensures fits { IfOk result (λ it. (shelves : ℕ) → length plan.now.ports.items ≤ shelves → RunFits it.0 it.1 shelves) }
     ensures opened { IfOk result (λ it. IsNewRun plan.now it.0 it.1) }
     ensures many { IfOk result (λ it. length it.1.workers.items ≡ length plan.now.ports.items) }
     ensures runs { IfOk result (λ it. (source : S) (shelves : List T) → length plan.now.ports.items ≤ length shelves

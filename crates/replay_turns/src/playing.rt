@@ -4,7 +4,7 @@ ghost use Rattle.std.specs.Prelude.{ℕ, ◌<◌, length, map, MatchBool};
 ghost use Rattle.replay_turns.specs.Rounds.{IsOfPlan};
 ghost use Rattle.run_account.specs.Running.{AreOver};
 ghost use Rattle.replay_turns.specs.Following.{Follows, moment, round_of, rounds_of};
-ghost use Rattle.replay_turns.specs.Running.{Fits, Plays};
+ghost use Rattle.replay_turns.specs.Running.{RunFits, Plays};
 ghost use Rattle.replay_turns.specs.Schedule.{AreTurns, role_of};
 ghost use Rattle.replay_turns.specs.Steps.{run_steps};
 ghost use Rattle.replay_turns.specs.Stuck.{AreStuck};
@@ -26,7 +26,7 @@ pub fn play_text<S: Source, T: Shelf>(
     shelves: &mut [T],
     turns: &str,
 ) -> PlainBoard
-    requires fits { Fits board run.old (length shelves.old) }
+    requires fits { RunFits board run.old (length shelves.old) }
     requires turns { AreTurns (length run.old.workers.items) turns.now }
     ensures plays { Plays S.left S.faults T.kept T.faults source.old source.new shelves.old shelves.new board result run.old run.new }
     ensures follows { Follows S.left S.faults T.kept T.faults (map role_of turns.now) (moment source.old shelves.old board run.old)
@@ -48,7 +48,7 @@ fn play_round<S: Source, T: Shelf>(
     source: &mut S,
     shelves: &mut [T],
 ) -> (PlainBoard, bool)
-    requires fits { Fits board run.old (length shelves.old) }
+    requires fits { RunFits board run.old (length shelves.old) }
     ensures plays { Plays S.left S.faults T.kept T.faults source.old source.new shelves.old shelves.new board result.0 run.old run.new }
     ensures follows { Follows S.left S.faults T.kept T.faults (round_of (length run.old.workers.items))
         (moment source.old shelves.old board run.old) (moment source.new shelves.new result.0 run.new) }
@@ -72,7 +72,7 @@ pub fn play_rounds<S: Source, T: Shelf>(
     source: &mut S,
     shelves: &mut [T],
 ) -> PlainBoard
-    requires fits { Fits board run.old (length shelves.old) }
+    requires fits { RunFits board run.old (length shelves.old) }
     requires plan { IsOfPlan S.left S.faults T.kept T.faults source.old shelves.old board run.old }
     ensures over { AreOver run.new }
     ensures plays { Plays S.left S.faults T.kept T.faults source.old source.new shelves.old shelves.new board result run.old run.new }

@@ -3,7 +3,7 @@
 ghost use Rattle.std.specs.Prelude.{◌<◌, length, MatchBool};
 ghost use Rattle.replay_turns.specs.Following.{Moves, moment};
 ghost use Rattle.replay_turns.specs.Rounds.{DidNothing};
-ghost use Rattle.replay_turns.specs.Running.{Fits, Plays};
+ghost use Rattle.replay_turns.specs.Running.{RunFits, Plays};
 ghost use Rattle.replay_turns.specs.Schedule.{IsRole};
 ghost use Rattle.replay_turns.specs.Steps.{run_steps};
 ghost use Rattle.replay_turns.specs.declared.role.Role.TheVariants.{App};
@@ -24,7 +24,7 @@ fn app_turn<S: Source, T: Shelf>(
     shelves: &mut [T],
     app: u32,
 ) -> (PlainBoard, bool)
-    requires fits { Fits board run.old (length shelves.old) }
+    requires fits { RunFits board run.old (length shelves.old) }
     requires app { app < length run.old.workers.items }
     ensures plays { (source : S) → Plays S.left S.faults T.kept T.faults source source shelves.old shelves.new board result.0 run.old run.new }
     ensures answer { MatchBool result.1 (run_steps board run.old < run_steps result.0 run.new)
@@ -58,7 +58,7 @@ pub fn step<S: Source, T: Shelf>(
     shelves: &mut [T],
     role: Role,
 ) -> (PlainBoard, bool)
-    requires fits { Fits board run.old (length shelves.old) }
+    requires fits { RunFits board run.old (length shelves.old) }
     requires role { IsRole (length run.old.workers.items) role }
     ensures plays { Plays S.left S.faults T.kept T.faults source.old source.new shelves.old shelves.new board result.0 run.old run.new }
     ensures answer { MatchBool result.1 (run_steps board run.old < run_steps result.0 run.new)

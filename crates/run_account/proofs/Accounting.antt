@@ -6,7 +6,7 @@ use Rattle.std.proofs.lemmas.List.Elements.{All-filter}
 use Rattle.std.proofs.lemmas.Option.{slice_get_within}
 use Rattle.zr_kinds.specs.declared.outcome.AppLine.{AppLine}
 use Rattle.zr_io.specs.Moved.{Gained}
-use Rattle.flow_table.specs.Steered.{Steered}
+use Rattle.flow_table.specs.SteeredTcp.{SteeredTcp}
 use Rattle.flow_table.specs.Flows.{flows_of}
 use Rattle.frames_read.specs.Ending.{steered_in}
 use Rattle.board_face.specs.Blank.{blank_app}
@@ -36,7 +36,7 @@ use Rattle.run_account.proofs.Gone.{side-at, many-sides}
 use Rattle.run_account.proofs.OwnReads.{flow-read, no-flow-read}
 
 -- What was sent to an application, and what it took and read.
-pub record IsTold (split : ℕ) (steered : List Steered) (refused : List ℕ) (nic : NicSide) (a : ℕ) (app : AppSide) : Type 0 where
+pub record IsTold (split : ℕ) (steered : List SteeredTcp) (refused : List ℕ) (nic : NicSide) (a : ℕ) (app : AppSide) : Type 0 where
   pub notes : ShowFrames split (offered_to a refused steered) (sent_to a nic)
   pub taken : app.view.taken ≡ map as_taken (sent_to a nic)
   pub reads : All (IsAsSent (sent_to a nic)) app.view.reads

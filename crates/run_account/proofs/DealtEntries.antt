@@ -15,7 +15,7 @@ use Rattle.page_pool.specs.Offer.{ClosesCurrent, LooksFor, not_needed, searched}
 use Rattle.page_pool.specs.Searching.{SearchEnd, LooksAhead}
 use Rattle.page_pool.specs.Pool.{PoolState, Closes}
 use Rattle.card_feed.specs.Feed.{FeedState}
-use Rattle.card_feed.specs.Turns.{Plays, drains, offers, finishes, rests, Settles, KeepsUp}
+use Rattle.card_feed.specs.Turns.{FeedPlays, drains, offers, finishes, rests, Settles, KeepsUp}
 use Rattle.card_feed.proofs.PlayLemmas.{closed-dealt}
 
 closed-setting : (current : Option Filling) (old new : NicView) → ClosesCurrent current old new → new.setting ≡ old.setting
@@ -64,7 +64,7 @@ module _ (n : ℕ) where
       drained pool.stats now.pool.stats mid new count drains_it (ap (λ (v : NicView). apps_of v.setting) same ∙ many)
       (subst (All IsOne) (sym (ap (λ (v : NicView). v.dealt) same)) all)
 
-  pub dealt-of : (was now : FeedState) (old new : NicView) → Plays was now old new → apps_of old.setting ≡ n → All IsOne old.dealt
+  pub dealt-of : (was now : FeedState) (old new : NicView) → FeedPlays was now old new → apps_of old.setting ≡ n → All IsOne old.dealt
       → All IsOne new.dealt
   dealt-of was now old new (drains on count drains_it same) many all = drained was.pool.stats now.pool.stats old new count drains_it many all
   dealt-of was now old new (offers on o is hand) many all = settled was now old new hand.offer hand.verdict hand.settles many all

@@ -9,6 +9,7 @@ use Rattle.std.proofs.KnownBytes.{Keeps-refl}
 use Rattle.std.proofs.lemmas.Bool.{cases_lt, true≢false}
 use Rattle.std.proofs.lemmas.List.Sums.{count_by-le-length}
 use Rattle.std.proofs.lemmas.Option.{slice_get_within}
+use Rattle.zr_kinds.specs.Limits.{most_records}
 use Rattle.zr_kinds.specs.declared.behaviour.Stopped.TheVariants as stop
 use Rattle.zr_kinds.specs.declared.outcome.AppLine.{AppLine}
 use Rattle.zr_kinds.specs.declared.outcome.FlowLine.{FlowLine}
@@ -46,7 +47,7 @@ use Rattle.run_account.proofs.Counted.{gained-both}
 use Rattle.run_account.proofs.Ports.{flows-have-apps}
 use Rattle.run_account.proofs.SentFew.{frames-read, offers-few}
 use Rattle.run_account.proofs.Strays.{strays-within}
-use Rattle.run_account.proofs.Tellable.{Tells, all-told, all-tells}
+use Rattle.run_account.proofs.Tellable.{OutcomeTells, all-told, all-tells}
 use Rattle.run_account.proofs.Written.{all-own, app-below, flow-line, written-is}
 
 -- ---- small steps
@@ -75,7 +76,7 @@ module _ {S T : Type 0} (left : S → Option (List ℕ)) (faults : S → ℕ) (k
     (source source_now : S) (shelves shelves_now : List T) (plan : Plan) (nic : NicSide) (apps : List AppSide) (feed : FeedState)
     (ends : List AppEnd) (told_is : Told) (ended : HaveEnded nic apps)
     (runs : HasRun left faults kept losses source source_now shelves shelves_now plan nic apps feed ends)
-    (tells : Tells feed ends plan.ports.items told_is) where
+    (tells : OutcomeTells feed ends plan.ports.items told_is) where
   here-is : (a : ℕ) → a < length plan.ports.items → IsApp apps a (side_in apps a)
   here-is = side-is left faults kept losses source source_now shelves shelves_now plan nic apps feed ends ended runs
 
@@ -141,7 +142,7 @@ module _ {S T : Type 0} (left : S → Option (List ℕ)) (faults : S → ℕ) (k
       subst (λ lines. told_is.pool.strays ≤ (how_of plan).stray * all_loans lines) (sym tells.apps_are) (omega (arith, counted.strays, most))
 
   -- there are too few searches for a count to stop
-  searches-few : searches_in told_is.pool ≤ 16777216
+  searches-few : searches_in told_is.pool ≤ most_records
   searches-few =
       let few : long_in plan.split (offers_of (steered_in plan.ports.items runs.frames)) ≤ length (offers_of (steered_in plan.ports.items runs.frames)) =
       count_by-le-length (is_long plan.split) (offers_of (steered_in plan.ports.items runs.frames)) in

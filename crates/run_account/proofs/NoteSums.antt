@@ -7,6 +7,7 @@ use Rattle.std.proofs.Math.Seq.{take-length, take-append_seam, drop-append_seam,
 use Rattle.std.proofs.lemmas.Bool.{cases_lt}
 use Rattle.std.proofs.lemmas.List.{take-append-le}
 use Rattle.std.proofs.lemmas.List.Elements.{All-head, All-take, All-drop}
+use Rattle.zr_kinds.specs.Limits.{longest_payload}
 use Rattle.board_face.specs.Relay.{IsProper}
 use Rattle.board_face.specs.declared.views.nic.SentNote.{SentNote}
 use Rattle.page_pool.specs.Frames.{Offered, ShowRest, ShowsWhole, ShowsFrame, ShowFrames}
@@ -32,7 +33,7 @@ rest-few o at (s ∷ ss) (suc n) shows =
     let rest = rest-few o (at + s.note.place.len) ss n shows.1 in
     (omega (arith, some, rest.0), omega (arith, rest.1))
 
-long-few : (o : Offered) (notes : List SentNote) (n : ℕ) → ShowRest o 0 notes → All IsProper (take n notes) → AreFew 65515 (take n notes)
+long-few : (o : Offered) (notes : List SentNote) (n : ℕ) → ShowRest o 0 notes → All IsProper (take n notes) → AreFew longest_payload (take n notes)
 long-few o [] zero shows proper = record { some = omega arith; bytes = omega arith }
 long-few o [] (suc n) shows proper = record { some = omega arith; bytes = omega arith }
 long-few o (s ∷ ss) zero shows proper = record { some = omega arith; bytes = omega arith }
@@ -48,7 +49,7 @@ take_nil : (n : ℕ) → take {A = SentNote} n [] ≡ []
 take_nil zero = refl
 take_nil (suc n) = refl
 
-short-few : (o : Offered) (s : SentNote) (n : ℕ) → ShowsWhole o s → All IsProper (take n (s ∷ [])) → AreFew 65515 (take n (s ∷ []))
+short-few : (o : Offered) (s : SentNote) (n : ℕ) → ShowsWhole o s → All IsProper (take n (s ∷ [])) → AreFew longest_payload (take n (s ∷ []))
 short-few o s zero shows proper = record { some = omega arith; bytes = omega arith }
 short-few o s (suc n) shows proper =
     let first : IsProper s = All-head IsProper s (take n []) proper in
@@ -56,15 +57,15 @@ short-few o s (suc n) shows proper =
     let some = fields.some_bytes in
     let few = fields.few_bytes in
     let len : s.note.place.len ≡ s.note.total = ap (λ p. p.len) fields.place in
-    subst (λ more. AreFew 65515 (s ∷ more)) (sym (take_nil n)) (record { some = omega (arith, some, len); bytes = omega (arith, few, len) })
+    subst (λ more. AreFew longest_payload (s ∷ more)) (sym (take_nil n)) (record { some = omega (arith, some, len); bytes = omega (arith, few, len) })
 
 frame-few : (split : ℕ) (o : Offered) (notes : List SentNote) (n : ℕ) → ShowsFrame split o notes → All IsProper (take n notes)
-    → AreFew 65515 (take n notes)
+    → AreFew longest_payload (take n notes)
 frame-few split o notes n shows proper = ⊎_elim
     (λ (long : split < length o.payload). long-few o notes n (shows.long long) proper)
     (λ (few : length o.payload ≤ split).
     let (s, are, whole) = shows.short few in
-    subst (λ all. AreFew 65515 (take n all)) (sym are) (short-few o s n whole (subst (λ all. All IsProper (take n all)) are proper)))
+    subst (λ all. AreFew longest_payload (take n all)) (sym are) (short-few o s n whole (subst (λ all. All IsProper (take n all)) are proper)))
     (cases_lt split (length o.payload))
 
 more-few : (most n : ℕ) (notes : List SentNote) → most ≤ n → AreFew most notes → AreFew n notes
@@ -79,7 +80,7 @@ both-few m n first second few others =
 
 -- the first of the notes that show these frames
 pub frames-few : (split : ℕ) (os : List Offered) (notes : List SentNote) (n : ℕ) → ShowFrames split os notes → All IsProper (take n notes)
-    → AreFew (65515 * length os) (take n notes)
+    → AreFew (longest_payload * length os) (take n notes)
 frames-few split [] notes n shows proper =
     let none : take n notes ≡ [] = rw shows (take_nil n) in
     subst (AreFew 0) (sym none) (record { some = omega arith; bytes = omega arith })
@@ -95,13 +96,13 @@ frames-few split (o ∷ os) notes n shows proper =
     let later : All IsProper (take m rest) = subst (All IsProper) (drop-append_seam mine (take m rest))
     (All-drop IsProper (length mine) (mine ++ take m rest) all) in
     let whole : take (length mine) mine ≡ mine = take-length mine in
-    let own : AreFew 65515 mine = subst (AreFew 65515) whole (frame-few split o mine (length mine) here (subst (All IsProper) (sym whole) first)) in
-    subst (AreFew (65515 * length (o ∷ os))) (sym seam) (
-    more-few (65515 + 65515 * length os) (65515 * length (o ∷ os)) (mine ++ take m rest) (omega arith)
-    (both-few 65515 (65515 * length os) mine (take m rest) own (frames-few split os rest m others later))))
+    let own : AreFew longest_payload mine = subst (AreFew longest_payload) whole (frame-few split o mine (length mine) here (subst (All IsProper) (sym whole) first)) in
+    subst (AreFew (longest_payload * length (o ∷ os))) (sym seam) (
+    more-few (longest_payload + longest_payload * length os) (longest_payload * length (o ∷ os)) (mine ++ take m rest) (omega arith)
+    (both-few longest_payload (longest_payload * length os) mine (take m rest) own (frames-few split os rest m others later))))
     (λ (within : n ≤ length mine).
     let seam : take n notes ≡ take n mine = ap (take n) are ∙ take-append-le n mine rest within in
-    subst (AreFew (65515 * length (o ∷ os))) (sym seam) (
-    more-few 65515 (65515 * length (o ∷ os)) (take n mine) (omega arith)
+    subst (AreFew (longest_payload * length (o ∷ os))) (sym seam) (
+    more-few longest_payload (longest_payload * length (o ∷ os)) (take n mine) (omega arith)
     (frame-few split o mine n here (subst (All IsProper) seam proper))))
     (cases_lt (length mine) n)

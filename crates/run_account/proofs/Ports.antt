@@ -6,7 +6,7 @@ use Rattle.std.specs.List.{slice_get, IsDistinct, AllByRecursion}
 use Rattle.std.proofs.lemmas.Bool.{eq-eqb, eqb-true, ne_eqb, cases_eq, true≢false}
 use Rattle.std.proofs.lemmas.Option.{slice_get-get_or}
 use Rattle.std.proofs.lemmas.List.Quantifiers.{position-Some}
-use Rattle.flow_table.specs.Steered.{Steered, app_of}
+use Rattle.flow_table.specs.Steered.{SteeredTcp, app_of}
 use Rattle.flow_table.specs.Flows.{Flow, flows_of, flows_with, flows_after}
 use Rattle.flow_table.proofs.FlowLaws.{HaveApps, flows_with-apps}
 use Rattle.frames_read.specs.Ending.{steered_in}
@@ -51,7 +51,7 @@ is-to-port ports dport app port a distinct place at =
     ne_eqb dport port apart ∙ sym (ne_eqb app a other))
     (cases_eq app a)
 
-have-after : (ports : List ℕ) (flows : List Flow) (steered : List Steered) → HaveApps ports flows → AreSteered ports steered
+have-after : (ports : List ℕ) (flows : List Flow) (steered : List SteeredTcp) → HaveApps ports flows → AreSteered ports steered
     → HaveApps ports (flows_after flows steered)
 have-after ports flows [] have are = have
 have-after ports flows (s ∷ ss) have are = have-after ports (flows_with flows s) ss (flows_with-apps ports flows s are.0 have) are.1

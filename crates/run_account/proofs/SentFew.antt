@@ -4,10 +4,11 @@ use Rattle.std.proofs.Common.{length, length-append, take, map, refl, sym, ap, s
 use Rattle.std.specs.Prelude.{All, filter, if◌then◌else◌, option_to_list}
 use Rattle.std.proofs.Math.Seq.{take-append_seam}
 use Rattle.std.proofs.lemmas.List.{length-map}
+use Rattle.zr_kinds.specs.Limits.{most_records, longest_payload}
 use Rattle.frame_headers.specs.FrameClass.{TcpSegment, class_of}
 use Rattle.frame_headers.specs.Seen.{segment_of}
 use Rattle.flow_table.specs.Flows.{Flow, flows_with}
-use Rattle.flow_table.specs.Steered.{Steered, steer, steered_from, steered_of, segments_of}
+use Rattle.flow_table.specs.Steered.{SteeredTcp, steer, steered_from, steered_of, segments_of}
 use Rattle.frames_read.specs.Ending.{steered_in}
 use Rattle.board_face.specs.Relay.{IsProper, as_taken}
 use Rattle.board_face.specs.declared.views.nic.NicView.{NicView}
@@ -29,7 +30,7 @@ filter-few test (x ∷ xs) = case x (length xs) (test x) (filter test xs) (filte
     case x n true ys few = omega (arith, few)
     case x n false ys few = omega (arith, few)
 
-offered-many : (flows : List Flow) (steered : List Steered) → length (offered_after flows steered) ≡ length steered
+offered-many : (flows : List Flow) (steered : List SteeredTcp) → length (offered_after flows steered) ≡ length steered
 offered-many flows [] = refl
 offered-many flows (s ∷ steered) = ap suc (offered-many (flows_with flows s) steered)
 
@@ -38,7 +39,7 @@ steered-few ports number [] = omega arith
 steered-few ports number (segment ∷ segments) = one (steer ports number segment) (steered_from ports (suc number) segments)
     (steered-few ports (suc number) segments)
   where
-    one : {n : ℕ} (s : Option Steered) (rest : List Steered) → length rest ≤ n → length (option_to_list s ++ rest) ≤ suc n
+    one : {n : ℕ} (s : Option SteeredTcp) (rest : List SteeredTcp) → length rest ≤ n → length (option_to_list s ++ rest) ≤ suc n
     one None rest few = omega (arith, few)
     one (Some s) rest few = omega (arith, few)
 
@@ -65,13 +66,13 @@ abbrev pub most_sent : ℕ
 most_sent = 1099159306240
 
 sent-few : (split : ℕ) (ports : List ℕ) (frames : List (List ℕ)) (refused : List ℕ) (hand : Option Offered) (sent pending : List SentNote)
-    → AreSettled split (offers_of (steered_in ports frames)) refused hand (sent ++ pending) → length frames ≤ 16777216 → All IsProper sent
+    → AreSettled split (offers_of (steered_in ports frames)) refused hand (sent ++ pending) → length frames ≤ most_records → All IsProper sent
     → AreFew most_sent sent
 sent-few split ports frames refused hand sent pending settles few proper =
     let offers = offers_of (steered_in ports frames) in
     let seam : take (length sent) (sent ++ pending) ≡ sent = take-append_seam sent pending in
-    let shown : AreFew (65515 * length (without refused settles.settled)) sent =
-    subst (AreFew (65515 * length (without refused settles.settled))) seam
+    let shown : AreFew (longest_payload * length (without refused settles.settled)) sent =
+    subst (AreFew (longest_payload * length (without refused settles.settled))) seam
     (frames-few split (without refused settles.settled) (sent ++ pending) (length sent) settles.shown (subst (All IsProper) (sym seam) proper)) in
     let kept : length (without refused settles.settled) ≤ length settles.settled = filter-few _ settles.settled in
     let all : length settles.settled ≤ length offers = settled-few hand offers settles.settled settles.awaits in
@@ -98,9 +99,9 @@ taken-sum (s ∷ notes) = ap (λ n. note_len s + n) (taken-sum notes)
 
 module _ {S : Type 0} (left : S → Option (List ℕ)) (faults : S → ℕ) (source source_now : S) (ports : List ℕ) (split : ℕ) (frames : List (List ℕ))
     (feed : FeedState) (v : NicView) (stands : FeedStands left faults source source_now ports split frames feed v)
-    (records : feed.tally.records ≤ 16777216) where
+    (records : feed.tally.records ≤ most_records) where
   -- no more frames were read than are read at most
-  pub frames-read : length frames ≤ 16777216
+  pub frames-read : length frames ≤ most_records
   frames-read = let read = ap (λ t. t.records) stands.knows.tally_is in omega (arith, read, records)
 
   -- the notes that were sent tell of no more bytes than the records have

@@ -10,7 +10,7 @@ use Rattle.run_account.specs.Ran.{lines_of, AreCounts, Told}
 use Rattle.run_account.proofs.AppLines.{one-value}
 
 -- this is told of what the card keeps and the applications left with
-pub record Tells (feed : FeedState) (ends : List AppEnd) (ports : List ℕ) (told : Told) : Type 0 where
+pub record OutcomeTells (feed : FeedState) (ends : List AppEnd) (ports : List ℕ) (told : Told) : Type 0 where
   pub counts : List ℕ
   pub are : AreCounts feed.flows ends counts
   pub tally : told.tally ≡ feed.tally
@@ -76,7 +76,7 @@ all-told feed ends ports = record {
   end = end_of feed.stage;
 }
 
-pub all-tells : (feed : FeedState) (ends : List AppEnd) (ports : List ℕ) → Tells feed ends ports (all-told feed ends ports)
+pub all-tells : (feed : FeedState) (ends : List AppEnd) (ports : List ℕ) → OutcomeTells feed ends ports (all-told feed ends ports)
 unfolding all-told
 all-tells feed ends ports = record {
   counts = counts_from 0 ends feed.flows;

@@ -34,7 +34,7 @@ rose-before : (a b c : ℕ) → a ≤ b → Rose b c → Rose a c
 rose-before a b c before rose = omega (arith, rose, before)
 
 -- What a turn says besides `Turns`.
-pub record Tells (first kept_now : ℕ → Option (List ℕ)) (new : AppView) (now : State) (finished : Type 0) : Type 0 where
+pub record WorkerTells (first kept_now : ℕ → Option (List ℕ)) (new : AppView) (now : State) (finished : Type 0) : Type 0 where
   pub fronts : FramesStandTogether new.taken → AreShelved first kept_now now.flows new → HasFronts first kept_now new
   pub failed : FramesStandTogether new.taken → AreFronts first kept_now now.flows new → HasFronts first kept_now new
   pub whole : finished → now.stopped ≡ stop.No → FramesStandTogether new.taken → AreShelved first kept_now now.flows new → HasAll first kept_now new
@@ -44,7 +44,7 @@ pub record Tells (first kept_now : ℕ → Option (List ℕ)) (new : AppView) (n
 module _ (first kept kept_now : ℕ → Option (List ℕ)) (losses losses_old losses_now : ℕ) (how : Behaviour) (old new : AppView) (was now : Worker)
     (result : Turn) (runs : WorkerRuns first kept losses losses_old how old was)
     (turns : Turns was.state now.state old new kept kept_now losses_old losses_now result) (later : losses_old ≤ losses_now)
-    (is_left : now.left ≡ true → result ≡ Finished) (tells : Tells first kept_now new now.state (result ≡ Finished))
+    (is_left : now.left ≡ true → result ≡ Finished) (tells : WorkerTells first kept_now new now.state (result ≡ Finished))
     (gone : now.left ≡ true → now.state.bare ≡ true) (still : result ≢ Failed fault.Write → losses_now ≡ losses_old) where
   -- its shelf hadn't failed before, where it hasn't now
   before : now.state.stopped ≢ stop.Write → was.state.stopped ≢ stop.Write

@@ -2,6 +2,7 @@
 -- over the sides of the roles alone, so it is the same for every board.
 use Rattle.std.specs.Prelude.{◌≡◌, ◌≢◌, ℕ, ◌<◌, ◌≤◌, true, false, List, All, length, map, drop, Option, Some, None, option_map}
 use Rattle.std.specs.List.{slice_get}
+use Rattle.zr_kinds.specs.Limits.{most_records}
 use Rattle.zr_kinds.specs.declared.behaviour.Behaviour.{Behaviour}
 use Rattle.zr_kinds.specs.declared.behaviour.Stopped.TheVariants as stop
 use Rattle.zr_io.specs.Moved.{Rose}
@@ -90,7 +91,7 @@ pub record Running {S T : Type 0} (left : S → Option (List ℕ)) (faults : S �
   pub many_shelves : length shelves_now ≡ length shelves
   pub beyond : drop (length plan.ports.items) shelves_now ≡ drop (length plan.ports.items) shelves
   -- No more records were read than are read at most, and each entry that was dealt with is of an application.
-  pub records : run.feed.tally.records ≤ 16777216
+  pub records : run.feed.tally.records ≤ most_records
   pub dealt : All (λ d. d.app < length plan.ports.items) nic.view.dealt
 
 -- what the applications leave, once they have left
@@ -120,5 +121,5 @@ pub record HasRun {S T : Type 0} (left : S → Option (List ℕ)) (faults : S �
   pub returned : (a : ℕ) (end : AppEnd) → slice_get ends a ≡ Some end → HasReturned (how_of plan) end.stopped end.written (side_in apps a).view
   pub many_shelves : length shelves_now ≡ length shelves
   pub beyond : drop (length plan.ports.items) shelves_now ≡ drop (length plan.ports.items) shelves
-  pub records : feed.tally.records ≤ 16777216
+  pub records : feed.tally.records ≤ most_records
   pub dealt : All (λ d. d.app < length plan.ports.items) nic.view.dealt

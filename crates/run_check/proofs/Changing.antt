@@ -16,7 +16,7 @@ use Rattle.run_check.specs.declared.buffer.Keeper.{Keeper}
 use Rattle.run_check.specs.declared.buffer.Keeper.TheVariants as keeper
 use Rattle.run_check.specs.declared.places.Hand.{Hand}
 use Rattle.run_check.specs.declared.places.Hand.TheVariants as hand
-use Rattle.run_check.specs.declared.places.Place.{Place}
+use Rattle.run_check.specs.declared.places.OwnedPlace.{OwnedPlace}
 use Rattle.run_check.specs.Holding.{Changes, can_place, weight}
 use Rattle.run_check.specs.Places.{AreApart, IsNoLoan, all_placed, held_by}
 use Rattle.run_check.specs.Buffer.{IsSoundBuffer, LeavesNoPlace, holders_in, kept_by, owed_from}
@@ -85,7 +85,7 @@ all-owed p from (n ∷ owed) passes =
     ∙ rw (all-replicate p n (holding.Owed from) (passes from), all-owed p (from + 1) owed passes) refl
 
 -- a test that all holders without a place pass says what it says of the places
-all-places : (p : Holding → Bool) (k : Keeper) (es : List (ℕ × Place)) (owed : List ℕ) → ((k : Keeper) → list_all p (kept_by k) ≡ true)
+all-places : (p : Holding → Bool) (k : Keeper) (es : List (ℕ × OwnedPlace)) (owed : List ℕ) → ((k : Keeper) → list_all p (kept_by k) ≡ true)
     → ((app : ℕ) → p (holding.Owed app) ≡ true) → list_all p (view k es owed) ≡ list_all p (all_placed es)
 all-places p k es owed kept none =
     all-append p (kept_by k) (all_placed es ++ owed_from 0 owed)
@@ -107,7 +107,7 @@ module _ (b : Inside) (held : List Holding) (sound : IsSoundBuffer b) (was : hol
   none_there_then h o l none =
       ap (list_any (is_same (held_by h o l))) (sym was) ∙ any-place b.keeper b.places.entries b.owed h o l ∙ none
 
-  module _ (h g : Hand) (o l : ℕ) (m : BTreeMap ℕ Place) (there : list_any (is_same (held_by h o l)) (all_placed b.places.entries) ≡ true)
+  module _ (h g : Hand) (o l : ℕ) (m : BTreeMap ℕ OwnedPlace) (there : list_any (is_same (held_by h o l)) (all_placed b.places.entries) ≡ true)
       (put : m.entries ≡ insert_entry nat_cmp b.places.entries o (record { len = l; hand = g })) where
     found : lookup (is_at (nat_cmp o)) b.places.entries ≡ Some (record { len = l; hand = h })
     found = there_found o l h b.places.entries sound.apart there
@@ -132,7 +132,7 @@ module _ (b : Inside) (held : List Holding) (sound : IsSoundBuffer b) (was : hol
         (λ f. omega (arith, set_moves f, weight-view f b.keeper b.places.entries b.owed, weight-view f b.keeper m.entries b.owed))
         (omega arith) (λ app lt. rw (no_user h o l app old, no_user g o l app new) refl)
 
-  module _ (a o l : ℕ) (small : a < length b.users) (m : BTreeMap ℕ Place)
+  module _ (a o l : ℕ) (small : a < length b.users) (m : BTreeMap ℕ OwnedPlace)
       (there : list_any (is_same (holding.Held a o l)) (all_placed b.places.entries) ≡ true)
       (put : m.entries ≡ insert_entry nat_cmp b.places.entries o (record { len = l; hand = hand.Loan a })) where
     -- the user count grows and fits as the pool count does: what is lent was no user's
@@ -164,7 +164,7 @@ module _ (b : Inside) (held : List Holding) (sound : IsSoundBuffer b) (was : hol
 
   -- ---- a place that goes
 
-  module _ (h : Hand) (o l : ℕ) (m : BTreeMap ℕ Place) (there : list_any (is_same (held_by h o l)) (all_placed b.places.entries) ≡ true)
+  module _ (h : Hand) (o l : ℕ) (m : BTreeMap ℕ OwnedPlace) (there : list_any (is_same (held_by h o l)) (all_placed b.places.entries) ≡ true)
       (taken : m.entries ≡ remove_entry (is_at (nat_cmp o)) b.places.entries) where
     take_moves : (f : Holding → ℕ) → weight f (all_placed m.entries) + f (held_by h o l) ≡ weight f (all_placed b.places.entries)
     take_moves f = subst (λ es. weight f (all_placed es) + f (held_by h o l) ≡ weight f (all_placed b.places.entries)) (sym taken)
@@ -187,7 +187,7 @@ module _ (b : Inside) (held : List Holding) (sound : IsSoundBuffer b) (was : hol
         (λ f. omega (arith, take_moves f, weight-view f b.keeper b.places.entries b.owed, weight-view f b.keeper m.entries b.owed))
         (omega (arith, some_counted)) (λ app lt. rw (no_user h o l app old) refl)
 
-  module _ (a o l : ℕ) (m : BTreeMap ℕ Place) (there : list_any (is_same (holding.Loan a o l)) (all_placed b.places.entries) ≡ true)
+  module _ (a o l : ℕ) (m : BTreeMap ℕ OwnedPlace) (there : list_any (is_same (holding.Loan a o l)) (all_placed b.places.entries) ≡ true)
       (taken : m.entries ≡ remove_entry (is_at (nat_cmp o)) b.places.entries) (small : a < length b.owed) where
     -- what is owed fits as the pool count does: the place itself is counted too
     pub owed_fits : get_or b.owed a 0 + 1 ≤ b.count
@@ -217,7 +217,7 @@ module _ (b : Inside) (held : List Holding) (sound : IsSoundBuffer b) (was : hol
 
   -- ---- a cut
 
-  module _ (a o l at : ℕ) (m : BTreeMap ℕ Place) (some : 0 < at) (inside : at < l)
+  module _ (a o l at : ℕ) (m : BTreeMap ℕ OwnedPlace) (some : 0 < at) (inside : at < l)
       (there : list_any (is_same (holding.Held a o l)) (all_placed b.places.entries) ≡ true)
       (put : m.entries ≡ insert_entry nat_cmp b.places.entries o (record { len = at; hand = hand.App a })) where
     whole : lookup (is_at (nat_cmp o)) b.places.entries ≡ Some (record { len = l; hand = hand.App a })
@@ -231,7 +231,7 @@ module _ (b : Inside) (held : List Holding) (sound : IsSoundBuffer b) (was : hol
     first_apart = subst (AreApart 0) (sym put)
         (apart-set 0 o (record { len = at; hand = hand.App a }) (record { len = l; hand = hand.App a }) b.places.entries sound.apart whole some (omega arith))
 
-    first_alone : (es : List (ℕ × Place)) → LeavesNoPlace b.keeper es
+    first_alone : (es : List (ℕ × OwnedPlace)) → LeavesNoPlace b.keeper es
     first_alone es = alone_there b.keeper b.places.entries es (is_same (holding.Held a o l)) sound.alone there
 
     pub shortened : IsSoundBuffer (record b { places = m })
@@ -244,7 +244,7 @@ module _ (b : Inside) (held : List Holding) (sound : IsSoundBuffer b) (was : hol
     behind_free = subst (λ es. list_all (is_apart (o + at) (l - at)) (all_placed es) ≡ true) (sym put)
         (rest_free 0 o (l - at) (record { len = at; hand = hand.App a }) (record { len = l; hand = hand.App a }) b.places.entries sound.apart whole (omega arith))
 
-    module _ (n : BTreeMap ℕ Place) (then_put : n.entries ≡ insert_entry nat_cmp m.entries (o + at) (record { len = l - at; hand = hand.App a })) where
+    module _ (n : BTreeMap ℕ OwnedPlace) (then_put : n.entries ≡ insert_entry nat_cmp m.entries (o + at) (record { len = l - at; hand = hand.App a })) where
       second_moves : (f : Holding → ℕ) → weight f (all_placed n.entries) ≡ weight f (all_placed m.entries) + f (holding.Held a (o + at) (l - at))
       second_moves f = subst (λ es. weight f (all_placed es) ≡ weight f (all_placed m.entries) + f (holding.Held a (o + at) (l - at))) (sym then_put)
           (weight-put f (o + at) (record { len = l - at; hand = hand.App a }) m.entries
@@ -286,7 +286,7 @@ module _ (b : Inside) (held : List Holding) (sound : IsSoundBuffer b) (was : hol
       (λ f. let kept : weight f (kept_by b.keeper) ≡ f holding.Own + 0 = ap (λ k. weight f (kept_by k)) keeps in
       omega (arith, kept, weight-append f (kept_by b.keeper) (all_placed b.places.entries ++ owed_from 0 b.owed))))
 
-  module _ (o l : ℕ) (m : BTreeMap ℕ Place) (may : can_place held o l ≡ true)
+  module _ (o l : ℕ) (m : BTreeMap ℕ OwnedPlace) (may : can_place held o l ≡ true)
       (put : m.entries ≡ insert_entry nat_cmp b.places.entries o (record { len = l; hand = hand.Card })) where
     may_parts : (list_any (is_same holding.Own) held ≡ true) × (0 < l) × (list_all (is_apart o l) (all_placed b.places.entries) ≡ true)
     may_parts =
@@ -335,7 +335,7 @@ module _ (b : Inside) (held : List Holding) (sound : IsSoundBuffer b) (was : hol
 
   -- ---- a spare buffer that is lent
 
-  module _ (a l : ℕ) (small : a < length b.users) (m : BTreeMap ℕ Place) (some : 0 < l) (there : list_any (is_same (holding.Spare a)) (kept_by b.keeper) ≡ true)
+  module _ (a l : ℕ) (small : a < length b.users) (m : BTreeMap ℕ OwnedPlace) (some : 0 < l) (there : list_any (is_same (holding.Spare a)) (kept_by b.keeper) ≡ true)
       (put : m.entries ≡ insert_entry nat_cmp b.places.entries 0 (record { len = l; hand = hand.Loan a })) where
     keeps : b.keeper ≡ keeper.App a
     keeps = spare_is a b.keeper there

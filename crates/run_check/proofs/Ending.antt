@@ -4,7 +4,7 @@ use Rattle.std.proofs.Common.{Some, None, IsTrue, append_assoc, append-nil, leng
 use Rattle.std.specs.Prelude.{option_and_then}
 use Rattle.std.specs.List.{AllByRecursion}
 use Rattle.run_records.specs.declared.event.Event.{Event}
-use Rattle.run_records.specs.Setting.{IsArea, IsSetting, Setting}
+use Rattle.run_records.specs.Setting.{most_events, IsArea, IsSetting, Setting}
 use Rattle.run_records.specs.Holders.{Holdings, after, all_after, no_holdings}
 use Rattle.run_records.specs.LegalRun.{HasSmallNumbers, IsLegalRun}
 use Rattle.run_records.specs.RunText.{Text, last_line, line_of, run_line, text_of_lines}
@@ -65,7 +65,7 @@ text_more (f ∷ events) e rest =
     ∙ sym (append_assoc (line_of f ++ 10 ∷ []) (text_of_lines (map line_of (events ++ e ∷ []))) rest)
 
 pub come_more : (s : Setting) (start rest later : List ℕ) (h now : Holdings) (count : ℕ) (line : Text) (e : Event) → HasCome s start rest h count
-    → count + 1 ≤ 1000000 → rest ≡ (line ++ 10 ∷ []) ++ later → event_of line ≡ Some e → after s h e ≡ Some now → HasCome s start later now (count + 1)
+    → count + 1 ≤ most_events → rest ≡ (line ++ 10 ∷ []) ++ later → event_of line ≡ Some e → after s h e ≡ Some now → HasCome s start later now (count + 1)
 come_more s start rest later h now count line e come room took read follows =
     let own = line_of-event_of line e read in
     record {
@@ -108,7 +108,7 @@ bad_here s start rest later h count line come took one bad =
 -- it is no last line, and no event that the holders allow
 pub bad_event : (s : Setting) (start rest later : List ℕ) (h : Holdings) (count : ℕ) (line : Text) → HasCome s start rest h count
     → rest ≡ (line ++ 10 ∷ []) ++ later → IsOneLine line → (line ≡ last_line true → ⊥) → (line ≡ last_line false → ⊥)
-    → ((e : Event) → event_of line ≡ Some e → after s h e ≡ None) ⊎ (1000000 ≤ count) → Judges (behind_first s start) (No (count + 2))
+    → ((e : Event) → event_of line ≡ Some e → after s h e ≡ None) ⊎ (most_events ≤ count) → Judges (behind_first s start) (No (count + 2))
 bad_event s start rest later h count line come took one no_end no_more why =
     bad_here s start rest later h count line come took one (λ events number far. ⊎_elim
     (λ next. ⊎_elim

@@ -4,7 +4,7 @@ use Rattle.std.proofs.Common.{Option, Some, None, append_assoc, length-append}
 use Rattle.std.specs.Prelude.{option_and_then}
 use Rattle.std.specs.List.{AllByRecursion}
 use Rattle.run_records.specs.declared.event.Event.{Event}
-use Rattle.run_records.specs.Setting.{IsSetting, Setting}
+use Rattle.run_records.specs.Setting.{most_events, IsSetting, Setting}
 use Rattle.run_records.specs.Holders.{Holdings, after, all_after, no_holdings}
 use Rattle.run_records.specs.LegalRun.{HasSmallNumbers, IsLegalRun}
 use Rattle.run_records.specs.RunText.{Text, last_line, line_of, lines_of, run_line}
@@ -16,7 +16,7 @@ use Rattle.run_check.proofs.SettingText.{setting_of-run_line}
 -- the events of a run so far
 pub record IsLegalSoFar (s : Setting) (events : List Event) (h : Holdings) : Type 0 where
   pub sound : IsSetting s
-  pub most : length events ≤ 1000000
+  pub most : length events ≤ most_events
   pub small : AllByRecursion HasSmallNumbers events
   pub reached : all_after s no_holdings events ≡ Some h
 
@@ -27,7 +27,7 @@ pub record IsNextEvent (s : Setting) (events : List Event) (h : Holdings) (line 
   pub told : line ≡ line_of e
   pub then : Holdings
   pub follows : after s h e ≡ Some then
-  pub room : length events + 1 ≤ 1000000
+  pub room : length events + 1 ≤ most_events
 
 -- a last line that may come next
 pub record IsNextEnd (s : Setting) (events : List Event) (line : Text) : Type 0 where

@@ -14,7 +14,7 @@ use Rattle.run_records.specs.declared.holding.Holding.{Holding}
 use Rattle.run_records.specs.Holders.{is_apart, is_same}
 use Rattle.run_check.specs.declared.places.Hand.{Hand}
 use Rattle.run_check.specs.declared.places.Hand.TheVariants as hand
-use Rattle.run_check.specs.declared.places.Place.{Place}
+use Rattle.run_check.specs.declared.places.OwnedPlace.{OwnedPlace}
 use Rattle.run_check.specs.Holding.{weight}
 use Rattle.run_check.specs.Places.{AreApart, all_placed, held_by, is_same_hand, placed}
 
@@ -77,7 +77,7 @@ same_at (hand.Loan a) (hand.Sent b) o l m = none (eqb m l)
 same_at (hand.Loan a) (hand.App b) o l m = none (eqb m l)
 same_at (hand.Loan a) (hand.Loan b) o l m = rw (eq-eqb o o refl, flip m l, flip b a) (both (eqb l m) (eqb a b))
 
-pub place_is : (o : ℕ) (found place : Place) → (eqb found.len place.len && is_same_hand found.hand place.hand) ≡ is_same (placed (o, place)) (placed (o, found))
+pub place_is : (o : ℕ) (found place : OwnedPlace) → (eqb found.len place.len && is_same_hand found.hand place.hand) ≡ is_same (placed (o, place)) (placed (o, found))
 place_is o found place = same_at place.hand found.hand o place.len found.len
 
 pub apart_is : (h : Hand) (o l p m : ℕ) → is_apart o l (held_by h p m) ≡ (leb (o + l) p || leb (p + m) o)
@@ -113,41 +113,41 @@ at_other : (k n : ℕ) → (k ≡ n → ⊥) → is_at (nat_cmp k) n ≡ false
 at_other k n other = grind (arith, nat_tests)
 
 -- the first is at the offset, or what is found is among the others
-found_cases : (k : ℕ) (e : ℕ × Place) (es : List (ℕ × Place)) (q : Place) → lookup (is_at (nat_cmp k)) (e ∷ es) ≡ Some q
+found_cases : (k : ℕ) (e : ℕ × OwnedPlace) (es : List (ℕ × OwnedPlace)) (q : OwnedPlace) → lookup (is_at (nat_cmp k)) (e ∷ es) ≡ Some q
     → ((k ≡ e.0) × (e.1 ≡ q)) ⊎ ((k ≡ e.0 → ⊥) × (lookup (is_at (nat_cmp k)) es ≡ Some q))
 found_cases k e es q found = ⊎_elim
     (λ (same : k ≡ e.0). let here : Some e.1 ≡ Some q = rw (at_same k e.0 same) at found in let equal : e.1 ≡ q = cc in inl (same, equal))
     (λ (other : k ≡ e.0 → ⊥). inr (other, rw (at_other k e.0 other) at found))
     (cases_eq k e.0)
 
-found_from : (from k : ℕ) (es : List (ℕ × Place)) (q : Place) → AreApart from es → lookup (is_at (nat_cmp k)) es ≡ Some q → from ≤ k
+found_from : (from k : ℕ) (es : List (ℕ × OwnedPlace)) (q : OwnedPlace) → AreApart from es → lookup (is_at (nat_cmp k)) es ≡ Some q → from ≤ k
 found_from from k [] q apart found = cc
 found_from from k (e ∷ es) q apart found = ⊎_elim
     (λ (same, is). omega (arith, apart.0, same))
     (λ (other, later). omega (arith, apart.0, found_from (e.0 + e.1.len) k es q apart.2 later))
     (found_cases k e es q found)
 
-pub found_some : (from k : ℕ) (es : List (ℕ × Place)) (q : Place) → AreApart from es → lookup (is_at (nat_cmp k)) es ≡ Some q → 0 < q.len
+pub found_some : (from k : ℕ) (es : List (ℕ × OwnedPlace)) (q : OwnedPlace) → AreApart from es → lookup (is_at (nat_cmp k)) es ≡ Some q → 0 < q.len
 found_some from k [] q apart found = cc
 found_some from k (e ∷ es) q apart found = ⊎_elim
-    (λ (same, is). subst (λ (x : Place). 0 < x.len) is apart.1)
+    (λ (same, is). subst (λ (x : OwnedPlace). 0 < x.len) is apart.1)
     (λ (other, later). found_some (e.0 + e.1.len) k es q apart.2 later)
     (found_cases k e es q found)
 
-none_below : (from k l : ℕ) (h : Hand) (es : List (ℕ × Place)) → AreApart from es → k < from → list_any (is_same (held_by h k l)) (all_placed es) ≡ false
+none_below : (from k l : ℕ) (h : Hand) (es : List (ℕ × OwnedPlace)) → AreApart from es → k < from → list_any (is_same (held_by h k l)) (all_placed es) ≡ false
 none_below from k l h [] apart below = refl
 none_below from k l h (e ∷ es) apart below =
     let begins : from ≤ e.0 = apart.0 in
     rw (same_offset h e.1.hand k l e.0 e.1.len (λ same. omega arith)) (none_below (e.0 + e.1.len) k l h es apart.2 (omega arith))
 
-pub none_there : (k l : ℕ) (h : Hand) (es : List (ℕ × Place)) → lookup (is_at (nat_cmp k)) es ≡ None → list_any (is_same (held_by h k l)) (all_placed es) ≡ false
+pub none_there : (k l : ℕ) (h : Hand) (es : List (ℕ × OwnedPlace)) → lookup (is_at (nat_cmp k)) es ≡ None → list_any (is_same (held_by h k l)) (all_placed es) ≡ false
 none_there k l h [] none = refl
 none_there k l h (e ∷ es) none = ⊎_elim
     (λ (same : k ≡ e.0). let some : Some e.1 ≡ None = rw (at_same k e.0 same) at none in cc)
     (λ (other : k ≡ e.0 → ⊥). rw (same_offset h e.1.hand k l e.0 e.1.len other) (none_there k l h es (rw (at_other k e.0 other) at none)))
     (cases_eq k e.0)
 
-pub one_there : (from k l : ℕ) (h : Hand) (es : List (ℕ × Place)) (q : Place) → AreApart from es → lookup (is_at (nat_cmp k)) es ≡ Some q
+pub one_there : (from k l : ℕ) (h : Hand) (es : List (ℕ × OwnedPlace)) (q : OwnedPlace) → AreApart from es → lookup (is_at (nat_cmp k)) es ≡ Some q
     → list_any (is_same (held_by h k l)) (all_placed es) ≡ is_same (held_by h k l) (placed (k, q))
 one_there from k l h [] q apart found = cc
 one_there from k l h (e ∷ es) q apart found = ⊎_elim
@@ -166,7 +166,7 @@ one_there from k l h (e ∷ es) q apart found = ⊎_elim
 
 -- ---- what overlaps
 
-pub all_behind : (from o l : ℕ) (es : List (ℕ × Place)) → AreApart from es → o + l ≤ from → list_all (is_apart o l) (all_placed es) ≡ true
+pub all_behind : (from o l : ℕ) (es : List (ℕ × OwnedPlace)) → AreApart from es → o + l ≤ from → list_all (is_apart o l) (all_placed es) ≡ true
 all_behind from o l [] apart ends = refl
 all_behind from o l (e ∷ es) apart ends =
     let begins : from ≤ e.0 = apart.0 in
@@ -186,10 +186,10 @@ begins_before : (end n : ℕ) → range_contains nat_cmp Unbounded (Excluded end
 begins_before end n = grind (arith, nat_tests)
 
 -- what begins before an offset
-abbrev begun : ℕ → List (ℕ × Place) → List (ℕ × Place)
+abbrev begun : ℕ → List (ℕ × OwnedPlace) → List (ℕ × OwnedPlace)
 begun end es = filter (λ e. range_contains nat_cmp Unbounded (Excluded end) e.0) es
 
-pub none_begun : (o l : ℕ) (es : List (ℕ × Place)) → begun (o + l) es ≡ [] → list_all (is_apart o l) (all_placed es) ≡ true
+pub none_begun : (o l : ℕ) (es : List (ℕ × OwnedPlace)) → begun (o + l) es ≡ [] → list_all (is_apart o l) (all_placed es) ≡ true
 none_begun o l [] none = refl
 none_begun o l (e ∷ es) none = ⊎_elim
     (λ (before : e.0 < o + l).
@@ -200,11 +200,11 @@ none_begun o l (e ∷ es) none = ⊎_elim
     rw (apart_before e.1.hand o l e.0 e.1.len behind) (none_begun o l es (rw test at none)))
     (cases_lt e.0 (o + l))
 
-last_from : (from end : ℕ) (es before : List (ℕ × Place)) (last : ℕ × Place) → AreApart from es → begun end es ≡ before ++ last ∷ [] → from ≤ last.0
+last_from : (from end : ℕ) (es before : List (ℕ × OwnedPlace)) (last : ℕ × OwnedPlace) → AreApart from es → begun end es ≡ before ++ last ∷ [] → from ≤ last.0
 last_from from end [] before last apart found = absurd (not_nil before last found)
 last_from from end (e ∷ es) before last apart found = ⊎_elim
     (λ (test : range_contains nat_cmp Unbounded (Excluded end) e.0 ≡ true). ⊎_elim
-    (λ (one, none). subst (λ (x : ℕ × Place). from ≤ x.0) one apart.0)
+    (λ (one, none). subst (λ (x : ℕ × OwnedPlace). from ≤ x.0) one apart.0)
     (λ (rest, same). omega (arith, apart.0, last_from (e.0 + e.1.len) end es rest last apart.2 same))
     (cases_front e (begun end es) before last (rw test at found)))
     (λ (test : range_contains nat_cmp Unbounded (Excluded end) e.0 ≡ false).
@@ -212,7 +212,7 @@ last_from from end (e ∷ es) before last apart found = ⊎_elim
     (cases_Bool (range_contains nat_cmp Unbounded (Excluded end) e.0))
 
 -- the last of these alone decides
-pub last_begun : (from o l : ℕ) (es before : List (ℕ × Place)) (last : ℕ × Place) → AreApart from es → begun (o + l) es ≡ before ++ last ∷ []
+pub last_begun : (from o l : ℕ) (es before : List (ℕ × OwnedPlace)) (last : ℕ × OwnedPlace) → AreApart from es → begun (o + l) es ≡ before ++ last ∷ []
     → list_all (is_apart o l) (all_placed es) ≡ leb (last.0 + last.1.len) o
 last_begun from o l [] before last apart found = absurd (not_nil before last found)
 last_begun from o l (e ∷ es) before last apart found = ⊎_elim
@@ -221,7 +221,7 @@ last_begun from o l (e ∷ es) before last apart found = ⊎_elim
     ⊎_elim
     (λ (one, none).
     let rest : list_all (is_apart o l) (all_placed es) ≡ true = none_begun o l es none in
-    let same : leb (e.0 + e.1.len) o ≡ leb (last.0 + last.1.len) o = ap (λ (x : ℕ × Place). leb (x.0 + x.1.len) o) one in
+    let same : leb (e.0 + e.1.len) o ≡ leb (last.0 + last.1.len) o = ap (λ (x : ℕ × OwnedPlace). leb (x.0 + x.1.len) o) one in
     rw (apart_is e.1.hand o l e.0 e.1.len, lt-leb (o + l) e.0 first, rest) (alone (leb (e.0 + e.1.len) o) ∙ same))
     (λ (others, same).
     let rest : list_all (is_apart o l) (all_placed es) ≡ leb (last.0 + last.1.len) o =
@@ -253,7 +253,7 @@ last_begun from o l (e ∷ es) before last apart found = ⊎_elim
 
 -- ---- one more, another and one less
 
-lower : (low from : ℕ) (es : List (ℕ × Place)) → low ≤ from → AreApart from es → AreApart low es
+lower : (low from : ℕ) (es : List (ℕ × OwnedPlace)) → low ≤ from → AreApart from es → AreApart low es
 lower low from [] le apart = tt
 lower low from (e ∷ es) le apart = (omega (arith, apart.0), apart.1, apart.2)
 
@@ -270,7 +270,7 @@ cmp_greater k n greater = grind (arith, nat_tests)
 cases_order : (k n : ℕ) → (k < n) ⊎ ((k ≡ n) ⊎ (n < k))
 cases_order k n = ⊎_elim (λ less. inl less) (λ least. ⊎_elim (λ same. inr (inl same)) (λ other. inr (inr (omega arith))) (cases_eq k n)) (cases_lt k n)
 
-pub free_there : (o l : ℕ) (es : List (ℕ × Place)) (from : ℕ) → AreApart from es → 0 < l → list_all (is_apart o l) (all_placed es) ≡ true
+pub free_there : (o l : ℕ) (es : List (ℕ × OwnedPlace)) (from : ℕ) → AreApart from es → 0 < l → list_all (is_apart o l) (all_placed es) ≡ true
     → lookup (is_at (nat_cmp o)) es ≡ None
 free_there o l [] from apart some free = refl
 free_there o l (e ∷ es) from apart some free =
@@ -280,7 +280,7 @@ free_there o l (e ∷ es) from apart some free =
     (apart_cases e.1.hand o l e.0 e.1.len parts.0) in
     rw (at_other o e.0 other) (free_there o l es (e.0 + e.1.len) apart.2 some parts.1)
 
-pub weight-put : (f : Holding → ℕ) (k : ℕ) (p : Place) (es : List (ℕ × Place)) → lookup (is_at (nat_cmp k)) es ≡ None
+pub weight-put : (f : Holding → ℕ) (k : ℕ) (p : OwnedPlace) (es : List (ℕ × OwnedPlace)) → lookup (is_at (nat_cmp k)) es ≡ None
     → weight f (all_placed (insert_entry nat_cmp es k p)) ≡ weight f (all_placed es) + f (placed (k, p))
 weight-put f k p [] none = omega arith
 weight-put f k p (e ∷ es) none = ⊎_elim
@@ -292,7 +292,7 @@ weight-put f k p (e ∷ es) none = ⊎_elim
     others)
     (cases_order k e.0)
 
-pub weight-set : (f : Holding → ℕ) (from k : ℕ) (p q : Place) (es : List (ℕ × Place)) → AreApart from es → lookup (is_at (nat_cmp k)) es ≡ Some q
+pub weight-set : (f : Holding → ℕ) (from k : ℕ) (p q : OwnedPlace) (es : List (ℕ × OwnedPlace)) → AreApart from es → lookup (is_at (nat_cmp k)) es ≡ Some q
     → weight f (all_placed (insert_entry nat_cmp es k p)) + f (placed (k, q)) ≡ weight f (all_placed es) + f (placed (k, p))
 weight-set f from k p q [] apart found = cc
 weight-set f from k p q (e ∷ es) apart found = ⊎_elim
@@ -306,7 +306,7 @@ weight-set f from k p q (e ∷ es) apart found = ⊎_elim
     rw (cmp_greater k e.0 greater) (omega (arith, weight-set f (e.0 + e.1.len) k p q es apart.2 later)))
     (found_cases k e es q found)
 
-pub weight-take : (f : Holding → ℕ) (k : ℕ) (q : Place) (es : List (ℕ × Place)) → lookup (is_at (nat_cmp k)) es ≡ Some q
+pub weight-take : (f : Holding → ℕ) (k : ℕ) (q : OwnedPlace) (es : List (ℕ × OwnedPlace)) → lookup (is_at (nat_cmp k)) es ≡ Some q
     → weight f (all_placed (remove_entry (is_at (nat_cmp k)) es)) + f (placed (k, q)) ≡ weight f (all_placed es)
 weight-take f k q [] found = cc
 weight-take f k q (e ∷ es) found = ⊎_elim
@@ -316,7 +316,7 @@ weight-take f k q (e ∷ es) found = ⊎_elim
     (λ (other, later). rw (at_other k e.0 other) (omega (arith, weight-take f k q es later)))
     (found_cases k e es q found)
 
-pub apart-put : (from k : ℕ) (p : Place) (es : List (ℕ × Place)) → AreApart from es → from ≤ k → 0 < p.len
+pub apart-put : (from k : ℕ) (p : OwnedPlace) (es : List (ℕ × OwnedPlace)) → AreApart from es → from ≤ k → 0 < p.len
     → list_all (is_apart k p.len) (all_placed es) ≡ true → AreApart from (insert_entry nat_cmp es k p)
 apart-put from k p [] apart begins some free = (begins, some, tt)
 apart-put from k p (e ∷ es) apart begins some free =
@@ -330,12 +330,12 @@ apart-put from k p (e ∷ es) apart begins some free =
     (apart.0, apart.1, apart-put (e.0 + e.1.len) k p es apart.2 behind some parts.1))
     (apart_cases e.1.hand k p.len e.0 e.1.len parts.0)
 
-pub apart-set : (from k : ℕ) (p q : Place) (es : List (ℕ × Place)) → AreApart from es → lookup (is_at (nat_cmp k)) es ≡ Some q → 0 < p.len
+pub apart-set : (from k : ℕ) (p q : OwnedPlace) (es : List (ℕ × OwnedPlace)) → AreApart from es → lookup (is_at (nat_cmp k)) es ≡ Some q → 0 < p.len
     → p.len ≤ q.len → AreApart from (insert_entry nat_cmp es k p)
 apart-set from k p q [] apart found some shorter = cc
 apart-set from k p q (e ∷ es) apart found some shorter = ⊎_elim
     (λ (same, is).
-    let lens : e.1.len ≡ q.len = ap (λ (x : Place). x.len) is in
+    let lens : e.1.len ≡ q.len = ap (λ (x : OwnedPlace). x.len) is in
     rw (cmp_equal k e.0 same)
     (apart.0, some, lower (e.0 + p.len) (e.0 + e.1.len) es (omega (arith, lens, shorter)) apart.2))
     (λ (other, later).
@@ -344,7 +344,7 @@ apart-set from k p q (e ∷ es) apart found some shorter = ⊎_elim
     rw (cmp_greater k e.0 greater) (apart.0, apart.1, apart-set (e.0 + e.1.len) k p q es apart.2 later some shorter))
     (found_cases k e es q found)
 
-pub apart-take : (from : ℕ) (test : ℕ → Bool) (es : List (ℕ × Place)) → AreApart from es → AreApart from (remove_entry test es)
+pub apart-take : (from : ℕ) (test : ℕ → Bool) (es : List (ℕ × OwnedPlace)) → AreApart from es → AreApart from (remove_entry test es)
 apart-take from test [] apart = tt
 apart-take from test (e ∷ es) apart = ⊎_elim
     (λ (yes : test e.0 ≡ true). rw yes (lower from (e.0 + e.1.len) es (omega (arith, apart.0)) apart.2))
@@ -352,12 +352,12 @@ apart-take from test (e ∷ es) apart = ⊎_elim
     (cases_Bool (test e.0))
 
 -- behind a place that was made shorter its other bytes are free
-pub rest_free : (from k m : ℕ) (p q : Place) (es : List (ℕ × Place)) → AreApart from es → lookup (is_at (nat_cmp k)) es ≡ Some q
+pub rest_free : (from k m : ℕ) (p q : OwnedPlace) (es : List (ℕ × OwnedPlace)) → AreApart from es → lookup (is_at (nat_cmp k)) es ≡ Some q
     → p.len + m ≡ q.len → list_all (is_apart (k + p.len) m) (all_placed (insert_entry nat_cmp es k p)) ≡ true
 rest_free from k m p q [] apart found lens = cc
 rest_free from k m p q (e ∷ es) apart found lens = ⊎_elim
     (λ (same, is).
-    let len : e.1.len ≡ q.len = ap (λ (x : Place). x.len) is in
+    let len : e.1.len ≡ q.len = ap (λ (x : OwnedPlace). x.len) is in
     let behind : list_all (is_apart (k + p.len) m) (all_placed es) ≡ true =
     all_behind (e.0 + e.1.len) (k + p.len) m es apart.2 (omega (arith, len, lens, same)) in
     rw (cmp_equal k e.0 same) (rw (apart_behind p.hand (k + p.len) m e.0 p.len (omega (arith, same)), behind) refl))

@@ -6,7 +6,7 @@ use Rattle.std.proofs.Common.{append_assoc, append-nil}
 use Rattle.std.specs.Prelude.{codes}
 use Rattle.std.specs.Io.KnownBytes.{Consumes}
 use Rattle.run_records.specs.declared.event.Event.{Event}
-use Rattle.run_records.specs.Setting.{IsSetting, Setting}
+use Rattle.run_records.specs.Setting.{most_events, IsSetting, Setting}
 use Rattle.run_records.specs.Holders.{Holdings, after, no_holdings}
 use Rattle.run_records.specs.RunText.{Text, last_line, run_line}
 use Rattle.run_check.specs.declared.checking.Checked.{Checked}
@@ -60,7 +60,7 @@ answers_early_at s (Some start) (Some rest) (Some later) h count line come took 
 
 answers_bad_at : (s : Setting) (start now later : Option (List ℕ)) (h : Holdings) (count : ℕ) (line : Text) → ComesTo s start now h count
     → Consumes now later (line ++ 10 ∷ []) → IsOneLine line → (line ≡ codes "end" → ⊥) → (line ≡ codes "more" → ⊥)
-    → ((e : Event) → event_of line ≡ Some e → after s h e ≡ None) ⊎ (1000000 ≤ count) → AnswersFor s start (No (count + 2))
+    → ((e : Event) → event_of line ≡ Some e → after s h e ≡ None) ⊎ (most_events ≤ count) → AnswersFor s start (No (count + 2))
 answers_bad_at s None now later h count line come took one no_end no_more why = tt
 answers_bad_at s (Some start) None later h count line come took one no_end no_more why = absurd come
 answers_bad_at s (Some start) (Some rest) None h count line come took one no_end no_more why = absurd took
@@ -94,13 +94,13 @@ answers_early s start now later kept count line (h, come, same) took one end som
 
 pub answers_bad : (s : Setting) (start now later : Option (List ℕ)) (kept : Holdings) (count : ℕ) (line : Text) → ComesWith s start now kept count
     → Consumes now later (line ++ 10 ∷ []) → IsOneLine line → (line ≡ codes "end" → ⊥) → (line ≡ codes "more" → ⊥)
-    → ((e : Event) → event_of line ≡ Some e → after s kept e ≡ None) ⊎ (1000000 ≤ count) → AnswersFor s start (No (count + 2))
+    → ((e : Event) → event_of line ≡ Some e → after s kept e ≡ None) ⊎ (most_events ≤ count) → AnswersFor s start (No (count + 2))
 answers_bad s start now later kept count line (h, come, same) took one no_end no_more why =
     answers_bad_at s start now later h count line come took one no_end no_more
     (⊎_elim (λ unfit. inl (λ e read. after_none s h kept e same (unfit e read))) (λ full. inr full) why)
 
 pub comes_more : (s : Setting) (start now later : Option (List ℕ)) (kept new : Holdings) (count : ℕ) (line : Text) → ComesWith s start now kept count
-    → Consumes now later (line ++ 10 ∷ []) → count + 1 ≤ 1000000 → LineChanges s kept line new true → ComesWith s start later new (count + 1)
+    → Consumes now later (line ++ 10 ∷ []) → count + 1 ≤ most_events → LineChanges s kept line new true → ComesWith s start later new (count + 1)
 comes_more s start now later kept new count line (h, come, same) took room (e, read, (held, follows, alike)) =
     let found = after_some s h kept held e same follows in (
       found.0,

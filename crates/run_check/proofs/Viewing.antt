@@ -13,22 +13,22 @@ use Rattle.run_check.specs.declared.buffer.Keeper.{Keeper}
 use Rattle.run_check.specs.declared.buffer.Keeper.TheVariants as keeper
 use Rattle.run_check.specs.declared.places.Hand.{Hand}
 use Rattle.run_check.specs.declared.places.Hand.TheVariants as hand
-use Rattle.run_check.specs.declared.places.Place.{Place}
+use Rattle.run_check.specs.declared.places.OwnedPlace.{OwnedPlace}
 use Rattle.run_check.specs.Holding.{weight}
 use Rattle.run_check.specs.Places.{AreApart, all_placed, held_by, is_same_hand}
 use Rattle.run_check.specs.Buffer.{AreCounted, LeavesNoPlace, kept_by, owed_from}
 use Rattle.run_check.proofs.Placing.{none_there, one_there, place_is}
 use Rattle.run_check.proofs.Weighing.{Moves, any-append, any-replicate, one_if, weight-append, weight-count, weight-length, weight-replicate}
 
-abbrev pub view : Keeper → List (ℕ × Place) → List ℕ → List Holding
+abbrev pub view : Keeper → List (ℕ × OwnedPlace) → List ℕ → List Holding
 view keeper entries owed = kept_by keeper ++ (all_placed entries ++ owed_from 0 owed)
 
-pub weight-view : (f : Holding → ℕ) (k : Keeper) (es : List (ℕ × Place)) (owed : List ℕ)
+pub weight-view : (f : Holding → ℕ) (k : Keeper) (es : List (ℕ × OwnedPlace)) (owed : List ℕ)
     → weight f (view k es owed) ≡ weight f (kept_by k) + (weight f (all_placed es) + weight f (owed_from 0 owed))
 weight-view f k es owed =
     omega (arith, weight-append f (kept_by k) (all_placed es ++ owed_from 0 owed), weight-append f (all_placed es) (owed_from 0 owed))
 
-any-view : (p : Holding → Bool) (k : Keeper) (es : List (ℕ × Place)) (owed : List ℕ)
+any-view : (p : Holding → Bool) (k : Keeper) (es : List (ℕ × OwnedPlace)) (owed : List ℕ)
     → list_any p (view k es owed) ≡ (list_any p (kept_by k) || (list_any p (all_placed es) || list_any p (owed_from 0 owed)))
 any-view p k es owed =
     any-append p (kept_by k) (all_placed es ++ owed_from 0 owed)
@@ -71,7 +71,7 @@ none_kept (keeper.App b) (hand.Sent a) o l = refl
 none_kept (keeper.App b) (hand.App a) o l = refl
 none_kept (keeper.App b) (hand.Loan a) o l = refl
 
-pub any-place : (k : Keeper) (es : List (ℕ × Place)) (owed : List ℕ) (h : Hand) (o l : ℕ)
+pub any-place : (k : Keeper) (es : List (ℕ × OwnedPlace)) (owed : List ℕ) (h : Hand) (o l : ℕ)
     → list_any (is_same (held_by h o l)) (view k es owed) ≡ list_any (is_same (held_by h o l)) (all_placed es)
 any-place k es owed h o l =
     any-view (is_same (held_by h o l)) k es owed
@@ -81,7 +81,7 @@ any-place k es owed h o l =
 abbrev IsNeverPlaced : Holding → Type 0
 IsNeverPlaced h = (g : Hand) (o l : ℕ) → is_same h (held_by g o l) ≡ false
 
-none_placed : (h : Holding) → IsNeverPlaced h → (es : List (ℕ × Place)) → list_any (is_same h) (all_placed es) ≡ false
+none_placed : (h : Holding) → IsNeverPlaced h → (es : List (ℕ × OwnedPlace)) → list_any (is_same h) (all_placed es) ≡ false
 none_placed h never [] = refl
 none_placed h never (e ∷ es) = rw (never e.1.hand e.0 e.1.len) (none_placed h never es)
 
@@ -103,15 +103,15 @@ owed_never_placed app (hand.Sent a) o l = refl
 owed_never_placed app (hand.App a) o l = refl
 owed_never_placed app (hand.Loan a) o l = refl
 
-any-kept : (h : Holding) → IsNeverPlaced h → IsNeverOwed h → (k : Keeper) (es : List (ℕ × Place)) (owed : List ℕ)
+any-kept : (h : Holding) → IsNeverPlaced h → IsNeverOwed h → (k : Keeper) (es : List (ℕ × OwnedPlace)) (owed : List ℕ)
     → list_any (is_same h) (view k es owed) ≡ list_any (is_same h) (kept_by k)
 any-kept h no_place no_loan k es owed =
     any-view (is_same h) k es owed ∙ rw (none_placed h no_place es, none_owed h no_loan 0 owed) (or_none (list_any (is_same h) (kept_by k)))
 
-pub any-own : (k : Keeper) (es : List (ℕ × Place)) (owed : List ℕ) → list_any (is_same holding.Own) (view k es owed) ≡ list_any (is_same holding.Own) (kept_by k)
+pub any-own : (k : Keeper) (es : List (ℕ × OwnedPlace)) (owed : List ℕ) → list_any (is_same holding.Own) (view k es owed) ≡ list_any (is_same holding.Own) (kept_by k)
 any-own = any-kept holding.Own own_never_placed (λ app. refl)
 
-pub any-spare : (app : ℕ) (k : Keeper) (es : List (ℕ × Place)) (owed : List ℕ)
+pub any-spare : (app : ℕ) (k : Keeper) (es : List (ℕ × OwnedPlace)) (owed : List ℕ)
     → list_any (is_same (holding.Spare app)) (view k es owed) ≡ list_any (is_same (holding.Spare app)) (kept_by k)
 any-spare app = any-kept (holding.Spare app) (spare_never_placed app) (λ other. refl)
 
@@ -153,7 +153,7 @@ none_owed_kept app keeper.Nobody = refl
 none_owed_kept app keeper.Card = refl
 none_owed_kept app (keeper.App other) = refl
 
-pub any-owed : (app : ℕ) (k : Keeper) (es : List (ℕ × Place)) (owed : List ℕ) → app < length owed
+pub any-owed : (app : ℕ) (k : Keeper) (es : List (ℕ × OwnedPlace)) (owed : List ℕ) → app < length owed
     → list_any (is_same (holding.Owed app)) (view k es owed) ≡ ltb 0 (get_or owed app 0)
 any-owed app k es owed lt =
     any-view (is_same (holding.Owed app)) k es owed
@@ -244,11 +244,11 @@ same_hand (hand.App a) (hand.App b) same = ap hand.App (eqb-true a b same)
 same_hand (hand.Loan a) (hand.Loan b) same = ap hand.Loan (eqb-true a b same)
 same_hand h g same = cc
 
-pub there_found : (k l : ℕ) (h : Hand) (es : List (ℕ × Place)) → AreApart 0 es → list_any (is_same (held_by h k l)) (all_placed es) ≡ true
+pub there_found : (k l : ℕ) (h : Hand) (es : List (ℕ × OwnedPlace)) → AreApart 0 es → list_any (is_same (held_by h k l)) (all_placed es) ≡ true
     → lookup (is_at (nat_cmp k)) es ≡ Some (record { len = l; hand = h })
 there_found k l h es apart there = go (lookup (is_at (nat_cmp k)) es) refl
   where
-    go : (found : Option Place) → lookup (is_at (nat_cmp k)) es ≡ found → lookup (is_at (nat_cmp k)) es ≡ Some (record { len = l; hand = h })
+    go : (found : Option OwnedPlace) → lookup (is_at (nat_cmp k)) es ≡ found → lookup (is_at (nat_cmp k)) es ≡ Some (record { len = l; hand = h })
     go None at = let nothing : false ≡ true = sym (none_there k l h es at) ∙ there in cc
     go (Some q) at =
         let same : (eqb q.len l && is_same_hand q.hand h) ≡ true =
@@ -258,7 +258,7 @@ there_found k l h es apart there = go (lookup (is_at (nat_cmp k)) es) refl
         ∙ ap (λ g. Some (record { len = l; hand = g })) (same_hand q.hand h parts.1)
 
 -- one that has a spare buffer leaves no place to be there
-pub alone_there : (k : Keeper) (es now : List (ℕ × Place)) (p : Holding → Bool) → LeavesNoPlace k es → list_any p (all_placed es) ≡ true → LeavesNoPlace k now
+pub alone_there : (k : Keeper) (es now : List (ℕ × OwnedPlace)) (p : Holding → Bool) → LeavesNoPlace k es → list_any p (all_placed es) ≡ true → LeavesNoPlace k now
 alone_there keeper.Nobody es now p alone there = tt
 alone_there keeper.Card es now p alone there = tt
 alone_there (keeper.App app) es now p alone there =

@@ -6,7 +6,7 @@ use Rattle.run_records.specs.Holders.{is_user}
 use Rattle.run_check.specs.declared.buffer.Keeper.{Keeper}
 use Rattle.run_check.specs.declared.buffer.Keeper.TheVariants as keeper
 use Rattle.run_check.specs.declared.buffer.Buffer.TheInside.{Inside}
-use Rattle.run_check.specs.declared.places.Place.{Place}
+use Rattle.run_check.specs.declared.places.OwnedPlace.{OwnedPlace}
 use Rattle.run_check.specs.Places.{AreApart, all_placed}
 
 abbrev pub kept_by : Keeper → List Holding
@@ -23,7 +23,7 @@ abbrev pub holders_in : Inside → List Holding
 holders_in buffer = kept_by buffer.keeper ++ (all_placed buffer.places.entries ++ owed_from 0 buffer.owed)
 
 -- who has a spare buffer has it alone
-abbrev pub LeavesNoPlace : Keeper → List (ℕ × Place) → Type 0
+abbrev pub LeavesNoPlace : Keeper → List (ℕ × OwnedPlace) → Type 0
 LeavesNoPlace keeper.Nobody entries = Unit {0}
 LeavesNoPlace keeper.Card entries = Unit {0}
 LeavesNoPlace (keeper.App app) entries = entries ≡ []

@@ -4,7 +4,7 @@ use Rattle.run_records.specs.declared.holding.Holding.{Holding}
 use Rattle.run_records.specs.declared.holding.Holding.TheVariants as holding
 use Rattle.run_check.specs.declared.places.Hand.{Hand}
 use Rattle.run_check.specs.declared.places.Hand.TheVariants as hand
-use Rattle.run_check.specs.declared.places.Place.{Place}
+use Rattle.run_check.specs.declared.places.OwnedPlace.{OwnedPlace}
 
 abbrev pub held_by : Hand → ℕ → ℕ → Holding
 held_by hand.Card offset len = holding.Piece offset len
@@ -20,14 +20,14 @@ is_same_hand (hand.Loan a) (hand.Loan b) = a == b
 is_same_hand one other = false
 
 -- a place with its offset
-abbrev pub placed : ℕ × Place → Holding
+abbrev pub placed : ℕ × OwnedPlace → Holding
 placed e = held_by e.1.hand e.0 e.1.len
 
-abbrev pub all_placed : List (ℕ × Place) → List Holding
+abbrev pub all_placed : List (ℕ × OwnedPlace) → List Holding
 all_placed entries = map placed entries
 
 -- from this byte on: each has bytes, and begins where the one before it ends or behind that
-abbrev pub AreApart : ℕ → List (ℕ × Place) → Type 0
+abbrev pub AreApart : ℕ → List (ℕ × OwnedPlace) → Type 0
 AreApart from [] = Unit {0}
 AreApart from (e ∷ entries) = (from ≤ e.0) × (0 < e.1.len) × AreApart (e.0 + e.1.len) entries
 

@@ -8,7 +8,7 @@ ghost use Rattle.run_check.specs.Holding.{Changes, can_place};
 ghost use Rattle.run_check.specs.Places.{IsNoLoan, held_by};
 ghost use Rattle.run_check.specs.Buffer.{kept_by};
 
-use crate::places::{Hand, Place, are_apart, is_there};
+use crate::places::{Hand, OwnedPlace, are_apart, is_there};
 use std::alloc::{AllocError, Global};
 use std::collections::BTreeMap;
 use std::marker::Model;
@@ -36,7 +36,7 @@ pub(crate) enum Keeper {
 pub(crate) struct Buffer {
     keeper: Keeper,
     /// What is placed in it, by offset.
-    places: BTreeMap<u32, Place>,
+    places: BTreeMap<u32, OwnedPlace>,
     /// How many loans each application owes.
     owed: [u32; APPS],
     /// The user count of each application.
@@ -157,7 +157,7 @@ impl Buffer {
         let fits = self.can_place(offset, len);
         if fits {
             let hand = Hand::Card;
-            self.places.insert(offset, Place { len, hand })?;
+            self.places.insert(offset, OwnedPlace { len, hand })?;
             self.count += 1;
         }
         Ok(fits)
@@ -175,9 +175,9 @@ impl Buffer {
         requires new { IsNoLoan new }
         ensures { IfOk result (Changes (becomes (held_by old offset len) (held_by new offset len ∷ []) self.old) self.new) }
     {
-        let there = is_there(&self.places, offset, Place { len, hand: old });
+        let there = is_there(&self.places, offset, OwnedPlace { len, hand: old });
         if there {
-            self.places.insert(offset, Place { len, hand: new })?;
+            self.places.insert(offset, OwnedPlace { len, hand: new })?;
         }
         Ok(there)
     }
@@ -199,10 +199,10 @@ impl Buffer {
             return Ok(false);
         }
         let hand = Hand::App(app);
-        let there = is_there(&self.places, offset, Place { len, hand });
+        let there = is_there(&self.places, offset, OwnedPlace { len, hand });
         if there {
-            self.places.insert(offset, Place { len: at, hand })?;
-            let rest = Place {
+            self.places.insert(offset, OwnedPlace { len: at, hand })?;
+            let rest = OwnedPlace {
                 len: len - at,
                 hand,
             };
@@ -218,10 +218,10 @@ impl Buffer {
         ensures { IfOk result (Changes (becomes (holding.Held app offset len) (holding.Loan app offset len ∷ []) self.old) self.new) }
     {
         let hand = Hand::App(app);
-        let there = is_there(&self.places, offset, Place { len, hand });
+        let there = is_there(&self.places, offset, OwnedPlace { len, hand });
         if there {
             let hand = Hand::Loan(app);
-            self.places.insert(offset, Place { len, hand })?;
+            self.places.insert(offset, OwnedPlace { len, hand })?;
             self.users[app as usize] += 1;
         }
         Ok(there)
@@ -233,7 +233,7 @@ impl Buffer {
         ensures { Changes (becomes (holding.Loan app offset len) (holding.Owed app ∷ []) self.old) self.new result }
     {
         let hand = Hand::Loan(app);
-        let there = is_there(&self.places, offset, Place { len, hand });
+        let there = is_there(&self.places, offset, OwnedPlace { len, hand });
         if there {
             self.places.remove(&offset);
             self.owed[app as usize] += 1;
@@ -246,7 +246,7 @@ impl Buffer {
         ensures { Changes (becomes (holding.Held app offset len) [] self.old) self.new result }
     {
         let hand = Hand::App(app);
-        let there = is_there(&self.places, offset, Place { len, hand });
+        let there = is_there(&self.places, offset, OwnedPlace { len, hand });
         if there {
             self.places.remove(&offset);
             self.count -= 1;
@@ -265,7 +265,7 @@ impl Buffer {
         let is_spare = is_spare_of(self.keeper, app);
         if is_spare {
             let hand = Hand::Loan(app);
-            self.places.insert(0, Place { len, hand })?;
+            self.places.insert(0, OwnedPlace { len, hand })?;
             self.keeper = Keeper::Nobody;
             self.users[app as usize] += 1;
         }

@@ -8,7 +8,7 @@ ghost use Rattle.run_check.specs.Judged.{HasCheckCause, IsReadToEnd, Judges};
 
 use crate::holders::Holders;
 use crate::lines::Lines;
-use crate::setting::Setting;
+use crate::setting::RunSetting;
 use crate::words::{event_of, is_word};
 use std::alloc::Global;
 use zr_io::Source;
@@ -39,7 +39,7 @@ pub fn check<S: Source>(alloc: Global, source: &mut S) -> Result<Checked, Fault>
     if !lines.read(source)? {
         return Ok(Checked::No { line: 1 });
     }
-    match Setting::of(alloc, lines.line()) {
+    match RunSetting::of(alloc, lines.line()) {
         Err(_) => Err(Fault::Memory),
         Ok(None) => Ok(Checked::No { line: 1 }),
         Ok(Some(setting)) => check_events(alloc, &setting, &mut lines, source),
@@ -49,7 +49,7 @@ pub fn check<S: Source>(alloc: Global, source: &mut S) -> Result<Checked, Fault>
 /// Reads the lines behind the first.
 fn check_events<S: Source>(
     alloc: Global,
-    setting: &Setting,
+    setting: &RunSetting,
     lines: &mut Lines,
     source: &mut S,
 ) -> Result<Checked, Fault>
@@ -90,7 +90,7 @@ fn check_events<S: Source>(
 /// Changes the holders as the line says, and answers whether it is an event that may come here.
 fn change(
     alloc: Global,
-    setting: &Setting,
+    setting: &RunSetting,
     holders: &mut Holders,
     line: &[u8],
 ) -> Result<bool, Fault>

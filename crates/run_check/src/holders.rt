@@ -6,7 +6,7 @@ ghost use Rattle.run_check.specs.Holding.{Changes, HasChanged, HasSmallApp, hold
 
 use crate::buffer::Buffer;
 use crate::places::Hand;
-use crate::setting::Setting;
+use crate::setting::RunSetting;
 use run_records::Event;
 use std::alloc::{AllocError, Global};
 
@@ -38,7 +38,7 @@ impl Holders {
 
     /// Changes the holders as the event does. `false`: its numbers are out of range, the holders aren't what it needs, or
     /// its counts aren't those behind it; then the holders are any.
-    pub(crate) fn change(&mut self, setting: &Setting, event: Event) -> Result<bool, AllocError>
+    pub(crate) fn change(&mut self, setting: &RunSetting, event: Event) -> Result<bool, AllocError>
         requires total { length self.old.buffers.items ≡ total_buffers setting.now }
         requires few { (buffer : ℕ) → length (holdings_of self.old.buffers.items buffer) + 1 < 2 ^ 32 }
         ensures changes { IfOk result (HasChanged setting.now (holdings_of self.old.buffers.items) event (holdings_of self.new.buffers.items)) }
@@ -80,7 +80,7 @@ fn buffer_of(event: Event) -> Option<u32>
     }
 }
 
-fn is_in_range(setting: &Setting, event: Event) -> bool
+fn is_in_range(setting: &RunSetting, event: Event) -> bool
     ensures value { result ≡ is_in_range setting.now event }
     ensures sound { IsSetting setting.now }
 {
@@ -105,7 +105,7 @@ fn is_in_range(setting: &Setting, event: Event) -> bool
 }
 
 /// Changes the holders of the event's buffer. `false`: they aren't what it needs, and are as before.
-fn change(setting: &Setting, held: &mut Buffer, event: Event) -> Result<bool, AllocError>
+fn change(setting: &RunSetting, held: &mut Buffer, event: Event) -> Result<bool, AllocError>
     requires sound { IsSetting setting.now }
     requires ranged { IsTrue (is_in_range setting.now event) }
     requires few { length held.old + 1 < 2 ^ 32 }

@@ -21,19 +21,19 @@ pub(crate) enum Hand {
 
 /// A place without its offset.
 #[derive(Clone, Copy, Debug, PartialEq, Eq)]
-pub(crate) struct Place {
+pub(crate) struct OwnedPlace {
     pub(crate) len: u32,
     pub(crate) hand: Hand,
 }
 
-fn is_same_place(one: Place, other: Place) -> bool
+fn is_same_place(one: OwnedPlace, other: OwnedPlace) -> bool
     ensures { result ≡ ((one.len == other.len) && is_same_hand one.hand other.hand) }
 {
     one == other
 }
 
 /// Whether the place is there.
-pub(crate) fn is_there(places: &BTreeMap<u32, Place>, offset: u32, place: Place) -> bool
+pub(crate) fn is_there(places: &BTreeMap<u32, OwnedPlace>, offset: u32, place: OwnedPlace) -> bool
     requires { AreApart 0 places.now.entries }
     ensures { result ≡ list_any (is_same (placed (offset, place))) (all_placed places.now.entries) }
 {
@@ -44,7 +44,7 @@ pub(crate) fn is_there(places: &BTreeMap<u32, Place>, offset: u32, place: Place)
 }
 
 /// Whether no place has one of these bytes.
-pub(crate) fn are_apart(places: &BTreeMap<u32, Place>, offset: u32, len: u32) -> bool
+pub(crate) fn are_apart(places: &BTreeMap<u32, OwnedPlace>, offset: u32, len: u32) -> bool
     requires apart { AreApart 0 places.now.entries }
     requires fits { offset + len < 2 ^ 32 }
     ensures { result ≡ list_all (is_apart offset len) (all_placed places.now.entries) }

@@ -23,13 +23,13 @@ const MOST_APPS: u32 = 8;
 
 /// The buffers of a run, and how many applications it has.
 #[derive(Debug, Drop)]
-pub(crate) struct Setting {
+pub(crate) struct RunSetting {
     /// Each area with its number of pool buffers and their size in bytes.
     areas: Vec<(u32, u32)>,
     apps: u32,
 }
 
-impl Model for Setting {
+impl Model for RunSetting {
     ghost use Rattle.run_records.specs.Setting.{Setting, IsSetting};
 
     ghost Value = { Setting };
@@ -39,9 +39,9 @@ impl Model for Setting {
     ghost invariant = { λ s. IsSetting (record { areas = s.areas.items; apps = s.apps }) };
 }
 
-impl Setting {
+impl RunSetting {
     /// The setting of a line, if it says one.
-    pub(crate) fn of(alloc: Global, line: &[u8]) -> Result<Option<Setting>, AllocError>
+    pub(crate) fn of(alloc: Global, line: &[u8]) -> Result<Option<RunSetting>, AllocError>
         ensures { IfOk result (IsSettingOf line.now) }
     {
         let words = parts_of(alloc, b' ', line)?;
@@ -49,7 +49,7 @@ impl Setting {
             return Ok(None);
         };
         if is_setting(&areas, apps) {
-            Ok(Some(Setting { areas, apps }))
+            Ok(Some(RunSetting { areas, apps }))
         } else {
             Ok(None)
         }

@@ -2,7 +2,7 @@
 use Rattle.std.specs.Prelude.{◌≡◌, ℕ, ◌<◌, ◌≤◌, ◌^◌, List, [], length, Bool, IsTrue, Some}
 use Rattle.std.specs.List.{AllByRecursion}
 use Rattle.run_records.specs.declared.event.Event.{Event}
-use Rattle.run_records.specs.Setting.{Setting, IsSetting}
+use Rattle.run_records.specs.Setting.{most_events, Setting, IsSetting}
 use Rattle.run_records.specs.Holders.{Holdings, no_holdings, all_after}
 use Rattle.run_records.specs.RunText.{numbers_of}
 
@@ -14,7 +14,7 @@ HasSmallNumbers e = AllByRecursion (λ number. number < 2 ^ 32) (numbers_of e)
 -- these are all events there is no holder in the end.
 pub record IsLegalRun (setting : Setting) (events : List Event) (whole : Bool) : Type 0 where
   pub sound : IsSetting setting
-  pub most : length events ≤ 1000000
+  pub most : length events ≤ most_events
   pub small : AllByRecursion HasSmallNumbers events
   pub holdings : Holdings
   pub reached : all_after setting no_holdings events ≡ Some holdings

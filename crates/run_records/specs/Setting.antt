@@ -52,3 +52,7 @@ pub record AreAreas (areas : List (ℕ × ℕ)) : Type 0 where
 pub record IsSetting (setting : Setting) : Type 0 where
   pub areas : AreAreas setting.areas
   pub apps : (1 ≤ setting.apps) × (setting.apps ≤ 8)
+
+-- how many events a record of a run has at most
+abbrev pub most_events : ℕ
+most_events = 1000000

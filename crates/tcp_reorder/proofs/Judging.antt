@@ -2,7 +2,7 @@
 use Rattle.std.proofs.Common.{◌≡◌, ℕ, ◌+◌, ◌%◌, ◌^◌, ◌<◌, ◌≤◌, true, arith}
 use Rattle.std.proofs.lemmas.Bool.{and_from, and_parts, le-leb, leb-true}
 use Rattle.zr_kinds.specs.CopyingReceiver.{lead, accepts}
-use Rattle.tcp_reorder.specs.Laws.{AreJudgedAlike, PartsAreAccepted, GoesOn}
+use Rattle.tcp_reorder.specs.Laws.{AreJudgedAlike, PartsAreAccepted, NextNeverFalls}
 use Rattle.tcp_reorder.proofs.Positions.{EndWithin-with_kept}
 use Rattle.tcp_reorder.proofs.Least.{next_of-with_kept, next_of-within}
 
@@ -34,7 +34,7 @@ parts_accepted base n seq total skip len agreed fits =
     let same : lead base n ((seq + skip) % 2 ^ 32) ≡ lead base n seq + skip = lead-part base n seq skip (omega arith) in
     (accepts-from base n _ len (omega arith) (omega arith), same)
 
-pub goes_on : (H : Type 0) → GoesOn H
+pub goes_on : (H : Type 0) → NextNeverFalls H
 goes_on H = record {
   rises = λ queue one. next_of-with_kept queue one;
   within = λ queue limit popped within. next_of-within queue limit popped within;

@@ -6,7 +6,7 @@ use Rattle.std.specs.Map.{lookup}
 use Rattle.std.specs.BTreeMap.{insert_entry, is_at}
 use Rattle.std.proofs.lemmas.Bool.{cases_eq, or_from, or_left, or_right, or_parts, or_cases, lt-ltb, le-ltb, cases_lt, both_ways, eq-eqb, ne_eqb}
 use Rattle.std.proofs.lemmas.Bool.Decides.{nat_tests}
-use Rattle.tcp_reorder.specs.declared.piece.Piece.{Piece}
+use Rattle.tcp_reorder.specs.declared.piece.KeptPiece.{KeptPiece}
 use Rattle.tcp_reorder.specs.Queue.{Kept, Queue, end_of, covers, is_kept, has, next_of, with_kept, AreApart, EndWithin, IsSound, front_of}
 use Rattle.tcp_reorder.specs.Pieces.{kept_of, all_kept}
 use Rattle.tcp_reorder.proofs.Positions.{covers-within, covers-before, covers-behind, AreApart-lower, is_kept-below, is_kept-with_kept, EndWithin-more}
@@ -203,7 +203,7 @@ module _ {H : Type 0} where
   -- ---- the entries of the map
 
   -- no entry begins at a free position
-  pub lookup_free : (from k : ℕ) (es : List (ℕ × Piece H)) → AreApart from (all_kept es) → is_kept (all_kept es) k ≡ false
+  pub lookup_free : (from k : ℕ) (es : List (ℕ × KeptPiece H)) → AreApart from (all_kept es) → is_kept (all_kept es) k ≡ false
       → lookup (is_at (nat_cmp k)) es ≡ None
   lookup_free from k [] apart free = refl
   lookup_free from k (e ∷ es) apart free =
@@ -212,7 +212,7 @@ module _ {H : Type 0} where
       let test : is_at (nat_cmp k) e.0 ≡ false = grind (arith, nat_tests) in
       rw test (lookup_free (end_of (kept_of e)) k es apart.3 parts.1)
 
-  pub all_kept-insert_entry : (from k : ℕ) (es : List (ℕ × Piece H)) (piece : Piece H) → AreApart from (all_kept es)
+  pub all_kept-insert_entry : (from k : ℕ) (es : List (ℕ × KeptPiece H)) (piece : KeptPiece H) → AreApart from (all_kept es)
       → is_kept (all_kept es) k ≡ false → all_kept (insert_entry nat_cmp es k piece) ≡ with_kept (all_kept es) (kept_of (k, piece))
   all_kept-insert_entry from k [] piece apart free = refl
   all_kept-insert_entry from k (e ∷ es) piece apart free =

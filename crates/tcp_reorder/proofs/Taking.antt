@@ -4,7 +4,7 @@ use Rattle.std.specs.Ordering.{nat_cmp}
 use Rattle.std.specs.Map.{lookup}
 use Rattle.std.specs.BTreeMap.{insert_entry, is_at}
 use Rattle.zr_kinds.specs.CopyingReceiver.{lead, accepts}
-use Rattle.tcp_reorder.specs.declared.piece.Piece.{Piece}
+use Rattle.tcp_reorder.specs.declared.piece.KeptPiece.{KeptPiece}
 use Rattle.std.proofs.lemmas.Bool.{or_from, or_left}
 use Rattle.tcp_reorder.specs.Queue.{Kept, Queue, covers, is_kept, next_of, with_kept, IsSound}
 use Rattle.tcp_reorder.specs.Gaps.{origin, wants, AreWanted, with_taken}
@@ -41,7 +41,7 @@ module _ {H : Type 0} where
   free_position queue seq one whole = ap (is_kept queue.kept) whole.position ∙ (wanted_behind queue seq (whole.wanted 0 whole.some)).2
 
   -- where nothing is kept a piece at the first position that wasn't popped is the only one
-  only_piece : (base popped : ℕ) (position : ℕ) (piece : Piece H) → position ≡ popped → IsSound (queue_of {H = H} base popped None [])
+  only_piece : (base popped : ℕ) (position : ℕ) (piece : KeptPiece H) → position ≡ popped → IsSound (queue_of {H = H} base popped None [])
       → MayBeKept (queue_of base popped None []) (kept_of (position, piece))
       → IsAt (queue_of base popped (Some piece) []) (position + piece.len)
   only_piece base popped position piece first sound may =
@@ -54,7 +54,7 @@ module _ {H : Type 0} where
       (or_from (covers one (position + piece.len)) false (covers-behind one (position + piece.len) (omega arith)) refl))
 
   -- what a call of `take` knows, and that it meets its conditions
-  pub record IsTake (base popped : ℕ) (first : Option (Piece H)) (entries : List (ℕ × Piece H)) (view : Queue H) (seq next ahead len : ℕ)
+  pub record IsTake (base popped : ℕ) (first : Option (KeptPiece H)) (entries : List (ℕ × KeptPiece H)) (view : Queue H) (seq next ahead len : ℕ)
       : Type 0 where
     pub view_is : queue_of base popped first entries ≡ view
     pub sound : IsSound (queue_of base popped first entries)
@@ -65,7 +65,7 @@ module _ {H : Type 0} where
     pub small : len < 2 ^ 32
     pub wanted : AreWanted view seq len
 
-  module _ (base popped : ℕ) (first : Option (Piece H)) (entries : List (ℕ × Piece H)) (view : Queue H) (seq next ahead len : ℕ) (piece : H)
+  module _ (base popped : ℕ) (first : Option (KeptPiece H)) (entries : List (ℕ × KeptPiece H)) (view : Queue H) (seq next ahead len : ℕ) (piece : H)
       (call : IsTake base popped first entries view seq next ahead len) where
     abbrev pub queue : Queue H
     queue = queue_of base popped first entries
@@ -98,19 +98,19 @@ module _ {H : Type 0} where
         sym (rest_kept popped first entries (next + ahead - 2 ^ 31) (omega (arith, behind))) ∙ free_position queue seq one whole
 
     -- the entries once the piece was put in, where there was none at its position
-    pub kept_then : (new : List (ℕ × Piece H)) → new ≡ insert_entry nat_cmp entries (next + ahead - 2 ^ 31) (record { len = len; held = piece })
+    pub kept_then : (new : List (ℕ × KeptPiece H)) → new ≡ insert_entry nat_cmp entries (next + ahead - 2 ^ 31) (record { len = len; held = piece })
         → all_kept (with_first popped first new) ≡ with_kept queue.kept one
     kept_then new inserted = rest_with_kept popped first entries new one may.from (ap all_kept inserted
         ∙ all_kept-insert_entry 0 (next + ahead - 2 ^ 31) entries (record { len = len; held = piece })
         (rest_apart popped popped first entries call.sound.apart) rest_free)
 
-    pub nothing_there : (before : Piece H) → Some before ≡ lookup (is_at (nat_cmp (next + ahead - 2 ^ 31))) entries → ⊥
+    pub nothing_there : (before : KeptPiece H) → Some before ≡ lookup (is_at (nat_cmp (next + ahead - 2 ^ 31))) entries → ⊥
     nothing_there before found =
         let none : lookup (is_at (nat_cmp (next + ahead - 2 ^ 31))) entries ≡ None =
         lookup_free 0 (next + ahead - 2 ^ 31) entries (rest_apart popped popped first entries call.sound.apart) rest_free in
         cc
 
-    abbrev pub first_piece : Piece H
+    abbrev pub first_piece : KeptPiece H
     first_piece = record { len = len; held = piece }
 
     -- a piece that is put in where nothing is kept, at the first position that wasn't popped
@@ -119,7 +119,7 @@ module _ {H : Type 0} where
       pub at : IsAt (queue_of base popped (Some first_piece) entries) (next + ahead - 2 ^ 31 + len)
       pub view_is : queue_of base popped (Some first_piece) entries ≡ with_taken view seq len piece
 
-    no_first_piece : (was : Option (Piece H)) → IsSound (queue_of base popped was entries) → first_end popped was ≤ popped → was ≡ None
+    no_first_piece : (was : Option (KeptPiece H)) → IsSound (queue_of base popped was entries) → first_end popped was ≤ popped → was ≡ None
     no_first_piece None sound ends = refl
     no_first_piece (Some piece) sound ends = let some : 0 < piece.len = sound.apart.1 in absurd (omega arith)
 

@@ -16,7 +16,7 @@ PartsAreAccepted = (base n seq total skip len : ℕ) → accepts base n seq tota
     → (accepts base n ((seq + skip) % 2 ^ 32) len ≡ true) × (lead base n ((seq + skip) % 2 ^ 32) ≡ lead base n seq + skip)
 
 -- The first missing position never falls as pieces are put in, and passes no limit that everything lies within.
-pub record GoesOn (H : Type 0) : Type 0 where
+pub record NextNeverFalls (H : Type 0) : Type 0 where
   pub rises : (queue : Queue H) (one : Kept H) → next_of queue ≤ next_of (record queue { kept = with_kept queue.kept one })
   pub within : (queue : Queue H) (limit : ℕ) → queue.popped ≤ limit → EndWithin limit queue.kept → next_of queue ≤ limit
   pub still_within : (queue : Queue H) (one : Kept H) (limit : ℕ) → EndWithin limit queue.kept → end_of one ≤ limit

@@ -1,4 +1,4 @@
-ghost use Rattle.tcp_reorder.specs.Laws.{AreJudgedAlike, PartsAreAccepted, GoesOn};
+ghost use Rattle.tcp_reorder.specs.Laws.{AreJudgedAlike, PartsAreAccepted, NextNeverFalls};
 ghost use Rattle.tcp_reorder.specs.Entering.{HoldsWhatCame, StaysAccepted};
 ghost use Rattle.tcp_reorder.specs.Parts.{PartsMakeTheFrame};
 
@@ -17,7 +17,7 @@ pub fn parts_are_accepted()
 /// `RecvQueue::next_position`'s clause `sound`, the pieces of a frame that was accepted when it was n bring it to
 /// n + 2^30 at most. It does nothing: its contract is the law.
 pub fn first_missing_goes_on<H>()
-    ensures { GoesOn H }
+    ensures { NextNeverFalls H }
 {}
 
 /// A queue holds the copying receiver's map, for values `A` that its pieces have: a new one the empty map; while the gaps

@@ -8,13 +8,13 @@ use std::collections::BTreeMap;
 
 /// A kept piece without its position.
 #[derive(Drop)]
-pub struct Piece<H> {
+pub struct KeptPiece<H> {
     pub len: u32,
     pub held: H,
 }
 
 /// The end of the piece that has a byte at the position.
-fn end_at<H>(pieces: &BTreeMap<u64, Piece<H>>, position: u64) -> Option<u64>
+fn end_at<H>(pieces: &BTreeMap<u64, KeptPiece<H>>, position: u64) -> Option<u64>
     requires apart { AreApart 0 (all_kept pieces.now.entries) }
     requires in_stream { EndWithin (2 ^ 62) (all_kept pieces.now.entries) }
     ensures { MatchOption result
@@ -27,7 +27,7 @@ fn end_at<H>(pieces: &BTreeMap<u64, Piece<H>>, position: u64) -> Option<u64>
 }
 
 /// The first position, from `from` on, at which no piece has a byte. From the limit on it doesn't look.
-pub fn first_free<H>(pieces: &BTreeMap<u64, Piece<H>>, from: u64, limit: u64) -> u64
+pub fn first_free<H>(pieces: &BTreeMap<u64, KeptPiece<H>>, from: u64, limit: u64) -> u64
     requires apart { AreApart 0 (all_kept pieces.now.entries) }
     requires in_stream { EndWithin (2 ^ 62) (all_kept pieces.now.entries) }
     requires low { from ≤ 2 ^ 62 }
@@ -47,7 +47,7 @@ pub fn first_free<H>(pieces: &BTreeMap<u64, Piece<H>>, from: u64, limit: u64) ->
 }
 
 /// The first position, from a free one on, at which a piece has a byte.
-pub fn next_kept<H>(pieces: &BTreeMap<u64, Piece<H>>, free: u64) -> Option<u64>
+pub fn next_kept<H>(pieces: &BTreeMap<u64, KeptPiece<H>>, free: u64) -> Option<u64>
     requires apart { AreApart 0 (all_kept pieces.now.entries) }
     requires is_free { is_kept (all_kept pieces.now.entries) free ≡ false }
     ensures { MatchOption result
@@ -62,9 +62,9 @@ pub fn next_kept<H>(pieces: &BTreeMap<u64, Piece<H>>, free: u64) -> Option<u64>
 /// The piece of least position, where `first` is at this position and before all others.
 pub fn least<'a, H>(
     at: u64,
-    first: &'a Option<Piece<H>>,
-    pieces: &'a BTreeMap<u64, Piece<H>>,
-) -> Option<(u64, &'a Piece<H>)>
+    first: &'a Option<KeptPiece<H>>,
+    pieces: &'a BTreeMap<u64, KeptPiece<H>>,
+) -> Option<(u64, &'a KeptPiece<H>)>
     ensures { option_map (λ one. (one.0, one.1.now)) result ≡ slice_get (with_first at first.now pieces.now.entries) 0 }
 {
     match first {
@@ -79,9 +79,9 @@ pub fn least<'a, H>(
 /// Takes the piece of least position out, where `first` is at this position and before all others.
 pub fn pop_least<H>(
     at: u64,
-    first: &mut Option<Piece<H>>,
-    pieces: &mut BTreeMap<u64, Piece<H>>,
-) -> Option<(u64, Piece<H>)>
+    first: &mut Option<KeptPiece<H>>,
+    pieces: &mut BTreeMap<u64, KeptPiece<H>>,
+) -> Option<(u64, KeptPiece<H>)>
     ensures least { MatchOption result
         ((with_first at first.old pieces.old.entries ≡ []) × (pieces.new.entries ≡ []))
         (λ one. with_first at first.old pieces.old.entries ≡ one ∷ pieces.new.entries) }

@@ -5,7 +5,7 @@ ghost use Rattle.tcp_reorder.specs.Queue.{next_of, IsSound, front_of};
 ghost use Rattle.tcp_reorder.specs.Gaps.{IsFirstGap, AreWanted, AreUnwanted, with_taken, span_of, LosesFirst};
 
 use crate::distance::lead;
-use crate::piece::{Piece, first_free, least, next_kept, pop_least};
+use crate::piece::{KeptPiece, first_free, least, next_kept, pop_least};
 use crate::places::{Gap, Span};
 use std::alloc::Global;
 use std::collections::BTreeMap;
@@ -31,9 +31,9 @@ pub struct RecvQueue<H> {
     next: u64,
     /// The piece at the first position that wasn't popped, where nothing was kept when it came. Most come so, and need no
     /// place in the map.
-    first: Option<Piece<H>>,
+    first: Option<KeptPiece<H>>,
     /// The others, by the position of the piece's first byte.
-    pieces: BTreeMap<u64, Piece<H>>,
+    pieces: BTreeMap<u64, KeptPiece<H>>,
 }
 
 impl<H> Model for RecvQueue<H> {
@@ -124,12 +124,12 @@ impl<H> RecvQueue<H> {
         let position = self.next + lead(self.base, self.next, seq) - BIAS;
         if position == self.popped && self.pieces.is_empty() {
             // The position was free, so there was no first piece.
-            let before = self.first.replace(Piece { len, held: piece });
+            let before = self.first.replace(KeptPiece { len, held: piece });
             let None = before else { unreachable!() };
             self.next = position + u64::from(len);
             return Ok(());
         }
-        match self.pieces.insert(position, Piece { len, held: piece }) {
+        match self.pieces.insert(position, KeptPiece { len, held: piece }) {
             Ok(None) => {
                 self.next = first_free(&self.pieces, self.next, END + 1);
                 Ok(())
@@ -185,7 +185,7 @@ impl<H> RecvQueue<H> {
             return None;
         }
         let (position, piece) = pop_least(self.popped, &mut self.first, &mut self.pieces)?;
-        let Piece { len, held } = piece;
+        let KeptPiece { len, held } = piece;
         self.popped = position + u64::from(len);
         Some((held, Span { position, len }))
     }
@@ -198,7 +198,7 @@ impl<H> RecvQueue<H> {
         ensures popped { IfSome result (λ (piece, span). LosesFirst self.old self.new piece span) }
     {
         let (position, lowest) = pop_least(self.popped, &mut self.first, &mut self.pieces)?;
-        let Piece { len, held } = lowest;
+        let KeptPiece { len, held } = lowest;
         self.popped = position + u64::from(len);
         self.next = first_free(&self.pieces, self.next.max(self.popped), END + 1);
         Some((held, Span { position, len }))

@@ -11,7 +11,7 @@ use Rattle.board_face.specs.declared.views.app.AppSide.{AppSide}
 use Rattle.ref_words.specs.Words.{Words, table_of, free_at, free_of, with_free, with_listed, with_unlisted}
 use Rattle.ref_words.specs.Rule.{BoardRule}
 use Rattle.ref_words.proofs.Laying.{free-word, free-set}
-use Rattle.word_board.specs.Steps.{Makes}
+use Rattle.word_board.specs.Steps.{MakesWords}
 
 module _ (setting : Setting) (words : Words) (j i : ℕ) (at : i ≡ free_at setting j) (within : j < free_words_of setting) where
   pub found-free : {nic : NicSide} {apps : List AppSide} → BoardRule setting words nic apps → get_or (table_of words) i 0 ≡ free_of words j
@@ -19,7 +19,7 @@ module _ (setting : Setting) (words : Words) (j i : ℕ) (at : i ≡ free_at set
 
   -- where a law leaves n there, so does a step that makes m
   pub makes-free : {nic now : NicSide} {apps apps' : List AppSide} → BoardRule setting words nic apps → (m n : ℕ) → m ≡ n
-      → BoardRule setting (with_free words j n) now apps' → Makes setting words i m now apps'
+      → BoardRule setting (with_free words j n) now apps' → MakesWords setting words i m now apps'
   makes-free rule m n is after = record {
     words' = with_free words j n;
     laid = ap (λ x. set (table_of words) x m) at ∙ (ap (λ x. set (table_of words) (free_at setting j) x) is
@@ -41,7 +41,7 @@ module _ (setting : Setting) (words : Words) (b i : ℕ) (at : i ≡ free_at set
 
   -- where a law lists the buffer, setting its bit does
   pub lists-bit : {nic now : NicSide} {apps apps' : List AppSide} → BoardRule setting words nic apps → BoardRule setting (with_listed words b) now apps'
-      → Makes setting words i (bit_or (get_or (table_of words) i 0) (1 * 2 ^ (b % word_bits) % 2 ^ 64)) now apps'
+      → MakesWords setting words i (bit_or (get_or (table_of words) i 0) (1 * 2 ^ (b % word_bits) % 2 ^ 64)) now apps'
   lists-bit rule after = makes-free setting words (b / word_bits) i at within rule _ _
       (ap (bit_or (get_or (table_of words) i 0)) one-bit
       ∙ ap (λ n. bit_or n (2 ^ (b % word_bits))) (found-free setting words (b / word_bits) i at within rule)) after
@@ -49,7 +49,7 @@ module _ (setting : Setting) (words : Words) (b i : ℕ) (at : i ≡ free_at set
   -- where a law doesn't list it any more, clearing its bit does
   pub clears-bit : {nic now : NicSide} {apps apps' : List AppSide} → BoardRule setting words nic apps
       → BoardRule setting (with_unlisted words b) now apps'
-      → Makes setting words i (bit_and (get_or (table_of words) i 0) (bit_not w64 (1 * 2 ^ (b % word_bits) % 2 ^ 64))) now apps'
+      → MakesWords setting words i (bit_and (get_or (table_of words) i 0) (bit_not w64 (1 * 2 ^ (b % word_bits) % 2 ^ 64))) now apps'
   clears-bit rule after = makes-free setting words (b / word_bits) i at within rule _ _
       (ap (λ m. bit_and (get_or (table_of words) i 0) (bit_not w64 m)) one-bit
       ∙ ap (λ n. bit_and n (bit_not w64 (2 ^ (b % word_bits)))) (found-free setting words (b / word_bits) i at within rule)) after

@@ -22,13 +22,13 @@ use Rattle.ref_words.proofs.Roles.{card-is, card-moves, app-is, app-moves}
 use Rattle.ref_words.proofs.Laying.{pool-word, pool-set, user-word, user-set, note-word, note-set, refill-word, refill-set}
 use Rattle.ref_words.proofs.LayingArea.{area-is, area-set}
 use Rattle.word_board.specs.Board.{IsBoard, TheNic, TheApp, card_of, app_of}
-use Rattle.word_board.specs.Steps.{Makes, MayCard, MayApp}
+use Rattle.word_board.specs.Steps.{MakesWords, MayCard, MayApp}
 
 module _ (setting : Setting) (slots id i : ℕ) (f : ℕ → ℕ) (told : ℕ → Type 0) where
   -- A step of the card's seat is allowed where its law holds for all words and applications.
   pub card-step : (mine : NicSide) (next : ℕ → NicSide)
       → ((words : Words) (apps : List AppSide) → BoardRule setting words mine apps → get_or (table_of words) i 0 < 2 ^ 64
-      → Makes setting words i (f (get_or (table_of words) i 0)) (next (get_or (table_of words) i 0)) apps × told (get_or (table_of words) i 0))
+      → MakesWords setting words i (f (get_or (table_of words) i 0)) (next (get_or (table_of words) i 0)) apps × told (get_or (table_of words) i 0))
       → (me : Me (Unit {0}) View) → me ≡ (card_view mine, [])
       → Allows (IsBoard setting) slots id me i f (λ n w. (w ≡ (card_view (next n), me.1)) × told n)
   card-step mine next law me sits =
@@ -59,7 +59,7 @@ module _ (setting : Setting) (slots id i : ℕ) (f : ℕ → ℕ) (told : ℕ �
   pub app-step : (mine : AppSide) (next : ℕ → AppSide) → ((n : ℕ) → (next n).view.app ≡ mine.view.app)
       → ((words : Words) (nic : NicSide) (apps : List AppSide) → BoardRule setting words nic apps → IsApp apps mine.view.app mine
       → get_or (table_of words) i 0 < 2 ^ 64
-      → Makes setting words i (f (get_or (table_of words) i 0)) nic (set apps mine.view.app (next (get_or (table_of words) i 0))) × told (get_or
+      → MakesWords setting words i (f (get_or (table_of words) i 0)) nic (set apps mine.view.app (next (get_or (table_of words) i 0))) × told (get_or
       (table_of words) i 0))
       → (me : Me (Unit {0}) View) → me ≡ (app_view mine, [])
       → Allows (IsBoard setting) slots id me i f (λ n w. (w ≡ (app_view (next n), me.1)) × told n)
@@ -131,7 +131,7 @@ module _ (setting : Setting) (words : Words) (b i : ℕ) (at : i ≡ pool_at set
 
   -- the words with n in the buffer's pool count
   makes-pool : {nic now : NicSide} {apps apps' : List AppSide} → BoardRule setting words nic apps → (m n : ℕ) → m ≡ n
-      → BoardRule setting (with_pool words b n) now apps' → Makes setting words i m now apps'
+      → BoardRule setting (with_pool words b n) now apps' → MakesWords setting words i m now apps'
   makes-pool rule m n is after = record {
     words' = with_pool words b n;
     laid = ap (λ x. set (table_of words) x m) at ∙ (ap (λ x. set (table_of words) (pool_at setting b) x) is
@@ -142,14 +142,14 @@ module _ (setting : Setting) (words : Words) (b i : ℕ) (at : i ≡ pool_at set
 
   -- where a law raises a pool count, adding 1 to its word does
   pub raises : {nic now : NicSide} {apps apps' : List AppSide} → BoardRule setting words nic apps → pool_of words b + 1 < 2 ^ 64
-      → BoardRule setting (with_pool words b (pool_of words b + 1)) now apps' → Makes setting words i ((get_or (table_of words) i 0 + 1) % 2 ^ 64) now apps'
+      → BoardRule setting (with_pool words b (pool_of words b + 1)) now apps' → MakesWords setting words i ((get_or (table_of words) i 0 + 1) % 2 ^ 64) now apps'
   raises rule few after =
       makes-pool rule _ (pool_of words b + 1) (ap (λ x. (x + 1) % 2 ^ 64) (found rule) ∙ mod-small (pool_of words b + 1) few) after
 
   -- where a law takes k of it, subtracting k does
   pub lowers : {nic now : NicSide} {apps apps' : List AppSide} → BoardRule setting words nic apps → (k : ℕ) → 0 < k → k ≤ pool_of words b
       → get_or (table_of words) i 0 < 2 ^ 64 → BoardRule setting (with_pool words b (pool_of words b - k)) now apps'
-      → Makes setting words i ((get_or (table_of words) i 0 + (2 ^ 64 - k)) % 2 ^ 64) now apps'
+      → MakesWords setting words i ((get_or (table_of words) i 0 + (2 ^ 64 - k)) % 2 ^ 64) now apps'
   lowers rule k some enough small after =
       makes-pool rule _ (pool_of words b - k)
       (mod-less (get_or (table_of words) i 0) k some (omega (arith, found rule, enough)) small ∙ ap (λ x. x - k) (found rule)) after
@@ -167,7 +167,7 @@ module _ (setting : Setting) (words : Words) (a b i : ℕ) (at : i ≡ user_at s
   found-user rule = ap (λ x. get_or (table_of words) x 0) at ∙ user-word setting words rule.refs.sizes a b (omega (arith, few, rule.refs.sizes.users)) within
 
   makes-user : {nic now : NicSide} {apps apps' : List AppSide} → BoardRule setting words nic apps → (m n : ℕ) → m ≡ n
-      → BoardRule setting (with_user words a b n) now apps' → Makes setting words i m now apps'
+      → BoardRule setting (with_user words a b n) now apps' → MakesWords setting words i m now apps'
   makes-user rule m n is after = record {
     words' = with_user words a b n;
     laid = ap (λ x. set (table_of words) x m) at ∙ (ap (λ x. set (table_of words) (user_at setting a b) x) is
@@ -178,24 +178,24 @@ module _ (setting : Setting) (words : Words) (a b i : ℕ) (at : i ≡ user_at s
 
   pub raises-user : {nic now : NicSide} {apps apps' : List AppSide} → BoardRule setting words nic apps → user_of words a b + 1 < 2 ^ 64
       → BoardRule setting (with_user words a b (user_of words a b + 1)) now apps'
-      → Makes setting words i ((get_or (table_of words) i 0 + 1) % 2 ^ 64) now apps'
+      → MakesWords setting words i ((get_or (table_of words) i 0 + 1) % 2 ^ 64) now apps'
   raises-user rule small after =
       makes-user rule _ (user_of words a b + 1) (ap (λ x. (x + 1) % 2 ^ 64) (found-user rule) ∙ mod-small (user_of words a b + 1) small) after
 
   pub lowers-user : {nic now : NicSide} {apps apps' : List AppSide} → BoardRule setting words nic apps → 0 < user_of words a b
       → get_or (table_of words) i 0 < 2 ^ 64 → BoardRule setting (with_user words a b (user_of words a b - 1)) now apps'
-      → Makes setting words i ((get_or (table_of words) i 0 + (2 ^ 64 - 1)) % 2 ^ 64) now apps'
+      → MakesWords setting words i ((get_or (table_of words) i 0 + (2 ^ 64 - 1)) % 2 ^ 64) now apps'
   lowers-user rule enough small after =
       makes-user rule _ (user_of words a b - 1)
       (mod-less (get_or (table_of words) i 0) 1 (omega arith) (omega (arith, found-user rule, enough)) small ∙ ap (λ x. x - 1) (found-user rule)) after
 
   -- where a law leaves 0, swapping the word with 0 does
   pub clears-user : {nic now : NicSide} {apps apps' : List AppSide} → BoardRule setting words nic apps → BoardRule setting (with_user words a b 0) now apps'
-      → Makes setting words i 0 now apps'
+      → MakesWords setting words i 0 now apps'
   clears-user rule after = makes-user rule 0 0 refl after
 
   -- where a law changes no word, loading one does
-  pub looks : {now : NicSide} {apps' : List AppSide} → BoardRule setting words now apps' → Makes setting words i (get_or (table_of words) i 0) now apps'
+  pub looks : {now : NicSide} {apps' : List AppSide} → BoardRule setting words now apps' → MakesWords setting words i (get_or (table_of words) i 0) now apps'
   looks after = record { words' = words; laid = set-get_or (table_of words) i 0; roles = refl; rule = after }
 
   pub of-user : {nic : NicSide} {apps : List AppSide} → BoardRule setting words nic apps → (P : ℕ → Type 0) → P (user_of words a b)
@@ -213,7 +213,7 @@ module _ (setting : Setting) (words : Words) (a s i x : ℕ) (at : x ≡ refill_
 
   -- where a law stores a word there, storing it does
   pub stores-refill : {nic now : NicSide} {apps apps' : List AppSide} → BoardRule setting words nic apps → (n : ℕ)
-      → BoardRule setting (with_refill words a s i n) now apps' → Makes setting words x n now apps'
+      → BoardRule setting (with_refill words a s i n) now apps' → MakesWords setting words x n now apps'
   stores-refill rule n after = record {
     words' = with_refill words a s i n;
     laid = ap (λ y. set (table_of words) y n) at
@@ -232,7 +232,7 @@ module _ (setting : Setting) (words : Words) (a s i x : ℕ) (at : x ≡ note_at
       ∙ note-word setting words rule.refs.sizes a s i (omega (arith, few, rule.refs.sizes.notes)) small less
 
   pub stores-note : {nic now : NicSide} {apps apps' : List AppSide} → BoardRule setting words nic apps → (n : ℕ)
-      → BoardRule setting (with_note words a s i n) now apps' → Makes setting words x n now apps'
+      → BoardRule setting (with_note words a s i n) now apps' → MakesWords setting words x n now apps'
   stores-note rule n after = record {
     words' = with_note words a s i n;
     laid = ap (λ y. set (table_of words) y n) at
@@ -243,7 +243,7 @@ module _ (setting : Setting) (words : Words) (a s i x : ℕ) (at : x ≡ note_at
 
 -- where a law changes no word, loading one does
 pub loads : (setting : Setting) (words : Words) (x : ℕ) {now : NicSide} {apps' : List AppSide} → BoardRule setting words now apps'
-    → Makes setting words x (get_or (table_of words) x 0) now apps'
+    → MakesWords setting words x (get_or (table_of words) x 0) now apps'
 loads setting words x after = record { words' = words; laid = set-get_or (table_of words) x 0; roles = refl; rule = after }
 
 -- ---- a word of the area
@@ -254,7 +254,7 @@ module _ (setting : Setting) (words : Words) (i x : ℕ) (at : x ≡ area_at set
 
   -- where a law stores a word there, storing it does
   pub stores-area : {nic now : NicSide} {apps apps' : List AppSide} → BoardRule setting words nic apps → (n : ℕ)
-      → BoardRule setting (with_area words i n) now apps' → Makes setting words x n now apps'
+      → BoardRule setting (with_area words i n) now apps' → MakesWords setting words x n now apps'
   stores-area rule n after = record {
     words' = with_area words i n;
     laid = ap (λ y. set (table_of words) y n) at ∙ area-set setting words rule.refs.sizes i n (omega (arith, less, rule.refs.sizes.area));

@@ -9,7 +9,7 @@ use Rattle.ref_words.specs.Rule.{BoardRule}
 use Rattle.word_board.specs.Board.{TheNic, TheApp}
 
 -- What a step on the word i makes of the board, where it leaves m there: words that stand by the rule to the sides.
-pub record Makes (setting : Setting) (words : Words) (i m : ℕ) (nic : NicSide) (apps : List AppSide) : Type 0 where
+pub record MakesWords (setting : Setting) (words : Words) (i m : ℕ) (nic : NicSide) (apps : List AppSide) : Type 0 where
   pub words' : Words
   pub laid : slice_set (table_of words) i m ≡ table_of words'
   pub roles : words'.roles ≡ words.roles
@@ -22,11 +22,11 @@ word_in words i = slice_index (table_of words) i
 -- The card may step on the word i, so that f of the number there stands there, its side is the next by that number, and this is told.
 abbrev pub MayCard : TheNic → ℕ → (ℕ → ℕ) → (ℕ → NicSide) → (ℕ → Type 0) → Type 0
 MayCard card i f next told = (words : Words) (apps : List AppSide) → BoardRule card.board.setting words card.side apps → word_in words i < 2 ^ 64
-    → Makes card.board.setting words i (f (word_in words i)) (next (word_in words i)) apps × told (word_in words i)
+    → MakesWords card.board.setting words i (f (word_in words i)) (next (word_in words i)) apps × told (word_in words i)
 
 -- So may an application, which stays the one that it is.
 pub record MayApp (app : TheApp) (i : ℕ) (f : ℕ → ℕ) (next : ℕ → AppSide) (told : ℕ → Type 0) : Type 0 where
   pub number : (n : ℕ) → (next n).view.app ≡ app.side.view.app
   pub step : (words : Words) (nic : NicSide) (apps : List AppSide) → BoardRule app.board.setting words nic apps → IsApp apps app.side.view.app app.side
       → word_in words i < 2 ^ 64
-      → Makes app.board.setting words i (f (word_in words i)) nic (slice_set apps app.side.view.app (next (word_in words i))) × told (word_in words i)
+      → MakesWords app.board.setting words i (f (word_in words i)) nic (slice_set apps app.side.view.app (next (word_in words i))) × told (word_in words i)

@@ -2,7 +2,7 @@
 ghost use Rattle.std.specs.Prelude.{◌≡◌};
 ghost use Rattle.word_board.specs.Hands.{AppKeeps};
 
-use crate::app_steps::AppSteps;
+use crate::app_steps::AppStepper;
 use crate::board::WordBoard;
 use crate::hands::{AppHand, slot_after};
 use crate::kinds::{
@@ -17,7 +17,7 @@ use zr_kinds::{Place, Rqe};
 /// An application's seat at a board.
 #[derive(Drop)]
 pub struct AppSeat<'a> {
-    pub(crate) app: AppSteps<'a>,
+    pub(crate) app: AppStepper<'a>,
     pub(crate) hand: AppHand,
 }
 
@@ -33,7 +33,7 @@ impl<'a> Model for AppSeat<'a> {
 }
 
 impl<'a> AppSeat<'a> {
-    pub(crate) fn new(app: AppSteps<'a>, hand: AppHand) -> AppSeat<'a>
+    pub(crate) fn new(app: AppStepper<'a>, hand: AppHand) -> AppSeat<'a>
         requires { AppKeeps app.board.setting app.side hand.note hand.entry hand.raw hand.loans.items hand.filled.items }
         ensures { result ≡ app.entry }
     {

@@ -13,14 +13,14 @@ use std::marker::{Brand, Model, PhantomData};
 
 /// An application's seat, with the words on which it steps.
 #[derive(Drop)]
-pub(crate) struct AppSteps<'a> {
+pub(crate) struct AppStepper<'a> {
     pub(crate) words: &'a SharedWords,
     pub(crate) seat: WordSeat,
     /// Which application it is.
     pub(crate) number: u32,
 }
 
-impl<'a> Model for AppSteps<'a> {
+impl<'a> Model for AppStepper<'a> {
     ghost use Rattle.std.specs.Prelude.{◌≡◌, ◌<◌, []};
     ghost use Rattle.board_face.specs.NicCalls.{apps_of};
     ghost use Rattle.ref_words.specs.Seated.{app_view};
@@ -68,8 +68,8 @@ impl<N: AppAfter> After for OfApp<N> {
     ghost told = { N.told };
 }
 
-impl<'a> AppSteps<'a> {
-    pub(crate) fn new(words: &'a SharedWords, seat: WordSeat, number: u32) -> AppSteps<'a>
+impl<'a> AppStepper<'a> {
+    pub(crate) fn new(words: &'a SharedWords, seat: WordSeat, number: u32) -> AppStepper<'a>
         requires table { seat.table_id ≡ words.now.table.shared.table_id }
         requires app { seat.me ≡ (app_view (app_of seat.me.0), []) }
         requires number { (app_of seat.me.0).view.app ≡ number }
@@ -79,7 +79,7 @@ impl<'a> AppSteps<'a> {
           side = app_of seat.me.0;
         } }
     {
-        AppSteps {
+        AppStepper {
             words,
             seat,
             number,

@@ -12,12 +12,12 @@ use std::marker::{Brand, Model, PhantomData};
 
 /// The card's seat, with the words on which it steps.
 #[derive(Drop)]
-pub(crate) struct CardSteps<'a> {
+pub(crate) struct CardStepper<'a> {
     pub(crate) words: &'a SharedWords,
     pub(crate) seat: WordSeat,
 }
 
-impl<'a> Model for CardSteps<'a> {
+impl<'a> Model for CardStepper<'a> {
     ghost use Rattle.std.specs.Prelude.{◌≡◌, []};
     ghost use Rattle.ref_words.specs.Seated.{card_view};
     ghost use Rattle.word_board.specs.Board.{TheNic, card_of};
@@ -63,8 +63,8 @@ impl<N: CardAfter> After for OfCard<N> {
     ghost told = { N.told };
 }
 
-impl<'a> CardSteps<'a> {
-    pub(crate) fn new(words: &'a SharedWords, seat: WordSeat) -> CardSteps<'a>
+impl<'a> CardStepper<'a> {
+    pub(crate) fn new(words: &'a SharedWords, seat: WordSeat) -> CardStepper<'a>
         requires table { seat.table_id ≡ words.now.table.shared.table_id }
         requires card { seat.me ≡ (card_view (card_of seat.me.0), []) }
         ensures { result ≡ record {
@@ -72,7 +72,7 @@ impl<'a> CardSteps<'a> {
           side = card_of seat.me.0;
         } }
     {
-        CardSteps { words, seat }
+        CardStepper { words, seat }
     }
 
     /// Where each word lies.

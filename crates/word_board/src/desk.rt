@@ -5,8 +5,8 @@ ghost use Rattle.word_board.specs.Board.{new_desk};
 ghost use Rattle.word_board.specs.Desk.{AreOfBoard, AreServed, took_back};
 
 use crate::app_seat::AppSeat;
-use crate::app_steps::AppSteps;
-use crate::card_steps::CardSteps;
+use crate::app_steps::AppStepper;
+use crate::card_steps::CardStepper;
 use crate::hands::{AppHand, MOST_APPS};
 use crate::kinds::{join_seats, look_served};
 use crate::nic_seat::NicSeat;
@@ -96,7 +96,7 @@ impl<'a> NicSeat<'a> {
         ensures known { AreOfBoard desk.new.board.setting desk.new.view }
     {
         let NicSeat { card, hand } = self;
-        let CardSteps { words, seat } = card;
+        let CardStepper { words, seat } = card;
         join_seats(words, &mut desk.seat, seat);
         desk.cache = hand.cache;
         look_served(words, &mut desk.seat);
@@ -113,7 +113,7 @@ impl<'a> AppSeat<'a> {
         ensures known { AreOfBoard desk.new.board.setting desk.new.view }
     {
         let AppSeat { app, .. } = self;
-        let AppSteps { words, seat, .. } = app;
+        let AppStepper { words, seat, .. } = app;
         join_seats(words, &mut desk.seat, seat);
         look_served(words, &mut desk.seat);
     }

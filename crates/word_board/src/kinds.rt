@@ -5,15 +5,15 @@ mod app_counts;
 mod area;
 mod card_counts;
 mod card_entries;
+mod closing;
 mod dealing;
+mod desk_looks;
 mod entries;
 mod free;
-mod given_up;
-mod lessons;
 mod notes;
 mod phases;
 mod reads;
-mod rests;
+mod refill_looks;
 mod returns;
 mod roles;
 mod scrubs;
@@ -28,15 +28,15 @@ pub(crate) use card_counts::{begin_piece, lower_returned, shut_own, take_buffer}
 pub(crate) use card_entries::{
     free_honoured, free_stray, free_void, load_entry, load_last, look_entry, take_entry,
 };
+pub(crate) use closing::{Loaded, honour_entry, list_last_by_app, release_piece, shut_buffer};
 pub(crate) use dealing::next_entry;
+pub(crate) use desk_looks::{look_listed, look_served, look_unheld};
 pub(crate) use entries::{
     give_entry, look_refill, publish_loan, publish_raw, push_raw, store_refill,
 };
 pub(crate) use free::{
     WORD_BITS, list_by_app, list_by_card, look_free_word, pick_buffer, sweep_word,
 };
-pub(crate) use given_up::{Loaded, honour_entry, list_last_by_app, release_piece, shut_buffer};
-pub(crate) use lessons::{look_listed, look_served, look_unheld};
 pub(crate) use notes::{
     look_note, payload_words, publish_linear, publish_note, send_linear, send_note, store_note,
 };
@@ -44,7 +44,7 @@ pub(crate) use phases::{
     abandon_loan, end_card, leave_app, look_end, look_left, look_reserve, seek_note,
 };
 pub(crate) use reads::{load_word, read_text};
-pub(crate) use rests::{fall_quiet, look_any, look_at_last, look_raw, settle};
+pub(crate) use refill_looks::{fall_quiet, look_any, look_at_last, look_raw, settle};
 pub(crate) use returns::give_back;
 pub(crate) use roles::{deal_role, join_seats, take_app_role, take_card_role};
 pub(crate) use scrubs::{scrub_counts, scrub_one};

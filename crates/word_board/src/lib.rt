@@ -20,4 +20,4 @@ pub use app_seat::AppSeat;
 pub use board::WordBoard;
 pub use desk::Desk;
 pub use nic_seat::NicSeat;
-pub use rule::{After, BoardRule, Deal, Deals, Together, Turns};
+pub use rule::{After, Deal, Deals, Together, Turns, WordRule};

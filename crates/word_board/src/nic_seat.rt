@@ -4,7 +4,7 @@ ghost use Rattle.word_board.specs.Board.{IsSetting};
 ghost use Rattle.word_board.specs.Hands.{NicKeeps, KnowsLeft};
 
 use crate::board::WordBoard;
-use crate::card_steps::CardSteps;
+use crate::card_steps::CardStepper;
 use crate::found::{cache_found, cache_if};
 use crate::hands::{NicHand, slot_after};
 use crate::kinds::{
@@ -19,7 +19,7 @@ use zr_kinds::{Note, Place};
 /// The card's seat at a board.
 #[derive(Drop)]
 pub struct NicSeat<'a> {
-    pub(crate) card: CardSteps<'a>,
+    pub(crate) card: CardStepper<'a>,
     pub(crate) hand: NicHand,
 }
 
@@ -37,7 +37,7 @@ impl<'a> Model for NicSeat<'a> {
 }
 
 impl<'a> NicSeat<'a> {
-    pub(crate) fn new(card: CardSteps<'a>, hand: NicHand) -> NicSeat<'a>
+    pub(crate) fn new(card: CardStepper<'a>, hand: NicHand) -> NicSeat<'a>
         requires setting { IsSetting card.board.setting }
         requires keeps { NicKeeps card.board.setting card.side hand.cache.items hand.notes hand.entries }
         requires left { KnowsLeft card.board.setting card.side.view.sent card.side.inside.note_slots hand.filled.counts }

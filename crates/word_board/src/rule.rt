@@ -9,9 +9,9 @@ use std::alloc::Global;
 use std::marker::{Brand, PhantomData};
 
 /// What holds between any two steps.
-pub struct BoardRule;
+pub struct WordRule;
 
-impl TableRule<(), View, Setting> for BoardRule {
+impl TableRule<(), View, Setting> for WordRule {
     ghost use Rattle.ref_words.specs.Seated.{no_role};
     ghost use Rattle.word_board.specs.Board.{IsBoard};
 
@@ -20,7 +20,7 @@ impl TableRule<(), View, Setting> for BoardRule {
     ghost first = { λ _. no_role };
 }
 
-pub(crate) type WordTable = Table<(), View, Setting, BoardRule, Global>;
+pub(crate) type WordTable = Table<(), View, Setting, WordRule, Global>;
 
 pub(crate) type WordSeat = Seat<(), View>;
 

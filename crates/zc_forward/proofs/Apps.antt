@@ -5,14 +5,14 @@ use Rattle.board_face.specs.AppCalls.{AppOnlySaw}
 use Rattle.board_face.specs.AppEvents.{gave}
 use Rattle.board_face.specs.declared.views.app.AppLook.TheVariants.{RefillInUse}
 use Rattle.board_face.specs.declared.views.app.AppView.{AppView}
-use Rattle.zc_poll.specs.declared.to_shelf.Ran.{Ran}
-use Rattle.zc_poll.specs.declared.to_shelf.Ran.TheVariants.{Did, Idle, Ended}
+use Rattle.zc_poll.specs.declared.to_shelf.PollTurn.{PollTurn}
+use Rattle.zc_poll.specs.declared.to_shelf.PollTurn.TheVariants.{Did, Idle, Ended}
 use Rattle.zc_poll.specs.declared.to_shelf.Rests.{Rests}
 use Rattle.zc_poll.specs.declared.to_shelf.Rests.TheVariants.{Stream, RefillFull, NotQuiet, NoNotice}
-use Rattle.zc_forward.specs.Sending.{Outbox, without_uncarried}
-use Rattle.zc_forward.specs.Turns.{Does, GoesBack, HadItem, Idles, Stage, Told, TurnDoes}
+use Rattle.zc_forward.specs.Sending.{OutboxState, without_uncarried}
+use Rattle.zc_forward.specs.Turns.{Does, GoesBack, CarriedItem, Idles, Stage, Told, TurnDoes}
 
-back-app : (loan : Place) (z : Outbox) (old new : AppView) → GoesBack loan z old new → new.app ≡ old.app
+back-app : (loan : Place) (z : OutboxState) (old new : AppView) → GoesBack loan z old new → new.app ≡ old.app
 back-app loan z old new back = ⊎_elim
     (λ (given : (z.tally.due ≡ None) × (new ≡ gave old loan)). ap (λ (v : AppView). v.app) given.1)
     (λ (saw : (z.tally.due ≡ Some loan) × AppOnlySaw RefillInUse old new). ap (λ (v : AppView). v.app) saw.1.event)
@@ -22,7 +22,7 @@ left-app : (aside : Option Place) (v : AppView) → (without_uncarried aside v).
 left-app None v = refl
 left-app (Some loan) v = refl
 
-item-app : (was now : Stage) → HadItem was now → now.view.app ≡ was.view.app
+item-app : (was now : Stage) → CarriedItem was now → now.view.app ≡ was.view.app
 item-app was now had =
     let first : had.view.app ≡ was.view.app = ap (λ (v : AppView). v.app) had.only.view in
     let second : had.read.app ≡ had.view.app = ap (λ (v : AppView). v.app) had.reads.view in
@@ -33,7 +33,7 @@ item-app was now had =
 did-app : (was now : Stage) → Does was now → now.view.app ≡ was.view.app
 did-app was now does = ⊎_elim (λ (told : Told was now). back-app told.sent.loan now.work was.view now.view told.back)
     (λ other. ⊎_elim (λ due. ap (λ (v : AppView). v.app) due.3)
-    (λ step. ⊎_elim (λ (had : HadItem was now). item-app was now had) (λ none. ap (λ (v : AppView). v.app) none.1.view) step.1)
+    (λ step. ⊎_elim (λ (had : CarriedItem was now). item-app was now had) (λ none. ap (λ (v : AppView). v.app) none.1.view) step.1)
     other)
     does
 
@@ -43,7 +43,7 @@ idle-app NoNotice was now idles = ap (λ (v : AppView). v.app) idles.2
 idle-app RefillFull was now idles = ap (λ (v : AppView). v.app) idles.2.event
 idle-app NotQuiet was now idles = ap (λ (v : AppView). v.app) idles.3.event ∙ left-app was.work.uncarried was.view
 
-pub turn-app : (was now : Stage) (ran : Ran) → TurnDoes was now ran → now.view.app ≡ was.view.app
+pub turn-app : (was now : Stage) (ran : PollTurn) → TurnDoes was now ran → now.view.app ≡ was.view.app
 turn-app was now Did does = did-app was now does
 turn-app was now (Idle why) does = idle-app why was now does
 turn-app was now (Ended poured) does = ap (λ (v : AppView). v.app) does.3 ∙ left-app was.work.uncarried was.view

@@ -19,22 +19,22 @@ use Rattle.zc_poll.proofs.EntriesFirst.{first-gone}
 use Rattle.zc_poll.proofs.PourTurns.{same-counts}
 use Rattle.zc_poll.proofs.Pours.{is-no}
 use Rattle.zc_forward.specs.Tags.{Tags}
-use Rattle.zc_forward.specs.Sending.{AreLoans, Outbox, of_one, of_sent, tags_of, without_uncarried}
+use Rattle.zc_forward.specs.Sending.{AreLoans, OutboxState, of_one, of_sent, tags_of, without_uncarried}
 use Rattle.zc_forward.specs.Forwarding.{ForwardStands}
 use Rattle.zc_forward.proofs.Out.{none_out}
 use Rattle.zc_forward.proofs.Live.{IsOut, at-itself, at_place, counted-out, has-out, no-loans, went, went-places, went-many, went-lent}
 
 -- the loan that wasn't carried is out
-pub aside-out : (w : Outbox) (loans : List LentPiece) (loan : Place) → AreLoans w loans → w.uncarried ≡ Some loan → IsOut loan loans
+pub aside-out : (w : OutboxState) (loans : List LentPiece) (loan : Place) → AreLoans w loans → w.uncarried ≡ Some loan → IsOut loan loans
 aside-out w loans loan are aside =
     let here : of_one (at_place loan) w.uncarried ≡ 1 = ap (of_one (at_place loan)) aside ∙ at-itself loan in
     counted-out loan loans (omega (arith, are (at_place loan), here))
 
-pub may-give-up : (w : Outbox) (v : AppView) → AreLoans w v.loans → (aside : Option Place) → w.uncarried ≡ aside → IfSome aside (λ loan. HasLoan v loan)
+pub may-give-up : (w : OutboxState) (v : AppView) → AreLoans w v.loans → (aside : Option Place) → w.uncarried ≡ aside → IfSome aside (λ loan. HasLoan v loan)
 may-give-up w v are None is = tt
 may-give-up w v are (Some loan) is = has-out v loan (aside-out w v.loans loan are is)
 
-module _ (first got : ℕ → Option (List ℕ)) (losses now_losses : ℕ) (w : Outbox) (st now : Desk) (tags : Tags) (v z : AppView)
+module _ (first got : ℕ → Option (List ℕ)) (losses now_losses : ℕ) (w : OutboxState) (st now : Desk) (tags : Tags) (v z : AppView)
     (before : ForwardStands first losses w st tags got now_losses v) (out : w.out ≡ []) (due : w.tally.due ≡ None) (stands : StreamStands now z)
     (desk : now ≡ st) where
   -- nothing is out
@@ -114,7 +114,7 @@ module _ (first got : ℕ → Option (List ℕ)) (losses now_losses : ℕ) (w : 
   ends-pours (Some loan) is view = given-up loan view is
 
 -- and goes on as it was, where the face can't leave
-pub waits-forwards : (first got : ℕ → Option (List ℕ)) (losses now : ℕ) (w : Outbox) (st : Desk) (tags : Tags) (v : AppView)
+pub waits-forwards : (first got : ℕ → Option (List ℕ)) (losses now : ℕ) (w : OutboxState) (st : Desk) (tags : Tags) (v : AppView)
     → PourStands first losses w.tally st got now v → w.out ≡ [] → tags ≡ [] → w.uncarried ≡ None → w.tally.due ≡ None
     → (st.ended ≡ true → w.pressed ≡ true) → ForwardStands first losses w st tags got now v
 waits-forwards first got losses now w st tags v before out told aside due pressed =
@@ -149,7 +149,7 @@ waits-forwards first got losses now w st tags v before out told aside due presse
     }
 
 -- it was never stopped exactly where the stream wasn't
-pub stops : (first got : ℕ → Option (List ℕ)) (losses now : ℕ) (w : Outbox) (st : Desk) (tags : Tags) (v : AppView)
+pub stops : (first got : ℕ → Option (List ℕ)) (losses now : ℕ) (w : OutboxState) (st : Desk) (tags : Tags) (v : AppView)
     → ForwardStands first losses w st tags got now v → (w.tally.stopped ≡ stop.No) ↔ (st.stopped ≡ false)
 stops first got losses now w st tags v before = (
   before.going,

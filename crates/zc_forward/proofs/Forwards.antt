@@ -14,9 +14,9 @@ use Rattle.board_face.specs.declared.views.app.AppView.{AppView}
 use Rattle.flow_queues.specs.Core.{total, IsIn}
 use Rattle.flow_queues.specs.Totals.{lent_len, loan_entries}
 use Rattle.flow_queues.proofs.Tokens.{in-total}
-use Rattle.zc_poll.specs.declared.to_shelf.Ran.{Ran}
-use Rattle.zc_poll.specs.declared.to_shelf.Ran.TheVariants.{Did, Idle, Ended}
-use Rattle.zc_poll.specs.Counting.{Tally}
+use Rattle.zc_poll.specs.declared.to_shelf.PollTurn.{PollTurn}
+use Rattle.zc_poll.specs.declared.to_shelf.PollTurn.TheVariants.{Did, Idle, Ended}
+use Rattle.zc_poll.specs.Counting.{TallyState}
 use Rattle.zc_poll.specs.Standing.{Desk, StreamStands}
 use Rattle.zc_poll.specs.Items.{Given, HasGiven, marks_given}
 use Rattle.zc_poll.specs.Steps.{OnlySteps, Unlent}
@@ -29,7 +29,7 @@ use Rattle.zc_poll.proofs.PourTurns.{same-counts}
 use Rattle.zc_poll.proofs.Pours.{is-no, no-write}
 use Rattle.zc_forward.specs.declared.sent.Sent.{Sent}
 use Rattle.zc_forward.specs.Tags.{FlowsKeep, Tags, TakesTag}
-use Rattle.zc_forward.specs.Sending.{AreLoans, Outbox, of_one, of_sent, tags_of}
+use Rattle.zc_forward.specs.Sending.{AreLoans, OutboxState, of_one, of_sent, tags_of}
 use Rattle.zc_forward.specs.Forwarding.{ForwardStands}
 use Rattle.zc_forward.specs.Turns.{GivesBack, GoesBack, with_due}
 use Rattle.zc_forward.proofs.Live.{IsOut, counted-out, at_place, at-itself, went, went-places, went-many, went-lent, gave-entry, gave-returned}
@@ -37,7 +37,7 @@ use Rattle.zc_forward.proofs.Sents.{still-once}
 
 -- ---- the carrier told, or had none
 
-pub poured-kept : (P : Type 0) (first kept later : ℕ → Option (List ℕ)) (w : Tally) (st : Desk) (v : AppView) (items : List Given) (torn missing : ℕ)
+pub poured-kept : (P : Type 0) (first kept later : ℕ → Option (List ℕ)) (w : TallyState) (st : Desk) (v : AppView) (items : List Given) (torn missing : ℕ)
     → HasPoured P first w st kept v items torn missing → FlowsKeep kept later → HasPoured P first w st later v items torn missing
 poured-kept P first kept later w st v items torn missing poured keeps =
     let Was : ℕ → List ℕ → Type 0 = λ n bytes. IsPoured (P × (n ≡ torn)) v (marks_given n items) (bytes_in n w.counts) bytes in
@@ -62,7 +62,7 @@ poured-kept P first kept later w st v items torn missing poured keeps =
           (poured.shelved n) (Gained-nothing (kept n) (later n) (λ more. more ≡ []) (keeps n) refl);
     }
 
-pub kept-forwards : (first got later : ℕ → Option (List ℕ)) (losses now after : ℕ) (w : Outbox) (st : Desk) (tags : Tags) (v : AppView)
+pub kept-forwards : (first got later : ℕ → Option (List ℕ)) (losses now after : ℕ) (w : OutboxState) (st : Desk) (tags : Tags) (v : AppView)
     → ForwardStands first losses w st tags got now v → FlowsKeep got later → after ≡ now → ForwardStands first losses w st tags later after v
 kept-forwards first got later losses now after w st tags v before keeps same = record {
   items = before.items;
@@ -89,21 +89,21 @@ kept-forwards first got later losses now after w st tags v before keeps same = r
 }
 
 -- of what is due and what stopped it nothing was poured
-pub poured-as : (P Q : Type 0) (first kept : ℕ → Option (List ℕ)) (u w : Tally) (st : Desk) (v : AppView) (items : List Given) (torn missing : ℕ)
+pub poured-as : (P Q : Type 0) (first kept : ℕ → Option (List ℕ)) (u w : TallyState) (st : Desk) (v : AppView) (items : List Given) (torn missing : ℕ)
     → HasPoured P first u st kept v items torn missing → SameCounts u w → (P → Q) → HasPoured Q first w st kept v items torn missing
 poured-as P Q first kept u w st v items torn missing poured work implies =
     poured-moved P Q first kept u w st st v v items torn missing poured work poured.given (sees-still v) refl refl refl poured.back refl implies
 
 -- the tag of a loan was told, which is due from now on
-pub told-forwards : (first got : ℕ → Option (List ℕ)) (losses now : ℕ) (w z : Outbox) (st : Desk) (was tags : Tags) (tag : ℕ) (loan : Place) (v : AppView)
+pub told-forwards : (first got : ℕ → Option (List ℕ)) (losses now : ℕ) (w z : OutboxState) (st : Desk) (was tags : Tags) (tag : ℕ) (loan : Place) (v : AppView)
     → ForwardStands first losses w st was got now v → TakesTag was tags (Some tag) → w.tally.due ≡ None → tags_of z.out ≡ remove_entry (nat_eq tag) (tags_of w.out)
     → ((f : Place → ℕ) → f loan + of_sent f z.out ≡ of_sent f w.out) → length z.out ≤ length w.out → z ≡ record w { out = z.out }
     → ForwardStands first losses (with_due z (Some loan)) st tags got now v
 told-forwards first got losses now w z st was tags tag loan v before took due gone sums few same =
-    let tally : z.tally ≡ w.tally = ap (λ (o : Outbox). o.tally) same in
-    let aside : z.uncarried ≡ w.uncarried = ap (λ (o : Outbox). o.uncarried) same in
-    let pressed : z.pressed ≡ w.pressed = ap (λ (o : Outbox). o.pressed) same in
-    let stopped : z.tally.stopped ≡ w.tally.stopped = ap (λ (t : Tally). t.stopped) tally in
+    let tally : z.tally ≡ w.tally = ap (λ (o : OutboxState). o.tally) same in
+    let aside : z.uncarried ≡ w.uncarried = ap (λ (o : OutboxState). o.uncarried) same in
+    let pressed : z.pressed ≡ w.pressed = ap (λ (o : OutboxState). o.pressed) same in
+    let stopped : z.tally.stopped ≡ w.tally.stopped = ap (λ (t : TallyState). t.stopped) tally in
     record {
       items = before.items;
       torn = before.torn;
@@ -112,12 +112,12 @@ told-forwards first got losses now w z st was tags tag loan v before took due go
       poured = poured-as (w.tally.stopped ≡ stop.Write) (z.tally.stopped ≡ stop.Write) first got w.tally (record z.tally { due = Some loan }) st v before.items
           before.torn before.missing before.poured
           (record {
-            counts = ap (λ (t : Tally). t.counts) tally;
-            written = ap (λ (t : Tally). t.written) tally;
-            loans = ap (λ (t : Tally). t.loans) tally;
-            copied = ap (λ (t : Tally). t.copied) tally;
-            flows = ap (λ (t : Tally). t.flows) tally;
-            room = ap (λ (t : Tally). t.room) tally;
+            counts = ap (λ (t : TallyState). t.counts) tally;
+            written = ap (λ (t : TallyState). t.written) tally;
+            loans = ap (λ (t : TallyState). t.loans) tally;
+            copied = ap (λ (t : TallyState). t.copied) tally;
+            flows = ap (λ (t : TallyState). t.flows) tally;
+            room = ap (λ (t : TallyState). t.room) tally;
           })
           (λ write. stopped ∙ write);
       sent = took.1 ∙ ap (remove_entry (nat_eq tag)) before.sent ∙ sym gone;
@@ -145,7 +145,7 @@ told-forwards first got losses now w z st was tags tag loan v before took due go
 
 -- ---- a look, and the loan that is due
 
-pub saw-forwards : (first got : ℕ → Option (List ℕ)) (losses now_losses : ℕ) (w : Outbox) (st now : Desk) (tags : Tags) (v z : AppView) (look : AppLook)
+pub saw-forwards : (first got : ℕ → Option (List ℕ)) (losses now_losses : ℕ) (w : OutboxState) (st now : Desk) (tags : Tags) (v z : AppView) (look : AppLook)
     → ForwardStands first losses w st tags got now_losses v → z ≡ app_saw v look → StreamStands now z → now ≡ st
     → ForwardStands first losses w now tags got now_losses z
 saw-forwards first got losses now_losses w st now tags v z look before view stands desk =
@@ -179,12 +179,12 @@ saw-forwards first got losses now_losses w st now tags v z look before view stan
     })
 
 -- the loan that is due is out
-pub due-out : (w : Outbox) (loans : List LentPiece) (loan : Place) → AreLoans w loans → w.tally.due ≡ Some loan → IsOut loan loans
+pub due-out : (w : OutboxState) (loans : List LentPiece) (loan : Place) → AreLoans w loans → w.tally.due ≡ Some loan → IsOut loan loans
 due-out w loans loan are due =
     let here : of_one (at_place loan) w.tally.due ≡ 1 = ap (of_one (at_place loan)) due ∙ at-itself loan in
     counted-out loan loans (omega (arith, are (at_place loan), here))
 
-module _ (first got : ℕ → Option (List ℕ)) (losses now_losses : ℕ) (w : Outbox) (st now : Desk) (tags : Tags) (v z : AppView) (loan : Place)
+module _ (first got : ℕ → Option (List ℕ)) (losses now_losses : ℕ) (w : OutboxState) (st now : Desk) (tags : Tags) (v z : AppView) (loan : Place)
     (before : ForwardStands first losses (with_due w (Some loan)) st tags got now_losses v) (due : w.tally.due ≡ None) (view : z ≡ gave v loan)
     (stands : StreamStands now z) (desk : now ≡ st) where
   out : IsOut loan v.loans
@@ -256,7 +256,7 @@ module _ (first got : ℕ → Option (List ℕ)) (losses now_losses : ℕ) (w : 
 
 -- ---- a step that gave no item
 
-module _ (first got : ℕ → Option (List ℕ)) (losses now_losses : ℕ) (u w : Outbox) (st now : Desk) (tags : Tags) (v z : AppView)
+module _ (first got : ℕ → Option (List ℕ)) (losses now_losses : ℕ) (u w : OutboxState) (st now : Desk) (tags : Tags) (v z : AppView)
     (before : ForwardStands first losses u st tags got now_losses v) (unlent : Unlent st now v z) (only : OnlySteps v z) (stands : StreamStands now z)
     (work : SameCounts u.tally w.tally) (due : w.tally.due ≡ u.tally.due) (sent : w.out ≡ u.out) (aside : w.uncarried ≡ u.uncarried)
     (pressed : now.ended ≡ true → w.pressed ≡ true) where
@@ -349,14 +349,14 @@ module _ (first got : ℕ → Option (List ℕ)) (losses now_losses : ℕ) (u w 
       }
 
 -- a loan whose tag is out is out
-pub sent-out : (w : Outbox) (loans : List LentPiece) (s : Sent) → AreLoans w loans → IsIn s w.out → IsOut s.loan loans
+pub sent-out : (w : OutboxState) (loans : List LentPiece) (s : Sent) → AreLoans w loans → IsIn s w.out → IsOut s.loan loans
 sent-out w loans s are there =
     let here : at_place s.loan s.loan ≤ of_sent (at_place s.loan) w.out = in-total (λ (x : Sent). at_place s.loan x.loan) s w.out there in
     counted-out s.loan loans (omega (arith, are (at_place s.loan), here, at-itself s.loan))
 
-pub goes-back : (loan : Place) (w z : Outbox) (old new : AppView) (ran : Ran) → GivesBack loan w z old new ran → w.tally.due ≡ None → GoesBack loan z old new
-goes-back loan w z old new Did back none = inl (ap (λ (o : Outbox). o.tally.due) back.0 ∙ none, back.1)
-goes-back loan w z old new (Idle why) back none = inr (ap (λ (o : Outbox). o.tally.due) back.1, back.2)
+pub goes-back : (loan : Place) (w z : OutboxState) (old new : AppView) (ran : PollTurn) → GivesBack loan w z old new ran → w.tally.due ≡ None → GoesBack loan z old new
+goes-back loan w z old new Did back none = inl (ap (λ (o : OutboxState). o.tally.due) back.0 ∙ none, back.1)
+goes-back loan w z old new (Idle why) back none = inr (ap (λ (o : OutboxState). o.tally.due) back.1, back.2)
 goes-back loan w z old new (Ended poured) back none = absurd back
 
 pub if-none : (told : Option ℕ) (P : Type 0) → IfNone told P → told ≡ None → P

@@ -15,12 +15,12 @@ use Rattle.zc_poll.specs.Pouring.{IsPoured}
 use Rattle.zc_poll.proofs.Whole.{items-front}
 use Rattle.zc_forward.specs.declared.sent.Sent.{Sent}
 use Rattle.zc_forward.specs.Tags.{Tags}
-use Rattle.zc_forward.specs.Sending.{AreLoans, Outbox}
+use Rattle.zc_forward.specs.Sending.{AreLoans, OutboxState}
 use Rattle.zc_forward.specs.Forwarding.{ForwardStands}
 use Rattle.zc_forward.proofs.Live.{has-out}
 use Rattle.zc_forward.proofs.Forwards.{sent-out}
 
-pub front-of : (first got : ℕ → Option (List ℕ)) (losses now : ℕ) (w : Outbox) (st : Desk) (tags : Tags) (v : AppView)
+pub front-of : (first got : ℕ → Option (List ℕ)) (losses now : ℕ) (w : OutboxState) (st : Desk) (tags : Tags) (v : AppView)
     → ForwardStands first losses w st tags got now v → FramesStandTogether v.taken → HasFronts first got v
 front-of first got losses now w st tags v before whole n =
     let marks : List Mark = marks_given n before.items in
@@ -35,7 +35,7 @@ front-of first got losses now w st tags v before whole n =
     })
     (before.poured.shelved n)
 
-pub all-out : (w : Outbox) (v : AppView) → AreLoans w v.loans → (out : List Sent) → ((s : Sent) → IsIn s out → IsIn s w.out)
+pub all-out : (w : OutboxState) (v : AppView) → AreLoans w v.loans → (out : List Sent) → ((s : Sent) → IsIn s out → IsIn s w.out)
     → Each (λ s. HasLoan v s.loan) out
 all-out w v are [] within = tt
 all-out w v are (s ∷ out) within =

@@ -17,8 +17,8 @@ use Rattle.flow_queues.specs.Totals.{lent_len, loan_entries}
 use Rattle.flow_queues.specs.Shelves.{AreOfOneLoan, kept_loans}
 use Rattle.flow_queues.specs.Ends.{bytes_in}
 use Rattle.flow_queues.proofs.Tokens.{loan-some, total-append}
-use Rattle.zc_poll.specs.Counting.{Tally, AddsTo, item_counted}
-use Rattle.zc_poll.specs.declared.counting.Tally.{Tally as Counts}
+use Rattle.zc_poll.specs.Counting.{TallyState, AddsTo, item_counted}
+use Rattle.zc_poll.specs.declared.counting.PourTally.{PourTally as Counts}
 use Rattle.zc_poll.specs.TallyOf.{tally_of}
 use Rattle.zc_poll.specs.declared.step.Lent.{Lent}
 use Rattle.zc_poll.specs.Standing.{Desk, StreamStands}
@@ -34,7 +34,7 @@ use Rattle.zc_poll.proofs.Appended.{appended, at-flow}
 use Rattle.zc_poll.proofs.Pours.{is-no, no-write, known-at}
 use Rattle.zc_forward.specs.declared.sent.Sent.{Sent}
 use Rattle.zc_forward.specs.Tags.{FlowsKeep, Tags}
-use Rattle.zc_forward.specs.Sending.{Outbox, most_out, of_one, of_sent, tags_of}
+use Rattle.zc_forward.specs.Sending.{OutboxState, most_out, of_one, of_sent, tags_of}
 use Rattle.zc_forward.specs.GivenUp.{GaveUp}
 use Rattle.zc_forward.specs.Forwarding.{ForwardStands}
 use Rattle.zc_forward.proofs.Forwards.{poured-kept}
@@ -77,7 +77,7 @@ module _ (y x : AppView) (up : GaveUp y x) (none : x.loans ≡ []) (all : loan_e
     reads = ap (λ (k : AppView). k.reads) up.view ∙ sym (append-nil y.reads);
   }
 
-  pub up-poured : (P Q : Type 0) (first kept : ℕ → Option (List ℕ)) (u w : Tally) (st now : Desk) (items : List Given) (torn missing : ℕ)
+  pub up-poured : (P Q : Type 0) (first kept : ℕ → Option (List ℕ)) (u w : TallyState) (st now : Desk) (items : List Given) (torn missing : ℕ)
       → HasPoured P first u st kept y items torn missing → SameCounts u w → HasGiven items now.flows x.taken → (P → Q)
       → HasPoured Q first w now kept x items torn missing
   up-poured P Q first kept u w st now items torn missing poured work given implies =
@@ -96,7 +96,7 @@ module _ (y x : AppView) (up : GaveUp y x) (none : x.loans ≡ []) (all : loan_e
 
 -- ---- an item came
 
-module _ (first kept : ℕ → Option (List ℕ)) (losses losses_now : ℕ) (u : Outbox) (st now : Desk) (tags : Tags) (v x : AppView)
+module _ (first kept : ℕ → Option (List ℕ)) (losses losses_now : ℕ) (u : OutboxState) (st now : Desk) (tags : Tags) (v x : AppView)
     (before : ForwardStands first losses u st tags kept losses_now v) (due : u.tally.due ≡ None) (lent : Lent) (item : IsItem st now v x lent) (only : OnlySteps v x)
     (stands : StreamStands now x) where
   pub nothing : u.tally.stopped ≡ stop.No
@@ -134,20 +134,20 @@ module _ (first kept : ℕ → Option (List ℕ)) (losses losses_now : ℕ) (u :
   counted = item-poured (u.tally.stopped ≡ stop.Write) (u.tally.stopped ≡ stop.Write) first kept u.tally st now v x before.items before.torn before.missing before.poured
       (before.whole nothing) (no-write u.tally.stopped nothing) lent item only stands
 
-  module _ (w : Tally) (roomy : Roomy (item_counted u.tally lent.copied) w) (adds : AddsTo lent.flow 0 u.tally.counts w.counts) where
+  module _ (w : TallyState) (roomy : Roomy (item_counted u.tally lent.copied) w) (adds : AddsTo lent.flow 0 u.tally.counts w.counts) where
     ready : HasPoured (u.tally.stopped ≡ stop.Write) first w now kept x all_items lent.flow item.lending.loan.len
     ready = poured-roomy (u.tally.stopped ≡ stop.Write) first kept (item_counted u.tally lent.copied) w now x all_items lent.flow item.lending.loan.len counted roomy
         lent.flow adds has-marks
 
     -- there was no memory to count it, so it isn't carried
-    pub wants : (z : AppView) (later : Desk) (k : Outbox) → z ≡ record x { helds = [] }
+    pub wants : (z : AppView) (later : Desk) (k : OutboxState) → z ≡ record x { helds = [] }
         → ((items : List Given) → HasGiven items now.flows x.taken → HasGiven items later.flows z.taken) → StreamStands later z
         → later.stopped ≡ true → later.ended ≡ now.ended
         → k.tally ≡ record w { stopped = stop.Memory } → k.out ≡ u.out → k.uncarried ≡ Some lent.loan
         → ForwardStands first losses k later tags kept losses_now z
     wants z later k view goes on stopped ended tally out aside =
-        let why : k.tally.stopped ≡ stop.Memory = ap (λ (t : Tally). t.stopped) tally in
-        let none : k.tally.due ≡ None = ap (λ (t : Tally). t.due) tally ∙ ap (λ (t : Tally). t.due) roomy.same ∙ due in
+        let why : k.tally.stopped ≡ stop.Memory = ap (λ (t : TallyState). t.stopped) tally in
+        let none : k.tally.due ≡ None = ap (λ (t : TallyState). t.due) tally ∙ ap (λ (t : TallyState). t.due) roomy.same ∙ due in
         record {
           items = all_items;
           torn = lent.flow;
@@ -156,12 +156,12 @@ module _ (first kept : ℕ → Option (List ℕ)) (losses losses_now : ℕ) (u :
           poured = poured-moved (u.tally.stopped ≡ stop.Write) (k.tally.stopped ≡ stop.Write) first kept w k.tally now later x z all_items lent.flow
               item.lending.loan.len ready
               (record {
-                counts = ap (λ (t : Tally). t.counts) tally;
-                written = ap (λ (t : Tally). t.written) tally;
-                loans = ap (λ (t : Tally). t.loans) tally;
-                copied = ap (λ (t : Tally). t.copied) tally;
-                flows = ap (λ (t : Tally). t.flows) tally;
-                room = ap (λ (t : Tally). t.room) tally;
+                counts = ap (λ (t : TallyState). t.counts) tally;
+                written = ap (λ (t : TallyState). t.written) tally;
+                loans = ap (λ (t : TallyState). t.loans) tally;
+                copied = ap (λ (t : TallyState). t.copied) tally;
+                flows = ap (λ (t : TallyState). t.flows) tally;
+                room = ap (λ (t : TallyState). t.room) tally;
               })
               (goes all_items ready.given)
               (record {
@@ -204,7 +204,7 @@ module _ (first kept : ℕ → Option (List ℕ)) (losses losses_now : ℕ) (u :
           still = λ _. before.still (no-write u.tally.stopped nothing);
         }
 
-    module _ (after : ℕ → Option (List ℕ)) (y : AppView) (k : Tally) (done : ℕ) (reads : OnlyReads x y) (counted_to : done ≤ lent.loan.len)
+    module _ (after : ℕ → Option (List ℕ)) (y : AppView) (k : TallyState) (done : ℕ) (reads : OnlyReads x y) (counted_to : done ≤ lent.loan.len)
         (gained : (lending : Lending) → lending.loan ≡ lent.loan → lending.note < length x.taken → IsIn (lent_piece x.taken lending) x.loans
         → Gained (kept lent.flow) (after lent.flow) (IsReadOf x.taken y.reads lending done lent.loan.len))
         (others : (n : ℕ) → n ≢ lent.flow → Keeps (kept n) (after n)) (same : k ≡ record w { counts = k.counts; written = min (w.written + done) (2 ^ 64 - 1) })
@@ -237,19 +237,19 @@ module _ (first kept : ℕ → Option (List ℕ)) (losses losses_now : ℕ) (u :
       still-all = subst (λ (q : AppView). loan_entries q ≡ length q.returned) (sym reads.view) all
 
       work-due : k.due ≡ None
-      work-due = ap (λ (q : Tally). q.due) same ∙ ap (λ (q : Tally). q.due) roomy.same ∙ due
+      work-due = ap (λ (q : TallyState). q.due) same ∙ ap (λ (q : TallyState). q.due) roomy.same ∙ due
 
       work-no : k.stopped ≡ stop.No
-      work-no = ap (λ (q : Tally). q.stopped) same ∙ ap (λ (q : Tally). q.stopped) roomy.same ∙ nothing
+      work-no = ap (λ (q : TallyState). q.stopped) same ∙ ap (λ (q : TallyState). q.stopped) roomy.same ∙ nothing
 
       -- the carrier failed, and all is given up
-      pub fails : (end : ℕ → Option (List ℕ)) (faults : ℕ) (mid z : AppView) (later : Desk) (m : Outbox) → FlowsKeep after end → GaveUp y mid → z ≡ record mid { helds = [] } → z.loans ≡ []
+      pub fails : (end : ℕ → Option (List ℕ)) (faults : ℕ) (mid z : AppView) (later : Desk) (m : OutboxState) → FlowsKeep after end → GaveUp y mid → z ≡ record mid { helds = [] } → z.loans ≡ []
           → ((items : List Given) → HasGiven items now.flows y.taken → HasGiven items later.flows z.taken) → StreamStands later z → later.stopped ≡ true
           → m.tally ≡ record k { stopped = stop.Write } → m.out ≡ [] → m.uncarried ≡ u.uncarried → (later.ended ≡ true → m.pressed ≡ true)
           → losses_now ≤ faults → Rose losses_now faults
           → ForwardStands first losses m later [] end faults z
       fails end faults mid z later m keeps up view none goes on stopped tally out aside pressed grows rose =
-          let why : m.tally.stopped ≡ stop.Write = ap (λ (t : Tally). t.stopped) tally in
+          let why : m.tally.stopped ≡ stop.Write = ap (λ (t : TallyState). t.stopped) tally in
           let mid_none : mid.loans ≡ [] = sym (ap (λ (q : AppView). q.loans) view) ∙ none in
           let mid_given : HasGiven all_items now.flows mid.taken =
           subst (HasGiven all_items now.flows) (sym (ap (λ (q : AppView). q.taken) up.view)) written.given in
@@ -257,12 +257,12 @@ module _ (first kept : ℕ → Option (List ℕ)) (losses losses_now : ℕ) (u :
           up-poured y mid up mid_none still-all (done < item.lending.loan.len) (m.tally.stopped ≡ stop.Write) first after k m.tally now now all_items lent.flow
           (item.lending.loan.len - done) written
           (record {
-            counts = ap (λ (t : Tally). t.counts) tally;
-            written = ap (λ (t : Tally). t.written) tally;
-            loans = ap (λ (t : Tally). t.loans) tally;
-            copied = ap (λ (t : Tally). t.copied) tally;
-            flows = ap (λ (t : Tally). t.flows) tally;
-            room = ap (λ (t : Tally). t.room) tally;
+            counts = ap (λ (t : TallyState). t.counts) tally;
+            written = ap (λ (t : TallyState). t.written) tally;
+            loans = ap (λ (t : TallyState). t.loans) tally;
+            copied = ap (λ (t : TallyState). t.copied) tally;
+            flows = ap (λ (t : TallyState). t.flows) tally;
+            room = ap (λ (t : TallyState). t.room) tally;
           })
           mid_given (λ _. why) in
           record {
@@ -292,7 +292,7 @@ module _ (first kept : ℕ → Option (List ℕ)) (losses losses_now : ℕ) (u :
             few = omega (arith, ap length out);
             loans = λ f.
                 let l : total (λ (p : LentPiece). f p.place) z.loans ≡ 0 = ap (total (λ (p : LentPiece). f p.place)) none in
-                let d : of_one f m.tally.due ≡ 0 = ap (of_one f) (ap (λ (t : Tally). t.due) tally ∙ work-due) in
+                let d : of_one f m.tally.due ≡ 0 = ap (of_one f) (ap (λ (t : TallyState). t.due) tally ∙ work-due) in
                 let a : of_one f m.uncarried ≡ 0 = ap (of_one f) (aside ∙ before.carried nothing) in
                 let s : of_sent f m.out ≡ 0 = ap (of_sent f) out in
                 omega (arith, l, d, a, s);
@@ -311,11 +311,11 @@ module _ (first kept : ℕ → Option (List ℕ)) (losses losses_now : ℕ) (u :
           }
 
       -- all was carried
-      pub carries : (faults tag : ℕ) (m : Outbox) → m.tally ≡ k → m.out ≡ u.out ++ record { tag = tag; flow = lent.flow; loan = lent.loan } ∷ []
+      pub carries : (faults tag : ℕ) (m : OutboxState) → m.tally ≡ k → m.out ≡ u.out ++ record { tag = tag; flow = lent.flow; loan = lent.loan } ∷ []
           → m.uncarried ≡ u.uncarried → lookup (nat_eq tag) tags ≡ None → length u.out < most_out → done ≡ lent.loan.len → StreamStands now y → faults ≡ losses_now
           → ForwardStands first losses m now (tags ++ (tag, lent.flow) ∷ []) after faults y
       carries faults tag m tally out aside free room full on same_faults =
-          let stopped_is : m.tally.stopped ≡ stop.No = ap (λ (q : Tally). q.stopped) tally ∙ work-no in
+          let stopped_is : m.tally.stopped ≡ stop.No = ap (λ (q : TallyState). q.stopped) tally ∙ work-no in
           let none : item.lending.loan.len - done ≡ 0 = omega (arith, full, len_is) in
           let sent : Sent = record { tag = tag; flow = lent.flow; loan = lent.loan } in
           record {
@@ -323,7 +323,7 @@ module _ (first kept : ℕ → Option (List ℕ)) (losses losses_now : ℕ) (u :
             torn = lent.flow;
             missing = item.lending.loan.len - done;
             stands = on;
-            poured = subst (λ (t : Tally). HasPoured (t.stopped ≡ stop.Write) first t now after y all_items lent.flow (item.lending.loan.len - done)) (sym tally)
+            poured = subst (λ (t : TallyState). HasPoured (t.stopped ≡ stop.Write) first t now after y all_items lent.flow (item.lending.loan.len - done)) (sym tally)
                 (poured-moved (done < item.lending.loan.len) (k.stopped ≡ stop.Write) first after k k now now y y all_items lent.flow
                 (item.lending.loan.len - done) written
                 (record { counts = refl; written = refl; loans = refl; copied = refl; flows = refl; room = refl })
@@ -335,7 +335,7 @@ module _ (first kept : ℕ → Option (List ℕ)) (losses losses_now : ℕ) (u :
             loans = λ f.
                 let now_out : total (λ (l : LentPiece). f l.place) y.loans ≡ f lent.loan + of_sent f u.out =
                 ap (λ (q : AppView). total (λ (l : LentPiece). f l.place) q.loans) reads.view ∙ out-now f in
-                let d : of_one f m.tally.due ≡ 0 = ap (of_one f) (ap (λ (t : Tally). t.due) tally ∙ work-due) in
+                let d : of_one f m.tally.due ≡ 0 = ap (of_one f) (ap (λ (t : TallyState). t.due) tally ∙ work-due) in
                 let a : of_one f m.uncarried ≡ 0 = ap (of_one f) (aside ∙ before.carried nothing) in
                 let s : of_sent f m.out ≡ of_sent f (u.out ++ sent ∷ []) = ap (of_sent f) out in
                 let p : of_sent f (u.out ++ sent ∷ []) ≡ of_sent f u.out + (f lent.loan + 0) = total-append (λ (s : Sent). f s.loan) u.out (sent ∷ []) in
@@ -359,7 +359,7 @@ module _ (first kept : ℕ → Option (List ℕ)) (losses losses_now : ℕ) (u :
 pub is-roomy : (u v w : Counts) (copied : Bool) → tally_of v ≡ item_counted (tally_of u) copied → w ≡ record v { counts = w.counts; flows = w.flows }
     → length w.counts.entries ≤ vec_capacity w.flows → w.flows.items ≡ [] → Roomy (item_counted (tally_of u) copied) (tally_of w)
 is-roomy u v w copied counted same room empty = record {
-  same = ap tally_of same ∙ ap (λ (t : Tally). record t { counts = w.counts.entries; flows = w.flows.items; room = vec_capacity w.flows }) counted;
+  same = ap tally_of same ∙ ap (λ (t : TallyState). record t { counts = w.counts.entries; flows = w.flows.items; room = vec_capacity w.flows }) counted;
   room = room;
   empty = empty;
 }

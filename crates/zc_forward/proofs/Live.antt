@@ -53,17 +53,17 @@ out-has place (l ∷ loans) (suc k, below, is) =
 -- ---- it goes
 
 -- the loan at a place went
-pub record Went (v : AppView) (loan : Place) : Type 0 where
+pub record LoanWent (v : AppView) (loan : Place) : Type 0 where
   pub piece : LentPiece
   pub at : piece.place ≡ loan
   pub loans : (f : LentPiece → ℕ) → total f (abandoned v loan).loans + f piece ≡ total f v.loans
   pub returned : (abandoned v loan).returned ≡ v.returned ++ piece ∷ []
 
 module _ (v : AppView) (apart : LieApart v) (loan : Place) (out : IsOut loan v.loans) where
-  pub went : Went v loan
+  pub went : LoanWent v loan
   went =
       let given = is-given v apart out.piece out.there in
-      subst (Went v) out.at (record { piece = out.piece; at = refl; loans = given.loans; returned = given.returned })
+      subst (LoanWent v) out.at (record { piece = out.piece; at = refl; loans = given.loans; returned = given.returned })
 
   pub went-places : (f : Place → ℕ) → total (λ (l : LentPiece). f l.place) (abandoned v loan).loans + f loan ≡ total (λ (l : LentPiece). f l.place) v.loans
   went-places f = let same : f went.piece.place ≡ f loan = ap f went.at in omega (arith, same, went.loans (λ (l : LentPiece). f l.place))

@@ -11,10 +11,10 @@ use Rattle.zc_poll.specs.Standing.{Desk, StreamStands}
 use Rattle.zc_poll.specs.Items.{Given}
 use Rattle.zc_poll.specs.Pouring.{HasPoured}
 use Rattle.zc_forward.specs.Tags.{Tags}
-use Rattle.zc_forward.specs.Sending.{AreLoans, Outbox, most_out, of_one, tags_of}
+use Rattle.zc_forward.specs.Sending.{AreLoans, OutboxState, most_out, of_one, tags_of}
 
 -- Between two turns. The carrier had got `first` and has `got` now; its count of faults was `losses` and is `losses_now`.
-pub record ForwardStands (first : ℕ → Option (List ℕ)) (losses : ℕ) (w : Outbox) (st : Desk) (tags : Tags) (got : ℕ → Option (List ℕ))
+pub record ForwardStands (first : ℕ → Option (List ℕ)) (losses : ℕ) (w : OutboxState) (st : Desk) (tags : Tags) (got : ℕ → Option (List ℕ))
     (losses_now : ℕ) (v : AppView) : Type 0 where
   pub items : List Given
   -- the item at which it was stopped: its flow, and how many of its bytes aren't counted

@@ -5,7 +5,7 @@ use Rattle.board_face.specs.AppEvents.{abandoned}
 use Rattle.board_face.specs.declared.views.app.LentPiece.{LentPiece}
 use Rattle.board_face.specs.declared.views.app.AppView.{AppView}
 use Rattle.flow_queues.specs.Core.{total}
-use Rattle.zc_poll.specs.Counting.{Tally}
+use Rattle.zc_poll.specs.Counting.{TallyState}
 use Rattle.zc_poll.specs.declared.step.Waits.{Waits}
 use Rattle.zc_poll.specs.declared.step.Waits.TheVariants.{NoNote, ReserveHeld, Enough}
 use Rattle.zc_forward.specs.declared.sent.Sent.{Sent}
@@ -16,9 +16,9 @@ abbrev pub tags_of : List Sent → Tags
 tags_of out = map (λ s. (s.tag, s.flow)) out
 
 -- what forwarding keeps beside its stream and its carrier
-pub record Outbox : Type 0 where
+pub record OutboxState : Type 0 where
   -- its counts, and the loan whose notice came and that is to be given back
-  pub tally : Tally
+  pub tally : TallyState
   -- the loans whose tags are out
   pub out : List Sent
   -- a loan that wasn't carried for want of memory
@@ -31,7 +31,7 @@ abbrev pub most_out : ℕ
 most_out = 64
 
 -- whether the next notice is wanted soon
-abbrev pub is_urgent : Outbox → Bool
+abbrev pub is_urgent : OutboxState → Bool
 is_urgent w = w.pressed || (length w.out == most_out)
 
 abbrev pub is_held : Waits → Bool
@@ -47,7 +47,7 @@ abbrev pub of_sent : (Place → ℕ) → List Sent → ℕ
 of_sent f out = total (λ s. f s.loan) out
 
 -- The loans that are out are those that are kept, each once: by their tags, and one that is due, and one that wasn't carried.
-abbrev pub AreLoans : Outbox → List LentPiece → Type 0
+abbrev pub AreLoans : OutboxState → List LentPiece → Type 0
 AreLoans w loans = (f : Place → ℕ) → total (λ (l : LentPiece). f l.place) loans ≡ of_one f w.tally.due + of_one f w.uncarried + of_sent f w.out
 
 -- with the loan given up that wasn't carried

@@ -23,39 +23,39 @@ use Rattle.zc_poll.specs.declared.to_shelf.Rests.{Rests}
 use Rattle.zc_poll.specs.declared.to_shelf.Rests.TheVariants.{Stream, RefillFull, NotQuiet, NoNotice}
 use Rattle.zc_poll.specs.declared.step.Step.TheVariants.{Waiting, Memory, Ended as stream_ended}
 use Rattle.zc_poll.specs.declared.to_shelf.Poured.{Poured}
-use Rattle.zc_poll.specs.declared.to_shelf.Ran.{Ran}
-use Rattle.zc_poll.specs.declared.to_shelf.Ran.TheVariants.{Did, Idle, Ended}
+use Rattle.zc_poll.specs.declared.to_shelf.PollTurn.{PollTurn}
+use Rattle.zc_poll.specs.declared.to_shelf.PollTurn.TheVariants.{Did, Idle, Ended}
 use Rattle.zc_poll.specs.Fresh.{has_left}
 use Rattle.zc_poll.specs.Standing.{Desk}
 use Rattle.zc_poll.specs.Steps.{OnlySteps, Steps, IsItem}
 use Rattle.zc_poll.specs.PourTurns.{IsTold, pour_end}
 use Rattle.zc_forward.specs.declared.sent.Sent.{Sent}
 use Rattle.zc_forward.specs.Tags.{Tags, TakesTag}
-use Rattle.zc_forward.specs.Sending.{Outbox, is_held, most_out, without_uncarried}
+use Rattle.zc_forward.specs.Sending.{OutboxState, is_held, most_out, without_uncarried}
 use Rattle.zc_forward.specs.Forwarding.{ForwardStands}
 
 -- what a turn looks at: what is kept, the stream's desk, the tags that are out, how often the carrier had no notice, and the view
 pub record Stage : Type 0 where
-  pub work : Outbox
+  pub work : OutboxState
   pub desk : Desk
   pub tags : Tags
   pub looks : ℕ
   pub view : AppView
 
-abbrev pub stage_of : Outbox → Desk → Tags → ℕ → AppView → Stage
+abbrev pub stage_of : OutboxState → Desk → Tags → ℕ → AppView → Stage
 stage_of work desk tags looks view = record { work = work; desk = desk; tags = tags; looks = looks; view = view }
 
-abbrev pub with_due : Outbox → Option Place → Outbox
+abbrev pub with_due : OutboxState → Option Place → OutboxState
 with_due w due = record w { tally = record w.tally { due = due } }
 
 -- `Did`: the loan was given back. `Idle`: a refill slot was seen in use, and it is due.
-abbrev pub GivesBack : Place → Outbox → Outbox → AppView → AppView → Ran → Type 0
+abbrev pub GivesBack : Place → OutboxState → OutboxState → AppView → AppView → PollTurn → Type 0
 GivesBack loan w z old new Did = (z ≡ w) × (new ≡ gave old loan)
 GivesBack loan w z old new (Idle why) = (why ≡ RefillFull) × (z ≡ with_due w (Some loan)) × AppOnlySaw RefillInUse old new × HasWrittenRingful old
 GivesBack loan w z old new (Ended poured) = ⊥
 
 -- the loan was given back, or a refill slot was seen in use, and it is due
-abbrev pub GoesBack : Place → Outbox → AppView → AppView → Type 0
+abbrev pub GoesBack : Place → OutboxState → AppView → AppView → Type 0
 GoesBack loan z old new = ((z.tally.due ≡ None) × (new ≡ gave old loan)) ⊎ ((z.tally.due ≡ Some loan) × AppOnlySaw RefillInUse old new)
 
 -- A notice came for the tag of a loan. The tag is out no longer, and the loan goes back.
@@ -68,7 +68,7 @@ pub record Told (was now : Stage) : Type 0 where
 
 -- An item's bytes were read. Its tag went out with its loan; or there was no memory to count them, and the stream stopped; or
 -- the carrier failed, and then no tag and no loan is out, none was given back, and the stream stopped.
-pub record HadItem (was now : Stage) : Type 0 where
+pub record CarriedItem (was now : Stage) : Type 0 where
   pub desk : Desk
   pub view : AppView
   pub lent : Lent
@@ -88,7 +88,7 @@ pub record HadItem (was now : Stage) : Type 0 where
 abbrev pub Does : Stage → Stage → Type 0
 Does was now = Told was now
     ⊎ (((loan : Place) × (was.work.tally.due ≡ Some loan) × (now.work.tally.due ≡ None) × (now.view ≡ gave was.view loan) × (now.tags ≡ was.tags))
-    ⊎ ((was.desk.ended ≡ false) × (HadItem was now
+    ⊎ ((was.desk.ended ≡ false) × (CarriedItem was now
     ⊎ ((now.tags ≡ was.tags) × OnlySteps was.view now.view × (Steps was.desk now.desk was.view now.view Memory
     ⊎ (Steps was.desk now.desk was.view now.view stream_ended × (now.work.pressed ≡ true)))))))
 
@@ -104,7 +104,7 @@ Idles NotQuiet was now = (was.work.tally.due ≡ None) × (was.tags ≡ []) × (
     × AppOnlySaw not_quiet (without_uncarried was.work.uncarried was.view) now.view
     × HasWritten (without_uncarried was.work.uncarried was.view)
 
-abbrev pub TurnDoes : Stage → Stage → Ran → Type 0
+abbrev pub TurnDoes : Stage → Stage → PollTurn → Type 0
 TurnDoes was now Did = Does was now
 TurnDoes was now (Idle why) = Idles why was now
 TurnDoes was now (Ended poured) = (was.work.tally.due ≡ None) × (was.tags ≡ []) × (was.desk.ended ≡ true)
@@ -113,7 +113,7 @@ TurnDoes was now (Ended poured) = (was.work.tally.due ≡ None) × (was.tags ≡
     × Each (λ f. 0 < f.1) poured.flows.items
 
 -- It goes on, or has left with what any application owes that isn't to quit, and keeps no loan and writes no raw entry.
-abbrev pub ForwardGives : (ℕ → Option (List ℕ)) → ℕ → Outbox → Desk → Tags → (ℕ → Option (List ℕ)) → ℕ → AppView → Ran → Type 0
+abbrev pub ForwardGives : (ℕ → Option (List ℕ)) → ℕ → OutboxState → Desk → Tags → (ℕ → Option (List ℕ)) → ℕ → AppView → PollTurn → Type 0
 ForwardGives first losses w st tags got losses_now v (Ended poured) =
     (how : Behaviour) → (how.quit ≡ None → HasLeft how first got losses losses_now v (pour_end poured))
     × (how.leak ≡ 0 → how.stray ≡ 0 → HasReturned how poured.stopped poured.written v)
@@ -125,10 +125,10 @@ pub record ForwardView (F C : Type 0) : Type 0 where
   pub face : F
   pub desk : Desk
   pub carrier : C
-  pub work : Outbox
+  pub work : OutboxState
 
 -- what a poll gives and does is what one turn gives and does
-abbrev pub PollForwards : (ℕ → Option (List ℕ)) → ℕ → Outbox → Desk → Tags → (ℕ → Option (List ℕ)) → ℕ → AppView → Poll Poured → Type 0
+abbrev pub PollForwards : (ℕ → Option (List ℕ)) → ℕ → OutboxState → Desk → Tags → (ℕ → Option (List ℕ)) → ℕ → AppView → Poll Poured → Type 0
 PollForwards first losses w st tags got losses_now v (Ready poured) = ForwardGives first losses w st tags got losses_now v (Ended poured)
 PollForwards first losses w st tags got losses_now v Pending = ForwardStands first losses w st tags got losses_now v
 

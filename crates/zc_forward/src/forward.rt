@@ -4,7 +4,7 @@ ghost use Rattle.futures.specs.Poll.{OnPending};
 ghost use Rattle.futures.specs.Task.{Covers, Keeps};
 ghost use Rattle.board_face.specs.AppEvents.{app_gist};
 ghost use Rattle.zc_poll.specs.PourTurns.{IsTold};
-ghost use Rattle.zc_poll.specs.Fresh.{IsUntouched, new_desk};
+ghost use Rattle.zc_poll.specs.Fresh.{HasDoneNothing, new_desk};
 ghost use Rattle.zc_poll.specs.Standing.{StreamStands};
 ghost use Rattle.zc_forward.specs.Forwarding.{ForwardStands};
 ghost use Rattle.zc_forward.specs.Turns.{ForwardGives, PollDoes, PollForwards, TurnDoes, stage_of};
@@ -18,7 +18,7 @@ use futures::Future;
 use futures::task::{Context, Poll};
 use std::collections::BTreeMap;
 use std::marker::Model;
-use zc_poll::{LoanStream, Poured, Ran, Tally};
+use zc_poll::{LoanStream, PollTurn, PourTally, Poured};
 use zr_kinds::Stopped;
 
 /// Hands the loans of a stream to a carrier, and gives each back once the carrier told of it. At most 64 are out by their tags.
@@ -41,7 +41,7 @@ impl<F, C> Model for Forward<F, C> {
 impl<F: AppFace, C: Carrier> Forward<F, C> {
     /// Nothing was handed out yet. Takes no memory.
     pub fn new(stream: LoanStream<F>, carrier: C) -> Forward<F, C>
-        requires fresh { (app : ℕ) × (stream.desk ≡ new_desk app) × IsUntouched app (F.seen stream.face) }
+        requires fresh { (app : ℕ) × (stream.desk ≡ new_desk app) × HasDoneNothing app (F.seen stream.face) }
         requires stands { StreamStands stream.desk (F.seen stream.face) }
         requires none { C.tags carrier ≡ [] }
         ensures parts { (result.face ≡ stream.face) × (result.carrier ≡ carrier) × (result.desk ≡ stream.desk) }
@@ -53,7 +53,7 @@ impl<F: AppFace, C: Carrier> Forward<F, C> {
             stream,
             carrier,
             work: Outbox {
-                tally: Tally {
+                tally: PourTally {
                     due: None,
                     written: 0,
                     loans: 0,
@@ -71,7 +71,7 @@ impl<F: AppFace, C: Carrier> Forward<F, C> {
 
     /// One turn: it gives back the loan of a notice that came, or the one that is due, or takes one step and hands its item to the
     /// carrier, or lets the face leave. A loan stays due where the refill slot was seen in use.
-    pub fn turn(&mut self) -> Ran
+    pub fn turn(&mut self) -> PollTurn
         requires stands { (first : ℕ → Option (List ℕ)) × (losses : ℕ)
             × ForwardStands first losses self.old.work self.old.desk (C.tags self.old.carrier) (C.got self.old.carrier)
             (C.faults self.old.carrier) (F.seen self.old.face) }
@@ -95,7 +95,7 @@ impl<F: AppFace, C: Carrier> Forward<F, C> {
     }
 
     /// A turn that asks for a notice by a poll.
-    fn poll_turn(&mut self, cx: &mut Context<'_>) -> Ran
+    fn poll_turn(&mut self, cx: &mut Context<'_>) -> PollTurn
         requires stands { (first : ℕ → Option (List ℕ)) × (losses : ℕ)
             × ForwardStands first losses self.old.work self.old.desk (C.tags self.old.carrier) (C.got self.old.carrier)
             (C.faults self.old.carrier) (F.seen self.old.face) }
@@ -156,9 +156,9 @@ impl<F: AppFace + Drop, C: Carrier + Drop> Future for Forward<F, C> {
         ensures beside { F.beside self.new.face ≡ F.beside self.old.face }
     {
         match self.poll_turn(cx) {
-            Ran::Did => cx.yield_now(),
-            Ran::Idle(_) => cx.yield_now(),
-            Ran::Ended(poured) => Poll::Ready(poured),
+            PollTurn::Did => cx.yield_now(),
+            PollTurn::Idle(_) => cx.yield_now(),
+            PollTurn::Ended(poured) => Poll::Ready(poured),
         }
     }
 }

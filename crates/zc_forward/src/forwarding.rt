@@ -14,18 +14,18 @@ ghost use Rattle.zc_forward.specs.Tags.{Tags, TakesTag};
 ghost use Rattle.zc_forward.specs.OutboxOf.{outbox_of};
 ghost use Rattle.zc_forward.specs.Sending.{most_out, of_sent, tags_of, without_uncarried};
 ghost use Rattle.zc_forward.specs.Forwarding.{ForwardStands};
-ghost use Rattle.zc_forward.specs.Turns.{ForwardGives, GivesBack, HadItem, Told, TurnDoes, stage_of, with_due};
+ghost use Rattle.zc_forward.specs.Turns.{ForwardGives, GivesBack, CarriedItem, Told, TurnDoes, stage_of, with_due};
 
 use crate::carrier::Carrier;
 use crate::carrying::{fail, send};
 use crate::outbox::{Outbox, is_full, room_for};
 use crate::sent::{Sent, free_tag, take_sent};
 use board_face::{AppFace, Loan};
-use zc_poll::{Lent, LoanStream, Ran, Rests, Step, Waits, count, count_item, told};
+use zc_poll::{Lent, LoanStream, PollTurn, Rests, Step, Waits, count, count_item, told};
 use zr_kinds::Stopped;
 
 /// Gives a loan back. Where the refill slot is in use it stays due.
-fn give_back<F: AppFace>(stream: &mut LoanStream<F>, work: &mut Outbox, loan: Loan) -> Ran
+fn give_back<F: AppFace>(stream: &mut LoanStream<F>, work: &mut Outbox, loan: Loan) -> PollTurn
     requires stands { StreamStands stream.old.desk (F.seen stream.old.face) }
     requires out { HasLoan (F.seen stream.old.face) loan }
     requires due { work.old.tally.due ≡ None }
@@ -39,10 +39,10 @@ fn give_back<F: AppFace>(stream: &mut LoanStream<F>, work: &mut Outbox, loan: Lo
     ensures beside { F.beside stream.new.face ≡ F.beside stream.old.face }
 {
     match stream.give(loan) {
-        Ok(()) => Ran::Did,
+        Ok(()) => PollTurn::Did,
         Err(loan) => {
             work.tally.due = Some(loan);
-            Ran::Idle(Rests::RefillFull)
+            PollTurn::Idle(Rests::RefillFull)
         }
     }
 }
@@ -83,7 +83,7 @@ fn give_up_uncarried<F: AppFace>(stream: &mut LoanStream<F>, work: &mut Outbox)
 }
 
 /// Lets the face leave, once all is given back. A loan that wasn't carried is given up before.
-fn leave<F: AppFace>(stream: &mut LoanStream<F>, work: &mut Outbox) -> Ran
+fn leave<F: AppFace>(stream: &mut LoanStream<F>, work: &mut Outbox) -> PollTurn
     requires stands { (first got : ℕ → Option (List ℕ)) × (losses now : ℕ) × (tags : Tags)
         × ForwardStands first losses (outbox_of work.old) stream.old.desk tags got now (F.seen stream.old.face) }
     requires ended { stream.old.desk.ended ≡ true }
@@ -102,10 +102,10 @@ fn leave<F: AppFace>(stream: &mut LoanStream<F>, work: &mut Outbox) -> Ran
 {
     give_up_uncarried(stream, work);
     if !stream.leave() {
-        return Ran::Idle(Rests::NotQuiet);
+        return PollTurn::Idle(Rests::NotQuiet);
     }
     let poured = told(&mut work.tally, stream.alloc());
-    Ran::Ended(poured)
+    PollTurn::Ended(poured)
 }
 
 /// Hands an item to the carrier. Where there is no memory to count it the stream is stopped, and so it is where the carrier fails.
@@ -131,7 +131,7 @@ fn forward_item<F: AppFace, C: Carrier>(
         (F.seen stream.new.face) }
     ensures had { (st : Desk) (v : AppView) (looks later : ℕ) → IsItem st stream.old.desk v (F.seen stream.old.face) lent
         → OnlySteps v (F.seen stream.old.face)
-        → HadItem (stage_of (outbox_of work.old) st (C.tags carrier.old) looks v)
+        → CarriedItem (stage_of (outbox_of work.old) st (C.tags carrier.old) looks v)
         (stage_of (outbox_of work.new) stream.new.desk (C.tags carrier.new) later (F.seen stream.new.face)) }
     ensures looks { C.looks carrier.old ≤ C.looks carrier.new }
     ensures same { (F.seen stream.new.face).app ≡ (F.seen stream.old.face).app }
@@ -164,7 +164,7 @@ fn take_step<F: AppFace, C: Carrier>(
     stream: &mut LoanStream<F>,
     carrier: &mut C,
     work: &mut Outbox,
-) -> Ran
+) -> PollTurn
     requires stands { (first : ℕ → Option (List ℕ)) × (losses : ℕ)
         × ForwardStands first losses (outbox_of work.old) stream.old.desk (C.tags carrier.old) (C.got carrier.old) (C.faults carrier.old)
         (F.seen stream.old.face) }
@@ -186,20 +186,20 @@ fn take_step<F: AppFace, C: Carrier>(
     match stream.step() {
         Step::Item(lent) => {
             forward_item(stream, carrier, work, lent);
-            Ran::Did
+            PollTurn::Did
         }
         Step::Waiting(why) => {
             work.pressed = why == Waits::ReserveHeld;
-            Ran::Idle(Rests::Stream(why))
+            PollTurn::Idle(Rests::Stream(why))
         }
         Step::Memory => {
             work.pressed = false;
             work.tally.stopped = Stopped::Memory;
-            Ran::Did
+            PollTurn::Did
         }
         Step::Ended => {
             work.pressed = true;
-            Ran::Did
+            PollTurn::Did
         }
     }
 }
@@ -210,7 +210,7 @@ pub fn go_on<F: AppFace, C: Carrier>(
     carrier: &mut C,
     work: &mut Outbox,
     told: Option<u32>,
-) -> Ran
+) -> PollTurn
     requires stands { (first : ℕ → Option (List ℕ)) × (losses : ℕ) × (was : Tags) × TakesTag was (C.tags carrier.old) told
         × ForwardStands first losses (outbox_of work.old) stream.old.desk was (C.got carrier.old) (C.faults carrier.old)
         (F.seen stream.old.face) }
@@ -230,19 +230,19 @@ pub fn go_on<F: AppFace, C: Carrier>(
 {
     if let Some(tag) = told {
         take_notice(stream, work, tag);
-        return Ran::Did;
+        return PollTurn::Did;
     }
     if let Some(loan) = work.tally.due.take() {
         return give_back(stream, work, loan);
     }
     if is_full(work) {
-        return Ran::Idle(Rests::NoNotice);
+        return PollTurn::Idle(Rests::NoNotice);
     }
     if !stream.has_ended() {
         return take_step(stream, carrier, work);
     }
     if !work.out.is_empty() {
-        return Ran::Idle(Rests::NoNotice);
+        return PollTurn::Idle(Rests::NoNotice);
     }
     leave(stream, work)
 }

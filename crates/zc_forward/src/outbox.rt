@@ -9,13 +9,13 @@ ghost use Rattle.zc_forward.specs.Sending.{is_urgent as urgent, most_out};
 use crate::sent::{MOST, Sent};
 use board_face::Loan;
 use std::alloc::AllocError;
-use zc_poll::{Tally, make_room};
+use zc_poll::{PourTally, make_room};
 
 /// What forwarding keeps beside its stream and its carrier.
 #[derive(Drop)]
 pub struct Outbox {
     /// The counts, and the loan whose notice came and that is to be given back.
-    pub tally: Tally,
+    pub tally: PourTally,
     /// The loans whose tags are out.
     pub out: Vec<Sent>,
     /// A loan that wasn't carried for want of memory. It is given up at the end.

@@ -15,7 +15,7 @@ use Rattle.flow_queues.specs.Ends.{bytes_in, times}
 use Rattle.flow_queues.proofs.Entering.{marks-length, marks-take, marks-drop}
 use Rattle.flow_queues.proofs.ReadLemmas.{read-append}
 use Rattle.flow_queues.proofs.Tokens.{in-left}
-use Rattle.zc_poll.specs.Counting.{Tally, AddsTo}
+use Rattle.zc_poll.specs.Counting.{TallyState, AddsTo}
 use Rattle.zc_poll.specs.Standing.{Desk}
 use Rattle.zc_poll.specs.Items.{Given, HasGiven, marks_given}
 use Rattle.zc_poll.specs.Pouring.{IsPoured, HasPoured, given_len}
@@ -76,7 +76,7 @@ at-flow n flow bytes same = rw (let test : (n == flow) ≡ true = eq-eqb n flow 
 not-flow : (n flow bytes : ℕ) → n ≢ flow → (if n == flow then bytes else 0) ≡ 0
 not-flow n flow bytes other = rw (let test : (n == flow) ≡ false = ne_eqb n flow other in test) refl
 
-module _ (P : Type 0) (first kept later : ℕ → Option (List ℕ)) (u w : Tally) (st : Desk) (v y : AppView) (items : List Given) (g : Given) (done : ℕ)
+module _ (P : Type 0) (first kept later : ℕ → Option (List ℕ)) (u w : TallyState) (st : Desk) (v y : AppView) (items : List Given) (g : Given) (done : ℕ)
     (poured : HasPoured P first u st kept v (items ++ g ∷ []) g.flow (given_len g)) (none : P → ⊥) (on : SeesOn v y)
     (view : y ≡ record v { reads = y.reads }) (known : g.lending.note < length v.taken) (out : IsIn (lent_piece v.taken g.lending) v.loans)
     (counted : done ≤ given_len g)
@@ -168,11 +168,11 @@ module _ (P : Type 0) (first kept later : ℕ → Option (List ℕ)) (u w : Tall
         (λ (is : n ≡ g.flow). subst (λ m. 0 < length (marks_given m (items ++ g ∷ []))) (sym is) (omega (arith, push-length g.flow items g, at-flow g.flow g.flow (given_len g) refl, has)))
         (λ (not : n ≢ g.flow). poured.known n (let e = adds.others n not in omega (arith, e, some)))
         (cases_eq n g.flow);
-    written = ap (λ (x : Tally). x.written) same ∙ (let e = poured.written in omega (arith, e, adds.sum));
-    loans = ap (λ (x : Tally). x.loans) same ∙ poured.loans;
-    copied = ap (λ (x : Tally). x.copied) same ∙ poured.copied ∙ ap capped (sym (ap (λ (x : AppView). x.spares) view));
-    room = (let e : w.room ≡ u.room = ap (λ (x : Tally). x.room) same in omega (arith, e, many, poured.room));
-    empty = ap (λ (x : Tally). x.flows) same ∙ poured.empty;
+    written = ap (λ (x : TallyState). x.written) same ∙ (let e = poured.written in omega (arith, e, adds.sum));
+    loans = ap (λ (x : TallyState). x.loans) same ∙ poured.loans;
+    copied = ap (λ (x : TallyState). x.copied) same ∙ poured.copied ∙ ap capped (sym (ap (λ (x : AppView). x.spares) view));
+    room = (let e : w.room ≡ u.room = ap (λ (x : TallyState). x.room) same in omega (arith, e, many, poured.room));
+    empty = ap (λ (x : TallyState). x.flows) same ∙ poured.empty;
     shelved = λ n. ⊎_elim
         (λ (is : n ≡ g.flow). subst (λ m. Gained (first m) (later m) (Now m)) (sym is) here)
         (λ (not : n ≢ g.flow). there n not)

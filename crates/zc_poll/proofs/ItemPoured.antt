@@ -13,7 +13,7 @@ use Rattle.flow_queues.specs.Shelves.{kept_loans}
 use Rattle.flow_queues.specs.Ends.{bytes_in, times}
 use Rattle.flow_queues.proofs.Entering.{marks-length}
 use Rattle.flow_queues.proofs.Tokens.{total-append, loan-some}
-use Rattle.zc_poll.specs.Counting.{Tally, AddsTo, item_counted}
+use Rattle.zc_poll.specs.Counting.{TallyState, AddsTo, item_counted}
 use Rattle.zc_poll.specs.declared.step.Lent.{Lent}
 use Rattle.zc_poll.specs.Standing.{Desk, StreamStands}
 use Rattle.zc_poll.specs.Items.{Given, HasGiven, marks_given}
@@ -25,7 +25,7 @@ use Rattle.zc_poll.proofs.EntriesFirst.{first-more, first-same}
 use Rattle.zc_poll.proofs.Views.{total-one}
 
 -- what it keeps is the same but for what is due and what stopped it
-pub record SameCounts (u w : Tally) : Type 0 where
+pub record SameCounts (u w : TallyState) : Type 0 where
   pub counts : w.counts ≡ u.counts
   pub written : w.written ≡ u.written
   pub loans : w.loans ≡ u.loans
@@ -41,7 +41,7 @@ same-kept v x loans returned written =
 
 -- ---- nothing was lent and nothing went
 
-module _ (P Q : Type 0) (first kept : ℕ → Option (List ℕ)) (u w : Tally) (st now : Desk) (v x : AppView) (items : List Given) (torn missing : ℕ)
+module _ (P Q : Type 0) (first kept : ℕ → Option (List ℕ)) (u w : TallyState) (st now : Desk) (v x : AppView) (items : List Given) (torn missing : ℕ)
     (poured : HasPoured P first u st kept v items torn missing) (work : SameCounts u w) (given : HasGiven items now.flows x.taken) (on : SeesOn v x)
     (many : length x.loans + length x.returned ≡ length v.loans + length v.returned)
     (lent : total lent_len x.loans + total lent_len x.returned ≡ total lent_len v.loans + total lent_len v.returned)
@@ -128,7 +128,7 @@ copied-on : (b : Bool) (copied spares later : ℕ) → copied ≡ capped spares 
 copied-on true copied spares later is more = omega (arith, is, more)
 copied-on false copied spares later is more = omega (arith, is, more)
 
-module _ (P Q : Type 0) (first kept : ℕ → Option (List ℕ)) (w : Tally) (st now : Desk) (v x : AppView) (items : List Given) (torn missing : ℕ)
+module _ (P Q : Type 0) (first kept : ℕ → Option (List ℕ)) (w : TallyState) (st now : Desk) (v x : AppView) (items : List Given) (torn missing : ℕ)
     (poured : HasPoured P first w st kept v items torn missing) (none : missing ≡ 0) (whole : P → ⊥) (lent : Lent) (item : IsItem st now v x lent)
     (only : OnlySteps v x) (stands : StreamStands now x) where
   abbrev pub the_item : Given
@@ -177,12 +177,12 @@ module _ (P Q : Type 0) (first kept : ℕ → Option (List ℕ)) (w : Tally) (st
 
 -- ---- there is a count for its flow
 
-pub record Roomy (u w : Tally) : Type 0 where
+pub record Roomy (u w : TallyState) : Type 0 where
   pub same : w ≡ record u { counts = w.counts; flows = w.flows; room = w.room }
   pub room : length w.counts ≤ w.room
   pub empty : w.flows ≡ []
 
-pub poured-roomy : (P : Type 0) (first kept : ℕ → Option (List ℕ)) (u w : Tally) (st : Desk) (v : AppView) (items : List Given) (torn missing : ℕ)
+pub poured-roomy : (P : Type 0) (first kept : ℕ → Option (List ℕ)) (u w : TallyState) (st : Desk) (v : AppView) (items : List Given) (torn missing : ℕ)
     → HasPoured P first u st kept v items torn missing → Roomy u w → (flow : ℕ) → AddsTo flow 0 u.counts w.counts
     → 0 < length (marks_given flow items) → HasPoured P first w st kept v items torn missing
 poured-roomy P first kept u w st v items torn missing poured roomy flow adds there =
@@ -203,9 +203,9 @@ poured-roomy P first kept u w st v items torn missing poured roomy flow adds the
           (λ (here : n ≡ flow). subst (λ m. 0 < length (marks_given m items)) (sym here) there)
           (λ (not : n ≢ flow). poured.known n (let same = adds.others n not in omega (arith, same, some)))
           (cases_eq n flow);
-      written = ap (λ (y : Tally). y.written) roomy.same ∙ poured.written ∙ ap capped (omega (arith, adds.sum));
-      loans = ap (λ (y : Tally). y.loans) roomy.same ∙ poured.loans;
-      copied = ap (λ (y : Tally). y.copied) roomy.same ∙ poured.copied;
+      written = ap (λ (y : TallyState). y.written) roomy.same ∙ poured.written ∙ ap capped (omega (arith, adds.sum));
+      loans = ap (λ (y : TallyState). y.loans) roomy.same ∙ poured.loans;
+      copied = ap (λ (y : TallyState). y.copied) roomy.same ∙ poured.copied;
       room = roomy.room;
       empty = roomy.empty;
       shelved = λ n. Gained-weaker (first n) (kept n) (IsPoured (P × (n ≡ torn)) v (marks_given n items) (bytes_in n u.counts))

@@ -14,7 +14,7 @@ use Rattle.zr_kinds.specs.CopyingReceiver.{next_missing}
 use Rattle.flow_queues.specs.Core.{total, Each, IsIn, LieApart, lent_piece, over_read, own_notes, placed_of, held_len, unsplit_len, AreReadAt, FlowStands, Stands}
 use Rattle.flow_queues.specs.Marks.{marks_from}
 use Rattle.flow_queues.proofs.Reading.{read-there}
-use Rattle.flow_queues.proofs.Tokens.{total-append, in-total, is_that_loan, that-loan, is-lent-there, is-given, Gave}
+use Rattle.flow_queues.proofs.Tokens.{total-append, in-total, is_that_loan, that-loan, is-lent-there, is-given, TokenGiven}
 use Rattle.flow_queues.proofs.Standing.{each-left, each-right, each-join}
 use Rattle.flow_queues.specs.Totals.{taken_len}
 use Rattle.flow_queues.specs.Shelves.{FlowEnds}
@@ -22,7 +22,7 @@ use Rattle.zc_poll.specs.Standing.{Desk, Common, Going, IsWhole, StreamStands}
 use Rattle.zc_poll.proofs.Views.{total-one}
 
 -- these are the loans that are out
-pub record AreOut (taken : List TakenNote) (loans : List LentPiece) (out : List Lending) : Type 0 where
+pub record AreLoansOut (taken : List TakenNote) (loans : List LentPiece) (out : List Lending) : Type 0 where
   pub are : (f : LentPiece → ℕ) → total f loans ≡ over_read taken f out
   pub known : Each (λ l. l.note < length taken) out
 
@@ -32,7 +32,7 @@ without_step old x = record old { quiet = x.quiet; loans = x.loans; returned = x
 
 module _ (st : Desk) (old new : AppView) (view : new ≡ without_step old new) (apart : LieApart new)
     (counts : length new.loans + length new.returned ≡ length old.loans + length old.returned)
-    (goes : (out : List Lending) → AreOut old.taken old.loans out → (later : List Lending) × AreOut old.taken new.loans later) where
+    (goes : (out : List Lending) → AreLoansOut old.taken old.loans out → (later : List Lending) × AreLoansOut old.taken new.loans later) where
   taken-kept : old.taken ≡ new.taken
   taken-kept = sym (ap (λ (v : AppView). v.taken) view)
 
@@ -116,8 +116,8 @@ among taken x (l ∷ out) some = ⊎_elim
     is-here here = only (is-lent-there x (lent_piece taken l ∷ []) (omega arith))
 
 pub went-out : (taken : List TakenNote) (loans later : List LentPiece) (x : LentPiece) → IsIn x loans
-    → ((f : LentPiece → ℕ) → total f later + f x ≡ total f loans) → (out : List Lending) → AreOut taken loans out
-    → (rest : List Lending) × AreOut taken later rest
+    → ((f : LentPiece → ℕ) → total f later + f x ≡ total f loans) → (out : List Lending) → AreLoansOut taken loans out
+    → (rest : List Lending) × AreLoansOut taken later rest
 went-out taken loans later x there gone out are =
     let one : 0 < over_read taken (is_that_loan x) out = omega (arith, are.are (is_that_loan x), in-total (is_that_loan x) x loans there, that-loan x) in
     let found : Among taken x out = among taken x out one in
@@ -152,7 +152,7 @@ module _ (st : Desk) (v : AppView) (loan : Place) (stands : StreamStands st v) (
   the-loan = loan-at v.loans loan out.0 out.1 out.2
 
   -- it is one of those that went, and no more one of those that are out
-  went-back : (x : LentPiece) → Gave v stands.common.apart x → length (gave v x.place).loans + length (gave v x.place).returned ≡ length v.loans + length v.returned
+  went-back : (x : LentPiece) → TokenGiven v stands.common.apart x → length (gave v x.place).loans + length (gave v x.place).returned ≡ length v.loans + length v.returned
   went-back x step = omega (
     arith,
     step.loans (λ _. 1),

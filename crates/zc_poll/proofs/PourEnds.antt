@@ -18,7 +18,7 @@ use Rattle.flow_queues.specs.Entries.{AreBlocks, WasLive, lies_in}
 use Rattle.flow_queues.specs.Returned.{AreKeptBack, HasReturned}
 use Rattle.flow_queues.proofs.Fronts.{pick}
 use Rattle.flow_queues.proofs.Tokens.{in-total}
-use Rattle.zc_poll.specs.Counting.{Tally, with_bytes}
+use Rattle.zc_poll.specs.Counting.{TallyState, with_bytes}
 use Rattle.zc_poll.specs.Fresh.{has_left}
 use Rattle.zc_poll.specs.Standing.{Desk}
 use Rattle.zc_poll.specs.Items.{marks_given}
@@ -39,10 +39,10 @@ one-of : (n : ℕ) → ◌≡◌ {A = ℕ} (if n == n then 1 else 0) 1
 one-of n = rw (let test : (n == n) ≡ true = eq-eqb n n refl in test) refl
 
 -- what it says once it has left
-abbrev pub work_end : Tally → AppEnd
+abbrev pub work_end : TallyState → AppEnd
 work_end w = record { written = w.written; loans = w.loans; copied = w.copied; stopped = w.stopped; flows = with_bytes w.counts }
 
-module _ (first kept : ℕ → Option (List ℕ)) (losses losses_now : ℕ) (w : Tally) (st : Desk) (v : AppView)
+module _ (first kept : ℕ → Option (List ℕ)) (losses losses_now : ℕ) (w : TallyState) (st : Desk) (v : AppView)
     (before : PourStands first losses w st kept losses_now v) (due : w.due ≡ None) (ended : st.ended ≡ true) where
   none-out : v.loans ≡ []
   none-out = subst (λ d. OnlyDue d v.loans) due before.due

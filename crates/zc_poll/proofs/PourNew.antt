@@ -7,18 +7,18 @@ use Rattle.board_face.specs.declared.views.app.WrittenEntry.{WrittenEntry}
 use Rattle.board_face.specs.declared.views.app.AppView.{AppView}
 use Rattle.flow_queues.specs.Core.{total}
 use Rattle.flow_queues.specs.Totals.{capped, lent_len, loan_entries}
-use Rattle.zc_poll.specs.Counting.{Tally}
-use Rattle.zc_poll.specs.Fresh.{IsUntouched, new_desk}
+use Rattle.zc_poll.specs.Counting.{TallyState}
+use Rattle.zc_poll.specs.Fresh.{HasDoneNothing, new_desk}
 use Rattle.zc_poll.specs.Standing.{StreamStands}
 use Rattle.zc_poll.specs.Pouring.{IsPoured, HasPoured, PourStands}
 use Rattle.zc_poll.proofs.EntriesFirst.{first-none}
 use Rattle.zc_poll.proofs.ItemPoured.{none-at}
 
 -- nothing is kept
-abbrev pub new_tally : ℕ → Tally
+abbrev pub new_tally : ℕ → TallyState
 new_tally room = record { due = None; written = 0; loans = 0; copied = 0; stopped = stop.No; counts = []; flows = []; room = room }
 
-module _ (kept : ℕ → Option (List ℕ)) (losses room app : ℕ) (v : AppView) (fresh : IsUntouched app v) (stands : StreamStands (new_desk app) v) where
+module _ (kept : ℕ → Option (List ℕ)) (losses room app : ℕ) (v : AppView) (fresh : HasDoneNothing app v) (stands : StreamStands (new_desk app) v) where
   no-entry : loan_entries v ≡ 0
   no-entry = ap (total (λ (e : WrittenEntry). if e.of_loan then 1 else 0)) fresh.written
 

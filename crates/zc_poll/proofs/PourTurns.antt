@@ -11,12 +11,12 @@ use Rattle.board_face.specs.declared.views.app.LentPiece.{LentPiece}
 use Rattle.board_face.specs.declared.views.app.AppView.{AppView}
 use Rattle.flow_queues.specs.Core.{OnlyReads, total}
 use Rattle.flow_queues.specs.Totals.{lent_len, loan_entries}
-use Rattle.zc_poll.specs.Counting.{Tally}
+use Rattle.zc_poll.specs.Counting.{TallyState}
 use Rattle.zc_poll.specs.Standing.{Desk, StreamStands}
 use Rattle.zc_poll.specs.Items.{HasGiven}
 use Rattle.zc_poll.specs.declared.step.Lent.{Lent}
-use Rattle.zc_poll.specs.declared.to_shelf.Ran.{Ran}
-use Rattle.zc_poll.specs.declared.to_shelf.Ran.TheVariants.{Did, Idle, Ended}
+use Rattle.zc_poll.specs.declared.to_shelf.PollTurn.{PollTurn}
+use Rattle.zc_poll.specs.declared.to_shelf.PollTurn.TheVariants.{Did, Idle, Ended}
 use Rattle.zc_poll.specs.declared.to_shelf.Rests.TheVariants.{Stream, RefillFull, NotQuiet, NoNotice}
 use Rattle.zc_poll.specs.Steps.{OnlySteps, Unlent, IsItem}
 use Rattle.zc_poll.specs.Pouring.{HasPoured, OnlyDue, PourStands}
@@ -26,12 +26,12 @@ use Rattle.zc_poll.proofs.EntriesFirst.{first-gave, first-same}
 use Rattle.zc_poll.proofs.LoanGone.{gone-loans, gone-returned, gone-many, gone-lent, gave-entries}
 use Rattle.zc_poll.proofs.Pours.{is-no, no-write}
 
-pub same-counts : (u : Tally) → SameCounts u u
+pub same-counts : (u : TallyState) → SameCounts u u
 same-counts u = record { counts = refl; written = refl; loans = refl; copied = refl; flows = refl; room = refl }
 
 -- ---- a look
 
-pub saw-pours : (first kept : ℕ → Option (List ℕ)) (losses losses_now : ℕ) (u : Tally) (st now : Desk) (v z : AppView) (look : AppLook)
+pub saw-pours : (first kept : ℕ → Option (List ℕ)) (losses losses_now : ℕ) (u : TallyState) (st now : Desk) (v z : AppView) (look : AppLook)
     → PourStands first losses u st kept losses_now v → z ≡ app_saw v look → StreamStands now z → now ≡ st → PourStands first losses u now kept losses_now z
 saw-pours first kept losses losses_now u st now v z look before view stands desk =
     let on : StreamStands st z = subst (λ (d : Desk). StreamStands d z) desk stands in
@@ -59,7 +59,7 @@ saw-pours first kept losses losses_now u st now v z look before view stands desk
 
 -- ---- the loan that was due was given back
 
-module _ (first kept : ℕ → Option (List ℕ)) (losses losses_now : ℕ) (u w : Tally) (st now : Desk) (v z : AppView) (loan : Place)
+module _ (first kept : ℕ → Option (List ℕ)) (losses losses_now : ℕ) (u w : TallyState) (st now : Desk) (v z : AppView) (loan : Place)
     (before : PourStands first losses u st kept losses_now v) (due : u.due ≡ Some loan) (view : z ≡ gave v loan) (stands : StreamStands now z) (desk : now ≡ st)
     (done : w.due ≡ None) (same : w.stopped ≡ u.stopped) (work : SameCounts u w) where
   out : (piece : LentPiece) × (v.loans ≡ piece ∷ []) × (piece.place ≡ loan)
@@ -112,7 +112,7 @@ module _ (first kept : ℕ → Option (List ℕ)) (losses losses_now : ℕ) (u w
 
 -- ---- a step that gave no item
 
-module _ (first kept : ℕ → Option (List ℕ)) (losses losses_now : ℕ) (u w : Tally) (st now : Desk) (v z : AppView)
+module _ (first kept : ℕ → Option (List ℕ)) (losses losses_now : ℕ) (u w : TallyState) (st now : Desk) (v z : AppView)
     (before : PourStands first losses u st kept losses_now v) (unlent : Unlent st now v z) (only : OnlySteps v z) (stands : StreamStands now z)
     (work : SameCounts u w) (due : w.due ≡ u.due) where
   returned : z.returned ≡ v.returned
@@ -188,7 +188,7 @@ due-out v loan (piece, one, place) = rw one (0, omega arith, place)
 pub read-out : (v z : AppView) (loan : Place) → OnlyReads v z → HasLoan v loan → HasLoan z loan
 read-out v z loan only there = subst (λ (ls : List LentPiece). Contains (map (λ (l : LentPiece). l.place) ls) loan) (sym (ap (λ (k : AppView). k.loans) only.view)) there
 
-by-turn : (st now : Desk) (y z : AppView) (loan : Place) (ran : Ran) → TurnDoes (Some loan) st now y z ran → (z ≡ gave y loan) ⊎ AppOnlySaw RefillInUse y z
+by-turn : (st now : Desk) (y z : AppView) (loan : Place) (ran : PollTurn) → TurnDoes (Some loan) st now y z ran → (z ≡ gave y loan) ⊎ AppOnlySaw RefillInUse y z
 by-turn st now y z loan Did does = inl does
 by-turn st now y z loan (Idle RefillFull) does = inr does.1
 by-turn st now y z loan (Idle (Stream why)) does = (let none : Some loan ≡ None = does.0 in absurd (cc))
@@ -197,7 +197,7 @@ by-turn st now y z loan (Idle NoNotice) does = absurd does
 by-turn st now y z loan (Ended poured) does = (let none : Some loan ≡ None = does.0 in absurd (cc))
 
 -- the loan that was written was given back, or a refill slot was seen in use
-pub tried : (st mid kept now : Desk) (v x y z : AppView) (lent : Lent) (loan : Place) (ran : Ran) → IsItem st mid v x lent
+pub tried : (st mid kept now : Desk) (v x y z : AppView) (lent : Lent) (loan : Place) (ran : PollTurn) → IsItem st mid v x lent
     → IsRead lent.loan mid kept x y (Some loan) → now ≡ kept → TurnDoes (Some loan) kept now y z ran → HadItem st now v z
 tried st mid kept now v x y z lent loan ran item (same, desk, reads) still does = record {
   desk = mid;

@@ -17,7 +17,7 @@ use Rattle.flow_queues.specs.Totals.{lent_len, loan_entries}
 use Rattle.flow_queues.specs.Shelves.{kept_loans}
 use Rattle.flow_queues.specs.Ends.{bytes_in}
 use Rattle.flow_queues.proofs.Tokens.{loan-some}
-use Rattle.zc_poll.specs.Counting.{Tally, AddsTo, item_counted}
+use Rattle.zc_poll.specs.Counting.{TallyState, AddsTo, item_counted}
 use Rattle.zc_poll.specs.declared.step.Lent.{Lent}
 use Rattle.zc_poll.specs.Standing.{Desk, StreamStands}
 use Rattle.zc_poll.specs.Items.{Given, HasGiven, marks_given}
@@ -47,14 +47,14 @@ known-at (x ∷ taken) (suc k) t is = omega (arith, known-at taken k t is)
 
 -- ---- the loan is given up
 
-module _ (P : Type 0) (first kept : ℕ → Option (List ℕ)) (losses losses_now : ℕ) (u w : Tally) (why : Stopped) (st now : Desk) (y z : AppView)
+module _ (P : Type 0) (first kept : ℕ → Option (List ℕ)) (losses losses_now : ℕ) (u w : TallyState) (why : Stopped) (st now : Desk) (y z : AppView)
     (items : List Given) (torn missing : ℕ) (poured : HasPoured P first u st kept y items torn missing) (implies : P → why ≡ stop.Write)
     (some : why ≢ stop.No) (other : why ≢ stop.Quit) (due : u.due ≡ None) (apart : LieApart y) (p : LentPiece) (one : y.loans ≡ p ∷ []) (loan : Place)
     (place : p.place ≡ loan) (all : loan_entries y ≡ length y.returned) (view : z ≡ record (abandoned y loan) { helds = [] })
     (given : HasGiven items now.flows z.taken) (stands : StreamStands now z) (stopped : now.stopped ≡ true) (later : losses ≤ losses_now)
     (cause : why ≡ stop.Write → Rose losses losses_now) (still : why ≢ stop.Write → losses_now ≡ losses) (work : w ≡ record u { stopped = why }) where
   why_is : w.stopped ≡ why
-  why_is = ap (λ (k : Tally). k.stopped) work
+  why_is = ap (λ (k : TallyState). k.stopped) work
 
   loans-gone : z.loans ≡ []
   loans-gone = ap (λ (k : AppView). k.loans) view ∙ gone-loans y apart p one loan place
@@ -67,12 +67,12 @@ module _ (P : Type 0) (first kept : ℕ → Option (List ℕ)) (losses losses_no
     stands = stands;
     poured = poured-moved P (w.stopped ≡ stop.Write) first kept u w st now y z items torn missing poured
         (record {
-          counts = ap (λ (k : Tally). k.counts) work;
-          written = ap (λ (k : Tally). k.written) work;
-          loans = ap (λ (k : Tally). k.loans) work;
-          copied = ap (λ (k : Tally). k.copied) work;
-          flows = ap (λ (k : Tally). k.flows) work;
-          room = ap (λ (k : Tally). k.room) work;
+          counts = ap (λ (k : TallyState). k.counts) work;
+          written = ap (λ (k : TallyState). k.written) work;
+          loans = ap (λ (k : TallyState). k.loans) work;
+          copied = ap (λ (k : TallyState). k.copied) work;
+          flows = ap (λ (k : TallyState). k.flows) work;
+          room = ap (λ (k : TallyState). k.room) work;
         })
         given
         (record {
@@ -88,7 +88,7 @@ module _ (P : Type 0) (first kept : ℕ → Option (List ℕ)) (losses losses_no
         (ap (λ (k : AppView). k.returned) view ∙ gone-returned y apart p one loan place) poured.back)
         (ap kept_loans view ∙ gone-kept y apart p one loan place all)
         (λ is. why_is ∙ implies is);
-    due = subst (λ d. OnlyDue d z.loans) (sym (ap (λ (k : Tally). k.due) work ∙ due)) loans-gone;
+    due = subst (λ d. OnlyDue d z.loans) (sym (ap (λ (k : TallyState). k.due) work ∙ due)) loans-gone;
     whole = λ no. absurd (some (sym why_is ∙ no));
     given_back = λ no. absurd (some (sym why_is ∙ no));
     going = λ no. absurd (some (sym why_is ∙ no));
@@ -101,7 +101,7 @@ module _ (P : Type 0) (first kept : ℕ → Option (List ℕ)) (losses losses_no
 
 -- ---- an item came
 
-module _ (first kept : ℕ → Option (List ℕ)) (losses losses_now : ℕ) (u : Tally) (st now : Desk) (v x : AppView)
+module _ (first kept : ℕ → Option (List ℕ)) (losses losses_now : ℕ) (u : TallyState) (st now : Desk) (v x : AppView)
     (before : PourStands first losses u st kept losses_now v) (due : u.due ≡ None) (lent : Lent) (item : IsItem st now v x lent) (only : OnlySteps v x)
     (stands : StreamStands now x) where
   nothing : u.stopped ≡ stop.No
@@ -135,22 +135,22 @@ module _ (first kept : ℕ → Option (List ℕ)) (losses losses_now : ℕ) (u :
   counted = item-poured (u.stopped ≡ stop.Write) (u.stopped ≡ stop.Write) first kept u st now v x before.items before.torn before.missing before.poured
       (before.whole nothing) (no-write u.stopped nothing) lent item only stands
 
-  module _ (w : Tally) (roomy : Roomy (item_counted u lent.copied) w) (adds : AddsTo lent.flow 0 u.counts w.counts) where
+  module _ (w : TallyState) (roomy : Roomy (item_counted u lent.copied) w) (adds : AddsTo lent.flow 0 u.counts w.counts) where
     ready : HasPoured (u.stopped ≡ stop.Write) first w now kept x all_items lent.flow item.lending.loan.len
     ready = poured-roomy (u.stopped ≡ stop.Write) first kept (item_counted u lent.copied) w now x all_items lent.flow item.lending.loan.len counted roomy
         lent.flow adds has-marks
 
     -- there was no memory to count
-    pub wants : (z : AppView) (later : Desk) (k : Tally) → z ≡ record (abandoned x lent.loan) { helds = [] }
+    pub wants : (z : AppView) (later : Desk) (k : TallyState) → z ≡ record (abandoned x lent.loan) { helds = [] }
         → ((items : List Given) → HasGiven items now.flows x.taken → HasGiven items later.flows z.taken) → StreamStands later z → later.stopped ≡ true
         → k ≡ record w { stopped = stop.Memory } → PourStands first losses k later kept losses_now z
     wants z later k view goes on stopped work =
         given-up (u.stopped ≡ stop.Write) first kept losses losses_now w k stop.Memory now later x z all_items lent.flow item.lending.loan.len ready
-        (λ write. absurd (no-write u.stopped nothing write)) (λ e. absurd (cc)) (λ e. absurd (cc)) (ap (λ (y : Tally). y.due) roomy.same ∙ due) stands.common.apart
+        (λ write. absurd (no-write u.stopped nothing write)) (λ e. absurd (cc)) (λ e. absurd (cc)) (ap (λ (y : TallyState). y.due) roomy.same ∙ due) stands.common.apart
         piece one lent.loan item.loan all view (goes all_items ready.given) on stopped before.later (λ e. absurd (cc))
         (λ _. before.still (no-write u.stopped nothing)) work
 
-    module _ (after : ℕ → Option (List ℕ)) (faults : ℕ) (y : AppView) (k : Tally) (done : ℕ) (reads : OnlyReads x y) (counted_to : done ≤ lent.loan.len)
+    module _ (after : ℕ → Option (List ℕ)) (faults : ℕ) (y : AppView) (k : TallyState) (done : ℕ) (reads : OnlyReads x y) (counted_to : done ≤ lent.loan.len)
         (gained : (lending : Lending) → lending.loan ≡ lent.loan → lending.note < length x.taken → IsIn (lent_piece x.taken lending) x.loans
         → Gained (kept lent.flow) (after lent.flow) (IsReadOf x.taken y.reads lending done lent.loan.len))
         (others : (n : ℕ) → n ≢ lent.flow → Keeps (kept n) (after n)) (same : k ≡ record w { counts = k.counts; written = min (w.written + done) (2 ^ 64 - 1) })
@@ -188,13 +188,13 @@ module _ (first kept : ℕ → Option (List ℕ)) (losses losses_now : ℕ) (u :
       still-all = subst (λ (q : AppView). loan_entries q ≡ length q.returned) (sym reads.view) all
 
       work-due : k.due ≡ None
-      work-due = ap (λ (q : Tally). q.due) same ∙ ap (λ (q : Tally). q.due) roomy.same ∙ due
+      work-due = ap (λ (q : TallyState). q.due) same ∙ ap (λ (q : TallyState). q.due) roomy.same ∙ due
 
       work-no : k.stopped ≡ stop.No
-      work-no = ap (λ (q : Tally). q.stopped) same ∙ ap (λ (q : Tally). q.stopped) roomy.same ∙ nothing
+      work-no = ap (λ (q : TallyState). q.stopped) same ∙ ap (λ (q : TallyState). q.stopped) roomy.same ∙ nothing
 
       -- the shelf failed
-      pub fails : (z : AppView) (later : Desk) (m : Tally) → z ≡ record (abandoned y lent.loan) { helds = [] }
+      pub fails : (z : AppView) (later : Desk) (m : TallyState) → z ≡ record (abandoned y lent.loan) { helds = [] }
           → ((items : List Given) → HasGiven items now.flows y.taken → HasGiven items later.flows z.taken) → StreamStands later z → later.stopped ≡ true
           → m ≡ record k { stopped = stop.Write } → losses_now ≤ faults → Rose losses_now faults → PourStands first losses m later after faults z
       fails z later m view goes on stopped work grows rose =
@@ -203,10 +203,10 @@ module _ (first kept : ℕ → Option (List ℕ)) (losses losses_now : ℕ) (u :
           stopped (omega (arith, before.later, grows)) (λ _. Rose-earlier losses losses_now faults before.later rose) (λ not. absurd (not refl)) work
 
       -- all was written
-      pub wrote : (m : Tally) → m ≡ record k { due = Some lent.loan } → done ≡ lent.loan.len → StreamStands now y → faults ≡ losses_now
+      pub wrote : (m : TallyState) → m ≡ record k { due = Some lent.loan } → done ≡ lent.loan.len → StreamStands now y → faults ≡ losses_now
           → PourStands first losses m now after faults y
       wrote m work full on same_faults =
-          let stopped_is : m.stopped ≡ stop.No = ap (λ (q : Tally). q.stopped) work ∙ work-no in
+          let stopped_is : m.stopped ≡ stop.No = ap (λ (q : TallyState). q.stopped) work ∙ work-no in
           let none : item.lending.loan.len - done ≡ 0 = omega (arith, full, len_is) in
           record {
             items = all_items;
@@ -216,15 +216,15 @@ module _ (first kept : ℕ → Option (List ℕ)) (losses losses_now : ℕ) (u :
             poured = poured-moved (done < item.lending.loan.len) (m.stopped ≡ stop.Write) first after k m now now y y all_items lent.flow
                 (item.lending.loan.len - done) written
                 (record {
-                  counts = ap (λ (q : Tally). q.counts) work;
-                  written = ap (λ (q : Tally). q.written) work;
-                  loans = ap (λ (q : Tally). q.loans) work;
-                  copied = ap (λ (q : Tally). q.copied) work;
-                  flows = ap (λ (q : Tally). q.flows) work;
-                  room = ap (λ (q : Tally). q.room) work;
+                  counts = ap (λ (q : TallyState). q.counts) work;
+                  written = ap (λ (q : TallyState). q.written) work;
+                  loans = ap (λ (q : TallyState). q.loans) work;
+                  copied = ap (λ (q : TallyState). q.copied) work;
+                  flows = ap (λ (q : TallyState). q.flows) work;
+                  room = ap (λ (q : TallyState). q.room) work;
                 })
                 written.given (sees-still y) refl refl refl written.back refl (λ less. absurd (omega (arith, less, full, len_is)));
-            due = subst (λ d. OnlyDue d y.loans) (sym (ap (λ (q : Tally). q.due) work)) (piece, still-one, item.loan);
+            due = subst (λ d. OnlyDue d y.loans) (sym (ap (λ (q : TallyState). q.due) work)) (piece, still-one, item.loan);
             whole = λ _. none;
             given_back = λ _. still-all;
             going = λ _. item.going.1;

@@ -3,9 +3,9 @@ use Rattle.std.proofs.Common.{◌≡◌, ℕ, [], length, refl, sym, ap, subst, 
 use Rattle.board_face.specs.declared.views.app.AppView.{AppView}
 use Rattle.flow_queues.specs.Core.{total, LieApart, own_notes, has_at, is_odd, held_len}
 use Rattle.zc_poll.specs.Standing.{Desk, StreamStands}
-use Rattle.zc_poll.specs.Fresh.{IsUntouched, new_desk}
+use Rattle.zc_poll.specs.Fresh.{HasDoneNothing, new_desk}
 
-module _ (app : ℕ) (v : AppView) (new : IsUntouched app v) where
+module _ (app : ℕ) (v : AppView) (new : HasDoneNothing app v) where
   apart : LieApart v
   apart = record {
     once = λ b x. omega (arith, ap (total (λ h. has_at b x h.place)) new.helds, ap (total (λ l. has_at b x l.place)) new.loans);

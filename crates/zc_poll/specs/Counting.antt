@@ -7,7 +7,7 @@ use Rattle.flow_queues.specs.Totals.{capped}
 use Rattle.flow_queues.specs.Ends.{bytes_in, times}
 
 -- what pouring keeps beside its stream and its shelf
-pub record Tally : Type 0 where
+pub record TallyState : Type 0 where
   -- the loan that was written and is to be given back
   pub due : Option Place
   pub written : ℕ
@@ -21,7 +21,7 @@ pub record Tally : Type 0 where
   pub room : ℕ
 
 -- once an item was counted among the loans
-abbrev pub item_counted : Tally → Bool → Tally
+abbrev pub item_counted : TallyState → Bool → TallyState
 item_counted w copied = record w { loans = capped (w.loans + 1); copied = if copied then capped (w.copied + 1) else w.copied }
 
 -- the flows of which bytes were written

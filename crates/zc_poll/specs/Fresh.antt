@@ -4,7 +4,7 @@ use Rattle.board_face.specs.declared.views.app.AppView.{AppView}
 use Rattle.zc_poll.specs.Standing.{Desk}
 
 -- this application has taken no note at its board, pushed nothing, and scrubbed nothing
-pub record IsUntouched (app : ℕ) (v : AppView) : Type 0 where
+pub record HasDoneNothing (app : ℕ) (v : AppView) : Type 0 where
   pub app_is : v.app ≡ app
   pub here : v.left ≡ false
   pub settled : v.settled ≡ true

@@ -17,13 +17,13 @@ use Rattle.board_face.specs.declared.views.app.AppView.{AppView}
 use Rattle.flow_queues.specs.Core.{Each, OnlyReads}
 use Rattle.flow_queues.specs.Ends.{AppEnd, HasLeft}
 use Rattle.flow_queues.specs.Returned.{HasReturned}
-use Rattle.zc_poll.specs.Counting.{Tally}
+use Rattle.zc_poll.specs.Counting.{TallyState}
 use Rattle.zc_poll.specs.declared.step.Lent.{Lent}
 use Rattle.zc_poll.specs.declared.step.Waits.TheVariants.{NoNote, ReserveHeld, Enough}
 use Rattle.zc_poll.specs.declared.step.Step.TheVariants.{Waiting, Memory, Ended as stream_ended}
 use Rattle.zc_poll.specs.declared.to_shelf.Poured.{Poured}
-use Rattle.zc_poll.specs.declared.to_shelf.Ran.{Ran}
-use Rattle.zc_poll.specs.declared.to_shelf.Ran.TheVariants.{Did, Idle, Ended}
+use Rattle.zc_poll.specs.declared.to_shelf.PollTurn.{PollTurn}
+use Rattle.zc_poll.specs.declared.to_shelf.PollTurn.TheVariants.{Did, Idle, Ended}
 use Rattle.zc_poll.specs.declared.to_shelf.Rests.{Rests}
 use Rattle.zc_poll.specs.declared.to_shelf.Rests.TheVariants.{Stream, RefillFull, NotQuiet, NoNotice}
 use Rattle.zc_poll.specs.Fresh.{has_left}
@@ -73,13 +73,13 @@ IsSoOf is_so RefillFull = is_so RefillInUse
 IsSoOf is_so NotQuiet = is_so not_quiet
 IsSoOf is_so NoNotice = Unit {0}
 
-abbrev pub IsTold : (AppLook → Type 0) → Ran → Type 0
+abbrev pub IsTold : (AppLook → Type 0) → PollTurn → Type 0
 IsTold is_so (Idle why) = IsSoOf is_so why
 IsTold is_so Did = Unit {0}
 IsTold is_so (Ended poured) = Unit {0}
 
 -- by what was due, and what the stream keeps
-abbrev pub TurnDoes : Option Place → Desk → Desk → AppView → AppView → Ran → Type 0
+abbrev pub TurnDoes : Option Place → Desk → Desk → AppView → AppView → PollTurn → Type 0
 TurnDoes due was now old new Did = Does due was now old new
 TurnDoes due was now old new (Idle why) = Idles why due was now old new
 TurnDoes due was now old new (Ended poured) = (due ≡ None) × (was.ended ≡ true) × (new ≡ has_left old)
@@ -91,7 +91,7 @@ abbrev pub pour_end : Poured → AppEnd
 pour_end p = record { written = p.written; loans = p.loans; copied = p.copied; stopped = p.stopped; flows = p.flows.items }
 
 -- It goes on, or has left with what any application owes that isn't to quit, and keeps no loan and writes no raw entry.
-abbrev pub PourGives : (ℕ → Option (List ℕ)) → ℕ → Tally → Desk → (ℕ → Option (List ℕ)) → ℕ → AppView → Ran → Type 0
+abbrev pub PourGives : (ℕ → Option (List ℕ)) → ℕ → TallyState → Desk → (ℕ → Option (List ℕ)) → ℕ → AppView → PollTurn → Type 0
 PourGives first losses w st kept losses_now v (Ended poured) =
     (how : Behaviour) → (how.quit ≡ None → HasLeft how first kept losses losses_now v (pour_end poured))
     × (how.leak ≡ 0 → how.stray ≡ 0 → HasReturned how poured.stopped poured.written v)
@@ -103,10 +103,10 @@ pub record PourView (F T : Type 0) : Type 0 where
   pub face : F
   pub desk : Desk
   pub shelf : T
-  pub tally : Tally
+  pub tally : TallyState
 
 -- what a poll gives and does is what one turn gives and does
-abbrev pub PollPours : (ℕ → Option (List ℕ)) → ℕ → Tally → Desk → (ℕ → Option (List ℕ)) → ℕ → AppView → Poll Poured → Type 0
+abbrev pub PollPours : (ℕ → Option (List ℕ)) → ℕ → TallyState → Desk → (ℕ → Option (List ℕ)) → ℕ → AppView → Poll Poured → Type 0
 PollPours first losses w st kept losses_now v (Ready poured) = PourGives first losses w st kept losses_now v (Ended poured)
 PollPours first losses w st kept losses_now v Pending = PourStands first losses w st kept losses_now v
 

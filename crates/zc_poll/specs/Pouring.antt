@@ -11,7 +11,7 @@ use Rattle.flow_queues.specs.Totals.{capped, lent_len, loan_entries, raw_entries
 use Rattle.flow_queues.specs.Shelves.{AreOfOneLoan, kept_loans}
 use Rattle.flow_queues.specs.Entries.{Gives}
 use Rattle.flow_queues.specs.Ends.{bytes_in, times}
-use Rattle.zc_poll.specs.Counting.{Tally}
+use Rattle.zc_poll.specs.Counting.{TallyState}
 use Rattle.zc_poll.specs.Standing.{Desk, StreamStands}
 use Rattle.zc_poll.specs.Items.{Given, HasGiven, marks_given}
 
@@ -38,7 +38,7 @@ pub record GaveFirst (v : AppView) (most : ℕ) : Type 0 where
 
 -- These items were given, one loan each, and all of their bytes are counted but for so many of one flow. The shelf had `first`
 -- before and has `kept` now; it gained more than is counted only where it failed.
-pub record HasPoured (Failed : Type 0) (first : ℕ → Option (List ℕ)) (w : Tally) (st : Desk) (kept : ℕ → Option (List ℕ)) (v : AppView)
+pub record HasPoured (Failed : Type 0) (first : ℕ → Option (List ℕ)) (w : TallyState) (st : Desk) (kept : ℕ → Option (List ℕ)) (v : AppView)
     (items : List Given) (torn missing : ℕ) : Type 0 where
   pub given : HasGiven items st.flows v.taken
   pub many : length v.loans + length v.returned ≡ length items
@@ -63,7 +63,7 @@ abbrev pub OnlyDue : Option Place → List LentPiece → Type 0
 OnlyDue due loans = MatchOption due (loans ≡ []) (λ place. (piece : LentPiece) × (loans ≡ piece ∷ []) × (piece.place ≡ place))
 
 -- Between two turns. The shelf's count of faults was `losses` and is `losses_now`.
-pub record PourStands (first : ℕ → Option (List ℕ)) (losses : ℕ) (w : Tally) (st : Desk) (kept : ℕ → Option (List ℕ)) (losses_now : ℕ)
+pub record PourStands (first : ℕ → Option (List ℕ)) (losses : ℕ) (w : TallyState) (st : Desk) (kept : ℕ → Option (List ℕ)) (losses_now : ℕ)
     (v : AppView) : Type 0 where
   pub items : List Given
   -- the item at which it was stopped: its flow, and how many of its bytes aren't counted

@@ -1,9 +1,9 @@
 -- What pouring keeps beside its stream and its shelf, as plain data.
 use Rattle.std.specs.Prelude.{vec_capacity}
-use Rattle.zc_poll.specs.declared.counting.Tally.{Tally as Kept}
-use Rattle.zc_poll.specs.Counting.{Tally}
+use Rattle.zc_poll.specs.declared.counting.PourTally.{PourTally as Kept}
+use Rattle.zc_poll.specs.Counting.{TallyState}
 
-abbrev pub tally_of : Kept → Tally
+abbrev pub tally_of : Kept → TallyState
 tally_of w = record {
   due = w.due;
   written = w.written;

@@ -13,7 +13,7 @@ use zr_kinds::Stopped;
 
 /// What pouring keeps beside its stream and its shelf.
 #[derive(Drop)]
-pub struct Tally {
+pub struct PourTally {
     /// The loan that was written and is to be given back.
     pub due: Option<Loan>,
     pub written: u64,
@@ -27,7 +27,7 @@ pub struct Tally {
 }
 
 /// Asks for what the count of a flow takes, where there is none yet.
-pub fn make_room(work: &mut Tally, flow: u32) -> Result<(), AllocError>
+pub fn make_room(work: &mut PourTally, flow: u32) -> Result<(), AllocError>
     requires room { length work.old.counts.entries ≤ vec_capacity work.old.flows }
     requires empty { work.old.flows.items ≡ [] }
     ensures same { work.new ≡ record work.old { counts = work.new.counts; flows = work.new.flows } }
@@ -48,7 +48,7 @@ pub fn make_room(work: &mut Tally, flow: u32) -> Result<(), AllocError>
 }
 
 /// Counts bytes that were written to a flow.
-pub fn count(work: &mut Tally, flow: u32, bytes: u32)
+pub fn count(work: &mut PourTally, flow: u32, bytes: u32)
     requires there { IsSome (get nat_cmp work.old.counts flow) }
     ensures same { work.new ≡ record work.old { counts = work.new.counts; written = min (work.old.written + bytes) (2 ^ 64 - 1) } }
     ensures adds { bytes_in flow work.old.counts.entries + bytes < 2 ^ 64 → AddsTo flow bytes work.old.counts.entries work.new.counts.entries }
@@ -61,7 +61,7 @@ pub fn count(work: &mut Tally, flow: u32, bytes: u32)
 }
 
 /// Counts an item among the loans.
-pub fn count_item(work: &mut Tally, copied: bool)
+pub fn count_item(work: &mut PourTally, copied: bool)
     ensures tally { tally_of work.new ≡ item_counted (tally_of work.old) copied }
     ensures same { work.new ≡ record work.old { loans = work.new.loans; copied = work.new.copied } }
 {

@@ -13,8 +13,8 @@ mod stream;
 mod taking;
 mod to_shelf;
 
-pub use counting::{Tally, count, count_item, make_room};
+pub use counting::{PourTally, count, count_item, make_room};
 pub use laws::items_law;
 pub use step::{Lent, Step, Waits};
 pub use stream::LoanStream;
-pub use to_shelf::{Poured, Ran, Rests, ToShelf, told};
+pub use to_shelf::{PollTurn, Poured, Rests, ToShelf, told};

@@ -14,7 +14,7 @@ ghost use Rattle.zc_poll.specs.Pouring.{PourStands};
 ghost use Rattle.zc_poll.specs.PourTurns.{IsRead};
 ghost use Rattle.zc_poll.specs.TallyOf.{tally_of};
 
-use crate::counting::{Tally, count, count_item, make_room};
+use crate::counting::{PourTally, count, count_item, make_room};
 use crate::step::Lent;
 use crate::stream::LoanStream;
 use board_face::{AppFace, Loan};
@@ -64,7 +64,7 @@ pub fn append_loan<F: AppFace, T: Shelf>(
 }
 
 /// Gives a loan up, and stops the stream for this.
-fn give_up<F: AppFace>(stream: &mut LoanStream<F>, work: &mut Tally, loan: Loan, why: Stopped)
+fn give_up<F: AppFace>(stream: &mut LoanStream<F>, work: &mut PourTally, loan: Loan, why: Stopped)
     requires stands { StreamStands stream.old.desk (F.seen stream.old.face) }
     requires out { HasLoan (F.seen stream.old.face) loan }
     ensures stands { StreamStands stream.new.desk (F.seen stream.new.face) }
@@ -85,7 +85,7 @@ fn give_up<F: AppFace>(stream: &mut LoanStream<F>, work: &mut Tally, loan: Loan,
 pub fn pour<F: AppFace, T: Shelf>(
     stream: &mut LoanStream<F>,
     shelf: &mut T,
-    work: &mut Tally,
+    work: &mut PourTally,
     lent: Lent,
 ) -> Option<Loan>
     requires stands { StreamStands stream.old.desk (F.seen stream.old.face) }

@@ -14,7 +14,7 @@ ghost use Rattle.flow_queues.specs.Core.{IsIn, lent_piece, AreReadAt};
 ghost use Rattle.zc_poll.specs.Standing.{StreamStands};
 ghost use Rattle.zc_poll.specs.Items.{Given, HasGiven};
 ghost use Rattle.zc_poll.specs.Steps.{Steps, OnlySteps, PollGives};
-ghost use Rattle.zc_poll.specs.Fresh.{IsUntouched, new_desk, has_left};
+ghost use Rattle.zc_poll.specs.Fresh.{HasDoneNothing, new_desk, has_left};
 ghost use Rattle.zc_poll.specs.declared.step.Step.TheVariants.{Waiting, Ended};
 ghost use Rattle.zc_poll.specs.declared.step.Waits.TheVariants.{NoNote, ReserveHeld};
 
@@ -48,7 +48,7 @@ impl<F> Model for LoanStream<F> {
 impl<F: AppFace> LoanStream<F> {
     /// A stream of this application's loans, of which none was given yet. Takes no memory.
     pub fn new(alloc: Global, face: F, app: u32) -> LoanStream<F>
-        requires { IsUntouched app (F.seen face) }
+        requires { HasDoneNothing app (F.seen face) }
         ensures stream { result ≡ record { face = face; desk = new_desk app } }
         ensures stands { StreamStands result.desk (F.seen result.face) }
         ensures items { HasGiven [] result.desk.flows (F.seen result.face).taken }

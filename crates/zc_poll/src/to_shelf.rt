@@ -9,7 +9,7 @@ ghost use Rattle.std.specs.List.Sorted.{IsStrictlySortedBy};
 ghost use Rattle.flow_queues.specs.Core.{Each};
 ghost use Rattle.zc_poll.specs.Counting.{with_bytes};
 ghost use Rattle.zc_poll.specs.Standing.{Desk, StreamStands};
-ghost use Rattle.zc_poll.specs.Fresh.{IsUntouched, new_desk};
+ghost use Rattle.zc_poll.specs.Fresh.{HasDoneNothing, new_desk};
 ghost use Rattle.zc_poll.specs.Pouring.{PourStands};
 ghost use Rattle.zc_poll.specs.PourTurns.{HadItem, IsTold, PourGives, TurnDoes, PollPours, PollDoes};
 ghost use Rattle.zc_poll.specs.Steps.{IsItem, OnlySteps};
@@ -17,7 +17,7 @@ ghost use Rattle.futures.specs.Poll.{OnPending};
 ghost use Rattle.futures.specs.Task.{Covers, Keeps};
 ghost use Rattle.zc_poll.specs.TallyOf.{tally_of};
 
-use crate::counting::Tally;
+use crate::counting::PourTally;
 use crate::pouring::pour;
 use crate::step::{Lent, Step, Waits};
 use crate::stream::LoanStream;
@@ -59,14 +59,14 @@ pub enum Rests {
 
 /// What a turn did.
 #[derive(Debug, Drop)]
-pub enum Ran {
+pub enum PollTurn {
     Did,
     Idle(Rests),
     Ended(Poured),
 }
 
 /// What was written, once nothing comes any more.
-pub fn told(work: &mut Tally, alloc: Global) -> Poured
+pub fn told(work: &mut PourTally, alloc: Global) -> Poured
     requires room { length work.old.counts.entries ≤ vec_capacity work.old.flows }
     requires empty { work.old.flows.items ≡ [] }
     ensures written { result.written ≡ work.old.written }
@@ -93,7 +93,7 @@ pub fn told(work: &mut Tally, alloc: Global) -> Poured
 }
 
 /// Gives the loan back that is due.
-fn give_back<F: AppFace>(stream: &mut LoanStream<F>, work: &mut Tally, loan: Loan) -> Ran
+fn give_back<F: AppFace>(stream: &mut LoanStream<F>, work: &mut PourTally, loan: Loan) -> PollTurn
     requires stands { StreamStands stream.old.desk (F.seen stream.old.face) }
     requires out { HasLoan (F.seen stream.old.face) loan }
     requires due { work.old.due ≡ None }
@@ -107,16 +107,16 @@ fn give_back<F: AppFace>(stream: &mut LoanStream<F>, work: &mut Tally, loan: Loa
     ensures beside { F.beside stream.new.face ≡ F.beside stream.old.face }
 {
     match stream.give(loan) {
-        Ok(()) => Ran::Did,
+        Ok(()) => PollTurn::Did,
         Err(loan) => {
             work.due = Some(loan);
-            Ran::Idle(Rests::RefillFull)
+            PollTurn::Idle(Rests::RefillFull)
         }
     }
 }
 
 /// Lets the face leave, once all is given back.
-fn close<F: AppFace>(stream: &mut LoanStream<F>, work: &mut Tally) -> Ran
+fn close<F: AppFace>(stream: &mut LoanStream<F>, work: &mut PourTally) -> PollTurn
     requires stands { StreamStands stream.old.desk (F.seen stream.old.face) }
     requires ended { stream.old.desk.ended ≡ true }
     requires none { (F.seen stream.old.face).loans ≡ [] }
@@ -134,17 +134,17 @@ fn close<F: AppFace>(stream: &mut LoanStream<F>, work: &mut Tally) -> Ran
     ensures beside { F.beside stream.new.face ≡ F.beside stream.old.face }
 {
     if !stream.leave() {
-        return Ran::Idle(Rests::NotQuiet);
+        return PollTurn::Idle(Rests::NotQuiet);
     }
     let poured = told(work, stream.alloc());
-    Ran::Ended(poured)
+    PollTurn::Ended(poured)
 }
 
 /// Writes an item to the shelf, and gives its loan back. Where the refill slot is in use the loan stays due.
 fn pour_item<F: AppFace, T: Shelf>(
     stream: &mut LoanStream<F>,
     shelf: &mut T,
-    work: &mut Tally,
+    work: &mut PourTally,
     lent: Lent,
 )
     requires stands { StreamStands stream.old.desk (F.seen stream.old.face) }
@@ -167,7 +167,11 @@ fn pour_item<F: AppFace, T: Shelf>(
 }
 
 /// Takes one step, and writes the item that it gave and gives it back.
-fn go_on<F: AppFace, T: Shelf>(stream: &mut LoanStream<F>, shelf: &mut T, work: &mut Tally) -> Ran
+fn go_on<F: AppFace, T: Shelf>(
+    stream: &mut LoanStream<F>,
+    shelf: &mut T,
+    work: &mut PourTally,
+) -> PollTurn
     requires stands { StreamStands stream.old.desk (F.seen stream.old.face) }
     requires more { stream.old.desk.ended ≡ false }
     requires none { work.old.due ≡ None }
@@ -185,14 +189,14 @@ fn go_on<F: AppFace, T: Shelf>(stream: &mut LoanStream<F>, shelf: &mut T, work: 
     match stream.step() {
         Step::Item(lent) => {
             pour_item(stream, shelf, work, lent);
-            Ran::Did
+            PollTurn::Did
         }
-        Step::Waiting(why) => Ran::Idle(Rests::Stream(why)),
+        Step::Waiting(why) => PollTurn::Idle(Rests::Stream(why)),
         Step::Memory => {
             work.stopped = Stopped::Memory;
-            Ran::Did
+            PollTurn::Did
         }
-        Step::Ended => Ran::Did,
+        Step::Ended => PollTurn::Did,
     }
 }
 
@@ -200,8 +204,8 @@ fn go_on<F: AppFace, T: Shelf>(stream: &mut LoanStream<F>, shelf: &mut T, work: 
 fn take_turn<F: AppFace, T: Shelf>(
     stream: &mut LoanStream<F>,
     shelf: &mut T,
-    work: &mut Tally,
-) -> Ran
+    work: &mut PourTally,
+) -> PollTurn
     requires stands { (first : ℕ → Option (List ℕ)) × (losses : ℕ)
         × PourStands first losses (tally_of work.old) stream.old.desk (T.kept shelf.old) (T.faults shelf.old) (F.seen stream.old.face) }
     ensures gives { (first : ℕ → Option (List ℕ)) (losses : ℕ)
@@ -227,7 +231,7 @@ fn take_turn<F: AppFace, T: Shelf>(
 pub struct ToShelf<F, T> {
     stream: LoanStream<F>,
     shelf: T,
-    work: Tally,
+    work: PourTally,
 }
 
 impl<F, T> Model for ToShelf<F, T> {
@@ -242,7 +246,7 @@ impl<F, T> Model for ToShelf<F, T> {
 impl<F: AppFace, T: Shelf> ToShelf<F, T> {
     /// Nothing is written yet. Takes no memory.
     pub fn new(stream: LoanStream<F>, shelf: T) -> ToShelf<F, T>
-        requires fresh { (app : ℕ) × (stream.desk ≡ new_desk app) × IsUntouched app (F.seen stream.face) }
+        requires fresh { (app : ℕ) × (stream.desk ≡ new_desk app) × HasDoneNothing app (F.seen stream.face) }
         requires stands { StreamStands stream.desk (F.seen stream.face) }
         ensures parts { (result.face ≡ stream.face) × (result.shelf ≡ shelf) × (result.desk ≡ stream.desk) }
         ensures stands { PourStands (T.kept shelf) (T.faults shelf) result.tally result.desk (T.kept result.shelf) (T.faults result.shelf)
@@ -252,7 +256,7 @@ impl<F: AppFace, T: Shelf> ToShelf<F, T> {
         ToShelf {
             stream,
             shelf,
-            work: Tally {
+            work: PourTally {
                 due: None,
                 written: 0,
                 loans: 0,
@@ -266,7 +270,7 @@ impl<F: AppFace, T: Shelf> ToShelf<F, T> {
 
     /// One turn: it gives back what is due, or takes one step, writes its item and gives it back, or lets the face leave. A loan
     /// stays due where the refill slot was seen in use.
-    pub fn turn(&mut self) -> Ran
+    pub fn turn(&mut self) -> PollTurn
         requires stands { (first : ℕ → Option (List ℕ)) × (losses : ℕ)
             × PourStands first losses self.old.tally self.old.desk (T.kept self.old.shelf) (T.faults self.old.shelf)
             (F.seen self.old.face) }
@@ -324,9 +328,9 @@ impl<F: AppFace + Drop, T: Shelf + Drop> Future for ToShelf<F, T> {
         ensures beside { F.beside self.new.face ≡ F.beside self.old.face }
     {
         match self.turn() {
-            Ran::Did => cx.yield_now(),
-            Ran::Idle(_) => cx.yield_now(),
-            Ran::Ended(poured) => Poll::Ready(poured),
+            PollTurn::Did => cx.yield_now(),
+            PollTurn::Idle(_) => cx.yield_now(),
+            PollTurn::Ended(poured) => Poll::Ready(poured),
         }
     }
 }

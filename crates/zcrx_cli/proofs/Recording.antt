@@ -7,6 +7,7 @@ use Rattle.std.proofs.lemmas.Bool.{leb-false, leb-true}
 use Rattle.std.proofs.lemmas.List.{length-take-le, take_all}
 use Rattle.std.proofs.lemmas.List.Sums.{count_by-le-length, sum_by-cons}
 use Rattle.std.specs.Io.KnownBytes.{Appends}
+use Rattle.run_records.specs.Setting.{most_events}
 use Rattle.zr_io.specs.Moved.{Gained}
 use Rattle.zr_kinds.specs.declared.behaviour.Behaviour.{Behaviour}
 use Rattle.zr_kinds.specs.declared.outcome.AppLine.{AppLine}
@@ -25,7 +26,7 @@ use Rattle.board_face.specs.declared.views.app.AppSide.{AppSide}
 use Rattle.board_face.specs.declared.views.app.LentPiece.{LentPiece}
 use Rattle.flow_queues.specs.Core.{total}
 use Rattle.flow_queues.specs.Totals.{lent_len}
-use Rattle.flow_table.specs.Steered.{Steered}
+use Rattle.flow_table.specs.SteeredTcp.{SteeredTcp}
 use Rattle.event_log.specs.IsLogged.{IsLogged, run_of}
 use Rattle.event_log.specs.Logs.{Kept, log_of}
 use Rattle.event_log.specs.Settings.{areas_of}
@@ -121,7 +122,7 @@ total-sum : (loans : List LentPiece) → total lent_len loans ≡ sum_by len_of 
 total-sum [] = refl
 total-sum (loan ∷ loans) = ap (λ n. lent_len loan + n) (total-sum loans) ∙ sym (sum_by-cons len_of loan loans)
 
-line-told : (how : Behaviour) (split : ℕ) (steered : List Steered) (left_out : List ℕ) (nic : NicSide) (a : ℕ) (app : AppSide) (line : AppLine)
+line-told : (how : Behaviour) (split : ℕ) (steered : List SteeredTcp) (left_out : List ℕ) (nic : NicSide) (a : ℕ) (app : AppSide) (line : AppLine)
     (events : List Event) → AppAccounts how split steered left_out nic a app line → app.view.loans ≡ [] → app.view.owns ≡ []
     → IsTallied a app.view events → IsLineOf capped a line events
 line-told how split steered left_out nic a app line events accounts no_loans no_spares tallied =
@@ -139,7 +140,7 @@ line-told how split steered left_out nic a app line events accounts no_loans no_
     }
 
 -- a report that says what few events tell says it exactly
-exactly : (outcome : Told) (events : List Event) → AllByRecursion HasSmallNumbers events → length events ≤ 1000000 → IsReportOf capped outcome events
+exactly : (outcome : Told) (events : List Event) → AllByRecursion HasSmallNumbers events → length events ≤ most_events → IsReportOf capped outcome events
     → IsReportOf (λ n. n) outcome events
 exactly outcome events small few told = record {
   apps = λ number line at.
@@ -160,14 +161,14 @@ module _ {T : Type 0} (kept : T → ℕ → Option (List ℕ)) (shelves shelves_
     (s : AllSides) (log : Kept)
     (layout : MakeLayout plan.areas.items (length plan.ports.items))
     (accounts : AccountsFor kept shelves shelves_now plan before outcome.refused s.nic s.apps outcome.apps outcome.pool.strays)
-    (logged : IsLogged s log) (room : log.room ≡ 1000000)
+    (logged : IsLogged s log) (room : log.room ≡ most_events)
     (is_layout : IsLayout s.nic.view.setting.layout) (over : (b : ℕ) → pool_of s b ≡ 0)
     (none_left : (a : ℕ) (app : AppSide) → IsApp s.apps a app → (app.view.loans ≡ []) × (app.view.owns ≡ [])) where
   length-none : (held : List Holding) → length held ≡ 0 → held ≡ []
   length-none [] none = refl
   length-none (x ∷ held) none = absurd (omega (arith, none))
 
-  log-all : log ≡ log_of 1000000 logged.all
+  log-all : log ≡ log_of most_events logged.all
   log-all = subst (λ n. log ≡ log_of n logged.all) room logged.log_is
 
   is-setting : run_of s ≡ setting_of plan
@@ -190,10 +191,10 @@ module _ {T : Type 0} (kept : T → ℕ → Option (List ℕ)) (shelves shelves_
           let within : number < length s.apps = omega (arith, get-within outcome.apps number line at, accounts.many_lines) in
           (get_or s.apps number blank_app, IsApp-at s.apps number blank_app accounts.numbers within)
 
-  whole-all : log.whole ≡ true → (length logged.all ≤ 1000000) × (log.events ≡ logged.all)
+  whole-all : log.whole ≡ true → (length logged.all ≤ most_events) × (log.events ≡ logged.all)
   whole-all whole =
-      let few : length logged.all ≤ 1000000 = leb-true _ _ (sym (ap (λ (k : Kept). k.whole) log-all) ∙ whole) in
-      (few, ap (λ (k : Kept). k.events) log-all ∙ take_all 1000000 logged.all few)
+      let few : length logged.all ≤ most_events = leb-true _ _ (sym (ap (λ (k : Kept). k.whole) log-all) ∙ whole) in
+      (few, ap (λ (k : Kept). k.events) log-all ∙ take_all most_events logged.all few)
 
   pub tells-run : TellsRun plan outcome s log
   tells-run = record {
@@ -210,8 +211,8 @@ module _ {T : Type 0} (kept : T → ℕ → Option (List ℕ)) (shelves shelves_
         let are = whole-all whole in
         subst (IsReportOf (λ n. n) outcome) (sym are.1) (exactly outcome logged.all logged.small are.0 told-all);
     full = λ cut.
-        let many : nat_le (length logged.all) 1000000 ≡ false = sym (ap (λ (k : Kept). k.whole) log-all) ∙ cut in
-        ap (λ (k : Kept). length k.events) log-all ∙ length-take-le 1000000 logged.all (omega (arith, leb-false (length logged.all) 1000000 many));
+        let many : nat_le (length logged.all) most_events ≡ false = sym (ap (λ (k : Kept). k.whole) log-all) ∙ cut in
+        ap (λ (k : Kept). length k.events) log-all ∙ length-take-le most_events logged.all (omega (arith, leb-false (length logged.all) most_events many));
   }
 
 -- ---- the text behind the report
@@ -256,7 +257,7 @@ pub board-records : {S T : Type 0} (left : S → Option (List ℕ)) (faults : S 
     → IsSound (stand_of board) → IsRecorded (sides_of board) board.log → board.log.room ≡ room_of plan
     → HasRecord plan outcome (Card.Plain board)
 board-records left faults kept losses source source_now shelves shelves_now plan outcome board is_plan ran sound recorded room asked =
-    let roomy : board.log.room ≡ 1000000 = rw asked at room in
+    let roomy : board.log.room ≡ most_events = rw asked at room in
     let over : IsOver (stand_of board) = record { card = ran.over.card; apps = ran.over.left } in
     let none = (boards-end_well (stand_of board) sound over).counts in
     let layout : IsLayout board.nic.view.setting.layout = subst (λ (set : Shared). IsLayout set.layout) (sym sound.set.card) sound.sizes.layout in

@@ -17,7 +17,7 @@ use Rattle.zr_kinds.specs.declared.behaviour.Stopped.TheVariants as stop
 use Rattle.zr_kinds.specs.declared.outcome.AppLine.{AppLine}
 use Rattle.zr_io.specs.Moved.{Rose, Took}
 use Rattle.zr_io.proofs.Moved.{Took-then, Took-weaker}
-use Rattle.frames_read.specs.Ending.{Ended, ended_of, steered_in}
+use Rattle.frames_read.specs.Ending.{Ending, ended_of, steered_in}
 use Rattle.frames_read.specs.Reading.{ShowsEnding, BreaksOff, TakenEnds, IsEnding, IsReadToEnd}
 use Rattle.frames_read.proofs.Endings.{some-weaker}
 use Rattle.board_face.specs.declared.views.nic.NicSide.{NicSide}
@@ -108,9 +108,9 @@ numbered = ending_cases IsNumbered
 -- ---- what the bytes show
 
 -- what ended the reading, where the bytes show it
-shown-number : (end : Option Fault) → IsEnding end → (ended : Ended) (before : List (List ℕ)) → ShowsEnding ended before end
+shown-number : (end : Option Fault) → IsEnding end → (ended : Ending) (before : List (List ℕ)) → ShowsEnding ended before end
     → (end_number end ≡ end_number ended.fault) ⊎ ((end_number end ≡ 1) ⊎ (end_number end ≡ 8))
-shown-number = ending_cases (λ end. (ended : Ended) (before : List (List ℕ)) → ShowsEnding ended before end
+shown-number = ending_cases (λ end. (ended : Ending) (before : List (List ℕ)) → ShowsEnding ended before end
     → (end_number end ≡ end_number ended.fault) ⊎ ((end_number end ≡ 1) ⊎ (end_number end ≡ 8)))
     (λ ended before shows. inl (ap (λ e. end_number e.fault) (sym shows))) (λ ended before shows. inr (inl refl))
     (λ ended before shows. inl (ap (λ e. end_number e.fault) (sym shows))) (λ ended before shows. inl (ap (λ e. end_number e.fault) (sym shows)))
@@ -121,10 +121,10 @@ shown-number = ending_cases (λ end. (ended : Ended) (before : List (List ℕ)) 
 
 -- what was taken ends as all bytes do, unless memory ran out or a read failed
 same-ending : (Wants : List (List ℕ) → List ℕ → Type 0) (end : Option Fault) → IsEnding end
-    → ((ports taken : List ℕ) (all : Ended) (before : List (List ℕ)) → TakenEnds Wants ports taken before end → ShowsEnding all before end
+    → ((ports taken : List ℕ) (all : Ending) (before : List (List ℕ)) → TakenEnds Wants ports taken before end → ShowsEnding all before end
     → ended_of ports taken ≡ all)
     ⊎ ((end ≡ Some Memory) ⊎ (end ≡ Some Read))
-same-ending Wants = ending_cases (λ end. ((ports taken : List ℕ) (all : Ended) (before : List (List ℕ)) → TakenEnds Wants ports taken before end
+same-ending Wants = ending_cases (λ end. ((ports taken : List ℕ) (all : Ending) (before : List (List ℕ)) → TakenEnds Wants ports taken before end
     → ShowsEnding all before end → ended_of ports taken ≡ all) ⊎ ((end ≡ Some Memory) ⊎ (end ≡ Some Read)))
     (inl (λ ports taken all before ends shows. ends ∙ sym shows)) (inr (inl refl)) (inl (λ ports taken all before ends shows. ends ∙ sym shows))
     (inl (λ ports taken all before ends shows. ends ∙ sym shows)) (inl (λ ports taken all before ends shows. ends ∙ sym shows))
@@ -145,7 +145,7 @@ apart = ending_cases (λ end. IsApart end ⊎ ((end ≡ Some Memory) ⊎ (end �
     (inl (record { memory = λ e. cc; flows = λ e. cc })) (inr (inr refl)) (inl (record { memory = λ e. cc; flows = λ e. cc }))
     (inl (record { memory = λ e. cc; flows = λ e. cc }))
 
-broken_off : (ended : Ended) (before : List (List ℕ)) → BreaksOff ended before → IsBrokenOff ended.fault
+broken_off : (ended : Ending) (before : List (List ℕ)) → BreaksOff ended before → IsBrokenOff ended.fault
 broken_off ended before broke = ⊎_elim (λ none. inl (ap (λ e. e.fault) none)) (λ cut. inr (ap (λ e. e.fault) cut)) broke
 
 -- ---- a shelf that failed
@@ -279,7 +279,7 @@ module _ {S T : Type 0} {left : S → Option (List ℕ)} {failed : S → ℕ} {k
       → IfSome (left source) (λ all. Took (left source) (left source_now) (λ taken. ended_of plan.ports.items taken ≡ ended_of plan.ports.items all))
   ends-now flows =
       let wants = WantsRoom plan.split plan.ports.items in
-      let ended : Ended = record { before = replayed.before; fault = Some TooManyFlows } in
+      let ended : Ending = record { before = replayed.before; fault = Some TooManyFlows } in
       some-weaker (left source) _ _ replayed.ended.shown (λ all shows.
       let all_ends : ended_of plan.ports.items all ≡ ended =
       subst (λ e. ShowsEnding (ended_of plan.ports.items all) replayed.before e) flows shows in
@@ -417,12 +417,12 @@ module _ {S T : Type 0} {left : S → Option (List ℕ)} {failed : S → ℕ} {k
   enough-of : answer ≡ 0 → (all : List ℕ) → left source ≡ Some all
       → need_in plan (offers_of (steered_in plan.ports.items (ended_of plan.ports.items all).before)) ≤ buffers_of plan → outcome.refused ≡ []
   enough-of zero all told_all fits = replayed.need.enough
-      (subst (λ (e : Ended). need_in plan (offers_of (steered_in plan.ports.items e.before)) ≤ buffers_of plan) (all_read-of zero all told_all) fits)
+      (subst (λ (e : Ending). need_in plan (offers_of (steered_in plan.ports.items e.before)) ≤ buffers_of plan) (all_read-of zero all told_all) fits)
 
   streams-of : answer ≡ 0 → (all : List ℕ) → left source ≡ Some all
       → HaveWholeStreams kept shelves shelves_now plan.ports.items (how_of plan).quit (ended_of plan.ports.items all).before outcome
   streams-of zero all told_all =
-      subst (λ (e : Ended). HaveWholeStreams kept shelves shelves_now plan.ports.items (how_of plan).quit e.before outcome)
+      subst (λ (e : Ending). HaveWholeStreams kept shelves shelves_now plan.ports.items (how_of plan).quit e.before outcome)
       (sym (all_read-of zero all told_all))
       (whole-streams left failed kept losses source at shelves shelves_now plan outcome nic apps replayed (going-of zero))
 

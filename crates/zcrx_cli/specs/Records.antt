@@ -4,7 +4,7 @@ use Rattle.std.specs.List.{slice_get}
 use Rattle.zr_kinds.specs.declared.behaviour.Stopped.TheVariants as stop
 use Rattle.zr_kinds.specs.declared.outcome.AppLine.{AppLine}
 use Rattle.run_records.specs.declared.event.Event.{Event}
-use Rattle.run_records.specs.Setting.{Setting}
+use Rattle.run_records.specs.Setting.{most_events, Setting}
 use Rattle.run_records.specs.Holders.{Holdings, all_after, no_holdings}
 use Rattle.run_records.specs.LegalRun.{IsLegalRun}
 use Rattle.run_records.specs.RunText.{text_of}
@@ -50,13 +50,13 @@ pub record TellsRun (plan : Plan) (outcome : Told) (sides : AllSides) (log : Kep
   pub reached : all_after (setting_of plan) no_holdings all ≡ Some holdings
   pub over : (buffer : ℕ) → holdings buffer ≡ []
   -- The record has the first 1,000,000 of them, and ends with `end` where these are all, and else with `more`.
-  pub log_is : log ≡ log_of 1000000 all
+  pub log_is : log ≡ log_of most_events all
   pub legal : IsLegalRun (setting_of plan) log.events log.whole
   -- The report counts what they tell, up to the greatest number that it can say.
   pub told : IsReportOf capped outcome all
   -- So where the record ends with `end` the report counts exactly what its lines tell, and where it ends with `more` it has 1,000,000.
   pub exact : log.whole ≡ true → IsReportOf (λ n. n) outcome log.events
-  pub full : log.whole ≡ false → length log.events ≡ 1000000
+  pub full : log.whole ≡ false → length log.events ≡ most_events
 
 -- what the record tells, where there is one
 abbrev pub HasRecord : Plan → Told → Card → Type 0

@@ -5,7 +5,7 @@ ghost use Rattle.std.specs.Io.KnownBytes.{ReadConsumes};
 ghost use Rattle.zr_io.specs.Moved.{HasCause};
 
 use crate::progress::Progress;
-use crate::records::{Place, Records};
+use crate::records::{LastSeen, RecordCounter};
 use zr_io::{Failed, Source};
 
 /// How many of the first bytes are kept.
@@ -13,14 +13,14 @@ const KEPT: usize = 4;
 
 /// What was seen of the bytes that went by.
 #[derive(Drop)]
-struct Seen<'a> {
+struct FrontSeen<'a> {
     kept: [u8; KEPT],
     count: usize,
-    records: Records,
+    records: RecordCounter,
     progress: Option<Progress<'a>>,
 }
 
-impl Seen<'_> {
+impl FrontSeen<'_> {
     fn keep(&mut self, piece: &[u8]) {
         for byte in piece.iter().take(KEPT) {
             let Some(place) = self.kept.get_mut(self.count) else {
@@ -45,17 +45,17 @@ impl Seen<'_> {
 #[derive(Drop)]
 pub(crate) struct Front<'a, S: Source> {
     source: S,
-    seen: Seen<'a>,
+    seen: FrontSeen<'a>,
 }
 
 impl<'a, S: Source> Front<'a, S> {
     pub(crate) fn new(source: S, progress: Option<Progress<'a>>) -> Front<'a, S> {
         Front {
             source,
-            seen: Seen {
+            seen: FrontSeen {
                 kept: [0; KEPT],
                 count: 0,
-                records: Records::new(),
+                records: RecordCounter::new(),
                 progress,
             },
         }
@@ -67,7 +67,7 @@ impl<'a, S: Source> Front<'a, S> {
     }
 
     /// The record, or the block, of which bytes were read last.
-    pub(crate) fn place(&self) -> Option<Place> {
+    pub(crate) fn place(&self) -> Option<LastSeen> {
         self.seen.records.place()
     }
 

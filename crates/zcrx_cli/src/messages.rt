@@ -1,6 +1,6 @@
 //! What the program says to people, on standard error. No clause speaks of it; where it can't be said nothing is.
 
-use crate::records::Place;
+use crate::records::LastSeen;
 use command_words::{USAGE, what_is_wrong};
 use file_shelf::FileShelf;
 use std::rt::Files;
@@ -8,37 +8,37 @@ use zr_kinds::Fault;
 
 /// What the first bytes of standard input look like, where they are no capture's.
 #[derive(Clone, Copy)]
-enum Look {
+enum FrontLook {
     Nothing,
     Gzip,
     Text,
     Unknown,
 }
 
-fn look_of(front: &[u8]) -> Look {
+fn look_of(front: &[u8]) -> FrontLook {
     match front {
-        [] => Look::Nothing,
-        [0x1f, 0x8b, ..] => Look::Gzip,
+        [] => FrontLook::Nothing,
+        [0x1f, 0x8b, ..] => FrontLook::Gzip,
         _ if front.iter().all(|byte| byte.is_ascii_graphic() || byte.is_ascii_whitespace()) => {
-            Look::Text
+            FrontLook::Text
         }
-        _ => Look::Unknown,
+        _ => FrontLook::Unknown,
     }
 }
 
 /// What an input that is no capture is, and what to do about it.
 fn no_capture(front: &[u8]) -> &'static str {
     match look_of(front) {
-        Look::Gzip => "standard input is compressed by gzip (gzip -dc FILE | zcrx ..)",
-        Look::Text => "standard input is text, and no capture",
-        Look::Nothing | Look::Unknown => "standard input is no pcap or pcapng capture",
+        FrontLook::Gzip => "standard input is compressed by gzip (gzip -dc FILE | zcrx ..)",
+        FrontLook::Text => "standard input is text, and no capture",
+        FrontLook::Nothing | FrontLook::Unknown => "standard input is no pcap or pcapng capture",
     }
 }
 
 /// What an input is that ends too early.
 fn cut_short(front: &[u8]) -> &'static str {
     match look_of(front) {
-        Look::Nothing => "standard input is empty",
+        FrontLook::Nothing => "standard input is empty",
         _ =>
             "the capture ends within a header, a frame or a block; what came before it was replayed",
     }
@@ -112,7 +112,7 @@ pub(crate) fn say_status(
     command: Option<&str>,
     status: u8,
     front: &[u8],
-    place: Option<Place>,
+    place: Option<LastSeen>,
 ) {
     let Some(fault) = fault_of(status) else {
         return;

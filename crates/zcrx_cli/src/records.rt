@@ -29,8 +29,8 @@ enum Form {
     Other,
     /// The file header of the classic form, with the numbers of this order.
     FileHeader(ByteOrder),
-    /// Records, with the numbers of this order.
-    Records(ByteOrder),
+    /// RecordCounter, with the numbers of this order.
+    RecordCounter(ByteOrder),
     /// Blocks, with the numbers of this order.
     Blocks(ByteOrder),
 }
@@ -49,25 +49,25 @@ impl Form {
 
 /// The record, or the block, of which bytes went by last.
 #[derive(Clone, Copy, Debug, PartialEq, Eq)]
-pub(crate) enum Place {
+pub(crate) enum LastSeen {
     /// The number of a record, from 1, and how many bytes stand before it.
     Record(u64, u64),
     /// How many bytes stand before a block.
     Block(u64),
 }
 
-impl fmt::Display for Place {
+impl fmt::Display for LastSeen {
     fn fmt<W: fmt::Write>(&self, f: &mut fmt::Formatter<W>) -> fmt::Result {
         match self {
-            Place::Record(number, at) => write!(f, "record {number}, behind {at} bytes"),
-            Place::Block(at) => write!(f, "the block behind {at} bytes"),
+            LastSeen::Record(number, at) => write!(f, "record {number}, behind {at} bytes"),
+            LastSeen::Block(at) => write!(f, "the block behind {at} bytes"),
         }
     }
 }
 
 /// Looks at the headers of a capture's records or blocks as its bytes go by.
 #[derive(Drop)]
-pub(crate) struct Records {
+pub(crate) struct RecordCounter {
     form: Form,
     header: [u8; FILE_HEADER],
     /// How many bytes of the header went by.
@@ -82,9 +82,9 @@ pub(crate) struct Records {
     count: u64,
 }
 
-impl Records {
-    pub(crate) fn new() -> Records {
-        Records {
+impl RecordCounter {
+    pub(crate) fn new() -> RecordCounter {
+        RecordCounter {
             form: Form::Unknown,
             header: [0; FILE_HEADER],
             filled: 0,
@@ -101,14 +101,14 @@ impl Records {
     }
 
     /// Where the bytes that went by last stand; `None` before the first record or block.
-    pub(crate) fn place(&self) -> Option<Place> {
+    pub(crate) fn place(&self) -> Option<LastSeen> {
         match self.form {
             Form::Unknown | Form::Other | Form::FileHeader(_) => None,
-            Form::Blocks(_) => Some(Place::Block(self.begin)),
+            Form::Blocks(_) => Some(LastSeen::Block(self.begin)),
             Form::Records(_) if self.filled > 0 => {
-                Some(Place::Record(self.count.saturating_add(1), self.begin))
+                Some(LastSeen::Record(self.count.saturating_add(1), self.begin))
             }
-            Form::Records(_) if self.count > 0 => Some(Place::Record(self.count, self.begin)),
+            Form::Records(_) if self.count > 0 => Some(LastSeen::Record(self.count, self.begin)),
             Form::Records(_) => None,
         }
     }

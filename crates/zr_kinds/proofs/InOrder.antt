@@ -153,10 +153,10 @@ values_from-missing at (suc steps) p =
     (cases_Option (at p))
 
 -- what stood at a position still stands there, and there may be more
-record Keeps {A : Type 0} (at later : ℕ → Option A) : Type 0 where
+record KeepsPlaced {A : Type 0} (at later : ℕ → Option A) : Type 0 where
   still : (p : ℕ) (value : A) → at p ≡ Some value → later p ≡ Some value
 
-values_from-more : {A : Type 0} {at later : ℕ → Option A} → Keeps at later → (steps more p : ℕ)
+values_from-more : {A : Type 0} {at later : ℕ → Option A} → KeepsPlaced at later → (steps more p : ℕ)
     → (rest : List A) × (values_from later (steps + more) p ≡ values_from at steps p ++ rest)
 values_from-more {later = later} keeps zero more p = (values_from later (0 + more) p, refl)
 values_from-more {at = at} {later = later} keeps (suc steps) more p =
@@ -171,14 +171,14 @@ pub front_of-steps : {A : Type 0} (placed : Placed A) → front_of placed ≡ va
 unfolding front_of next_missing
 front_of-steps placed = ap (λ n. values_from placed.at n 0) (omega arith) ∙ values_from-missing placed.at placed.top 0
 
-front_of-later : {A : Type 0} (placed later : Placed A) → Keeps placed.at later.at → placed.top ≤ later.top
+front_of-later : {A : Type 0} (placed later : Placed A) → KeepsPlaced placed.at later.at → placed.top ≤ later.top
     → (rest : List A) × (front_of later ≡ front_of placed ++ rest)
 front_of-later placed later keeps top =
     let more = values_from-more keeps placed.top (later.top - placed.top) 0 in
     let steps : later.top ≡ placed.top + (later.top - placed.top) = omega arith in
     (more.0, front_of-steps later ∙ ap (λ n. values_from later.at n 0) steps ∙ more.1 ∙ ap (λ front. front ++ more.0) (sym (front_of-steps placed)))
 
-Keeps-filled : {A : Type 0} (placed : Placed A) (from : ℕ) (values : List A) → Keeps placed.at (filled placed from values).at
+Keeps-filled : {A : Type 0} (placed : Placed A) (from : ℕ) (values : List A) → KeepsPlaced placed.at (filled placed from values).at
 Keeps-filled placed from values = record { still = λ p value there. rw there refl }
 
 -- the values at the front stay there

@@ -1,3 +1,4 @@
 pub mod CopyingReceiver
 pub mod Fault
 pub mod ReceiverLaws
+pub mod Limits

@@ -1,4 +1,4 @@
-ghost use Rattle.board_face.specs.Laws.{PollLaw, CutLaw, LendLaw, ReleaseLaw, GiveLaw, SpareLaw, FillLaw, LendOwnLaw, ScrubLaw, AppKeeps};
+ghost use Rattle.board_face.specs.Laws.{PollLaw, CutLaw, LendLaw, ReleaseLaw, GiveLaw, SpareLaw, FillLaw, LendOwnLaw, ScrubLaw, AppKeepsAll};
 
 /// `poll`: all counts stand.
 pub fn poll_law()
@@ -47,5 +47,5 @@ pub fn scrub_law()
 
 /// Looks, reads, raw entries, `settle`, `quiet`, the end and `leave`: all counts and free places stand.
 pub fn app_keeps()
-    ensures { AppKeeps }
+    ensures { AppKeepsAll }
 {}

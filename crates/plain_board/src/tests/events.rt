@@ -1,6 +1,7 @@
 //! What a board logs, event by event.
 
 ghost use Rattle.std.specs.Prelude.{◌≤◌};
+ghost use Rattle.run_records.specs.Setting.{most_events};
 
 use super::play;
 use crate::PlainBoard;
@@ -207,7 +208,7 @@ static EVENTS: [Event; 36] = [
 
 /// A board on which the faces' table was played, whose log has room for so many events.
 fn after_table(rt: &impl Abort, alloc: Global, room: u32) -> Result<PlainBoard, Fail>
-    requires { room ≤ 1000000 }
+    requires { room ≤ most_events }
 {
     let layout = Layout::new(2, 1, 1024).ok_or("no layout")?;
     let board = PlainBoard::open_logged(alloc, layout, 1, 2, room)?;

@@ -10,7 +10,7 @@ use std::process::Abort;
 use std::test::*;
 use word_board::{NicSeat, WordBoard};
 use worker_runs::{Card, CardCall, Told, card_call};
-use zc_poll::{LoanStream, Poured, Ran, Step, ToShelf, Waits};
+use zc_poll::{LoanStream, PollTurn, Poured, Step, ToShelf, Waits};
 use zr_io::MemShelf;
 use zr_kinds::Stopped;
 
@@ -52,12 +52,12 @@ fn pours(
     let mut work = ToShelf::new(LoanStream::new(alloc, seat, 0), shelf);
     for _turn in 0..64u32 {
         match work.turn() {
-            Ran::Did => {}
-            Ran::Idle(_) => {
+            PollTurn::Did => {}
+            PollTurn::Idle(_) => {
                 card_call(&mut nic, &mut card, CardCall::Entry);
                 card_call(&mut nic, &mut card, CardCall::End);
             }
-            Ran::Ended(poured) => {
+            PollTurn::Ended(poured) => {
                 let (_seat, shelf) = work.parts();
                 return Ok((poured, shelf));
             }

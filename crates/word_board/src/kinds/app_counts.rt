@@ -6,14 +6,14 @@ ghost use Rattle.board_face.specs.Sides.{app_at};
 ghost use Rattle.board_face.specs.Texts.{unsplit_bytes};
 ghost use Rattle.board_face.specs.Steps.{HasSearched, side_released, side_spare_begun, side_owes_lowered};
 
-use crate::app_steps::AppSteps;
+use crate::app_steps::AppStepper;
 use ref_words::laws;
 use std::marker::Brand;
 use zr_kinds::Place;
 
 /// An application holds a buffer that it picked from the free list as a spare: its pool count is raised from 0. Nothing of the
 /// application's lay there.
-pub(crate) fn take_picked(app: &mut AppSteps, buffer: u32)
+pub(crate) fn take_picked(app: &mut AppStepper, buffer: u32)
     requires within { buffer < total app.old.board.setting.layout }
     requires here { IsHere app.old.side.view }
     requires in_hand { Contains app.old.side.inside.hands buffer }
@@ -28,7 +28,7 @@ pub(crate) fn take_picked(app: &mut AppSteps, buffer: u32)
 
 /// An application that has looked at each free word holds its reserve, which it saw free, as a spare: its pool count is raised
 /// from 0. Nothing of the application's lay there.
-pub(crate) fn take_reserve(app: &mut AppSteps, reserve: u32)
+pub(crate) fn take_reserve(app: &mut AppStepper, reserve: u32)
     requires within { reserve < total app.old.board.setting.layout }
     requires here { IsHere app.old.side.view }
     requires own { reserve ≡ reserve_of app.old.side.view }
@@ -45,7 +45,7 @@ pub(crate) fn take_reserve(app: &mut AppSteps, reserve: u32)
 
 /// An application cuts a held piece in two behind its first `at` bytes: the pool count is raised. No
 /// piece ends behind what an offset can name.
-pub(crate) fn cut_piece(app: &mut AppSteps, place: Place, at: u32)
+pub(crate) fn cut_piece(app: &mut AppStepper, place: Place, at: u32)
     requires within { place.buffer < total app.old.board.setting.layout }
     requires out { HasHeld app.old.side.view place }
     requires front { 0 < at }
@@ -59,7 +59,7 @@ pub(crate) fn cut_piece(app: &mut AppSteps, place: Place, at: u32)
 }
 
 /// An application gives a held piece up. It answers whether no holder of the buffer is left.
-pub(crate) fn release_held(app: &mut AppSteps, place: Place) -> bool
+pub(crate) fn release_held(app: &mut AppStepper, place: Place) -> bool
     requires within { place.buffer < total app.old.board.setting.layout }
     requires out { HasHeld app.old.side.view place }
     ensures { app.new ≡ record app.old { side = side_released app.old.side place result } }
@@ -71,7 +71,7 @@ pub(crate) fn release_held(app: &mut AppSteps, place: Place) -> bool
 
 /// What a scrub took of a buffer's user count, `n` references, is taken from its pool count. It answers whether no holder is
 /// left.
-pub(crate) fn lower_scrubbed(app: &mut AppSteps, buffer: u32, n: u64) -> bool
+pub(crate) fn lower_scrubbed(app: &mut AppStepper, buffer: u32, n: u64) -> bool
     requires within { buffer < total app.old.board.setting.layout }
     requires owes { slice_index app.old.side.inside.scrub_owes buffer ≡ n }
     requires some { 0 < n }

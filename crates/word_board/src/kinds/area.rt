@@ -7,15 +7,15 @@ ghost use Rattle.board_face.specs.Tokens.{filled_by, next_place};
 ghost use Rattle.ref_words.specs.AreaLaws.{IsMadeAt, IsMadeThere, IsLastWord};
 ghost use Rattle.ref_words.specs.AreaSteps.{made_words, side_piece_stored, side_piece_placed, side_spare_stored, side_spare_filled};
 
-use crate::app_steps::AppSteps;
-use crate::card_steps::CardSteps;
+use crate::app_steps::AppStepper;
+use crate::card_steps::CardStepper;
 use board_face::Filling;
 use ref_words::laws;
 use std::marker::Brand;
 use zr_kinds::Place;
 
 /// The card stores the word `k` of the piece that it began, the next one. It isn't the last.
-pub(crate) fn store_piece(card: &mut CardSteps, place: Place, first: u64, k: u32, n: u64)
+pub(crate) fn store_piece(card: &mut CardStepper, place: Place, first: u64, k: u32, n: u64)
     requires lies { LiesIn card.old.board.setting.layout place }
     requires first { first ≡ first_word card.old.board.setting.layout place.buffer }
     requires making { IsMadeAt card.old.side.inside.making place }
@@ -30,7 +30,7 @@ pub(crate) fn store_piece(card: &mut CardSteps, place: Place, first: u64, k: u32
 
 /// It stores the last word, and the piece is placed.
 pub(crate) fn place_piece(
-    card: &mut CardSteps,
+    card: &mut CardStepper,
     own: Filling,
     first: u64,
     bytes: &[u8],
@@ -53,7 +53,7 @@ pub(crate) fn place_piece(
 }
 
 /// An application stores the word `k` of a spare's text, the next one; the first begins the text. It isn't the last.
-pub(crate) fn store_spare(app: &mut AppSteps, own: Filling, first: u64, len: u32, k: u32, n: u64)
+pub(crate) fn store_spare(app: &mut AppStepper, own: Filling, first: u64, len: u32, k: u32, n: u64)
     requires out { HasSpare app.old.side.view own }
     requires empty { own.start ≡ 0 }
     requires few { len ≤ 256 }
@@ -70,7 +70,14 @@ pub(crate) fn store_spare(app: &mut AppSteps, own: Filling, first: u64, len: u32
 }
 
 /// It stores the last word, and the spare is filled.
-pub(crate) fn fill_spare(app: &mut AppSteps, own: Filling, first: u64, bytes: &[u8], k: u32, n: u64)
+pub(crate) fn fill_spare(
+    app: &mut AppStepper,
+    own: Filling,
+    first: u64,
+    bytes: &[u8],
+    k: u32,
+    n: u64,
+)
     requires out { HasSpare app.old.side.view own }
     requires empty { own.start ≡ 0 }
     requires some { 0 < length bytes.now }

@@ -6,14 +6,14 @@ ghost use Rattle.board_face.specs.Sides.{nic_at};
 ghost use Rattle.board_face.specs.Steps.{side_begun, side_shut, side_both_lowered};
 ghost use Rattle.board_face.specs.declared.views.nic.Judged.TheVariants.{UserLowered};
 
-use crate::card_steps::CardSteps;
+use crate::card_steps::CardStepper;
 use board_face::Filling;
 use ref_words::laws;
 use std::marker::Brand;
 use zr_kinds::Rqe;
 
 /// The card takes the buffer that entered its cache last: its pool count is raised from 0. Nothing of the card's lay there.
-pub(crate) fn take_buffer(card: &mut CardSteps, buffer: u32)
+pub(crate) fn take_buffer(card: &mut CardStepper, buffer: u32)
     requires within { buffer < total card.old.board.setting.layout }
     requires running { IsOpen card.old.side.view }
     requires last { card.old.side.view.cache ≡ (took card.old.side.view buffer).cache ++ buffer ∷ [] }
@@ -26,7 +26,7 @@ pub(crate) fn take_buffer(card: &mut CardSteps, buffer: u32)
 }
 
 /// The card begins a piece of `n` bytes: the pool count of its buffer is raised.
-pub(crate) fn begin_piece(card: &mut CardSteps, own: Filling, n: u32)
+pub(crate) fn begin_piece(card: &mut CardStepper, own: Filling, n: u32)
     requires within { own.buffer < total card.old.board.setting.layout }
     requires out { HasOwn card.old.side.view own }
     requires some { 0 < n }
@@ -40,7 +40,7 @@ pub(crate) fn begin_piece(card: &mut CardSteps, own: Filling, n: u32)
 }
 
 /// The card gives its own reference up. It answers whether no holder is left.
-pub(crate) fn shut_own(card: &mut CardSteps, own: Filling) -> bool
+pub(crate) fn shut_own(card: &mut CardStepper, own: Filling) -> bool
     requires within { own.buffer < total card.old.board.setting.layout }
     requires out { HasOwn card.old.side.view own }
     ensures { card.new ≡ record card.old { side = side_shut card.old.side own result } }
@@ -52,7 +52,7 @@ pub(crate) fn shut_own(card: &mut CardSteps, own: Filling) -> bool
 
 /// The pool count is lowered for the entry in hand, whose user count was lowered before. It answers whether no holder is
 /// left.
-pub(crate) fn lower_returned(card: &mut CardSteps, app: u32, entry: Rqe, buffer: u32) -> bool
+pub(crate) fn lower_returned(card: &mut CardStepper, app: u32, entry: Rqe, buffer: u32) -> bool
     requires within { buffer < total card.old.board.setting.layout }
     requires in_hand { card.old.side.inside.entry ≡ Some (record { app = app; entry = entry; judged = UserLowered buffer }) }
     ensures { card.new ≡ record card.old { side = side_both_lowered card.old.side app entry buffer result } }

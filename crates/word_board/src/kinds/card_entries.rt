@@ -11,14 +11,14 @@ ghost use Rattle.word_board.specs.Board.{side_entry_taken};
 ghost use Rattle.board_face.specs.NicEvents.{nic_gist};
 ghost use Rattle.word_board.specs.Told.{SawRingEmpty};
 
-use crate::card_steps::CardSteps;
+use crate::card_steps::CardStepper;
 use ref_words::laws;
 use std::marker::Brand;
 use word_rings::refill_read;
 use zr_kinds::Rqe;
 
 /// The card looks at the flag of the next refill slot of an application. `true` says that the slot is full.
-pub(crate) fn look_entry(card: &mut CardSteps, app: u32, slot: u32) -> bool
+pub(crate) fn look_entry(card: &mut CardStepper, app: u32, slot: u32) -> bool
     requires app { app < apps_of card.old.board.setting }
     requires within { slot < card.old.board.setting.places }
     requires next { slot ≡ takes_entry_at card.old.board.setting card.old.side app }
@@ -33,7 +33,7 @@ pub(crate) fn look_entry(card: &mut CardSteps, app: u32, slot: u32) -> bool
 }
 
 /// It loads the next word of the slot, which it saw full.
-pub(crate) fn load_entry(card: &mut CardSteps, app: u32, slot: u32, at: u32) -> u64
+pub(crate) fn load_entry(card: &mut CardStepper, app: u32, slot: u32, at: u32) -> u64
     requires app { app < apps_of card.old.board.setting }
     requires within { slot < card.old.board.setting.places }
     requires next { slot ≡ takes_entry_at card.old.board.setting card.old.side app }
@@ -48,7 +48,7 @@ pub(crate) fn load_entry(card: &mut CardSteps, app: u32, slot: u32, at: u32) -> 
 }
 
 /// It loads the last word of the slot, and has the entry in hand of which the words tell.
-pub(crate) fn load_last(card: &mut CardSteps, app: u32, slot: u32, at: u32) -> u64
+pub(crate) fn load_last(card: &mut CardStepper, app: u32, slot: u32, at: u32) -> u64
     requires app { app < apps_of card.old.board.setting }
     requires within { slot < card.old.board.setting.places }
     requires next { slot ≡ takes_entry_at card.old.board.setting card.old.side app }
@@ -67,7 +67,7 @@ pub(crate) fn load_last(card: &mut CardSteps, app: u32, slot: u32, at: u32) -> u
 }
 
 /// It frees the slot: the entry in hand was a return of the buffer, for which both counts were lowered.
-pub(crate) fn free_honoured(card: &mut CardSteps, app: u32, slot: u32, entry: Rqe, buffer: u32)
+pub(crate) fn free_honoured(card: &mut CardStepper, app: u32, slot: u32, entry: Rqe, buffer: u32)
     requires app { app < apps_of card.old.board.setting }
     requires within { slot < card.old.board.setting.places }
     requires next { slot ≡ takes_entry_at card.old.board.setting card.old.side app }
@@ -82,7 +82,7 @@ pub(crate) fn free_honoured(card: &mut CardSteps, app: u32, slot: u32, entry: Rq
 }
 
 /// It frees the slot: the entry in hand was judged a stray.
-pub(crate) fn free_stray(card: &mut CardSteps, app: u32, slot: u32, entry: Rqe)
+pub(crate) fn free_stray(card: &mut CardStepper, app: u32, slot: u32, entry: Rqe)
     requires app { app < apps_of card.old.board.setting }
     requires within { slot < card.old.board.setting.places }
     requires next { slot ≡ takes_entry_at card.old.board.setting card.old.side app }
@@ -96,7 +96,7 @@ pub(crate) fn free_stray(card: &mut CardSteps, app: u32, slot: u32, entry: Rqe)
 }
 
 /// It frees the slot: the entry in hand names no buffer.
-pub(crate) fn free_void(card: &mut CardSteps, app: u32, slot: u32, entry: Rqe)
+pub(crate) fn free_void(card: &mut CardStepper, app: u32, slot: u32, entry: Rqe)
     requires app { app < apps_of card.old.board.setting }
     requires within { slot < card.old.board.setting.places }
     requires next { slot ≡ takes_entry_at card.old.board.setting card.old.side app }
@@ -112,7 +112,7 @@ pub(crate) fn free_void(card: &mut CardSteps, app: u32, slot: u32, entry: Rqe)
 
 /// The card takes the next entry of an application in hand: it looks at the flag of the slot, and where the slot is full it
 /// loads the words. `None` says that the slot was free.
-pub(crate) fn take_entry(card: &mut CardSteps, app: u32, slot: u32) -> Option<Rqe>
+pub(crate) fn take_entry(card: &mut CardStepper, app: u32, slot: u32) -> Option<Rqe>
     requires app { app < apps_of card.old.board.setting }
     requires within { slot < card.old.board.setting.places }
     requires next { slot ≡ takes_entry_at card.old.board.setting card.old.side app }

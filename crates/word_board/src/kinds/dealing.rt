@@ -8,7 +8,7 @@ ghost use Rattle.board_face.specs.NicEvents.{nic_gist};
 ghost use Rattle.board_face.specs.declared.answers.Entry.TheVariants.{Empty as got_none};
 ghost use Rattle.word_board.specs.Told.{SawRingEmpty};
 
-use crate::card_steps::CardSteps;
+use crate::card_steps::CardStepper;
 use crate::found::cache_if;
 use crate::kinds::{Loaded, free_stray, free_void, honour_entry, look_user, take_entry};
 use area_layout::Layout;
@@ -18,7 +18,7 @@ use board_parts::{CACHE_ROOM, Cache};
 /// The card deals with an entry in hand that names this buffer: the application's user count there tells whether it is a return
 /// or a stray. A pool buffer that comes to be free enters the cache where that has room.
 fn deal_with(
-    card: &mut CardSteps,
+    card: &mut CardStepper,
     loaded: Loaded,
     buffer: u32,
     pool: u32,
@@ -57,7 +57,7 @@ fn deal_with(
 /// The card looks at the next slot of an application, and deals with the entry there. A pool buffer that comes to be free by it
 /// enters the cache where that has room, and is listed else.
 pub(crate) fn next_entry(
-    card: &mut CardSteps,
+    card: &mut CardStepper,
     layout: &Layout,
     app: u32,
     slot: u32,

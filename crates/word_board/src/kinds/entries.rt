@@ -7,14 +7,14 @@ ghost use Rattle.ref_words.specs.Rings.{EntryFits, writes_entry_at};
 ghost use Rattle.board_face.specs.AppEvents.{app_gist};
 ghost use Rattle.word_board.specs.Told.{SawRefillInUse};
 
-use crate::app_steps::AppSteps;
+use crate::app_steps::AppStepper;
 use ref_words::laws;
 use std::marker::Brand;
 use word_rings::refill_words;
 use zr_kinds::{Place, Rqe};
 
 /// An application looks at the flag of its next refill slot. `true` says that the slot is free.
-pub(crate) fn look_refill(app: &mut AppSteps, slot: u32) -> bool
+pub(crate) fn look_refill(app: &mut AppStepper, slot: u32) -> bool
     requires within { slot < app.old.board.setting.places }
     requires next { slot ≡ writes_entry_at app.old.board.setting app.old.side }
     ensures event { app.new ≡ record app.old { side = side_refill_looked app.old.side result } }
@@ -26,7 +26,7 @@ pub(crate) fn look_refill(app: &mut AppSteps, slot: u32) -> bool
 }
 
 /// It stores the next word of an entry into the slot, which it saw free.
-pub(crate) fn store_refill(app: &mut AppSteps, slot: u32, at: u32, n: u64)
+pub(crate) fn store_refill(app: &mut AppStepper, slot: u32, at: u32, n: u64)
     requires within { slot < app.old.board.setting.places }
     requires next { slot ≡ writes_entry_at app.old.board.setting app.old.side }
     requires seen { app.old.side.inside.refill_slot.seen ≡ true }
@@ -41,7 +41,7 @@ pub(crate) fn store_refill(app: &mut AppSteps, slot: u32, at: u32, n: u64)
 
 /// It looks at the flag of its next slot, and where the slot is free it stores the words of an entry there. `false` says that
 /// the slot was seen in use.
-fn fill_refill(app: &mut AppSteps, slot: u32, entry: Rqe) -> bool
+fn fill_refill(app: &mut AppStepper, slot: u32, entry: Rqe) -> bool
     requires within { slot < app.old.board.setting.places }
     requires next { slot ≡ writes_entry_at app.old.board.setting app.old.side }
     ensures event { app.new ≡ record app.old {
@@ -60,7 +60,7 @@ fn fill_refill(app: &mut AppSteps, slot: u32, entry: Rqe) -> bool
 }
 
 /// It hands the slot over: the loan at the place is given back, by the entry whose words it stored.
-pub(crate) fn publish_loan(app: &mut AppSteps, slot: u32, place: Place)
+pub(crate) fn publish_loan(app: &mut AppStepper, slot: u32, place: Place)
     requires within { slot < app.old.board.setting.places }
     requires next { slot ≡ writes_entry_at app.old.board.setting app.old.side }
     requires out { HasLoan app.old.side.view place }
@@ -75,7 +75,7 @@ pub(crate) fn publish_loan(app: &mut AppSteps, slot: u32, place: Place)
 }
 
 /// It hands the slot over: an entry is on its way that comes from no loan, as its words tell.
-pub(crate) fn publish_raw(app: &mut AppSteps, slot: u32, entry: Rqe)
+pub(crate) fn publish_raw(app: &mut AppStepper, slot: u32, entry: Rqe)
     requires within { slot < app.old.board.setting.places }
     requires next { slot ≡ writes_entry_at app.old.board.setting app.old.side }
     requires idle { NamesNoLoan app.old.side.view entry }
@@ -93,7 +93,7 @@ pub(crate) fn publish_raw(app: &mut AppSteps, slot: u32, entry: Rqe)
 
 /// An application gives the loan at the place back, by an entry whose words it stores into its next refill slot before it
 /// hands the slot over. `false` says that the slot was seen in use.
-pub(crate) fn give_entry(app: &mut AppSteps, slot: u32, place: Place, entry: Rqe) -> bool
+pub(crate) fn give_entry(app: &mut AppStepper, slot: u32, place: Place, entry: Rqe) -> bool
     requires within { slot < app.old.board.setting.places }
     requires next { slot ≡ writes_entry_at app.old.board.setting app.old.side }
     requires out { HasLoan app.old.side.view place }
@@ -112,7 +112,7 @@ pub(crate) fn give_entry(app: &mut AppSteps, slot: u32, place: Place, entry: Rqe
 }
 
 /// An application writes an entry that comes from no loan, in the same steps. `false` says that the slot was seen in use.
-pub(crate) fn push_raw(app: &mut AppSteps, slot: u32, entry: Rqe) -> bool
+pub(crate) fn push_raw(app: &mut AppStepper, slot: u32, entry: Rqe) -> bool
     requires within { slot < app.old.board.setting.places }
     requires next { slot ≡ writes_entry_at app.old.board.setting app.old.side }
     requires idle { NamesNoLoan app.old.side.view entry }

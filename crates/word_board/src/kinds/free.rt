@@ -9,8 +9,8 @@ ghost use Rattle.ref_words.specs.FreeSteps.{side_swept, side_nic_listed, side_ap
 ghost use Rattle.board_face.specs.AppEvents.{app_gist};
 ghost use Rattle.word_board.specs.Told.{SawFree, SawUnlisted};
 
-use crate::app_steps::AppSteps;
-use crate::card_steps::CardSteps;
+use crate::app_steps::AppStepper;
+use crate::card_steps::CardStepper;
 use ref_words::laws;
 use std::marker::Brand;
 
@@ -19,7 +19,7 @@ pub(crate) const WORD_BITS: u32 = 64;
 
 /// The card sweeps a word of the free list: the buffers that are listed there enter its cache, the highest first. It answers
 /// the number that tells which they are.
-pub(crate) fn sweep_word(card: &mut CardSteps, word: u32) -> u64
+pub(crate) fn sweep_word(card: &mut CardStepper, word: u32) -> u64
     requires within { word < free_words_of card.old.board.setting }
     requires room { length card.old.side.view.cache < 64 }
     ensures event { card.new ≡ record card.old { side = side_swept card.old.side word result } }
@@ -31,7 +31,7 @@ pub(crate) fn sweep_word(card: &mut CardSteps, word: u32) -> u64
 }
 
 /// The card lists a pool buffer that it has in hand.
-pub(crate) fn list_by_card(card: &mut CardSteps, buffer: u32)
+pub(crate) fn list_by_card(card: &mut CardStepper, buffer: u32)
     requires of_pool { buffer < pool_buffers card.old.board.setting.layout }
     requires in_hand { Contains card.old.side.inside.hands buffer }
     ensures { card.new ≡ record card.old { side = side_nic_listed card.old.side buffer } }
@@ -42,7 +42,7 @@ pub(crate) fn list_by_card(card: &mut CardSteps, buffer: u32)
 }
 
 /// An application lists a pool buffer that it has in hand.
-pub(crate) fn list_by_app(app: &mut AppSteps, buffer: u32)
+pub(crate) fn list_by_app(app: &mut AppStepper, buffer: u32)
     requires of_pool { buffer < pool_buffers app.old.board.setting.layout }
     requires in_hand { Contains app.old.side.inside.hands buffer }
     ensures { app.new ≡ record app.old { side = side_app_listed app.old.side buffer } }
@@ -53,7 +53,7 @@ pub(crate) fn list_by_app(app: &mut AppSteps, buffer: u32)
 }
 
 /// An application looks at a word of the free list. 0 says that no buffer is listed there.
-pub(crate) fn look_free_word(app: &mut AppSteps, word: u32) -> u64
+pub(crate) fn look_free_word(app: &mut AppStepper, word: u32) -> u64
     requires within { word < free_words_of app.old.board.setting }
     ensures event { app.new ≡ record app.old { side = side_word_looked app.old.side word (result == 0) } }
     ensures told { SawFree app.old.board.setting (app_gist app.old.side.view) word result }
@@ -64,7 +64,7 @@ pub(crate) fn look_free_word(app: &mut AppSteps, word: u32) -> u64
 }
 
 /// An application clears the bit of a buffer that it saw listed, to pick the buffer. `false` says that another was faster.
-pub(crate) fn pick_buffer(app: &mut AppSteps, buffer: u32) -> bool
+pub(crate) fn pick_buffer(app: &mut AppStepper, buffer: u32) -> bool
     requires within { buffer / word_bits < free_words_of app.old.board.setting }
     requires due { MaySpare app.old.side.view }
     requires given { PicksAreGiven app.old.side }

@@ -12,7 +12,7 @@ ghost use Rattle.ref_words.specs.SlotLaws.{note_words_at};
 ghost use Rattle.board_face.specs.NicEvents.{nic_gist};
 ghost use Rattle.word_board.specs.Told.{SawNoteInUse};
 
-use crate::card_steps::CardSteps;
+use crate::card_steps::CardStepper;
 use ref_words::laws;
 use std::marker::Brand;
 use word_rings::{NOTE_FIELDS, note_words};
@@ -20,7 +20,7 @@ use zr_kinds::Note;
 
 /// The card looks at the flag of the next note slot of an application, into which it has stored nothing yet. `true` says that
 /// the slot is free.
-pub(crate) fn look_note(card: &mut CardSteps, app: u32, slot: u32) -> bool
+pub(crate) fn look_note(card: &mut CardStepper, app: u32, slot: u32) -> bool
     requires app { app < apps_of card.old.board.setting }
     requires within { slot < card.old.board.setting.places }
     requires next { slot ≡ writes_note_at card.old.board.setting card.old.side app }
@@ -38,7 +38,7 @@ pub(crate) fn look_note(card: &mut CardSteps, app: u32, slot: u32) -> bool
 }
 
 /// It stores the next word of a note into the slot, which it saw free.
-pub(crate) fn store_note(card: &mut CardSteps, app: u32, slot: u32, at: u32, n: u64)
+pub(crate) fn store_note(card: &mut CardStepper, app: u32, slot: u32, at: u32, n: u64)
     requires app { app < apps_of card.old.board.setting }
     requires within { slot < card.old.board.setting.places }
     requires next { slot ≡ writes_note_at card.old.board.setting card.old.side app }
@@ -53,7 +53,7 @@ pub(crate) fn store_note(card: &mut CardSteps, app: u32, slot: u32, at: u32, n: 
 }
 
 /// It stores so many of a note's words into the slot, which it saw free.
-fn store_words(card: &mut CardSteps, app: u32, slot: u32, body: &[u64; 39], many: usize)
+fn store_words(card: &mut CardStepper, app: u32, slot: u32, body: &[u64; 39], many: usize)
     requires app { app < apps_of card.old.board.setting }
     requires within { slot < card.old.board.setting.places }
     requires next { slot ≡ writes_note_at card.old.board.setting card.old.side app }
@@ -68,7 +68,7 @@ fn store_words(card: &mut CardSteps, app: u32, slot: u32, body: &[u64; 39], many
 }
 
 /// It hands the slot over: a note is on its way with the piece at its place, as the words tell.
-pub(crate) fn publish_note(card: &mut CardSteps, app: u32, slot: u32, note: Note)
+pub(crate) fn publish_note(card: &mut CardStepper, app: u32, slot: u32, note: Note)
     requires app { app < apps_of card.old.board.setting }
     requires within { slot < card.old.board.setting.places }
     requires next { slot ≡ writes_note_at card.old.board.setting card.old.side app }
@@ -85,7 +85,7 @@ pub(crate) fn publish_note(card: &mut CardSteps, app: u32, slot: u32, note: Note
 }
 
 /// It hands the slot over: a note is on its way in which its bytes travel.
-pub(crate) fn publish_linear(card: &mut CardSteps, app: u32, slot: u32, note: Note, bytes: &[u8])
+pub(crate) fn publish_linear(card: &mut CardStepper, app: u32, slot: u32, note: Note, bytes: &[u8])
     requires app { app < apps_of card.old.board.setting }
     requires within { slot < card.old.board.setting.places }
     requires next { slot ≡ writes_note_at card.old.board.setting card.old.side app }
@@ -112,7 +112,7 @@ pub(crate) fn payload_words(bytes: usize) -> usize
 /// The card sends a note with the piece at its place, whose words it stores into the next slot before it hands the slot over.
 /// Of the payload's words it stores those that may be other than 0 from the last note there, which are the first `left`.
 /// `false` says that the slot was seen in use.
-pub(crate) fn send_note(card: &mut CardSteps, app: u32, slot: u32, note: Note, left: u32) -> bool
+pub(crate) fn send_note(card: &mut CardStepper, app: u32, slot: u32, note: Note, left: u32) -> bool
     requires app { app < apps_of card.old.board.setting }
     requires within { slot < card.old.board.setting.places }
     requires next { slot ≡ writes_note_at card.old.board.setting card.old.side app }
@@ -141,7 +141,7 @@ pub(crate) fn send_note(card: &mut CardSteps, app: u32, slot: u32, note: Note, l
 /// The card sends a note in which its bytes travel, in the same steps: it stores the words of its bytes, and more where the
 /// last note there had more. `false` says that the slot was seen in use.
 pub(crate) fn send_linear(
-    card: &mut CardSteps,
+    card: &mut CardStepper,
     app: u32,
     slot: u32,
     note: Note,

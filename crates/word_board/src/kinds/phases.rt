@@ -13,14 +13,14 @@ ghost use Rattle.board_face.specs.NicEvents.{nic_gist};
 ghost use Rattle.board_face.specs.AppEvents.{app_gist};
 ghost use Rattle.word_board.specs.Told.{SawNotLeft, SawNotEnded, SawNoNote, SawReserveHeld};
 
-use crate::app_steps::AppSteps;
-use crate::card_steps::CardSteps;
+use crate::app_steps::AppStepper;
+use crate::card_steps::CardStepper;
 use ref_words::laws;
 use std::marker::Brand;
 use zr_kinds::Place;
 
 /// The card ends: it stores 1 into its phase word. No token is out, and no piece is in the making.
-pub(crate) fn end_card(card: &mut CardSteps)
+pub(crate) fn end_card(card: &mut CardStepper)
     requires none { HasNoToken card.old.side.view }
     requires idle { card.old.side.inside.making ≡ None }
     ensures { card.new ≡ record card.old { side = side_ended card.old.side } }
@@ -31,7 +31,7 @@ pub(crate) fn end_card(card: &mut CardSteps)
 }
 
 /// An application leaves: it stores 1 into its phase word.
-pub(crate) fn leave_app(app: &mut AppSteps)
+pub(crate) fn leave_app(app: &mut AppStepper)
     requires can { CanLeave app.old.side.view }
     ensures { app.new ≡ record app.old { side = side_left app.old.side } }
 {
@@ -41,7 +41,7 @@ pub(crate) fn leave_app(app: &mut AppSteps)
 }
 
 /// The card looks whether an application has left.
-pub(crate) fn look_left(card: &mut CardSteps, app: u32) -> bool
+pub(crate) fn look_left(card: &mut CardStepper, app: u32) -> bool
     requires app { app < apps_of card.old.board.setting }
     ensures event { card.new ≡ record card.old { side = side_leave_looked card.old.side app result } }
     ensures view { MatchBool result
@@ -55,7 +55,7 @@ pub(crate) fn look_left(card: &mut CardSteps, app: u32) -> bool
 }
 
 /// An application looks whether the card has ended. Once it saw that, it sees it again.
-pub(crate) fn look_end(app: &mut AppSteps) -> bool
+pub(crate) fn look_end(app: &mut AppStepper) -> bool
     ensures event { app.new ≡ record app.old { side = side_end_looked app.old.side result } }
     ensures again { app.old.side.inside.end_seen ≡ true → result ≡ true }
     ensures ended { app.old.side.view.ended ≡ true → result ≡ true }
@@ -67,7 +67,7 @@ pub(crate) fn look_end(app: &mut AppSteps) -> bool
 }
 
 /// An application that looked for the end looks at the flag of its next note slot. `true` says that the slot is full.
-pub(crate) fn seek_note(app: &mut AppSteps, slot: u32) -> bool
+pub(crate) fn seek_note(app: &mut AppStepper, slot: u32) -> bool
     requires within { slot < app.old.board.setting.places }
     requires next { slot ≡ takes_note_at app.old.board.setting app.old.side }
     ensures event { app.new ≡ record app.old { side = side_note_sought app.old.side result } }
@@ -79,7 +79,7 @@ pub(crate) fn seek_note(app: &mut AppSteps, slot: u32) -> bool
 }
 
 /// An application that looked at each free word looks whether somebody has its reserve. `true` says that nobody does.
-pub(crate) fn look_reserve(app: &mut AppSteps, reserve: u32) -> bool
+pub(crate) fn look_reserve(app: &mut AppStepper, reserve: u32) -> bool
     requires within { reserve < total app.old.board.setting.layout }
     requires own { reserve ≡ reserve_of app.old.side.view }
     requires searched { HasSearched app.old.side }
@@ -92,7 +92,7 @@ pub(crate) fn look_reserve(app: &mut AppSteps, reserve: u32) -> bool
 }
 
 /// An application abandons a loan, as of the moment in which it loads the pool count of its reserve.
-pub(crate) fn abandon_loan(app: &mut AppSteps, reserve: u32, place: Place)
+pub(crate) fn abandon_loan(app: &mut AppStepper, reserve: u32, place: Place)
     requires within { reserve < total app.old.board.setting.layout }
     requires own { reserve ≡ reserve_of app.old.side.view }
     requires out { HasLoan app.old.side.view place }

@@ -7,7 +7,7 @@ ghost use Rattle.ref_words.specs.AreaLaws.{part_of};
 ghost use Rattle.ref_words.specs.AreaSteps.{side_loaded};
 ghost use Rattle.word_board.specs.Reads.{HasReadSoFar};
 
-use crate::app_steps::AppSteps;
+use crate::app_steps::AppStepper;
 use ref_words::laws;
 use std::marker::Brand;
 use word_rings::bytes_of_word;
@@ -16,7 +16,7 @@ use zr_kinds::Place;
 /// An application loads the next word of a read from a loan's byte `from` on, of which it read these bytes so far. Of the word the
 /// read wants so many bytes. What it reads of a copied text is known at once.
 pub(crate) fn load_word(
-    app: &mut AppSteps,
+    app: &mut AppStepper,
     loan: Place,
     first: u64,
     from: u32,
@@ -44,7 +44,7 @@ pub(crate) fn load_word(
 }
 
 /// An application reads bytes of a loan, from its byte `from` on: a load for each word that has some of them.
-pub(crate) fn read_text(app: &mut AppSteps, loan: Place, from: u32, into: &mut [u8])
+pub(crate) fn read_text(app: &mut AppStepper, loan: Place, from: u32, into: &mut [u8])
     requires out { HasLoan app.old.side.view loan }
     requires lies { LiesIn app.old.board.setting.layout loan }
     requires within { from + length into.old ≤ loan.len }

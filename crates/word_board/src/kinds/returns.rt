@@ -4,13 +4,13 @@ ghost use Rattle.board_face.specs.NicCalls.{apps_of};
 ghost use Rattle.board_face.specs.Steps.{side_both_lowered};
 ghost use Rattle.board_face.specs.declared.views.nic.Judged.TheVariants.{Owed};
 
-use crate::card_steps::CardSteps;
+use crate::card_steps::CardStepper;
 use crate::kinds::{lower_returned, lower_user};
 use zr_kinds::Rqe;
 
 /// Both counts are lowered for an entry in hand that is a return, the user count first. It answers whether no holder of the
 /// buffer is left.
-pub(crate) fn give_back(card: &mut CardSteps, app: u32, entry: Rqe, buffer: u32) -> bool
+pub(crate) fn give_back(card: &mut CardStepper, app: u32, entry: Rqe, buffer: u32) -> bool
     requires app { app < apps_of card.old.board.setting }
     requires within { buffer < total card.old.board.setting.layout }
     requires in_hand { card.old.side.inside.entry ≡ Some (record { app = app; entry = entry; judged = Owed buffer }) }

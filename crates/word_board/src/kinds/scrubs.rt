@@ -4,12 +4,12 @@ ghost use Rattle.board_face.specs.NicCalls.{apps_of};
 ghost use Rattle.ref_words.specs.Sides.{HasScrubLists};
 ghost use Rattle.word_board.specs.Board.{ScrubbedOne, ScrubbedAll};
 
-use crate::app_steps::AppSteps;
+use crate::app_steps::AppStepper;
 use crate::kinds::{list_last_by_app, lower_scrubbed, scrub_user};
 
 /// An application's scrub takes what is owed of the buffer to which it came: all of the user count, and as many references
 /// from the pool count. A pool buffer that comes to be free by that is listed.
-pub(crate) fn scrub_one(app: &mut AppSteps, buffer: u32, pool: u32)
+pub(crate) fn scrub_one(app: &mut AppStepper, buffer: u32, pool: u32)
     requires set { app.old.side.view.setting ≡ app.old.board.setting }
     requires within { buffer < total app.old.board.setting.layout }
     requires pool { pool ≡ pool_buffers app.old.board.setting.layout }
@@ -31,7 +31,7 @@ pub(crate) fn scrub_one(app: &mut AppSteps, buffer: u32, pool: u32)
 }
 
 /// An application's scrub takes all that is owed, buffer by buffer. Each pool buffer that comes to be free by that is listed.
-pub(crate) fn scrub_counts(app: &mut AppSteps, buffers: u32, pool: u32)
+pub(crate) fn scrub_counts(app: &mut AppStepper, buffers: u32, pool: u32)
     requires few { app.old.side.view.app < apps_of app.old.board.setting }
     requires set { app.old.side.view.setting ≡ app.old.board.setting }
     requires all { buffers ≡ total app.old.board.setting.layout }

@@ -10,14 +10,14 @@ ghost use Rattle.word_board.specs.Spares.{Searched, FoundNone, TookListed, TookS
 ghost use Rattle.board_face.specs.AppEvents.{app_gist};
 ghost use Rattle.word_board.specs.Told.{SawWithout, SawNoneListed, SawReserveHeld, IsLowestSeen, IsFirstSeen};
 
-use crate::app_steps::AppSteps;
+use crate::app_steps::AppStepper;
 use crate::kinds::{
     WORD_BITS, look_free_word, look_reserve, pick_buffer, take_picked, take_reserve,
 };
 
 /// An application looks at a word of the free list, and tries to pick the lowest buffer that is listed there. `None` says that
 /// no buffer was listed, or that another was faster.
-fn pick_in_word(app: &mut AppSteps, word: u32) -> Option<u32>
+fn pick_in_word(app: &mut AppStepper, word: u32) -> Option<u32>
     requires within { word < free_words_of app.old.board.setting }
     requires sound { IsLayout app.old.board.setting.layout }
     requires due { MaySpare app.old.side.view }
@@ -42,7 +42,7 @@ fn pick_in_word(app: &mut AppSteps, word: u32) -> Option<u32>
 }
 
 /// An application goes through the words of the free list until it has picked a buffer.
-fn pick_listed(app: &mut AppSteps, free_words: u32) -> Option<u32>
+fn pick_listed(app: &mut AppStepper, free_words: u32) -> Option<u32>
     requires set { app.old.side.view.setting ≡ app.old.board.setting }
     requires all { free_words ≡ free_words_of app.old.board.setting }
     requires sound { IsLayout app.old.board.setting.layout }
@@ -64,7 +64,7 @@ fn pick_listed(app: &mut AppSteps, free_words: u32) -> Option<u32>
 
 /// An application takes a spare from the free list: it picks a buffer, and holds it. `None` says that each word was seen 0, or
 /// its lowest buffer was lost to another.
-fn spare_listed(app: &mut AppSteps, free_words: u32) -> Option<u32>
+fn spare_listed(app: &mut AppStepper, free_words: u32) -> Option<u32>
     requires set { app.old.side.view.setting ≡ app.old.board.setting }
     requires all { free_words ≡ free_words_of app.old.board.setting }
     requires sound { IsLayout app.old.board.setting.layout }
@@ -87,7 +87,7 @@ fn spare_listed(app: &mut AppSteps, free_words: u32) -> Option<u32>
 
 /// An application takes a spare: a buffer from the free list, else its reserve. `None` says that no word had one, and that the
 /// reserve was seen to be held after that.
-pub(crate) fn take_spare(app: &mut AppSteps, free_words: u32, reserve: u32) -> Option<u32>
+pub(crate) fn take_spare(app: &mut AppStepper, free_words: u32, reserve: u32) -> Option<u32>
     requires set { app.old.side.view.setting ≡ app.old.board.setting }
     requires all { free_words ≡ free_words_of app.old.board.setting }
     requires own { reserve ≡ reserve_of app.old.side.view }

@@ -12,7 +12,7 @@ ghost use Rattle.board_face.specs.AppEvents.{app_gist};
 ghost use Rattle.board_face.specs.declared.answers.Polled.TheVariants.{Empty as got_none};
 ghost use Rattle.word_board.specs.Told.{SawNotEnded, SawNoNote};
 
-use crate::app_steps::AppSteps;
+use crate::app_steps::AppStepper;
 use crate::kinds::{look_end, payload_words, seek_note};
 use board_face::{Held, Polled};
 use ref_words::laws;
@@ -24,7 +24,7 @@ use zr_kinds::Note;
 const PAYLOAD_WORDS: usize = NOTE_WORDS - NOTE_FIELDS;
 
 /// An application loads the next word of its next note slot, which it saw full.
-pub(crate) fn load_slot(app: &mut AppSteps, slot: u32, at: u32) -> u64
+pub(crate) fn load_slot(app: &mut AppStepper, slot: u32, at: u32) -> u64
     requires within { slot < app.old.board.setting.places }
     requires next { slot ≡ takes_note_at app.old.board.setting app.old.side }
     requires seen { app.old.side.inside.note_slot.seen ≡ true }
@@ -38,7 +38,7 @@ pub(crate) fn load_slot(app: &mut AppSteps, slot: u32, at: u32) -> u64
 }
 
 /// It loads the words of the fields from the slot, which it saw full, and answers them behind the flag.
-fn load_fields(app: &mut AppSteps, slot: u32) -> [u64; 7]
+fn load_fields(app: &mut AppStepper, slot: u32) -> [u64; 7]
     requires within { slot < app.old.board.setting.places }
     requires next { slot ≡ takes_note_at app.old.board.setting app.old.side }
     requires seen { app.old.side.inside.note_slot ≡ seen_with [] }
@@ -53,7 +53,7 @@ fn load_fields(app: &mut AppSteps, slot: u32) -> [u64; 7]
 }
 
 /// It loads so many words behind the fields, and answers them with zeros behind.
-fn load_payload(app: &mut AppSteps, slot: u32, many: usize) -> [u64; 32]
+fn load_payload(app: &mut AppStepper, slot: u32, many: usize) -> [u64; 32]
     requires within { slot < app.old.board.setting.places }
     requires next { slot ≡ takes_note_at app.old.board.setting app.old.side }
     requires seen { app.old.side.inside.note_slot.seen ≡ true }
@@ -69,7 +69,7 @@ fn load_payload(app: &mut AppSteps, slot: u32, many: usize) -> [u64; 32]
 }
 
 /// It frees the slot: the note that the words tell of is taken, and its piece is held.
-pub(crate) fn free_note(app: &mut AppSteps, slot: u32)
+pub(crate) fn free_note(app: &mut AppStepper, slot: u32)
     requires within { slot < app.old.board.setting.places }
     requires next { slot ≡ takes_note_at app.old.board.setting app.old.side }
     requires seen { app.old.side.inside.note_slot.seen ≡ true }
@@ -85,7 +85,7 @@ pub(crate) fn free_note(app: &mut AppSteps, slot: u32)
 }
 
 /// It frees the slot: the note that the words tell of is taken, with the bytes that travelled in it.
-pub(crate) fn free_linear(app: &mut AppSteps, slot: u32)
+pub(crate) fn free_linear(app: &mut AppStepper, slot: u32)
     requires within { slot < app.old.board.setting.places }
     requires next { slot ≡ takes_note_at app.old.board.setting app.old.side }
     requires seen { app.old.side.inside.note_slot.seen ≡ true }
@@ -101,7 +101,7 @@ pub(crate) fn free_linear(app: &mut AppSteps, slot: u32)
 
 /// An application takes the note of its next slot, which it saw full: it loads the words of the fields, of an unsplit note
 /// those of its bytes too, and frees the slot. These bytes are the first of `linear`.
-fn take_full(app: &mut AppSteps, slot: u32, linear: &mut [u8; 256]) -> Note
+fn take_full(app: &mut AppStepper, slot: u32, linear: &mut [u8; 256]) -> Note
     requires within { slot < app.old.board.setting.places }
     requires next { slot ≡ takes_note_at app.old.board.setting app.old.side }
     requires seen { app.old.side.inside.note_slot ≡ seen_with [] }
@@ -125,7 +125,7 @@ fn take_full(app: &mut AppSteps, slot: u32, linear: &mut [u8; 256]) -> Note
 
 /// An application looks for the next note sent to it: whether the card has ended, and then at its next slot. Where that is full
 /// it takes the note.
-pub(crate) fn poll(app: &mut AppSteps, slot: u32, linear: &mut [u8; 256]) -> Polled
+pub(crate) fn poll(app: &mut AppStepper, slot: u32, linear: &mut [u8; 256]) -> Polled
     requires within { slot < app.old.board.setting.places }
     requires next { slot ≡ takes_note_at app.old.board.setting app.old.side }
     ensures board { app.new.board ≡ app.old.board }

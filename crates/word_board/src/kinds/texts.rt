@@ -7,8 +7,8 @@ ghost use Rattle.board_face.specs.NicEvents.{placed};
 ghost use Rattle.board_face.specs.Sides.{nic_at, app_at};
 ghost use Rattle.board_face.specs.Tokens.{next_place};
 
-use crate::app_steps::AppSteps;
-use crate::card_steps::CardSteps;
+use crate::app_steps::AppStepper;
+use crate::card_steps::CardStepper;
 use crate::kinds::area::{fill_spare, place_piece, store_piece, store_spare};
 use crate::kinds::card_counts::begin_piece;
 use board_face::Filling;
@@ -16,7 +16,7 @@ use word_rings::text_word;
 use zr_kinds::Place;
 
 /// The card places a text where the buffer's next bytes go: it begins a piece, and then stores the text word by word.
-pub(crate) fn place_text(card: &mut CardSteps, own: Filling, bytes: &[u8])
+pub(crate) fn place_text(card: &mut CardStepper, own: Filling, bytes: &[u8])
     requires out { HasOwn card.old.side.view own }
     requires some { 0 < length bytes.now }
     requires fits { own.start + length bytes.now ≤ own.size }
@@ -41,7 +41,7 @@ pub(crate) fn place_text(card: &mut CardSteps, own: Filling, bytes: &[u8])
 }
 
 /// An application fills a spare: it stores the text word by word.
-pub(crate) fn fill_text(app: &mut AppSteps, own: Filling, bytes: &[u8])
+pub(crate) fn fill_text(app: &mut AppStepper, own: Filling, bytes: &[u8])
     requires out { HasSpare app.old.side.view own }
     requires empty { own.start ≡ 0 }
     requires some { 0 < length bytes.now }

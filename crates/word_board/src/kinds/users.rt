@@ -8,8 +8,8 @@ ghost use Rattle.board_face.specs.Sides.{app_at};
 ghost use Rattle.board_face.specs.Steps.{side_judged, side_user_lowered, side_user_taken};
 ghost use Rattle.board_face.specs.declared.views.nic.Judged.TheVariants.{Not, Owed};
 
-use crate::app_steps::AppSteps;
-use crate::card_steps::CardSteps;
+use crate::app_steps::AppStepper;
+use crate::card_steps::CardStepper;
 use board_face::Filling;
 use ref_words::laws;
 use std::marker::Brand;
@@ -17,7 +17,7 @@ use zr_kinds::{Place, Rqe};
 
 /// An application lends a held piece: its user count for the buffer is raised, and the piece's reference is the loan's.
 /// No count of loans is large.
-pub(crate) fn lend_held(app: &mut AppSteps, place: Place)
+pub(crate) fn lend_held(app: &mut AppStepper, place: Place)
     requires within { place.buffer < total app.old.board.setting.layout }
     requires out { HasHeld app.old.side.view place }
     requires can { CanLend app.old.side.view }
@@ -31,7 +31,7 @@ pub(crate) fn lend_held(app: &mut AppSteps, place: Place)
 }
 
 /// An application lends a spare that it filled: its user count for the buffer is raised. No count of loans is large.
-pub(crate) fn lend_spare(app: &mut AppSteps, own: Filling)
+pub(crate) fn lend_spare(app: &mut AppStepper, own: Filling)
     requires within { own.buffer < total app.old.board.setting.layout }
     requires out { HasSpare app.old.side.view own }
     requires filled { IsFilled app.old.side.view own }
@@ -47,7 +47,7 @@ pub(crate) fn lend_spare(app: &mut AppSteps, own: Filling)
 
 /// The card looks at the user count for the entry in hand, which names the buffer. `true` says that it was 0, so that the
 /// entry is a stray.
-pub(crate) fn look_user(card: &mut CardSteps, app: u32, entry: Rqe, buffer: u32) -> bool
+pub(crate) fn look_user(card: &mut CardStepper, app: u32, entry: Rqe, buffer: u32) -> bool
     requires app { app < apps_of card.old.board.setting }
     requires within { buffer < total card.old.board.setting.layout }
     requires names { judged card.old.board.setting.layout entry ≡ Some buffer }
@@ -60,7 +60,7 @@ pub(crate) fn look_user(card: &mut CardSteps, app: u32, entry: Rqe, buffer: u32)
 }
 
 /// The user count is lowered for the entry in hand, for which it was seen above 0.
-pub(crate) fn lower_user(card: &mut CardSteps, app: u32, entry: Rqe, buffer: u32)
+pub(crate) fn lower_user(card: &mut CardStepper, app: u32, entry: Rqe, buffer: u32)
     requires app { app < apps_of card.old.board.setting }
     requires within { buffer < total card.old.board.setting.layout }
     requires in_hand { card.old.side.inside.entry ≡ Some (record { app = app; entry = entry; judged = Owed buffer }) }
@@ -73,7 +73,7 @@ pub(crate) fn lower_user(card: &mut CardSteps, app: u32, entry: Rqe, buffer: u32
 
 /// An application's scrub swaps its user count for the buffer to which it came with 0. It answers how many references it took.
 /// With the last buffer the application has scrubbed.
-pub(crate) fn scrub_user(app: &mut AppSteps, buffer: u32) -> u64
+pub(crate) fn scrub_user(app: &mut AppStepper, buffer: u32) -> u64
     requires within { buffer < total app.old.board.setting.layout }
     requires next { app.old.side.inside.scrub_mark ≡ buffer }
     requires quiet { app.old.side.view.quiet ≡ true }

@@ -1,7 +1,7 @@
 use Rattle.std.proofs.Common.{rules, ◌≡◌, subst}
 use Rattle.tcp_reorder.specs.Gaps.{LosesFirst}
 use Rattle.board_face.specs.declared.views.app.AppView.{AppView}
-use Rattle.flow_queues.specs.declared.queues.Piece.{Piece}
+use Rattle.flow_queues.specs.declared.queues.NotePiece.{NotePiece}
 use Rattle.flow_queues.specs.declared.queues.Waiting.{Waiting}
 use Rattle.flow_queues.specs.declared.queues.Waiting.TheVariants.{InArea}
 use Rattle.flow_queues.specs.Core.{IsIn, IsInArea, IsOfNote, held_piece}
@@ -13,7 +13,7 @@ use Rattle.flow_queues.proofs.lending.lend_piece.Goals as goal
 pub lend-loan-requires-clause-out : goal.lend-loan-requires-clause-out
 lend-loan-requires-clause-out g c =
     let v : AppView = g.F.AppFace.seen c.args.face.now in
-    let p : Piece = c.in-InArea.piece in
+    let p : NotePiece = c.in-InArea.piece in
     let is : c.in-Some.waiting ≡ InArea p = search rules in
     let loses : LosesFirst c.args.own.now.queue c.pop_front.new.self (InArea p) c.in-Some.field-0-1 = subst
     (λ (x : Waiting). LosesFirst c.args.own.now.queue c.pop_front.new.self x c.in-Some.field-0-1) is c.in-Some.ensures.popped in
@@ -24,7 +24,7 @@ pub returns-clause-lent : goal.returns-clause-lent
 returns-clause-lent g c =
     let v : AppView = g.F.AppFace.seen c.args.face.now in
     let w : AppView = g.F.AppFace.seen c.lend-loan.new.self in
-    let p : Piece = c.in-InArea.piece in
+    let p : NotePiece = c.in-InArea.piece in
     let is : c.in-Some.waiting ≡ InArea p = search rules in
     let loses : LosesFirst c.args.own.now.queue c.pop_front.new.self (InArea p) c.in-Some.field-0-1 = subst
     (λ (x : Waiting). LosesFirst c.args.own.now.queue c.pop_front.new.self x c.in-Some.field-0-1) is c.in-Some.ensures.popped in

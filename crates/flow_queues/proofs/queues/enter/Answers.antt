@@ -8,7 +8,7 @@ use Rattle.tcp_reorder.proofs.Parts.{may_be_taken}
 use Rattle.board_face.specs.AppEvents.{released}
 use Rattle.board_face.specs.declared.views.app.HeldPiece.{HeldPiece}
 use Rattle.board_face.specs.declared.views.app.AppView.{AppView}
-use Rattle.flow_queues.specs.declared.queues.Piece.{Piece}
+use Rattle.flow_queues.specs.declared.queues.NotePiece.{NotePiece}
 use Rattle.flow_queues.specs.declared.queues.Waiting.{Waiting}
 use Rattle.flow_queues.specs.declared.queues.Waiting.TheVariants.{InArea}
 use Rattle.flow_queues.specs.Core.{held_piece, over_kept, short_len, IsOfNote}
@@ -133,7 +133,7 @@ loop-left-preserved g c =
     let now : Queue Waiting = c.loop-left.queue in
     let seq : ℕ = (note.seq + note.at) % 2 ^ 32 in
     let from : ℕ = origin was note.seq + note.at in
-    let piece : Piece = c.in-Some.piece in
+    let piece : NotePiece = c.in-Some.piece in
     let gap : Gap = c.in-Some-gap.gap in
     let left : IsLeft v was now c.args.number seq note.place.len from (Some piece) = subst
     (IsLeft v was now c.args.number seq note.place.len from) c.in-Some.is c.loop-left.invariant.5 in
@@ -145,7 +145,7 @@ loop-left-preserved g c =
     let fits : note.place.len ≤ 2 ^ 30 = omega (arith, c.requires.fields.within, c.requires.fields.bounded) in
     let gave = c.skip-wanted.ensures.gave in
     let cut = c.split-first.ensures.cut in
-    let of_note : c.split-first.result.0.note ≡ c.args.number = ap (λ (p : Piece). p.note) cut.front ∙ ap (λ (p : Piece). p.note) gave.rest ∙ left.1 in
+    let of_note : c.split-first.result.0.note ≡ c.args.number = ap (λ (p : NotePiece). p.note) cut.front ∙ ap (λ (p : NotePiece). p.note) gave.rest ∙ left.1 in
     let taken : c.take.new.self ≡ later v v1 v2 was now c.args.number seq note.place.len from piece c.skip-wanted.result c.split-first.result.0
     c.split-first.result.1 gap sound fits left first gave cut = search rules in
     rw taken (
@@ -205,7 +205,7 @@ returns-in-Err-clause-only g c =
     let v4 : AppView = g.F.AppFace.seen c.give_up.new.face in
     let was : Queue Waiting = c.args.queue.now in
     let now : Queue Waiting = c.loop-left.queue in
-    let piece : Piece = c.in-Some.piece in
+    let piece : NotePiece = c.in-Some.piece in
     let back : c.in-Err.back ≡ InArea c.split-first.result.0 = search rules in
     let same : c.take.new.self ≡ now = search rules in
     let gone : (HeldPiece → ℕ) → ℕ = λ f. f (held_piece (whole_piece c.args.number c.args.held)) + over_kept f was in

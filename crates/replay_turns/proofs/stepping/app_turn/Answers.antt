@@ -10,7 +10,7 @@ use Rattle.app_worker.specs.declared.turn.Turn.TheVariants.{Finished}
 use Rattle.card_feed.specs.Account.{kept_in}
 use Rattle.replay_turns.specs.Rounds.{DidNothing}
 use Rattle.run_account.specs.Running.{losses_in}
-use Rattle.replay_turns.specs.Running.{Fits}
+use Rattle.replay_turns.specs.Running.{RunFits}
 use Rattle.replay_turns.specs.Steps.{run_steps}
 use Rattle.replay_turns.specs.declared.role.Role.TheVariants.{App}
 use Rattle.run_account.specs.declared.run.Run.{Run}
@@ -84,7 +84,7 @@ returns g c =
     (λ turn. Answers w_was.state w_now.state old new (g.T.Shelf.faults shelf) (g.T.Shelf.faults shelf_now) turn) (is_left left) step.turns.answer in
     record {
       plays = λ source. record {
-        fits = subst (λ n. Fits board_now run_now n) (sym (length-set c.args.shelves.now c.args.app shelf_now))
+        fits = subst (λ n. RunFits board_now run_now n) (sym (length-set c.args.shelves.now c.args.app shelf_now))
             (app-fits board board_now c.args.run.now run_now c.args.app w_was w_now is_was refl refl step.card step.others step.many step.sound
             (length c.args.shelves.now) c.requires.fits
             (record { stands = step.stands; here = λ left. step.here (not_left left); gone = λ left. ((finished left).1, (finished left).2) }));

@@ -1,6 +1,7 @@
 -- A turn of the card, or of an application.
 use Rattle.std.proofs.Common.{◌<◌, ◌≤◌, refl, sym, subst}
 use Rattle.std.specs.Prelude.{MatchBool}
+use Rattle.zr_kinds.specs.Limits.{most_records}
 use Rattle.replay_turns.specs.Following.{Moves, moment}
 use Rattle.replay_turns.specs.Rounds.{DidNothing}
 use Rattle.replay_turns.specs.Steps.{run_steps}
@@ -36,7 +37,7 @@ returns-in-Card g c =
             card-runs c.args.board c.card_step-turn.result.0 c.args.run.now run_now refl step.apps step.sound step.ready
             g.S.Source.left g.S.Source.faults g.T.Shelf.kept g.T.Shelf.faults first c.args.source.now c.card_step-turn.new.source firsts c.args.shelves.now
             plan fits runs turns.more turns.stands
-            (subst (λ n. n ≤ 16777216) c.records.ensures.count c.records.ensures.most) turns.read turns.plays;
+            (subst (λ n. n ≤ most_records) c.records.ensures.count c.records.ensures.most) turns.read turns.plays;
       };
       answer = subst (λ role. MatchBool c.card_step-turn.result.1 (run_steps c.args.board c.args.run.now < run_steps c.card_step-turn.result.0 run_now)
           (DidNothing role c.args.board c.card_step-turn.result.0 c.args.run.now run_now)) (sym c.in-Card.is)

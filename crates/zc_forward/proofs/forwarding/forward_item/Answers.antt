@@ -6,7 +6,7 @@ use Rattle.board_face.specs.declared.views.app.AppView.{AppView}
 use Rattle.flow_queues.specs.Core.{total}
 use Rattle.zc_poll.specs.Standing.{Desk, StreamStands}
 use Rattle.zc_poll.specs.Items.{HasGiven}
-use Rattle.zc_poll.specs.Counting.{Tally, AddsTo, item_counted}
+use Rattle.zc_poll.specs.Counting.{TallyState, AddsTo, item_counted}
 use Rattle.zc_poll.specs.TallyOf.{tally_of}
 use Rattle.zc_poll.proofs.ItemPoured.{Roomy}
 use Rattle.zc_poll.proofs.PourTurns.{only-reads-none}
@@ -26,7 +26,7 @@ returns-then-is_err-clause-gives g c =
     is-roomy c.args.work.now.tally c.count_item.new.work c.room_for.new.work.tally c.args.lent.copied c.count_item.ensures.tally c.room_for.ensures.same
     c.room_for.ensures.room c.room_for.ensures.empty in
     let adds : AddsTo c.args.lent.flow 0 c.args.work.now.tally.counts.entries c.room_for.new.work.tally.counts.entries =
-    subst (λ es. AddsTo c.args.lent.flow 0 es c.room_for.new.work.tally.counts.entries) (ap (λ (t : Tally). t.counts) c.count_item.ensures.tally)
+    subst (λ es. AddsTo c.args.lent.flow 0 es c.room_for.new.work.tally.counts.entries) (ap (λ (t : TallyState). t.counts) c.count_item.ensures.tally)
     c.room_for.ensures.none in
     let k : Kept = record {
       tally = record c.room_for.new.work.tally { stopped = stop.Memory };
@@ -68,7 +68,7 @@ returns-then-done-len-clause-gives g c =
     is-roomy c.args.work.now.tally c.count_item.new.work c.room_for.new.work.tally c.args.lent.copied c.count_item.ensures.tally c.room_for.ensures.same
     c.room_for.ensures.room c.room_for.ensures.empty in
     let adds : AddsTo c.args.lent.flow 0 c.args.work.now.tally.counts.entries c.room_for.new.work.tally.counts.entries =
-    subst (λ es. AddsTo c.args.lent.flow 0 es c.room_for.new.work.tally.counts.entries) (ap (λ (t : Tally). t.counts) c.count_item.ensures.tally)
+    subst (λ es. AddsTo c.args.lent.flow 0 es c.room_for.new.work.tally.counts.entries) (ap (λ (t : TallyState). t.counts) c.count_item.ensures.tally)
     c.room_for.ensures.none in
     let read = c.send-done.ensures in
     let gone = c.fail.ensures in
@@ -99,7 +99,7 @@ returns-else-done-len-clause-gives g c =
     is-roomy c.args.work.now.tally c.count_item.new.work c.room_for.new.work.tally c.args.lent.copied c.count_item.ensures.tally c.room_for.ensures.same
     c.room_for.ensures.room c.room_for.ensures.empty in
     let adds : AddsTo c.args.lent.flow 0 c.args.work.now.tally.counts.entries c.room_for.new.work.tally.counts.entries =
-    subst (λ es. AddsTo c.args.lent.flow 0 es c.room_for.new.work.tally.counts.entries) (ap (λ (t : Tally). t.counts) c.count_item.ensures.tally)
+    subst (λ es. AddsTo c.args.lent.flow 0 es c.room_for.new.work.tally.counts.entries) (ap (λ (t : TallyState). t.counts) c.count_item.ensures.tally)
     c.room_for.ensures.none in
     let read = c.send-done.ensures in
     let full : c.send-done.result ≡ c.args.lent.loan.len = search rules in

@@ -2,7 +2,7 @@ use Rattle.std.proofs.Common.{rules, ◌≡◌, Some, sym, subst}
 use Rattle.board_face.specs.declared.views.app.AppView.{AppView}
 use Rattle.zc_forward.specs.OutboxOf.{outbox_of}
 use Rattle.zc_forward.specs.Tags.{Tags, TakesTag}
-use Rattle.zc_forward.specs.Sending.{Outbox}
+use Rattle.zc_forward.specs.Sending.{OutboxState}
 use Rattle.zc_forward.specs.Forwarding.{ForwardStands}
 use Rattle.zc_forward.specs.Turns.{Stage, TurnDoes, stage_of, with_due}
 use Rattle.zc_forward.proofs.Live.{has-out}
@@ -23,7 +23,7 @@ returns-then-not-has_ended-clause-does g c = λ was looks took asked.
     let same : with_due (outbox_of c.args.work.now) c.take.new.self ≡ outbox_of c.args.work.now = search rules in
     let now : Stage = stage_of (outbox_of c.take_step.new.work) c.take_step.new.stream.desk (g.C.Carrier.tags c.take_step.new.carrier)
     (g.C.Carrier.looks c.take_step.new.carrier) (g.F.AppFace.seen c.take_step.new.stream.face) in
-    subst (λ (o : Outbox). TurnDoes (stage_of o c.args.stream.now.desk was looks v) now c.take_step.result) same
+    subst (λ (o : OutboxState). TurnDoes (stage_of o c.args.stream.now.desk was looks v) now c.take_step.result) same
     (subst (λ (ts : Tags). TurnDoes (stage_of (with_due (outbox_of c.args.work.now) c.take.new.self) c.args.stream.now.desk ts looks v) now c.take_step.result) none
     (c.take_step.ensures.does looks))
 
@@ -41,7 +41,7 @@ returns-clause-does g c = λ was looks took asked.
     let on : ForwardStands first losses (outbox_of c.args.work.now) c.args.stream.now.desk tags got faults v =
     subst (λ (ts : Tags). ForwardStands first losses (outbox_of c.args.work.now) c.args.stream.now.desk ts got faults v)
     (sym (subst (TakesTag earlier tags) c.in_default.is gone)) before in
-    subst (λ (o : Outbox). TurnDoes (stage_of o c.args.stream.now.desk was looks v) now c.leave.result) same
+    subst (λ (o : OutboxState). TurnDoes (stage_of o c.args.stream.now.desk was looks v) now c.leave.result) same
     (subst (λ (ts : Tags). TurnDoes (stage_of (with_due (outbox_of c.args.work.now) c.take.new.self) c.args.stream.now.desk ts looks v) now c.leave.result) none
     (c.leave.ensures.does first got losses faults tags looks (g.C.Carrier.looks c.args.carrier.now)
-    (subst (λ (o : Outbox). ForwardStands first losses o c.args.stream.now.desk tags got faults v) (sym same) on)))
+    (subst (λ (o : OutboxState). ForwardStands first losses o c.args.stream.now.desk tags got faults v) (sym same) on)))

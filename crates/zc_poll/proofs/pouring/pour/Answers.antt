@@ -4,9 +4,9 @@ use Rattle.std.proofs.Common.{rules, ◌≡◌, ◌<◌, ◌≤◌, Bool, [], le
 use Rattle.zc_poll.specs.Standing.{Desk, StreamStands}
 use Rattle.zc_poll.specs.Items.{HasGiven}
 use Rattle.zc_poll.specs.Pouring.{PourStands}
-use Rattle.zc_poll.specs.Counting.{Tally, AddsTo, item_counted}
+use Rattle.zc_poll.specs.Counting.{TallyState, AddsTo, item_counted}
 use Rattle.zc_poll.specs.TallyOf.{tally_of}
-use Rattle.zc_poll.specs.declared.counting.Tally.{Tally as Kept}
+use Rattle.zc_poll.specs.declared.counting.PourTally.{PourTally as Kept}
 use Rattle.zc_poll.proofs.ItemPoured.{Roomy}
 use Rattle.zc_poll.proofs.Pours.{wants, fails, wrote}
 use Rattle.zc_poll.proofs.PourTurns.{only-reads-none}
@@ -15,7 +15,7 @@ use Rattle.zc_poll.proofs.pouring.pour.Goals as goal
 is-roomy : (u v w : Kept) (copied : Bool) → tally_of v ≡ item_counted (tally_of u) copied → w ≡ record v { counts = w.counts; flows = w.flows }
     → length w.counts.entries ≤ vec_capacity w.flows → w.flows.items ≡ [] → Roomy (item_counted (tally_of u) copied) (tally_of w)
 is-roomy u v w copied counted same room empty = record {
-  same = ap tally_of same ∙ ap (λ (t : Tally). record t { counts = w.counts.entries; flows = w.flows.items; room = vec_capacity w.flows }) counted;
+  same = ap tally_of same ∙ ap (λ (t : TallyState). record t { counts = w.counts.entries; flows = w.flows.items; room = vec_capacity w.flows }) counted;
   room = room;
   empty = empty;
 }
@@ -26,7 +26,7 @@ returns-then-is_err-clause-pours g c =
     is-roomy c.args.work.now c.count_item.new.work c.make_room.new.work c.args.lent.copied c.count_item.ensures.tally c.make_room.ensures.same
     c.make_room.ensures.room c.make_room.ensures.empty in
     let adds : AddsTo c.args.lent.flow 0 c.args.work.now.counts.entries c.make_room.new.work.counts.entries =
-    subst (λ es. AddsTo c.args.lent.flow 0 es c.make_room.new.work.counts.entries) (ap (λ (t : Tally). t.counts) c.count_item.ensures.tally)
+    subst (λ es. AddsTo c.args.lent.flow 0 es c.make_room.new.work.counts.entries) (ap (λ (t : TallyState). t.counts) c.count_item.ensures.tally)
     c.make_room.ensures.none in
     let none : c.give_up.new.work.due ≡ None = search rules in
     λ first losses st v before item only.
@@ -43,7 +43,7 @@ returns-then-done-place-clause-pours g c =
     is-roomy c.args.work.now c.count_item.new.work c.make_room.new.work c.args.lent.copied c.count_item.ensures.tally c.make_room.ensures.same
     c.make_room.ensures.room c.make_room.ensures.empty in
     let adds : AddsTo c.args.lent.flow 0 c.args.work.now.counts.entries c.make_room.new.work.counts.entries =
-    subst (λ es. AddsTo c.args.lent.flow 0 es c.make_room.new.work.counts.entries) (ap (λ (t : Tally). t.counts) c.count_item.ensures.tally)
+    subst (λ es. AddsTo c.args.lent.flow 0 es c.make_room.new.work.counts.entries) (ap (λ (t : TallyState). t.counts) c.count_item.ensures.tally)
     c.make_room.ensures.none in
     let read = c.append_loan-done.ensures in
     let gone = c.give_up-then-done-place.ensures in
@@ -72,11 +72,11 @@ returns-clause-pours g c =
     is-roomy c.args.work.now c.count_item.new.work c.make_room.new.work c.args.lent.copied c.count_item.ensures.tally c.make_room.ensures.same
     c.make_room.ensures.room c.make_room.ensures.empty in
     let adds : AddsTo c.args.lent.flow 0 c.args.work.now.counts.entries c.make_room.new.work.counts.entries =
-    subst (λ es. AddsTo c.args.lent.flow 0 es c.make_room.new.work.counts.entries) (ap (λ (t : Tally). t.counts) c.count_item.ensures.tally)
+    subst (λ es. AddsTo c.args.lent.flow 0 es c.make_room.new.work.counts.entries) (ap (λ (t : TallyState). t.counts) c.count_item.ensures.tally)
     c.make_room.ensures.none in
     let read = c.append_loan-done.ensures in
     let full : c.append_loan-done.result ≡ c.args.lent.loan.len = search rules in
-    let due : Tally = record (tally_of c.count.new.work) { due = Some c.args.lent.loan } in
+    let due : TallyState = record (tally_of c.count.new.work) { due = Some c.args.lent.loan } in
     λ first losses st v before item only.
     subst (λ (d : Desk). PourStands first losses due d (g.T.Shelf.kept c.append_loan-done.new.shelf)
     (g.T.Shelf.faults c.append_loan-done.new.shelf) (g.F.AppFace.seen c.append_loan-done.new.stream.face)) (sym read.desk)

@@ -1,6 +1,6 @@
 use Rattle.std.proofs.Common.{rules, ◌≡◌, sym, subst}
 use Rattle.std.specs.Prelude.{None}
-use Rattle.zc_poll.specs.Counting.{Tally}
+use Rattle.zc_poll.specs.Counting.{TallyState}
 use Rattle.zc_poll.specs.Pouring.{PourStands}
 use Rattle.zc_poll.specs.PourTurns.{TurnDoes}
 use Rattle.zc_poll.specs.TallyOf.{tally_of}
@@ -14,5 +14,5 @@ returns-then-has_ended-clause-does g c =
     subst (λ d. TurnDoes d c.args.stream.now.desk c.close.new.stream.desk (g.F.AppFace.seen c.args.stream.now.face) (g.F.AppFace.seen c.close.new.stream.face)
     c.close.result) (sym none)
     (c.close.ensures.does stands.0 (g.T.Shelf.kept c.args.shelf.now) stands.1 (g.T.Shelf.faults c.args.shelf.now)
-    (subst (λ (t : Tally). PourStands stands.0 stands.1 t c.args.stream.now.desk (g.T.Shelf.kept c.args.shelf.now) (g.T.Shelf.faults c.args.shelf.now)
+    (subst (λ (t : TallyState). PourStands stands.0 stands.1 t c.args.stream.now.desk (g.T.Shelf.kept c.args.shelf.now) (g.T.Shelf.faults c.args.shelf.now)
     (g.F.AppFace.seen c.args.stream.now.face)) (sym same) stands.2))

@@ -3,7 +3,7 @@ use Rattle.std.specs.Prelude.{None}
 use Rattle.zr_kinds.specs.declared.behaviour.Stopped.TheVariants as stop
 use Rattle.zc_poll.specs.Standing.{Desk, StreamStands}
 use Rattle.zc_poll.proofs.PourNew.{new-pours, new_tally}
-use Rattle.zc_forward.specs.Sending.{Outbox}
+use Rattle.zc_forward.specs.Sending.{OutboxState}
 use Rattle.zc_forward.specs.Forwarding.{ForwardStands}
 use Rattle.zc_forward.specs.OutboxOf.{outbox_of}
 use Rattle.zc_forward.proofs.Ends.{waits-forwards}
@@ -17,7 +17,7 @@ returns-clause-stands g c =
     let tags = g.C.Carrier.tags c.args.carrier in
     let room : ℕ = vec_capacity c.new-2.result in
     let v = g.F.AppFace.seen c.args.stream.face in
-    let empty : Outbox = record { tally = new_tally room; out = []; uncarried = None; pressed = false } in
+    let empty : OutboxState = record { tally = new_tally room; out = []; uncarried = None; pressed = false } in
     let same : empty ≡ outbox_of (record {
       tally = record {
         due = None;
@@ -32,7 +32,7 @@ returns-clause-stands g c =
       uncarried = None;
       pressed = false;
     }) = search rules in
-    subst (λ (o : Outbox). ForwardStands got losses o c.args.stream.desk tags got losses v) same
+    subst (λ (o : OutboxState). ForwardStands got losses o c.args.stream.desk tags got losses v) same
     (subst (λ (d : Desk). ForwardStands got losses empty d tags got losses v) (sym desk)
     (waits-forwards got got losses losses empty _ tags v
     (new-pours got losses room app v fresh (subst (λ (d : Desk). StreamStands d v) desk c.requires.stands)) refl c.requires.none refl refl

@@ -1,7 +1,7 @@
 use Rattle.std.proofs.Common.{rules, ◌≡◌, ℕ, sym, subst, vec_capacity}
 use Rattle.std.specs.Prelude.{None}
 use Rattle.zr_kinds.specs.declared.behaviour.Stopped.TheVariants as stop
-use Rattle.zc_poll.specs.Counting.{Tally}
+use Rattle.zc_poll.specs.Counting.{TallyState}
 use Rattle.zc_poll.specs.Pouring.{PourStands}
 use Rattle.zc_poll.specs.Standing.{Desk, StreamStands}
 use Rattle.zc_poll.specs.TallyOf.{tally_of}
@@ -24,6 +24,6 @@ returns-clause-stands g c =
       counts = c.new.result;
       flows = c.new-2.result;
     }) = search rules in
-    subst (λ (t : Tally). PourStands kept losses t c.args.stream.desk kept losses v) same
+    subst (λ (t : TallyState). PourStands kept losses t c.args.stream.desk kept losses v) same
     (subst (λ (d : Desk). PourStands kept losses (new_tally room) d kept losses v) (sym desk)
     (new-pours kept losses room app v fresh (subst (λ (d : Desk). StreamStands d v) desk c.requires.stands)))

@@ -1,13 +1,13 @@
 use Rattle.std.proofs.Common.{ℕ, set, sym, subst, arith, ◌≡◌}
 use Rattle.std.specs.Prelude.{◌==◌, false}
 use Rattle.board_face.specs.declared.views.app.AppSide.{AppSide}
-use Rattle.ref_words.specs.RestSteps.{side_any_looked}
+use Rattle.ref_words.specs.RestSteps.{side_last_looked}
 use Rattle.ref_words.specs.Words.{refill_at}
 use Rattle.ref_words.specs.Rule.{BoardRule}
-use Rattle.ref_words.proofs.AppNumbers.{any_looked-number}
+use Rattle.ref_words.proofs.AppNumbers.{last_looked-number}
 use Rattle.word_board.proofs.Telling.{tells-app}
 use Rattle.word_board.proofs.Stepping.{loads, found-refill}
-use Rattle.word_board.proofs.kinds.rests.look_any.Goals as goal
+use Rattle.word_board.proofs.kinds.refill_looks.look_at_last.Goals as goal
 
 pub load-requires-clause-may : goal.load-requires-clause-may
 load-requires-clause-may c =
@@ -16,11 +16,12 @@ load-requires-clause-may c =
     let a = mine.view.app in
     let s = c.args.slot in
     let at : c.refill-word.result ≡ refill_at setting a s 0 = cc in
-    let next : ℕ → AppSide = λ n. side_any_looked mine s (n == 0) in
+    let next : ℕ → AppSide = λ n. side_last_looked mine s (n == 0) in
     record {
-      number = λ n. any_looked-number mine s (n == 0);
+      number = λ n. last_looked-number mine s (n == 0);
       step = λ ws nic apps rule here small.
-          let law = c.k13_free.ensures.any setting ws nic apps mine s rule here c.requires.within in (
+          let law = c.k13_free.ensures.last setting ws nic apps mine s rule here c.requires.within
+          c.requires.others in (
             loads setting ws c.refill-word.result
                 (subst (λ n. BoardRule setting ws nic (set apps a (next n)))
                 (sym (found-refill setting ws a s 0 c.refill-word.result at c.number.ensures.here c.requires.within (omega arith) rule)) law),

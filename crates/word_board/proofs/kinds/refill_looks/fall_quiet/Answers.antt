@@ -2,7 +2,7 @@ use Rattle.std.proofs.Common.{◌≡◌, ◌-◌, ◌∷◌, refl, ap, ◌∙◌
 use Rattle.std.specs.Prelude.{Contains}
 use Rattle.word_board.specs.Board.{TheApp, TheBoard}
 use Rattle.word_board.proofs.Quieting.{AreSeenFree-more, sees-more}
-use Rattle.word_board.proofs.kinds.rests.fall_quiet.Goals as goal
+use Rattle.word_board.proofs.kinds.refill_looks.fall_quiet.Goals as goal
 
 pub loop-slot-init : goal.loop-slot-init
 loop-slot-init c = (refl, record { event = refl; seen = λ s small. absurd (omega (arith, small)) })

@@ -10,7 +10,7 @@ use Rattle.word_board.specs.Board.{card_of}
 use Rattle.word_board.specs.Desk.{AllAreBack}
 use Rattle.word_board.proofs.FreeWords.{of-word}
 use Rattle.word_board.proofs.RolesBack.{lesson, free-there}
-use Rattle.word_board.proofs.kinds.lessons.look_listed.Goals as goal
+use Rattle.word_board.proofs.kinds.desk_looks.look_listed.Goals as goal
 
 pub load_as-found-requires-clause-allows : goal.load_as-found-requires-clause-allows
 load_as-found-requires-clause-allows c =

@@ -3,7 +3,7 @@ use Rattle.std.specs.Prelude.{◌≡◌, ◌+◌, ◌%◌, ◌==◌, if◌then�
 use Rattle.std.specs.Int.{bit_at}
 use Rattle.board_face.specs.NicEvents.{word_bits}
 use Rattle.word_board.specs.Board.{card_of}
-use Rattle.word_board.proofs.kinds.lessons.look_listed.Given as goal
+use Rattle.word_board.proofs.kinds.desk_looks.look_listed.Given as goal
 
 abbrev pub ghosts-load_as : goal.ghosts-load_as
 ghosts-load_as a = record {

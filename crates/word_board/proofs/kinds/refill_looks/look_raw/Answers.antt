@@ -7,7 +7,7 @@ use Rattle.ref_words.specs.Rule.{BoardRule}
 use Rattle.ref_words.proofs.AppNumbers.{raw_looked-number}
 use Rattle.word_board.proofs.Telling.{tells-app}
 use Rattle.word_board.proofs.Stepping.{loads, found-refill}
-use Rattle.word_board.proofs.kinds.rests.look_raw.Goals as goal
+use Rattle.word_board.proofs.kinds.refill_looks.look_raw.Goals as goal
 
 pub load-requires-clause-may : goal.load-requires-clause-may
 load-requires-clause-may c =

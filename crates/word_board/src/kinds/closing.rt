@@ -10,14 +10,14 @@ ghost use Rattle.board_face.specs.declared.views.nic.Fate.TheVariants.{Honoured}
 ghost use Rattle.board_face.specs.declared.views.nic.Judged.TheVariants.{Owed};
 ghost use Rattle.ref_words.specs.Rings.{takes_entry_at};
 
-use crate::app_steps::AppSteps;
-use crate::card_steps::CardSteps;
+use crate::app_steps::AppStepper;
+use crate::card_steps::CardStepper;
 use crate::kinds::{free_honoured, give_back, list_by_app, list_by_card, release_held, shut_own};
 use board_face::Filling;
 use zr_kinds::{Place, Rqe};
 
 /// The card lists this buffer where it has it in hand. It has no other in hand.
-fn list_last_by_card(card: &mut CardSteps, buffer: u32, in_hand: bool)
+fn list_last_by_card(card: &mut CardStepper, buffer: u32, in_hand: bool)
     requires of_pool { in_hand ≡ true → buffer < pool_buffers card.old.board.setting.layout }
     requires hands { card.old.side.inside.hands ≡ (if in_hand then buffer ∷ [] else []) }
     ensures { card.new ≡ record card.old { side = record card.old.side { inside = record card.old.side.inside { hands = [] } } } }
@@ -28,7 +28,7 @@ fn list_last_by_card(card: &mut CardSteps, buffer: u32, in_hand: bool)
 }
 
 /// So does an application.
-pub(crate) fn list_last_by_app(app: &mut AppSteps, buffer: u32, in_hand: bool)
+pub(crate) fn list_last_by_app(app: &mut AppStepper, buffer: u32, in_hand: bool)
     requires of_pool { in_hand ≡ true → buffer < pool_buffers app.old.board.setting.layout }
     requires hands { app.old.side.inside.hands ≡ (if in_hand then buffer ∷ [] else []) }
     ensures { app.new ≡ record app.old { side = record app.old.side { inside = record app.old.side.inside { hands = [] } } } }
@@ -40,7 +40,7 @@ pub(crate) fn list_last_by_app(app: &mut AppSteps, buffer: u32, in_hand: bool)
 
 /// The card closes a buffer: its own reference goes. A pool buffer that comes to be free by that is cached where the cache has
 /// `room`, and listed else. It answers whether no holder is left.
-pub(crate) fn shut_buffer(card: &mut CardSteps, own: Filling, pool: u32, room: bool) -> bool
+pub(crate) fn shut_buffer(card: &mut CardStepper, own: Filling, pool: u32, room: bool) -> bool
     requires set { card.old.side.view.setting ≡ card.old.board.setting }
     requires within { own.buffer < total card.old.board.setting.layout }
     requires out { HasOwn card.old.side.view own }
@@ -65,7 +65,7 @@ pub(crate) struct Loaded {
 /// The card deals with an entry in hand that is a return: both counts are lowered, a pool buffer that comes to be free by that
 /// is cached or listed as in `shut_buffer`, and then the slot is freed. It answers whether no holder is left.
 pub(crate) fn honour_entry(
-    card: &mut CardSteps,
+    card: &mut CardStepper,
     loaded: Loaded,
     buffer: u32,
     pool: u32,
@@ -90,7 +90,7 @@ pub(crate) fn honour_entry(
 }
 
 /// An application gives a held piece up. A pool buffer that comes to be free by that is listed.
-pub(crate) fn release_piece(app: &mut AppSteps, place: Place, pool: u32)
+pub(crate) fn release_piece(app: &mut AppStepper, place: Place, pool: u32)
     requires set { app.old.side.view.setting ≡ app.old.board.setting }
     requires within { place.buffer < total app.old.board.setting.layout }
     requires out { HasHeld app.old.side.view place }

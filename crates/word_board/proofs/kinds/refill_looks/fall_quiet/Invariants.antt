@@ -1,7 +1,7 @@
 -- The slots before this one were seen free.
 use Rattle.std.specs.Prelude.{◌≡◌}
 use Rattle.word_board.proofs.Quieting.{AreSeenFree}
-use Rattle.word_board.proofs.kinds.rests.fall_quiet.Given as goal
+use Rattle.word_board.proofs.kinds.refill_looks.fall_quiet.Given as goal
 
 abbrev pub invariant-loop-slot : goal.invariant-loop-slot
 invariant-loop-slot l =

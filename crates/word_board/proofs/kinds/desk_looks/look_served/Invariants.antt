@@ -1,7 +1,7 @@
 -- What the rule says of who is back.
 use Rattle.std.specs.Prelude.{◌≤◌, length}
 use Rattle.word_board.specs.Desk.{AreOfBoard, AreServed}
-use Rattle.word_board.proofs.kinds.lessons.look_served.Given as goal
+use Rattle.word_board.proofs.kinds.desk_looks.look_served.Given as goal
 
 abbrev pub ghosts-load_as : goal.ghosts-load_as
 ghosts-load_as a = record {

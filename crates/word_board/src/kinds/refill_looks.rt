@@ -5,12 +5,12 @@ ghost use Rattle.ref_words.specs.RestSteps.{side_raw_looked, side_any_looked, si
 ghost use Rattle.board_face.specs.AppEvents.{app_gist};
 ghost use Rattle.word_board.specs.Told.{IsToldToApp, IsRawInUse, IsOneInUse};
 
-use crate::app_steps::AppSteps;
+use crate::app_steps::AppStepper;
 use ref_words::laws;
 use std::marker::Brand;
 
 /// An application looks at the slot of its last raw entry. `true` says that no raw entry is on its way any more.
-pub(crate) fn look_raw(app: &mut AppSteps, slot: u32) -> bool
+pub(crate) fn look_raw(app: &mut AppStepper, slot: u32) -> bool
     requires within { slot < app.old.board.setting.places }
     requires known { app.old.side.inside.raw_slot ≡ Some slot }
     ensures event { app.new ≡ record app.old { side = side_raw_looked app.old.side result } }
@@ -23,7 +23,7 @@ pub(crate) fn look_raw(app: &mut AppSteps, slot: u32) -> bool
 
 /// An application settles: `raw` is the slot of its last raw entry, where it pushed one since it last settled. `false` says
 /// that this slot was seen in use.
-pub(crate) fn settle(app: &mut AppSteps, raw: Option<u32>) -> bool
+pub(crate) fn settle(app: &mut AppStepper, raw: Option<u32>) -> bool
     requires known { MatchOption raw
         (app.old.side.view.settled ≡ true)
         (λ slot. (slot < app.old.board.setting.places) × (app.old.side.inside.raw_slot ≡ Some slot)) }
@@ -38,7 +38,7 @@ pub(crate) fn settle(app: &mut AppSteps, raw: Option<u32>) -> bool
 }
 
 /// An application looks at any of its refill slots. `true` says that the slot is free, and stays so until it publishes.
-pub(crate) fn look_any(app: &mut AppSteps, slot: u32) -> bool
+pub(crate) fn look_any(app: &mut AppStepper, slot: u32) -> bool
     requires within { slot < app.old.board.setting.places }
     ensures event { app.new ≡ record app.old { side = side_any_looked app.old.side slot result } }
     ensures told { result ≡ false → IsToldToApp app.old.board.setting (app_gist app.old.side.view) (IsOneInUse app.old.board.setting) }
@@ -49,7 +49,7 @@ pub(crate) fn look_any(app: &mut AppSteps, slot: u32) -> bool
 }
 
 /// It looks at the last one, after it saw all others free. `true` says that its ring is quiet: no entry is on its way.
-pub(crate) fn look_at_last(app: &mut AppSteps, slot: u32) -> bool
+pub(crate) fn look_at_last(app: &mut AppStepper, slot: u32) -> bool
     requires within { slot < app.old.board.setting.places }
     requires others { (k : ℕ) → k < app.old.board.setting.places → Contains (slot ∷ app.old.side.inside.free_slots) k }
     ensures event { app.new ≡ record app.old { side = side_last_looked app.old.side slot result } }
@@ -61,7 +61,7 @@ pub(crate) fn look_at_last(app: &mut AppSteps, slot: u32) -> bool
 }
 
 /// An application looks at its refill slots one by one. `true` says that each was seen free; it stops at one in use.
-pub(crate) fn fall_quiet(app: &mut AppSteps, places: u32) -> bool
+pub(crate) fn fall_quiet(app: &mut AppStepper, places: u32) -> bool
     requires all { places ≡ app.old.board.setting.places }
     requires some { 0 < places }
     ensures event { app.new ≡ record app.old {
