@@ -19,10 +19,11 @@ use Rattle.command_words.specs.Assigned.{Text, Said, is_among, sorted, value_sai
 use Rattle.command_words.specs.Asking.{Answers, AreApart, app_for, is_true, port_id}
 use Rattle.command_words.proofs.Adding.{texts}
 use Rattle.command_words.proofs.Lookups.{simple_app}
-use Rattle.command_words.proofs.Matching.{and_parts, first_of-all_of}
+use Rattle.command_words.proofs.Matching.{first_of-all_of}
 use Rattle.command_words.proofs.Asked.{Comes, parsed}
 use Rattle.command_words.proofs.Defaults.{flag_value}
 use Rattle.command_words.proofs.Walking.{AllText, nothing_refused}
+use Rattle.std.proofs.lemmas.Bool.{and_parts}
 
 pub texts_are_text : (words : List (Bor Text)) → All (λ word. IsUtf8 word.now) words → AllText (texts words)
 texts_are_text [] h = tt

@@ -11,7 +11,8 @@ use Rattle.command_words.specs.Assigned.{Text}
 use Rattle.command_words.specs.Numbers.{in_range, value_of}
 use Rattle.command_words.specs.Options.{number_or, size_of}
 use Rattle.command_words.specs.Areas.{is_colon, is_comma, area_of, all_areas, few_areas, fit_together, areas_of, one_area, areas_or, pool_of}
-use Rattle.command_words.proofs.Ranges.{IsSize, passed, and_parts, read-within, number_or-within, size_of-sized}
+use Rattle.command_words.proofs.Ranges.{IsSize, passed, read-within, number_or-within, size_of-sized}
+use Rattle.std.proofs.lemmas.Bool.{and_parts}
 
 -- what a test lets through, where there may be nothing
 chosen : {A : Type 0} (test : Bool) (o : Option A) (y : A) → (if test then o else None) ≡ Some y → o ≡ Some y

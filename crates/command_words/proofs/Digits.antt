@@ -1,5 +1,5 @@
 -- A word of digits is parsed to its value.
-use Rattle.std.proofs.Common.{◌≡◌, ℕ, ◌<◌, ◌≤◌, ◌^◌, List, [], ◌∷◌, length, Bool, true, false, refl, ap, subst, sym, Result, Ok}
+use Rattle.std.proofs.Common.{◌≡◌, ℕ, ◌<◌, ◌≤◌, ◌^◌, List, [], ◌∷◌, length, true, refl, ap, subst, sym, Result, Ok}
 use Rattle.std.proofs.Common.{arith}
 use Rattle.std.specs.Char.{is_ascii_digit}
 use Rattle.std.specs.List.{list_all}
@@ -7,7 +7,7 @@ use Rattle.std.specs.Str.{all_ascii_digits}
 use Rattle.std.specs.Str.Parse.{ParsesUnsigned, digits_value}
 use Rattle.std.proofs.lemmas.Str.Parse.{IsNumeralModel, numerals_by_value, tells_all_ascii_digits, parse_gives, digits_value_short}
 use Rattle.std.specs.Prelude.{◌&&◌, nat_le}
-use Rattle.std.proofs.lemmas.Bool.{false≢true}
+use Rattle.std.proofs.lemmas.Bool.{and_parts}
 use Rattle.std.proofs.lemmas.Bool.Decides.{nat_tests}
 use Rattle.command_words.specs.Numbers.{is_number}
 
@@ -25,13 +25,9 @@ parsed word result parses digits some short =
     let below : digits_value 10 word < 10 ^ 18 = digits_value_short own word 18 all short in
     parse_gives own 64 word result parses all (omega arith) (omega arith)
 
-both_true : (a b : Bool) → (a && b) ≡ true → (a ≡ true) × (b ≡ true)
-both_true true b h = (refl, h)
-both_true false b h = absurd (false≢true h)
-
 pub read : {E : Type 0} (word : List ℕ) (result : Result ℕ E) → ParsesUnsigned 64 10 word result → is_number word ≡ true
     → result ≡ Ok (digits_value 10 word)
 read word result parses number =
-    let digits = both_true (nat_le 1 (length word) && nat_le (length word) 18) (list_all is_ascii_digit word) number in
-    let sizes = both_true (nat_le 1 (length word)) (nat_le (length word) 18) digits.0 in
+    let digits = and_parts (nat_le 1 (length word) && nat_le (length word) 18) (list_all is_ascii_digit word) number in
+    let sizes = and_parts (nat_le 1 (length word)) (nat_le (length word) 18) digits.0 in
     parsed word result parses digits.1 (grind (arith, nat_tests, sizes.0)) (grind (arith, nat_tests, sizes.1))

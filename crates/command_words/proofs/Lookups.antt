@@ -13,6 +13,7 @@ use Rattle.clap.specs.Takes.{is_given}
 use Rattle.clap.specs.declared.builder.value_parser.ValueParser.TheVariants as vp
 use Rattle.command_words.specs.Assigned.{is_among}
 use Rattle.command_words.specs.Asking.{app_for, port_id, raw_flag, raw_option, raw_port, raw_rules}
+use Rattle.std.proofs.lemmas.Bool.{or_right}
 
 -- ---- texts
 
@@ -98,7 +99,7 @@ simple_app names flags =
 
 -- ---- what is found
 
-or_false : (b : Bool) → (b || false) ≡ b
+pub or_false : (b : Bool) → (b || false) ≡ b
 or_false true = refl
 or_false false = refl
 
@@ -159,13 +160,9 @@ defaults_of_flags [] (flag ∷ flags) rows = defaults_of_flags [] flags (with_de
 defaults_of_flags (name ∷ names) flags rows =
     ap (λ r. fold with_default r (rules names flags)) (no_default rows (option_rule name) refl) ∙ defaults_of_flags names flags rows
 
-or_true : (b : Bool) → (b || true) ≡ true
-or_true true = refl
-or_true false = refl
-
 pub default_faults : (names flags : List Text) (rows : List Row) → defaults_fault rows (rules names flags) ≡ []
 unfolding defaults_fault
-default_faults [] [] rows = rw (or_true (has_row port_id rows)) refl
+default_faults [] [] rows = rw (or_right (has_row port_id rows) true refl) refl
 default_faults [] (flag ∷ flags) rows = go (default_faults [] flags (with_default rows (flag_rule flag))) (has_row flag rows) refl
   where
     go : defaults_fault (with_default rows (flag_rule flag)) (rules [] flags) ≡ [] → (b : Bool) → has_row flag rows ≡ b
@@ -173,7 +170,7 @@ default_faults [] (flag ∷ flags) rows = go (default_faults [] flags (with_defa
     go below true e = rw e (rw e at below)
     go below false e = rw e (rw e at below)
 default_faults (name ∷ names) flags rows =
-    rw (or_true (has_row name rows), no_default rows (option_rule name) refl) (default_faults names flags rows)
+    rw (or_right (has_row name rows) true refl, no_default rows (option_rule name) refl) (default_faults names flags rows)
 
 pub none_required : (names flags : List Text) (rows : List Row)
     → list_any (λ (a : Rule). a.required && not (is_given a.id rows)) (rules names flags) ≡ false

@@ -1,5 +1,5 @@
 -- What clap's rows show of what was said, and how one more option, flag or word changes both.
-use Rattle.std.proofs.Common.{◌≡◌, ◌∙◌, Bool, true, false, not, ◌&&◌, ◌||◌, cond, refl, sym, ap, List, [], ◌∷◌, ◌++◌, map, codes}
+use Rattle.std.proofs.Common.{◌≡◌, ◌∙◌, Bool, true, false, not, cond, refl, sym, ap, List, [], ◌∷◌, ◌++◌, map, codes}
 use Rattle.std.proofs.Common.{Option, Some, None, is_some, append-nil, append_assoc}
 use Rattle.std.specs.Prelude.{find, option_map, option_and_then, slice_get, unwrap_or}
 use Rattle.std.specs.List.{list_any}
@@ -14,7 +14,8 @@ use Rattle.command_words.specs.Numbers.{is_distinct}
 use Rattle.command_words.specs.Assigned.{Text, Said, each_once, if_any, is_among, is_once, names_said, nothing_said, value_said}
 use Rattle.command_words.specs.Assigned.{with_flag, with_option, with_word}
 use Rattle.command_words.specs.Asking.{AreApart, port_id}
-use Rattle.command_words.proofs.Lookups.{flag_rule, option_rule, port_rule, same_text}
+use Rattle.command_words.proofs.Lookups.{flag_rule, option_rule, port_rule, same_text, or_false}
+use Rattle.std.proofs.lemmas.Bool.{and_parts, or_parts, or_right, and_right}
 
 -- ---- rows
 
@@ -119,26 +120,6 @@ joined_word word said after =
 
 -- ---- each option and each flag once
 
-pub false_and : (b : Bool) → (b && false) ≡ false
-false_and true = refl
-false_and false = refl
-
-pub and_parts : (a b : Bool) → (a && b) ≡ true → (a ≡ true) × (b ≡ true)
-and_parts true b h = (refl, h)
-and_parts false b h = let bad : false ≡ true = h in cc
-
-pub or_parts : (a b : Bool) → (a || b) ≡ false → (a ≡ false) × (b ≡ false)
-or_parts true b h = let bad : true ≡ false = h in cc
-or_parts false b h = (refl, h)
-
-or_false : (b : Bool) → (b || false) ≡ b
-or_false true = refl
-or_false false = refl
-
-or_true : (b : Bool) → (b || true) ≡ true
-or_true true = refl
-or_true false = refl
-
 -- a name that stands twice
 twice : (name : Text) (xs ys : List Text) → is_among xs name ≡ true → is_distinct bytes_eq (xs ++ name ∷ ys) ≡ false
 twice name [] ys h = let bad : false ≡ true = h in cc
@@ -146,8 +127,8 @@ twice name (x ∷ xs) ys h = go (twice name xs ys) (bytes_eq x name) refl
   where
     go : (is_among xs name ≡ true → is_distinct bytes_eq (xs ++ name ∷ ys) ≡ false) → (b : Bool) → bytes_eq x name ≡ b
         → is_distinct bytes_eq ((x ∷ xs) ++ name ∷ ys) ≡ false
-    go below true e = rw (list_any-append (bytes_eq x) xs (name ∷ ys), e, or_true (list_any (bytes_eq x) xs)) refl
-    go below false e = rw (below (rw e at h)) (false_and (not (list_any (bytes_eq x) (xs ++ name ∷ ys))))
+    go below true e = rw (list_any-append (bytes_eq x) xs (name ∷ ys), e, or_right (list_any (bytes_eq x) xs) true refl) refl
+    go below false e = rw (below (rw e at h)) (and_right (not (list_any (bytes_eq x) (xs ++ name ∷ ys))) false refl)
 
 -- a new name after others
 once_more : (name : Text) (xs : List Text) → is_distinct bytes_eq xs ≡ true → is_among xs name ≡ false
@@ -203,7 +184,7 @@ pub flag_twice : (name : Text) (said : Said) → is_among said.flags name ≡ tr
 unfolding IsTwice
 flag_twice name said old after =
     rw (append_assoc said.flags (name ∷ []) after.flags, twice name said.flags after.flags old)
-    (false_and (is_distinct bytes_eq (names_said (joined said after))))
+    (and_right (is_distinct bytes_eq (names_said (joined said after))) false refl)
 
 pub twice_none : (said : Said) (o : Option Said) → IsTwice said → each_once (option_map (joined said) o) ≡ None
 unfolding IsTwice
@@ -332,7 +313,7 @@ module _ (names flags : List Text) (apart : AreApart names flags) where
 
       own : (id : Text) → is_among flags id ≡ true → (b : Bool) → bytes_eq name id ≡ b
           → cond (bytes_eq name id) (Some (codes "true" ∷ [])) (all_of id rows) ≡ of_flag (is_among (said.flags ++ name ∷ []) id)
-      own id here true e = rw (list_any-append (λ known. bytes_eq known id) said.flags (name ∷ []), e, or_true (is_among said.flags id)) refl
+      own id here true e = rw (list_any-append (λ known. bytes_eq known id) said.flags (name ∷ []), e, or_right (is_among said.flags id) true refl) refl
       own id here false e =
           let same : is_among (said.flags ++ name ∷ []) id ≡ is_among said.flags id =
           list_any-append (λ known. bytes_eq known id) said.flags (name ∷ []) ∙ rw e (or_false (is_among said.flags id)) in

@@ -12,6 +12,7 @@ use Rattle.command_words.specs.Numbers.{all_ports, is_distinct, is_port_list, po
 use Rattle.command_words.specs.Words.{IsPortList}
 use Rattle.command_words.proofs.Adding.{texts}
 use Rattle.command_words.proofs.Ranges.{read-within}
+use Rattle.std.proofs.lemmas.Bool.{and_parts}
 
 abbrev pub onto : List ℕ → Option (List ℕ) → Option (List ℕ)
 onto ports = option_map (λ rest. ports ++ rest)
@@ -51,10 +52,6 @@ pub all_read : (words : List (Bor (List ℕ))) (i : ℕ) (ports : List ℕ) → 
 all_read words i ports past before = sym (before ∙ rw (drop_all i words past) (ap Some (append-nil ports)))
 
 -- ---- what a list of ports that is read is
-
-and_parts : (a b : Bool) → (a && b) ≡ true → (a ≡ true) × (b ≡ true)
-and_parts true b h = (refl, h)
-and_parts false b h = let bad : false ≡ true = h in cc
 
 none_same : (x : ℕ) (xs : List ℕ) → not (list_any (nat_eq x) xs) ≡ true → AllByRecursion (λ y. nat_eq x y ≡ false) xs
 none_same x [] h = tt

@@ -11,6 +11,7 @@ use Rattle.zr_kinds.specs.declared.behaviour.Behaviour.{Behaviour}
 use Rattle.command_words.specs.Assigned.{Text}
 use Rattle.command_words.specs.Numbers.{value_of, within}
 use Rattle.command_words.specs.Options.{AreTurns, are_turns, behaviour_of, is_turn, number_or, quit_of, size_of, sizes, turns_of}
+use Rattle.std.proofs.lemmas.Bool.{and_parts}
 
 abbrev Within : ℕ → ℕ → ℕ → Type 0
 Within least most n = (least ≤ n) × (n ≤ most)
@@ -19,10 +20,6 @@ Within least most n = (least ≤ n) × (n ≤ most)
 pub passed : {A : Type 0} (test : Bool) (x y : A) → (if test then Some x else None) ≡ Some y → (test ≡ true) × (x ≡ y)
 passed true x y is = (refl, same_Some x y is)
 passed false x y is = cc
-
-pub and_parts : (a b : Bool) → (a && b) ≡ true → (a ≡ true) × (b ≡ true)
-and_parts true b h = (refl, h)
-and_parts false b h = let bad : false ≡ true = h in cc
 
 within-within : (least most number n : ℕ) → within least most number ≡ Some n → Within least most n
 within-within least most number n is =

@@ -15,9 +15,10 @@ use Rattle.command_words.specs.Asking.{AreApart, port_id}
 use Rattle.command_words.proofs.Lookups.{by_id, by_index, by_long, by_port_id, by_short, text_is_itself, flag_rule, option_rule, port_rule, rules}
 use Rattle.command_words.proofs.Lookups.{shape_for}
 use Rattle.command_words.proofs.Looks.{Dashes, IsSeen, seen}
-use Rattle.command_words.proofs.Matching.{IsOnce, IsTwice, Shows, and_flag, and_option, and_word, false_and, flag_row, flag_twice, joined, joined_flag}
+use Rattle.command_words.proofs.Matching.{IsOnce, IsTwice, Shows, and_flag, and_option, and_word, flag_row, flag_twice, joined, joined_flag}
 use Rattle.command_words.proofs.Matching.{joined_nothing, joined_option, joined_word, once_flag, once_option, once_some, option_row, option_twice}
 use Rattle.command_words.proofs.Matching.{shows_flag, shows_option, shows_word, twice_none}
+use Rattle.std.proofs.lemmas.Bool.{and_right}
 
 -- ---- faults
 
@@ -96,12 +97,12 @@ module _ (names flags : List Text) (apart : AreApart names flags) where
 
   port_turn : (h : Held) (waiting : Waiting) (is_trailing : Bool) (word : Text) → word_fault (shape_for names flags) [] is_trailing waiting word h ≡ []
       → word_met (rules names flags) [] is_trailing waiting 1 word h ≡ (h, value) → turn (at h waiting is_trailing) word ≡ settle h
-  port_turn h waiting is_trailing word passed met = rw (passed, met, by_index names flags, false_and (is_pending port_rule h.pending)) refl
+  port_turn h waiting is_trailing word passed met = rw (passed, met, by_index names flags, and_right (is_pending port_rule h.pending) false refl) refl
 
   port_moved : (h : Held) (waiting : Waiting) (is_trailing : Bool) (word : Text) → word_met (rules names flags) [] is_trailing waiting 1 word h ≡ (h, value)
       → walked (rules names flags) [] (at h waiting is_trailing) word ≡ at (with_port h word) positional (is_trailing || false)
   unfolding walked
-  port_moved h waiting is_trailing word met = rw (met, by_index names flags, false_and (is_pending port_rule h.pending)) refl
+  port_moved h waiting is_trailing word met = rw (met, by_index names flags, and_right (is_pending port_rule h.pending) false refl) refl
 
   port_holds : (h : Held) (word : Text) (said : Said) → Settles h said → Settles (with_port h word) (and_word word said)
   port_holds h word said s = record {

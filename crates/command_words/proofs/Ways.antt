@@ -7,8 +7,9 @@ use Rattle.command_words.specs.Assigned.{Text}
 use Rattle.command_words.specs.Numbers.{up_to, value_of}
 use Rattle.command_words.specs.Options.{AreInRange, GoesByTurns, at_most_one, behaviour_of, delay_of, number_or, options_of, own_names, stand_together}
 use Rattle.command_words.specs.declared.options.Options.{Options}
-use Rattle.command_words.proofs.Matching.{none_of, or_parts}
-use Rattle.command_words.proofs.Ranges.{AreKept, and_parts, behaviour_of-kept, number_or-within, read-within}
+use Rattle.command_words.proofs.Matching.{none_of}
+use Rattle.command_words.proofs.Ranges.{AreKept, behaviour_of-kept, number_or-within, read-within}
+use Rattle.std.proofs.lemmas.Bool.{and_parts, or_parts}
 
 record IsOneAtMost (a b c : Bool) : Type 0 where
   pub first : a ≡ true → (b ≡ false) × (c ≡ false)

@@ -37,6 +37,9 @@ use Rattle.event_log.proofs.Settings.{pool_buffers-same}
 use Rattle.event_log.proofs.Shifts.{app-shift}
 use Rattle.event_log.proofs.Tallying.{Gains, SameLists, gains-none, keeps-app}
 use Rattle.event_log.proofs.Weighing.{one_if}
+use Rattle.board_face.proofs.AppLemmas.{SameHoldings}
+use Rattle.std.specs.List.{flat_map}
+use Rattle.event_log.specs.Tallies.{taken_as}
 
 -- ---- notes
 
@@ -211,10 +214,15 @@ same-app : (s : AllSides) (a : ℕ) (app : AppSide) (v : AppView) → IsApp s.ap
 same-app s a app v at none same weighs = logged-same s (by_app s a app v) refl weighs (keeps-app s a app (app_at app v) at none same)
 
 -- where nothing of what is held or counted changes
-untouched : (s : AllSides) (a : ℕ) (app : AppSide) (v : AppView) → IsApp s.apps a app
-    → ((b : ℕ) (f : Holding → ℕ) → app_weight f b s.nic (app_at app v) ≡ app_weight f b s.nic app) → Gains 0 0 0 app.view v
-    → SameLists app.view v → KeepsLog s (by_app s a app v)
-untouched s a app v at weighs none same = same-app s a app v at none same (λ b f. omega (arith, app-shift s a app v at b f, weighs b f))
+untouched : (s : AllSides) (a : ℕ) (app : AppSide) (v : AppView) → IsApp s.apps a app → SameHoldings app.view v → v.spares ≡ app.view.spares
+    → KeepsLog s (by_app s a app v)
+untouched s a app v at same spares =
+    same-app s a app v at (gains-none app.view v same.loans same.returned same.owns spares)
+    (record { taken = ap (flat_map taken_as) same.taken; returned = same.returned; spares = spares })
+    (λ b f. omega (arith, app-shift s a app v at b f, weighs b f))
+  where
+    weighs : (b : ℕ) (f : Holding → ℕ) → app_weight f b s.nic (app_at app v) ≡ app_weight f b s.nic app
+    weighs b f = rw (same.app, same.taken, same.helds, same.owns, same.loans, same.returned) refl
 
 pub app-unlogged : AppUnloggedLaw
 app-unlogged = record {
@@ -224,11 +232,11 @@ app-unlogged = record {
   fill = λ s a app at own bytes out.
       same-app s a app (filled app.view own bytes) at (gains-filled app.view own bytes out) (assumption)
       (same-filled s a app at own bytes out);
-  look = λ s a app at look. let v = app_saw app.view look in untouched s a app v at (λ b f. refl) (gains-none app.view v refl refl refl refl) (assumption);
-  read = λ s a app at p from bytes. let v = has_read app.view p from bytes in untouched s a app v at (λ b f. refl) (gains-none app.view v refl refl refl refl) (assumption);
-  raw = λ s a app at entry. let v = pushed_raw app.view entry in untouched s a app v at (λ b f. refl) (gains-none app.view v refl refl refl refl) (assumption);
-  settled = λ s a app at. let v = came_to_rest app.view in untouched s a app v at (λ b f. refl) (gains-none app.view v refl refl refl refl) (assumption);
-  quiet = λ s a app at. let v = fell_quiet app.view in untouched s a app v at (λ b f. refl) (gains-none app.view v refl refl refl refl) (assumption);
-  end = λ s a app at. let v = told_end app.view in untouched s a app v at (λ b f. refl) (gains-none app.view v refl refl refl refl) (assumption);
-  left = λ s a app at. let v = left_board app.view in untouched s a app v at (λ b f. refl) (gains-none app.view v refl refl refl refl) (assumption);
+  look = λ s a app at look. untouched s a app (app_saw app.view look) at (assumption) refl;
+  read = λ s a app at p from bytes. untouched s a app (has_read app.view p from bytes) at (assumption) refl;
+  raw = λ s a app at entry. untouched s a app (pushed_raw app.view entry) at (assumption) refl;
+  settled = λ s a app at. untouched s a app (came_to_rest app.view) at (assumption) refl;
+  quiet = λ s a app at. untouched s a app (fell_quiet app.view) at (assumption) refl;
+  end = λ s a app at. untouched s a app (told_end app.view) at (assumption) refl;
+  left = λ s a app at. untouched s a app (left_board app.view) at (assumption) refl;
 }

@@ -1,5 +1,5 @@
 -- The log goes on to tell of a board after each event of the card.
-use Rattle.std.proofs.Common.{◌≡◌, ◌∙◌, ℕ, ◌+◌, ◌<◌, ◌≤◌, Bool, true, false, List, [], ◌∷◌, ◌++◌, length, eqb, ltb, Some}
+use Rattle.std.proofs.Common.{◌≡◌, ◌∙◌, ℕ, ◌+◌, ◌<◌, ◌≤◌, true, false, List, [], ◌∷◌, ◌++◌, length, eqb, ltb, Some}
 use Rattle.std.proofs.Common.{refl, sym, ap, arith, ⊎_elim, if◌then◌else◌, leb}
 use Rattle.std.specs.Prelude.{◌||◌, ◌%◌, not, count_by}
 use Rattle.std.specs.List.{list_any, list_all, flat_map}
