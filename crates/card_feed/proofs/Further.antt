@@ -1,6 +1,7 @@
 -- What a read takes of its source, and the bytes that it brings, whatever came before it.
 use Rattle.std.proofs.Common.{◌≡◌, ℕ, ◌≤◌, List, [], ◌++◌, length, Option, Some, None, Result, Ok, Err, refl, sym, subst, arith}
 use Rattle.std.specs.Prelude.{IfOk, IfSome}
+use Rattle.zr_kinds.specs.Limits.{longest_record}
 use Rattle.zr_kinds.specs.declared.fault.Fault.{Fault}
 use Rattle.zr_io.specs.Moved.{Took}
 use Rattle.zr_io.proofs.Moved.{Took-then, Took-weaker}
@@ -51,16 +52,16 @@ module _ {S : Type 0} (left : S → Option (List ℕ)) (faults : S → ℕ) (old
 
   pub next-bytes : (kept : Option Fault) → (kept ≡ None → Gives going later (left old) (left now) frame result)
       → IfSome kept (λ fault. (result ≡ Err fault) × (now ≡ old))
-      → IfOk result (λ found. IfSome found (λ one. one.captured ≤ 262144))
-      → IfOk result (λ found. IfSome found (λ one. (length frame ≡ one.captured) × (one.captured ≤ 262144)))
+      → IfOk result (λ found. IfSome found (λ one. one.captured ≤ longest_record))
+      → IfOk result (λ found. IfSome found (λ one. (length frame ≡ one.captured) × (one.captured ≤ longest_record)))
   next-bytes None gives stopped most = bytes_of result (gives refl) most
     where
       bytes_of : (made : Result (Option Record) Fault) → Gives going later (left old) (left now) frame made
-          → IfOk made (λ found. IfSome found (λ one. one.captured ≤ 262144))
-          → IfOk made (λ found. IfSome found (λ one. (length frame ≡ one.captured) × (one.captured ≤ 262144)))
+          → IfOk made (λ found. IfSome found (λ one. one.captured ≤ longest_record))
+          → IfOk made (λ found. IfSome found (λ one. (length frame ≡ one.captured) × (one.captured ≤ longest_record)))
       bytes_of (Ok (Some found)) gave few = (sym gave.0, few)
       bytes_of (Ok None) gave few = tt
       bytes_of (Err fault) gave few = tt
   next-bytes (Some fault) gives stopped most =
-      subst (λ (made : Result (Option Record) Fault). IfOk made (λ found. IfSome found (λ one. (length frame ≡ one.captured) × (one.captured ≤ 262144))))
+      subst (λ (made : Result (Option Record) Fault). IfOk made (λ found. IfSome found (λ one. (length frame ≡ one.captured) × (one.captured ≤ longest_record))))
       (sym stopped.0) tt

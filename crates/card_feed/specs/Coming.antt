@@ -1,5 +1,6 @@
 -- How far the reading of a source has come.
 use Rattle.std.specs.Prelude.{◌≡◌, ℕ, ◌≤◌, List, [], ◌∷◌, ◌++◌, length, Option, Some, None, Bool, true, false, Result, Ok, Err}
+use Rattle.zr_kinds.specs.Limits.{longest_record}
 use Rattle.zr_kinds.specs.declared.fault.Fault.{Fault}
 use Rattle.zr_io.specs.Moved.{Took}
 use Rattle.pcap_reader.specs.Records.{Captured}
@@ -70,7 +71,7 @@ Arrives Wants left faults first now ports now_stage frames (arrived.Over end) =
 
 -- A frame has as many bytes as its record says, and no more than a record may have.
 abbrev pub HasItsBytes : Arrived → Type 0
-HasItsBytes (arrived.Frame found bytes) = (length bytes.items ≡ found.captured) × (found.captured ≤ 262144)
+HasItsBytes (arrived.Frame found bytes) = (length bytes.items ≡ found.captured) × (found.captured ≤ longest_record)
 HasItsBytes arrived.Nothing = Unit {0}
 HasItsBytes (arrived.Over end) = Unit {0}
 

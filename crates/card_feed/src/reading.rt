@@ -1,6 +1,7 @@
 //! The reading of a source, record by record.
 
 ghost use Rattle.std.specs.Prelude.{◌≡◌, ◌≢◌, ℕ, ◌≤◌, List, length, true, false, IfOk, OnOk, IfSome};
+ghost use Rattle.zr_kinds.specs.Limits.{longest_record};
 ghost use Rattle.card_feed.specs.Offered.{WantsRoom};
 ghost use Rattle.card_feed.specs.Coming.{ComesTo, NextGives, OpenGives, Arrives, HasItsBytes, TookBytes, is_over, is_open};
 ghost use Rattle.card_feed.specs.declared.arrived.Arrived.TheVariants.{Nothing};
@@ -40,7 +41,7 @@ fn next_record<S: Source>(
     ensures reads { (split : ℕ) (first : S) (ports : List ℕ) (frames : List (List ℕ))
         → ComesTo (WantsRoom split ports) S.left S.faults first source.old ports stage.old frames
         → NextGives (WantsRoom split ports) S.left S.faults first source.new ports stage.new frames into.new.items result }
-    ensures bytes { IfOk result (λ found. IfSome found (λ one. (length into.new.items ≡ one.captured) × (one.captured ≤ 262144))) }
+    ensures bytes { IfOk result (λ found. IfSome found (λ one. (length into.new.items ≡ one.captured) × (one.captured ≤ longest_record))) }
     ensures on { is_over stage.new ≡ false }
     ensures further { TookBytes (S.left source.old) (S.left source.new) }
     ensures later { S.faults source.old ≤ S.faults source.new }
@@ -93,7 +94,7 @@ impl Stage {
         ensures reads { (split : ℕ) (first : S) (ports : List ℕ) (frames : List (List ℕ))
             → ComesTo (WantsRoom split ports) S.left S.faults first source.old ports self.old frames
             → NextGives (WantsRoom split ports) S.left S.faults first source.new ports self.new frames into.new.items result }
-        ensures bytes { IfOk result (λ found. IfSome found (λ one. (length into.new.items ≡ one.captured) × (one.captured ≤ 262144))) }
+        ensures bytes { IfOk result (λ found. IfSome found (λ one. (length into.new.items ≡ one.captured) × (one.captured ≤ longest_record))) }
         ensures on { is_over self.new ≡ false }
         ensures further { TookBytes (S.left source.old) (S.left source.new) }
         ensures later { S.faults source.old ≤ S.faults source.new }

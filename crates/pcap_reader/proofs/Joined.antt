@@ -4,6 +4,7 @@ use Rattle.std.proofs.Common.{Result, Ok, Err}
 use Rattle.std.proofs.Common.{ap, ◌∙◌, subst, arith, append-nil, length-append, length-take-le, take_all}
 use Rattle.std.proofs.lemmas.List.{append_cancel_right}
 use Rattle.std.specs.Io.KnownBytes.{Keeps, IsAtEnd, Consumes}
+use Rattle.zr_kinds.specs.Limits.{longest_record}
 use Rattle.zr_kinds.specs.declared.fault.Fault.{Fault}
 use Rattle.zr_kinds.specs.declared.fault.Fault.TheVariants.{Memory, NotPcap, Version, LinkType, Cut, LongRecord, Read}
 use Rattle.zr_io.specs.Moved.{Took}
@@ -245,7 +246,7 @@ Stops-cut order a b header n some short within consumed end =
 
 -- a header that states too many bytes
 pub Stops-long : (order : ByteOrder) (a b : Option (List ℕ)) (header : List ℕ) (n : ℕ) → length header ≡ 16 → 16 ≤ n
-    → 262144 < captured_len order header → Consumes a b (take n header)
+    → longest_record < captured_len order header → Consumes a b (take n header)
     → Stops IsRecordFault (records_in order) a b LongRecord
 Stops-long order a b header n whole all long consumed =
     Stops-front IsRecordFault (records_in order) a b header LongRecord tt (λ rest. records_in-long order header rest whole long) (λ records e. e)

@@ -2,6 +2,7 @@
 use Rattle.std.proofs.Common.{◌≡◌, ℕ, ◌+◌, ◌<◌, ◌≤◌, List, [], ◌∷◌, ◌++◌, length, take, drop, Option, Some, None, refl, sym, ap}
 use Rattle.std.proofs.Common.{◌∙◌, arith, append_assoc, length-append, length-drop, lt-ltb, le-ltb}
 use Rattle.std.proofs.lemmas.List.{drop-append-le, take_all, take_at, drop_at}
+use Rattle.zr_kinds.specs.Limits.{longest_record}
 use Rattle.byteorder.specs.Numbers.{little_from-append, big_from-append}
 use Rattle.zr_kinds.specs.declared.fault.Fault.{Fault}
 use Rattle.zr_kinds.specs.declared.fault.Fault.TheVariants.{Cut, LongRecord}
@@ -38,19 +39,19 @@ original_len-append order header rest whole = number_at-append order 12 4 header
 fault-headless : (order : ByteOrder) (bytes : List ℕ) → length bytes < 16 → record_fault order bytes ≡ Some Cut
 fault-headless order bytes short = rw (lt-ltb (length bytes) 16 short) refl
 
-fault-long : (order : ByteOrder) (bytes : List ℕ) → 16 ≤ length bytes → 262144 < captured_len order bytes
+fault-long : (order : ByteOrder) (bytes : List ℕ) → 16 ≤ length bytes → longest_record < captured_len order bytes
     → record_fault order bytes ≡ Some LongRecord
-fault-long order bytes header long = rw (le-ltb (length bytes) 16 header, lt-ltb 262144 (captured_len order bytes) long) refl
+fault-long order bytes header long = rw (le-ltb (length bytes) 16 header, lt-ltb longest_record (captured_len order bytes) long) refl
 
-fault-bodiless : (order : ByteOrder) (bytes : List ℕ) → 16 ≤ length bytes → captured_len order bytes ≤ 262144
+fault-bodiless : (order : ByteOrder) (bytes : List ℕ) → 16 ≤ length bytes → captured_len order bytes ≤ longest_record
     → length bytes < 16 + captured_len order bytes → record_fault order bytes ≡ Some Cut
 fault-bodiless order bytes header short cut =
-    rw (le-ltb (length bytes) 16 header, le-ltb 262144 (captured_len order bytes) short, lt-ltb (length bytes) (16 + captured_len order bytes) cut) refl
+    rw (le-ltb (length bytes) 16 header, le-ltb longest_record (captured_len order bytes) short, lt-ltb (length bytes) (16 + captured_len order bytes) cut) refl
 
-fault-none : (order : ByteOrder) (bytes : List ℕ) → 16 ≤ length bytes → captured_len order bytes ≤ 262144
+fault-none : (order : ByteOrder) (bytes : List ℕ) → 16 ≤ length bytes → captured_len order bytes ≤ longest_record
     → 16 + captured_len order bytes ≤ length bytes → record_fault order bytes ≡ None
 fault-none order bytes header short whole =
-    rw (le-ltb (length bytes) 16 header, le-ltb 262144 (captured_len order bytes) short, le-ltb (length bytes) (16 + captured_len order bytes) whole) refl
+    rw (le-ltb (length bytes) 16 header, le-ltb longest_record (captured_len order bytes) short, le-ltb (length bytes) (16 + captured_len order bytes) whole) refl
 
 -- ---- the records of bytes
 
@@ -83,7 +84,7 @@ with_record-same xs ys m n others these e f g = rw (e, f, g) refl
 
 -- a whole record at the front is the first
 pub records_in-whole : (order : ByteOrder) (header frame rest : List ℕ) → length header ≡ 16 → captured_len order header ≡ length frame
-    → length frame ≤ 262144
+    → length frame ≤ longest_record
     → records_in order ((header ++ frame) ++ rest) ≡ with_record frame (original_len order header) (records_in order rest)
 records_in-whole order [] frame rest whole captured short = absurd (omega arith)
 records_in-whole order (byte ∷ header) frame rest whole captured short =
@@ -110,7 +111,7 @@ pub records_in-headless : (order : ByteOrder) (bytes : List ℕ) → 0 < length 
 records_in-headless order bytes some short = records_in-fault order bytes Cut some (fault-headless order bytes short)
 
 -- a header that states too many bytes
-pub records_in-long : (order : ByteOrder) (header rest : List ℕ) → length header ≡ 16 → 262144 < captured_len order header
+pub records_in-long : (order : ByteOrder) (header rest : List ℕ) → length header ≡ 16 → longest_record < captured_len order header
     → records_in order (header ++ rest) ≡ no_record (Some LongRecord)
 records_in-long order header rest whole long =
     let size = length-append header rest in
@@ -118,7 +119,7 @@ records_in-long order header rest whole long =
     records_in-fault order (header ++ rest) LongRecord (omega (arith, size)) (fault-long order (header ++ rest) (omega (arith, size)) (omega (arith, stated)))
 
 -- a header with fewer bytes behind it than it states
-pub records_in-bodiless : (order : ByteOrder) (header body : List ℕ) → length header ≡ 16 → captured_len order header ≤ 262144
+pub records_in-bodiless : (order : ByteOrder) (header body : List ℕ) → length header ≡ 16 → captured_len order header ≤ longest_record
     → length body < captured_len order header
     → records_in order (header ++ body) ≡ no_record (Some Cut)
 records_in-bodiless order header body whole short cut =

@@ -1,6 +1,7 @@
 -- What opening a capture and reading its next record say.
 use Rattle.std.specs.Prelude.{◌≡◌, ℕ, ◌<◌, ◌≤◌, List, ◌++◌, length, Option, Some, None, Result, Ok, Err, IsErrOf, IfSome, ◌⊎◌}
 use Rattle.std.specs.Io.KnownBytes.{Keeps, IsAtEnd}
+use Rattle.zr_kinds.specs.Limits.{longest_record}
 use Rattle.zr_kinds.specs.declared.fault.Fault.{Fault}
 use Rattle.zr_kinds.specs.declared.fault.Fault.TheVariants.{Memory, NotPcap, Version, LinkType, Cut, LongRecord, Read, BadBlock}
 use Rattle.zr_io.specs.Moved.{Rose, Took}
@@ -66,7 +67,7 @@ IsRecordFault fault = ⊥
 
 -- The header of a record of some bytes, and of no more than a record may have: what memory is asked for.
 abbrev pub WantsMemory : ByteOrder → List ℕ → Type 0
-WantsMemory order header = (length header ≡ 16) × (0 < captured_len order header) × (captured_len order header ≤ 262144)
+WantsMemory order header = (length header ≡ 16) × (0 < captured_len order header) × (captured_len order header ≤ longest_record)
 
 -- The file header has this fault. A failed read shows in no byte.
 abbrev pub HeaderShows : Option Fault → Fault → Type 0

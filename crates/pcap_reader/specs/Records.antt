@@ -3,6 +3,7 @@
 use Rattle.std.specs.Prelude.{ℕ, zero, suc, ◌+◌, ◌%◌, List, [], ◌∷◌, length, take, drop, nat_eq, nat_lt, ◌==◌, if◌then◌else◌, not}
 use Rattle.std.specs.Prelude.{Option, Some, None}
 use Rattle.std.specs.List.{starts_with}
+use Rattle.zr_kinds.specs.Limits.{longest_record}
 use Rattle.byteorder.specs.Endian.{little_number, big_number}
 pub use Rattle.pcap_reader.specs.declared.order.ByteOrder.{ByteOrder}
 use Rattle.pcap_reader.specs.declared.order.ByteOrder.TheVariants.{Little, Big}
@@ -42,7 +43,7 @@ original_len order bytes = number order 4 (drop 12 bytes)
 abbrev pub record_fault : ByteOrder → List ℕ → Option Fault
 record_fault order bytes =
     if nat_lt (length bytes) 16 then Some Cut
-    else if nat_lt 262144 (captured_len order bytes) then Some LongRecord
+    else if nat_lt longest_record (captured_len order bytes) then Some LongRecord
     else if nat_lt (length bytes) (16 + captured_len order bytes) then Some Cut
     else None
 

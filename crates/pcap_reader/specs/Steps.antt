@@ -1,6 +1,7 @@
 -- What the steps of a reading say: a part of known length, the file header, a record's header and its captured bytes.
 use Rattle.std.specs.Prelude.{◌≡◌, ℕ, ◌<◌, ◌≤◌, List, [], ◌∷◌, ◌++◌, length, take, Option, Some, None, Result, Ok, Err, IfSome}
 use Rattle.std.specs.Io.KnownBytes.{Keeps, IsAtEnd, Consumes}
+use Rattle.zr_kinds.specs.Limits.{longest_record}
 use Rattle.zr_kinds.specs.declared.fault.Fault.{Fault}
 use Rattle.zr_kinds.specs.declared.fault.Fault.TheVariants.{Memory, Cut, Read}
 use Rattle.zr_io.specs.Moved.{Took}
@@ -73,7 +74,7 @@ pub record IsHeaderOf (order : ByteOrder) (found : Record) (header : List ℕ) :
   pub whole : length header ≡ 16
   pub captured : captured_len order header ≡ found.captured
   pub original : original_len order header ≡ found.original
-  pub short : found.captured ≤ 262144
+  pub short : found.captured ≤ longest_record
 
 abbrev pub TakesHeader : ByteOrder → Option (List ℕ) → Option (List ℕ) → Result (Option Record) Fault → Type 0
 TakesHeader order old new (Ok (Some found)) = Took old new (IsHeaderOf order found)

@@ -1,4 +1,5 @@
 ghost use Rattle.std.specs.Prelude.{◌≡◌, ◌≤◌, None, Some, IfOk, IfSome, IsErrOf, MatchResult};
+ghost use Rattle.zr_kinds.specs.Limits.{longest_record};
 ghost use Rattle.zr_io.specs.Moved.{Took};
 ghost use Rattle.zr_kinds.specs.declared.fault.Fault.TheVariants.{Memory};
 ghost use Rattle.pcap_reader.specs.Capture.{Opens, OpensBehind, Gives, HasReadCause, WantsMemory};
@@ -69,7 +70,7 @@ impl Capture {
         ensures memory { self.old.fault ≡ None → IsErrOf result Memory → Took (S.left source.old) (S.left source.new) (WantsMemory self.old.order) }
 
         // No record states more captured bytes than a record may have.
-        ensures most { IfOk result (λ found. IfSome found (λ one. one.captured ≤ 262144)) }
+        ensures most { IfOk result (λ found. IfSome found (λ one. one.captured ≤ longest_record)) }
 
         // After a fault each call answers it, and reads nothing.
         ensures stopped { IfSome self.old.fault (λ fault. (result ≡ Err fault) × (source.new ≡ source.old)) }
@@ -95,7 +96,7 @@ fn read_next<S: Source>(
     ensures gives { Gives order (S.left source.old) (S.left source.new) into.new.items result }
     ensures cause { HasReadCause (S.faults source.old) (S.faults source.new) result }
     ensures memory { IsErrOf result Memory → Took (S.left source.old) (S.left source.new) (WantsMemory order) }
-    ensures most { IfOk result (λ found. IfSome found (λ one. one.captured ≤ 262144)) }
+    ensures most { IfOk result (λ found. IfSome found (λ one. one.captured ≤ longest_record)) }
 {
     let Some(record) = read_record(source, order)? else {
         return Ok(None);

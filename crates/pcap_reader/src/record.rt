@@ -1,4 +1,5 @@
 ghost use Rattle.std.specs.Prelude.{◌≤◌, IfOk, IfSome, IsErrOf};
+ghost use Rattle.zr_kinds.specs.Limits.{longest_record};
 ghost use Rattle.zr_kinds.specs.declared.fault.Fault.TheVariants.{Memory};
 ghost use Rattle.pcap_reader.specs.Capture.{HasReadCause};
 ghost use Rattle.pcap_reader.specs.Steps.{TakesHeader, TakesBody};
@@ -21,7 +22,7 @@ pub(crate) fn read_record<S: Source>(
     ensures takes { TakesHeader order (S.left source.old) (S.left source.new) result }
     ensures cause { HasReadCause (S.faults source.old) (S.faults source.new) result }
     ensures no_memory { IsErrOf result Memory → ⊥ }
-    ensures most { IfOk result (λ found. IfSome found (λ one. one.captured ≤ 262144)) }
+    ensures most { IfOk result (λ found. IfSome found (λ one. one.captured ≤ longest_record)) }
 {
     let mut header = [0; HEADER_LEN];
     let filled = fill(source, &mut header)?;

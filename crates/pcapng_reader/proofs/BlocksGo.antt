@@ -4,6 +4,7 @@ use Rattle.std.proofs.Common.{List, [], ◌∷◌, ◌++◌, length, take, drop,
 use Rattle.std.proofs.Common.{append_assoc, length-append, length-drop, if◌then◌else◌}
 use Rattle.std.proofs.lemmas.Bool.{cases_lt, cases_eq, cond_both, cond-true, cond-false, ltb-false}
 use Rattle.std.proofs.lemmas.List.{length-take-le, take-append-drop}
+use Rattle.zr_kinds.specs.Limits.{longest_record}
 use Rattle.zr_kinds.specs.declared.fault.Fault.{Fault}
 use Rattle.zr_kinds.specs.declared.fault.Fault.TheVariants.{LinkType, Cut, LongRecord, BadBlock, TooManyFlows}
 use Rattle.pcap_reader.specs.declared.order.ByteOrder.{ByteOrder}
@@ -31,7 +32,7 @@ NotMany found = found ≢ Some TooManyFlows
 packet-kind : (interface : Option Interface) (captured room : ℕ) → NotMany (packet_fault interface captured room)
 packet-kind None captured room = λ e. cc
 packet-kind (Some i) captured room = cond_both (not (i.link_type == 1)) _ _ NotMany (λ _. λ e. cc)
-    (λ _. cond_both (nat_lt 262144 captured) _ _ NotMany (λ _. λ e. cc)
+    (λ _. cond_both (nat_lt longest_record captured) _ _ NotMany (λ _. λ e. cc)
     (λ _. cond_both (nat_lt room (padded captured)) _ _ NotMany (λ _. λ e. cc) (λ _. λ e. cc)))
 
 fixed-kind : (s : Section) (kind : Kind) (order : ByteOrder) (bytes : List ℕ) → NotMany (fixed_fault s kind order bytes)
@@ -77,7 +78,7 @@ record WholeBlock (s : Section) (bytes : List ℕ) : Type 0 where
 -- a packet's bytes have room
 packet-fits : (interface : Option Interface) (captured room : ℕ) → packet_fault interface captured room ≡ None → captured ≤ room
 packet-fits None captured room good = absurd cc
-packet-fits (Some i) captured room good = by_tests (not (i.link_type == 1)) (nat_lt 262144 captured) (nat_lt room (padded captured)) refl good
+packet-fits (Some i) captured room good = by_tests (not (i.link_type == 1)) (nat_lt longest_record captured) (nat_lt room (padded captured)) refl good
   where
     by_tests : (link long wide : Bool) → nat_lt room (padded captured) ≡ wide
         → (if link then Some LinkType else if long then Some LongRecord else if wide then Some BadBlock else None) ≡ None

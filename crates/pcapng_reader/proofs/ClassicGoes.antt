@@ -5,6 +5,7 @@ use Rattle.std.proofs.Common.{append_assoc, length-append, length-drop, lt-ltb, 
 use Rattle.std.proofs.lemmas.Bool.{cases_lt, cond-true, cond-false}
 use Rattle.std.proofs.lemmas.List.{drop-append-le, length-take-le, take-append-drop, take-append-le}
 use Rattle.std.specs.List.{starts_with}
+use Rattle.zr_kinds.specs.Limits.{longest_record}
 use Rattle.zr_kinds.specs.declared.fault.Fault.{Fault}
 use Rattle.zr_kinds.specs.declared.fault.Fault.TheVariants.{Cut, LinkType, LongRecord, NotPcap, TooManyFlows, Version}
 use Rattle.pcap_reader.specs.declared.order.ByteOrder.{ByteOrder}
@@ -44,8 +45,8 @@ behind-header : (order : ByteOrder) (header body rest : List ℕ) → length hea
     → ((tail : List ℕ) → length tail ≤ length body → GoOn (records_in order tail) (records_in order (tail ++ rest)))
     → GoOn (records_in order (header ++ body)) (records_in order ((header ++ body) ++ rest))
 behind-header order header body rest whole go = ⊎_elim
-    (λ (long : 262144 < captured_len order header). no-first (Some LongRecord) _ _ (records_in-long order header body whole long) (λ e. cc))
-    (λ (fits : captured_len order header ≤ 262144). ⊎_elim
+    (λ (long : longest_record < captured_len order header). no-first (Some LongRecord) _ _ (records_in-long order header body whole long) (λ e. cc))
+    (λ (fits : captured_len order header ≤ longest_record). ⊎_elim
     (λ (short : length body < captured_len order header). no-first (Some Cut) _ _ (records_in-bodiless order header body whole fits short) (λ e. cc))
     (λ (enough : captured_len order header ≤ length body).
     let n : ℕ = captured_len order header in
@@ -61,7 +62,7 @@ behind-header order header body rest whole go = ⊎_elim
     (ap (records_in order) later ∙ records_in-whole order header frame (tail ++ rest) whole size (omega (arith, size, fits)))
     (go tail (omega (arith, length-drop n body))))
     (cases_lt (length body) (captured_len order header)))
-    (cases_lt 262144 (captured_len order header))
+    (cases_lt longest_record (captured_len order header))
 
 records-go : (order : ByteOrder) (n : ℕ) (bytes rest : List ℕ) → length bytes ≤ n → GoOn (records_in order bytes) (records_in order (bytes ++ rest))
 records-go order n [] rest few = no-first None _ _ (records_in-none order) (λ e. cc)

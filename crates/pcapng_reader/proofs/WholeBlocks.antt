@@ -3,6 +3,7 @@ use Rattle.std.proofs.Common.{◌≡◌, ℕ, ◌+◌, ◌<◌, ◌≤◌, List,
 use Rattle.std.proofs.Common.{ap, ◌∙◌, subst, arith, append-nil, append_assoc, length-append}
 use Rattle.std.proofs.lemmas.List.{drop_at, take_at}
 use Rattle.std.proofs.lemmas.Bool.{cond-true, cond-false}
+use Rattle.zr_kinds.specs.Limits.{longest_record}
 use Rattle.zr_kinds.specs.declared.fault.Fault.TheVariants.{Cut}
 use Rattle.pcap_reader.specs.declared.order.ByteOrder.{ByteOrder}
 use Rattle.pcap_reader.specs.Records.{number, Records, with_record}
@@ -49,7 +50,7 @@ section-same a b xs ys n e f = rw (e, f) refl
 regroup : (head frame tail rest : List ℕ) → (head ++ (frame ++ tail)) ++ rest ≡ head ++ (frame ++ (tail ++ rest))
 regroup head frame tail rest = append_assoc head (frame ++ tail) rest ∙ ap (λ (l : List ℕ). head ++ l) (append_assoc frame tail rest)
 
-wanted_by : (s : Section) (kind : Kind) (head : List ℕ) → is_packet kind ≡ true → 0 < captured_len s kind head → captured_len s kind head ≤ 262144
+wanted_by : (s : Section) (kind : Kind) (head : List ℕ) → is_packet kind ≡ true → 0 < captured_len s kind head → captured_len s kind head ≤ longest_record
     → WantsBytes s kind head
 wanted_by s EnhancedPacket head is some most = (some, most)
 wanted_by s SimplePacket head is some most = (some, most)
@@ -74,7 +75,7 @@ module _ (s : Section) (kind : Kind) (order : ByteOrder) (total : ℕ) (head : L
       wants = subst (λ (k : Kind). WantsBytes s k head) (sym h.is) wants;
     })
 
-    pub packet-wants : is_packet kind ≡ true → 0 < captured_len s kind head → captured_len s kind head ≤ 262144 → WantsHere s (head ++ [])
+    pub packet-wants : is_packet kind ≡ true → 0 < captured_len s kind head → captured_len s kind head ≤ longest_record → WantsHere s (head ++ [])
     packet-wants is some most = head-wants (wanted_by s kind head is some most)
 
     -- a whole block, with its packet's bytes or without

@@ -5,6 +5,7 @@
 use Rattle.std.specs.Prelude.{ℕ, zero, suc, ◌+◌, ◌-◌, ◌*◌, ◌/◌, ◌%◌, min, List, [], ◌∷◌, ◌++◌, length, take, drop, nat_eq, nat_lt, nat_le}
 use Rattle.std.specs.Prelude.{Bool, true, false, ◌==◌, ◌&&◌, ◌||◌, not, if◌then◌else◌, Option, Some, None, unwrap_or}
 use Rattle.std.specs.List.{starts_with, slice_get}
+use Rattle.zr_kinds.specs.Limits.{longest_record}
 use Rattle.zr_kinds.specs.declared.fault.Fault.{Fault}
 use Rattle.zr_kinds.specs.declared.fault.Fault.TheVariants.{Version, LinkType, Cut, LongRecord, BadBlock}
 use Rattle.pcap_reader.specs.declared.order.ByteOrder.TheVariants.{Little, Big}
@@ -116,7 +117,7 @@ abbrev pub packet_fault : Option Interface → ℕ → ℕ → Option Fault
 packet_fault None captured room = Some BadBlock
 packet_fault (Some i) captured room =
     if not (i.link_type == 1) then Some LinkType
-    else if nat_lt 262144 captured then Some LongRecord
+    else if nat_lt longest_record captured then Some LongRecord
     else if nat_lt room (padded captured) then Some BadBlock
     else None
 

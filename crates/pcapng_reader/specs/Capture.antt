@@ -1,6 +1,7 @@
 -- What opening a capture of either form and reading its next record say.
 use Rattle.std.specs.Prelude.{◌≡◌, ℕ, ◌<◌, ◌≤◌, List, ◌++◌, length, Option, Some, None, Result, Ok, Err, IfSome}
 use Rattle.std.specs.Io.KnownBytes.{IsAtEnd}
+use Rattle.zr_kinds.specs.Limits.{longest_record}
 use Rattle.zr_kinds.specs.declared.fault.Fault.{Fault}
 use Rattle.zr_kinds.specs.declared.fault.Fault.TheVariants.{Memory, NotPcap, Version, LinkType, Cut, LongRecord, Read, BadBlock}
 use Rattle.zr_io.specs.Moved.{Took}
@@ -43,8 +44,8 @@ IsRecordFault fault = ⊥
 
 -- a packet of some bytes and of no more than a record may have, or an interface
 abbrev pub WantsBytes : Section → Kind → List ℕ → Type 0
-WantsBytes s EnhancedPacket bytes = (0 < captured_len s EnhancedPacket bytes) × (captured_len s EnhancedPacket bytes ≤ 262144)
-WantsBytes s SimplePacket bytes = (0 < captured_len s SimplePacket bytes) × (captured_len s SimplePacket bytes ≤ 262144)
+WantsBytes s EnhancedPacket bytes = (0 < captured_len s EnhancedPacket bytes) × (captured_len s EnhancedPacket bytes ≤ longest_record)
+WantsBytes s SimplePacket bytes = (0 < captured_len s SimplePacket bytes) × (captured_len s SimplePacket bytes ≤ longest_record)
 WantsBytes s InterfaceDescription bytes = Unit {0}
 WantsBytes s kind bytes = ⊥
 

@@ -1,6 +1,7 @@
 -- What the steps of reading a block say.
 use Rattle.std.specs.Prelude.{◌≡◌, ◌≢◌, ℕ, ◌+◌, ◌-◌, ◌<◌, ◌≤◌, List, ◌++◌, length, take, drop, false, Option, Some, None, Result, Ok, Err, IfSome}
 use Rattle.std.specs.Io.KnownBytes.{Keeps, IsAtEnd, Consumes}
+use Rattle.zr_kinds.specs.Limits.{longest_record}
 use Rattle.zr_kinds.specs.declared.fault.Fault.{Fault}
 use Rattle.zr_kinds.specs.declared.fault.Fault.TheVariants.{Memory, Version, LinkType, Cut, LongRecord, Read, BadBlock}
 use Rattle.zr_io.specs.Moved.{Took}
@@ -129,14 +130,14 @@ IsPacketOf s head interface found =
 -- what is said of a packet, of this interface and with so much room
 abbrev pub Judges : Option Interface → ℕ → ℕ → Result (Unit {0}) Fault → Type 0
 Judges interface captured room (Ok _) =
-    (packet_fault interface captured room ≡ None) × (captured ≤ 262144) × (captured ≤ room)
+    (packet_fault interface captured room ≡ None) × (captured ≤ longest_record) × (captured ≤ room)
 Judges interface captured room (Err fault) = IsPacketFault fault × (packet_fault interface captured room ≡ Some fault)
 
 -- the lengths of a packet, or its fault
 abbrev pub IsPacket : Section → Head → Result Record Fault → Type 0
 IsPacket s head (Ok found) =
     (fixed_fault s head.kind head.order (head_bytes head) ≡ None) × (captured_len s head.kind (head_bytes head) ≡ found.captured)
-    × (original_len s head.kind (head_bytes head) ≡ found.original) × (found.captured ≤ 262144)
+    × (original_len s head.kind (head_bytes head) ≡ found.original) × (found.captured ≤ longest_record)
     × (found.captured + fixed_len head.kind + 4 ≤ head.total)
 IsPacket s head (Err fault) = IsPacketFault fault × (fixed_fault s head.kind head.order (head_bytes head) ≡ Some fault)
 

@@ -1,4 +1,5 @@
 ghost use Rattle.std.specs.Prelude.{◌≡◌, ◌<◌, ◌≤◌, ◌++◌, IsTrue, None, Some, IfOk, IfNone, IfSome, IsErrOf, MatchResult};
+ghost use Rattle.zr_kinds.specs.Limits.{longest_record};
 ghost use Rattle.zr_io.specs.Moved.{Took};
 ghost use Rattle.zr_kinds.specs.declared.fault.Fault.TheVariants.{Memory};
 ghost use Rattle.pcap_reader.specs.Capture.{HasReadCause};
@@ -63,7 +64,7 @@ impl BlockCapture {
         ensures gives { self.old.fault ≡ None → Gives (blocks (told self.old.section)) (blocks (told self.new.section)) (S.left source.old) (S.left source.new) into.new.items result }
         ensures cause { self.old.fault ≡ None → HasReadCause (S.faults source.old) (S.faults source.new) result }
         ensures memory { self.old.fault ≡ None → IsErrOf result Memory → Took (S.left source.old) (S.left source.new) (WantsMemory (blocks (told self.old.section))) }
-        ensures most { IfOk result (λ found. IfSome found (λ one. one.captured ≤ 262144)) }
+        ensures most { IfOk result (λ found. IfSome found (λ one. one.captured ≤ longest_record)) }
         ensures stopped { IfSome self.old.fault (λ fault. (result ≡ Err fault) × (source.new ≡ source.old)) }
         ensures kept { MatchResult result (λ _. self.new.fault ≡ self.old.fault) (λ fault. self.new.fault ≡ Some fault) }
     {
@@ -87,7 +88,7 @@ fn read_next<S: Source>(
     ensures gives { Gives (blocks (told section.old)) (blocks (told section.new)) (S.left source.old) (S.left source.new) into.new.items result }
     ensures cause { HasReadCause (S.faults source.old) (S.faults source.new) result }
     ensures memory { IsErrOf result Memory → Took (S.left source.old) (S.left source.new) (WantsMemory (blocks (told section.old))) }
-    ensures most { IfOk result (λ found. IfSome found (λ one. one.captured ≤ 262144)) }
+    ensures most { IfOk result (λ found. IfSome found (λ one. one.captured ≤ longest_record)) }
 {
     while let Some(start) = read_start(source)? {
         if let Some(record) = read_block(source, section, start, into)? {
@@ -123,7 +124,7 @@ fn read_block<S: Source>(
     ensures takes { TakesBlock (told section.old) (told section.new) start (S.left source.old) (S.left source.new) into.new.items result }
     ensures cause { HasReadCause (S.faults source.old) (S.faults source.new) result }
     ensures memory { IsErrOf result Memory → Took (S.left source.old) (S.left source.new) (λ taken. WantsHere (told section.old) (start ++ taken)) }
-    ensures most { IfOk result (λ found. IfSome found (λ one. one.captured ≤ 262144)) }
+    ensures most { IfOk result (λ found. IfSome found (λ one. one.captured ≤ longest_record)) }
     ensures counts { IfOk result (λ found. IfNone found ((section.old.others < section.new.others) × (section.new.others ≤ 16777216))) }
 {
     let head = read_head(source, section, start)?;
@@ -206,7 +207,7 @@ fn read_packet<S: Source>(
     ensures takes { TakesPacket (told section.now) (head_bytes head.now) (S.left source.old) (S.left source.new) into.new.items result }
     ensures cause { HasReadCause (S.faults source.old) (S.faults source.new) result }
     ensures memory { IsErrOf result Memory → Took (S.left source.old) (S.left source.new) (λ taken. WantsHere (told section.now) (head_bytes head.now ++ taken)) }
-    ensures most { IfOk result (λ found. found.captured ≤ 262144) }
+    ensures most { IfOk result (λ found. found.captured ≤ longest_record) }
 {
     let record = packet_in(section, head)?;
     read_body(source, record.captured, into)?;

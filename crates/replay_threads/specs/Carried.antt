@@ -1,7 +1,7 @@
 -- What goes from the reading to the card.
 use Rattle.std.specs.Prelude.{◌≡◌, ℕ, ◌+◌, ◌≤◌, Bool, true, false, List, length}
 use Rattle.std.specs.List.{list_any}
-use Rattle.zr_kinds.specs.Limits.{most_records}
+use Rattle.zr_kinds.specs.Limits.{longest_record, most_records}
 use Rattle.card_feed.specs.declared.arrived.Arrived.{Arrived}
 use Rattle.card_feed.specs.declared.arrived.Arrived.TheVariants as arrived
 use Rattle.replay_threads.specs.declared.carried.Carried.{Carried}
@@ -37,7 +37,7 @@ pub record MayFollow (before : List Carried) (message : Carried) : Type 0 where
   pub numbered : number_or (length before + 1) message ≡ length before + 1
   pub limit : number_or 0 message ≤ most_records
   pub whole : len_of message ≡ captured_of message
-  pub most : captured_of message ≤ 262144
+  pub most : captured_of message ≤ longest_record
 
 -- what a message brings
 abbrev pub arrived_of : Carried → Arrived

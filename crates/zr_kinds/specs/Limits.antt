@@ -9,3 +9,7 @@ longest_payload = 65515
 -- how many records of a capture are read at most
 abbrev pub most_records : ℕ
 most_records = 16777216
+
+-- how many bytes a record has at most
+abbrev pub longest_record : ℕ
+longest_record = 262144
