@@ -26,7 +26,8 @@ use Rattle.plain_board.proofs.AppFrames.{AreFlags-kept, AreFreeOnce-app, AreKept
 use Rattle.plain_board.proofs.AppFrames.{was-booked_raw, ArePhased-app, was-phased, OwnBuffers-app}
 use Rattle.plain_board.proofs.Users.{loans-there, users-there, user-other, user-raised}
 pub use Rattle.board_face.proofs.ReturnLemmas.{IsClear-of_loans}
-use Rattle.plain_board.proofs.TokensLie.{part-le, pool-few}
+use Rattle.plain_board.proofs.TokensLie.{part-le}
+use Rattle.plain_board.proofs.Counting.{holders-few}
 
 module _ (board : Stand) (a : ℕ) (x : AppSide) (buffer : ℕ) (sound : IsSound board) (here : IsApp board.apps a x)
     (within : buffer < total board.arrays.layout) where
@@ -44,7 +45,7 @@ module _ (board : Stand) (a : ℕ) (x : AppSide) (buffer : ℕ) (sound : IsSound
 
   -- no count of users is large
   pub user-few : get_or board.arrays.users user 0 + 1 < 2 ^ 64
-  user-few = omega (arith, sound.counted.users a buffer here.there within, user_count-le a buffer board.nic board.apps, pool-few board a x sound here buffer)
+  user-few = omega (arith, sound.counted.users a buffer here.there within, user_count-le a buffer board.nic board.apps, holders-few board sound buffer)
 
   pub loan-few : get_or board.arrays.loans user 0 + 1 < 2 ^ 64
   loan-few =
@@ -53,7 +54,7 @@ module _ (board : Stand) (a : ℕ) (x : AppSide) (buffer : ℕ) (sound : IsSound
         was-booked_loans board a x x sound here buffer within,
         count-tally (λ (l : LentPiece). l.place.buffer == buffer) x.view.loans,
         part-le board a x sound here buffer,
-        pool-few board a x sound here buffer,
+        holders-few board sound buffer,
       )
 
   module _ (helds : List HeldPiece) (owns : List SpareOwn) (loans : List LentPiece) (can : CanLend x.view) where

@@ -14,7 +14,7 @@ use Rattle.board_face.specs.Laws.{TookAll}
 use Rattle.board_face.specs.declared.views.app.AppSide.{AppSide}
 use Rattle.board_face.proofs.ListLemmas.{eqb_same, not-eqb}
 use Rattle.board_face.proofs.Tallies.{weight}
-use Rattle.board_face.proofs.Parts.{app_count, user_part, loans_in, owed_count, returned_in-count, pool_count-parts, user_count-own}
+use Rattle.board_face.proofs.Parts.{app_count, user_part, loans_in, owed_count, returned_in-count, user_count-own}
 use Rattle.board_face.proofs.AppLemmas.{scrubbed_side, pool_count-app, app_count-scrubbed, user_part-scrubbed, EndedWereReturned-scrubbed}
 use Rattle.board_face.proofs.IsFilledByOneLemmas.{IsFilledByOne-scrubbed}
 use Rattle.board_face.proofs.FillingsFitLemmas.{FillingsFit-same}
@@ -28,7 +28,7 @@ use Rattle.plain_board.proofs.AppFrames.{has-setting, IsSet-app, was-at_rest, Ar
 use Rattle.plain_board.proofs.AppFrames.{was-returns, AreFlags-kept, free_places-side, AreKept-app, AreDue-app, was-given, was-due, AreBooked-kept}
 use Rattle.plain_board.proofs.AppFrames.{ArePhased-app, was-phased, OwnBuffers-kept}
 use Rattle.plain_board.proofs.Card.{none-lowered}
-use Rattle.board_face.proofs.LiesLemmas.{total-of}
+use Rattle.plain_board.proofs.TokensLie.{part-le}
 
 -- the user counts of an application
 abbrev pub took_of : Shape → ℕ → List ℕ → List ℕ
@@ -57,11 +57,6 @@ more-case true true now e = omega (arith, ap weight e)
 more-case false was now e = omega (arith, ap weight e)
 
 module _ (board : Stand) (a : ℕ) (x : AppSide) (sound : IsSound board) (here : IsApp board.apps a x) where
-  -- its holdings are among those of all
-  app-few : (b : ℕ) → app_count b board.nic x ≤ pool_count b board.nic board.apps
-  app-few b = let all = total-of (app_count b board.nic) board.apps a x here.there in omega
-      (arith, pool_count-parts b board.nic board.apps, all, ap (app_count b board.nic) here.is)
-
   same_layout : x.view.setting.layout ≡ board.arrays.layout
   same_layout = ap (λ s. s.layout) (has-setting board a x x sound here)
 
@@ -83,7 +78,7 @@ module _ (board : Stand) (a : ℕ) (x : AppSide) (sound : IsSound board) (here :
         ∙ omega arith
 
     pub few-users : HasFewUsers board.arrays.layout a board.arrays.users board.arrays.pool
-    few-users b within = omega (arith, users-mine b within, app-few b, sound.counted.pool b within)
+    few-users b within = omega (arith, users-mine b within, part-le board a x sound here b, sound.counted.pool b within)
 
     abbrev pub took : List ℕ
     took = took_of x.view.setting.layout a board.arrays.users
@@ -106,7 +101,7 @@ module _ (board : Stand) (a : ℕ) (x : AppSide) (sound : IsSound board) (here :
         omega (arith, ap (λ (us : List ℕ). get_or us b 0) is, got, users-mine b within, none))
         (λ past.
         let short : length (took_of layout a users) ≤ b = simp length-take (omega (arith, past)) in
-        omega (arith, ap (λ (us : List ℕ). get_or us b 0) is, get_or_past (took_of layout a users) b 0 short, none, app-few b, sound.counted.beyond b past))
+        omega (arith, ap (λ (us : List ℕ). get_or us b 0) is, get_or_past (took_of layout a users) b 0 short, none, part-le board a x sound here b, sound.counted.beyond b past))
         (cases_lt b (all_buffers layout))
 
     pub takes-all : TookAll board.nic x took
@@ -121,7 +116,7 @@ module _ (board : Stand) (a : ℕ) (x : AppSide) (sound : IsSound board) (here :
       none-mine b = user_part-scrubbed a b board.nic x took (was-returned board a x x sound here b) (takes b) ∙ (rw (here.number, eqb_same a) (no-loans b))
 
       pool-then : (b : ℕ) → b < all_buffers board.arrays.layout → get_or pool' b 0 + owed_count b board.nic x ≡ get_or board.arrays.pool b 0
-      pool-then b within = omega (arith, back.less b within, users-mine b within, app-few b, sound.counted.pool b within)
+      pool-then b within = omega (arith, back.less b within, users-mine b within, part-le board a x sound here b, sound.counted.pool b within)
 
       holders-then : (b : ℕ) → b < all_buffers board.arrays.layout → get_or pool' b 0 ≡ pool_count b board.nic (set board.apps a scrubbed_then)
       holders-then b within = omega (

@@ -21,7 +21,6 @@ use Rattle.board_face.proofs.LiesLemmas.{total-at, helds-at, loans-at, lies-by a
 use Rattle.plain_board.specs.Stand.{Stand}
 use Rattle.plain_board.specs.Returns.{loans_out}
 use Rattle.plain_board.specs.Sound.{IsSound}
-use Rattle.plain_board.proofs.Counting.{holders-few}
 
 -- ---- one among many
 
@@ -49,10 +48,6 @@ module _ (board : Stand) (a : ℕ) (x : AppSide) (sound : IsSound board) (here :
   part-within b some =
       ⊎_elim (λ within. within) (λ past. absurd (omega (arith, part-le b, sound.counted.beyond b past, some)))
       (cases_lt b (all_buffers board.arrays.layout))
-
-  -- no buffer has many holders
-  pub pool-few : (b : ℕ) → pool_count b board.nic board.apps ≤ 65537
-  pool-few b = holders-few board sound b
 
   -- where the place is one of its buffer's, it lies in the area and has a byte
   lies-by : (p : Place) → 0 < app_count p.buffer board.nic x
