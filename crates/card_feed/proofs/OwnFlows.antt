@@ -8,7 +8,7 @@ use Rattle.std.proofs.lemmas.List.Quantifiers.{position-Some}
 use Rattle.zr_kinds.specs.CopyingReceiver.{nothing_placed, next_missing, front_of}
 use Rattle.board_face.specs.Relay.{as_taken}
 use Rattle.board_face.specs.declared.views.nic.SentNote.{SentNote}
-use Rattle.flow_table.specs.SteeredTcp.{SteeredTcp}
+use Rattle.flow_table.specs.Steered.{SteeredTcp}
 use Rattle.flow_table.specs.Flows.{Flow, flows_with, flows_after, number_of_flow}
 use Rattle.flow_table.proofs.FlowLaws.{HaveApps, flows_with-keeps, flows_with-grow, flows_with-app, flows_with-apps}
 use Rattle.app_worker.specs.Marks.{Mark, Numbered, numbered, of_flow, frames_of, received_frames, base_of}

@@ -2,7 +2,7 @@
 use Rattle.std.specs.Prelude.{◌≡◌, ℕ, ◌⊎◌, false, List, [], ◌∷◌, ◌++◌, length, take, Option, Some, None, Result, Ok, Err}
 use Rattle.zr_kinds.specs.declared.fault.Fault.{Fault}
 use Rattle.zr_kinds.specs.declared.fault.Fault.TheVariants.{Memory}
-use Rattle.flow_table.specs.SteeredTcp.{SteeredTcp}
+use Rattle.flow_table.specs.Steered.{SteeredTcp}
 use Rattle.flow_table.specs.Flows.{flows_of, flows_with}
 use Rattle.flow_table.specs.KnownFlows.{KnownFlows}
 use Rattle.frames_read.specs.Ending.{steered_in, flow_ending, BeginsFlow, ending_at}

@@ -4,7 +4,7 @@ use Rattle.std.proofs.Common.{if◌then◌else◌, ◌==◌, arith}
 use Rattle.std.specs.List.{slice_get}
 use Rattle.std.proofs.lemmas.Bool.{cond-false, ne_eqb}
 use Rattle.std.proofs.lemmas.Bool.Decides.{nat_tests}
-use Rattle.flow_table.specs.SteeredTcp.{SteeredTcp}
+use Rattle.flow_table.specs.Steered.{SteeredTcp}
 use Rattle.flow_table.specs.CountedPart.{FlowClose, not_closed, closed_by}
 use Rattle.flow_table.specs.Flows.{Flow, number_of_flow, with_segment, flows_with, flows_after, flows_of, of_flow_after, of_flow}
 use Rattle.flow_table.proofs.FlowLaws.{number_of_flow-within}

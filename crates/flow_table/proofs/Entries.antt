@@ -6,7 +6,7 @@ use Rattle.std.specs.List.{slice_get}
 use Rattle.std.proofs.lemmas.List.{map-append, length-map}
 use Rattle.std.proofs.lemmas.Option.{slice_get-map, slice_get-get_or}
 use Rattle.indexmap.specs.IndexMap.{IndexMap, get}
-use Rattle.flow_table.specs.SteeredTcp.{SteeredTcp}
+use Rattle.flow_table.specs.Steered.{SteeredTcp}
 use Rattle.flow_table.specs.Flows.{Flow, Numbered, same_key, newest, seen_by, with_segment}
 use Rattle.flow_table.specs.declared.entry.Key.{Key}
 use Rattle.flow_table.specs.declared.entry.FlowEntry.{FlowEntry}

@@ -6,7 +6,7 @@ use Rattle.std.proofs.lemmas.Bool.Decides.{nat_tests}
 use Rattle.std.specs.List.{slice_get}
 use Rattle.std.proofs.lemmas.Option.{slice_get_within}
 use Rattle.frame_headers.specs.FrameClass.{TcpSegment}
-use Rattle.flow_table.specs.SteeredTcp.{SteeredTcp}
+use Rattle.flow_table.specs.Steered.{SteeredTcp}
 use Rattle.flow_table.specs.Flows.{Flow, FlowKey, Numbered, same_key, key_of, later_or, newest_from, newest, begins_anew, number_among, new_flow, seen_by}
 use Rattle.flow_table.specs.Flows.{with_segment}
 

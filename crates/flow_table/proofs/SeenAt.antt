@@ -1,6 +1,6 @@
 -- A list of flows of which one sees a segment.
 use Rattle.std.proofs.Common.{◌≡◌, ℕ, zero, suc, ◌<◌, ◌≤◌, List, [], ◌∷◌, ◌++◌, length, map, set, get_or, ap, arith}
-use Rattle.flow_table.specs.SteeredTcp.{SteeredTcp}
+use Rattle.flow_table.specs.Steered.{SteeredTcp}
 use Rattle.flow_table.specs.Flows.{new_flow, seen_by, with_segment}
 use Rattle.flow_table.specs.declared.plain.flows.PlainFlow.{PlainFlow}
 use Rattle.flow_table.specs.Plain.{flow_shown}

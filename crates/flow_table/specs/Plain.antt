@@ -2,7 +2,7 @@
 use Rattle.std.specs.Prelude.{ℕ, List, Option, option_map, find, ◌==◌}
 use Rattle.frame_headers.specs.Seen.{shown}
 use Rattle.zr_kinds.specs.CopyingReceiver.{Placed}
-use Rattle.flow_table.specs.SteeredTcp.{SteeredTcp}
+use Rattle.flow_table.specs.Steered.{SteeredTcp}
 use Rattle.flow_table.specs.Flows.{Flow, Numbered}
 use Rattle.flow_table.specs.Kept.{close_shown}
 use Rattle.flow_table.specs.declared.plain.steered.SteeredSegment.{SteeredSegment}

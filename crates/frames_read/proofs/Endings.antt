@@ -16,7 +16,7 @@ use Rattle.pcap_reader.proofs.Joined.{fronts-then, fronts-weaker, Took-both}
 use Rattle.pcapng_reader.specs.Records.{Going, records_from, records_of}
 use Rattle.pcapng_reader.specs.Capture.{IsOpeningFault, IsRecordFault, WantsMemory}
 use Rattle.pcapng_reader.proofs.Goings.{wanting-cut}
-use Rattle.flow_table.specs.SteeredTcp.{SteeredTcp}
+use Rattle.flow_table.specs.Steered.{SteeredTcp}
 use Rattle.flow_table.specs.Flows.{Flow, flows_of, number_of_flow}
 use Rattle.frames_read.specs.Ending.{Ending, ended_after, steered_in, steered_next, flow_ending, ending_at, frames_of, ended_of}
 use Rattle.frames_read.specs.Reading.{Holds, GoesThrough, HasRead, HasEnded, ShowsEnding, TakenEnds, LacksMemory, EndsAt, IsEnding, IsReadToEnd}

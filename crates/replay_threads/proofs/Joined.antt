@@ -7,7 +7,7 @@ use Rattle.zr_kinds.specs.declared.fault.Fault.{Fault}
 use Rattle.zr_kinds.specs.declared.fault.Fault.TheVariants.{Memory, Usage, NotPcap, Version, LinkType, Cut, LongRecord, Read, Write, TooManyFlows}
 use Rattle.zr_kinds.specs.declared.fault.Fault.TheVariants.{TooManyFrames, BadBlock, BadRun}
 use Rattle.flow_table.specs.Flows.{Flow, flows_of, number_of_flow}
-use Rattle.flow_table.specs.SteeredTcp.{SteeredTcp}
+use Rattle.flow_table.specs.Steered.{SteeredTcp}
 use Rattle.frames_read.specs.Ending.{ending_at, flow_ending, steered_in, steered_next}
 use Rattle.frames_read.specs.Reading.{EndsAt, HasEnded}
 use Rattle.frames_read.proofs.Framing.{ending-flow}

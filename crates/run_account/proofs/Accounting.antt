@@ -6,7 +6,7 @@ use Rattle.std.proofs.lemmas.List.Elements.{All-filter}
 use Rattle.std.proofs.lemmas.Option.{slice_get_within}
 use Rattle.zr_kinds.specs.declared.outcome.AppLine.{AppLine}
 use Rattle.zr_io.specs.Moved.{Gained}
-use Rattle.flow_table.specs.SteeredTcp.{SteeredTcp}
+use Rattle.flow_table.specs.Steered.{SteeredTcp}
 use Rattle.flow_table.specs.Flows.{flows_of}
 use Rattle.frames_read.specs.Ending.{steered_in}
 use Rattle.board_face.specs.Blank.{blank_app}

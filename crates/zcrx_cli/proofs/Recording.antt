@@ -26,7 +26,7 @@ use Rattle.board_face.specs.declared.views.app.AppSide.{AppSide}
 use Rattle.board_face.specs.declared.views.app.LentPiece.{LentPiece}
 use Rattle.flow_queues.specs.Core.{total}
 use Rattle.flow_queues.specs.Totals.{lent_len}
-use Rattle.flow_table.specs.SteeredTcp.{SteeredTcp}
+use Rattle.flow_table.specs.Steered.{SteeredTcp}
 use Rattle.event_log.specs.IsLogged.{IsLogged, run_of}
 use Rattle.event_log.specs.Logs.{Kept, log_of}
 use Rattle.event_log.specs.Settings.{areas_of}
