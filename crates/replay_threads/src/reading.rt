@@ -37,7 +37,7 @@ pub struct Opened {
     pub spares: Producer<Vec<u8>>,
 }
 
-/// MakesMessage the rings of a reading.
+/// Makes the rings of a reading.
 pub fn open_reading(alloc: Global) -> Result<Opened, AllocError>
     ensures { IfOk result IsOpened }
 {
@@ -110,7 +110,7 @@ fn next_message<S: Source>(
     }
 }
 
-/// MakesMessage the next message, and sends or holds it.
+/// Makes the next message, and sends or holds it.
 fn make_next<S: Source>(reader: &mut Reader, source: &mut S)
     requires none { reader.old.held ≡ None }
     requires goes { is_over reader.old.stage ≡ false }

@@ -3,7 +3,6 @@
 mod drawn;
 mod events;
 mod extremes;
-mod frames;
 mod limits;
 mod long;
 mod reading;

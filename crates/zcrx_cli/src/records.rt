@@ -29,8 +29,8 @@ enum Form {
     Other,
     /// The file header of the classic form, with the numbers of this order.
     FileHeader(ByteOrder),
-    /// RecordCounter, with the numbers of this order.
-    RecordCounter(ByteOrder),
+    /// Records, with the numbers of this order.
+    Records(ByteOrder),
     /// Blocks, with the numbers of this order.
     Blocks(ByteOrder),
 }

@@ -10,7 +10,6 @@ mod enough;
 mod events;
 mod faults;
 mod forwarding;
-mod frames;
 mod leaving;
 mod limits;
 mod making;

@@ -1,10 +1,10 @@
 //! Small captures, plans and texts that are drawn, and compared with plain copying without the refused frames.
 ghost use Rattle.std.specs.Prelude.{◌<◌, ◌^◌, length};
 
-use super::frames::{ACK, FIN, PSH_ACK, RST, SYN, Sent, capture, frame, stream_bytes};
 use super::runs::{FLOWS, Given, Left, Setup, faultless, run, steered};
 use flow_table::plain::{PlainFlow, plain_flows, plain_stream};
 use frame_headers::{Seen, read_frame};
+use sample_captures::{ACK, FIN, PSH_ACK, RST, SYN, Sent, capture, frame, stream_bytes};
 use std::alloc::Global;
 use std::process::Abort;
 use std::random::RandomSource;

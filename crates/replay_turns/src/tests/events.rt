@@ -1,7 +1,7 @@
 //! The log of a run, worked out by hand.
-use super::frames::{FIN, PSH_ACK, SYN, capture_of, to_9000};
 use super::runs::{Given, Setup, USUAL, faultless, run};
 use run_records::Event;
+use sample_captures::{FIN, PSH_ACK, SYN, capture_of, to_9000};
 use std::test::Fail;
 
 /// One buffer, and a log.

@@ -3,9 +3,9 @@
 ghost use Rattle.std.specs.Prelude.{◌<◌};
 
 use super::drawn::check_plain;
-use super::frames::{PSH_ACK, capture, frame, stream_bytes, to};
 use super::runs::{Given, Setup, faultless};
 use frame_headers::{Seen, read_frame};
+use sample_captures::{PSH_ACK, capture, frame, stream_bytes, to};
 use std::alloc::Global;
 use std::test::*;
 use zr_kinds::{Behaviour, Stopped};

@@ -1,6 +1,6 @@
 //! A capture with more flows than a run numbers.
-use super::frames::{FILE_HEADER, SYN, Sent, frame, record_of, to_9000};
 use super::runs::{Wanted, app_line, check, faultless, flow_line, pool, steered};
+use sample_captures::{FILE_HEADER, SYN, Sent, frame, record_of, to_9000};
 use std::alloc::Global;
 use std::test::*;
 use zr_kinds::{Fault, FlowEnd};

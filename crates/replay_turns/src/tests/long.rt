@@ -1,8 +1,8 @@
 //! Long texts, each of whose letters tells in what is left.
-use super::frames::{FILE_HEADER, PSH_ACK, frame, record_of, to_9000};
 use super::runs::{
     Given, One, Setup, USUAL, app_line, check_one, faultless, flow_line, pool, steered,
 };
+use sample_captures::{FILE_HEADER, PSH_ACK, frame, record_of, to_9000};
 use std::alloc::Global;
 use std::process::Abort;
 use std::random::RandomSource;

@@ -1,6 +1,6 @@
 //! Runs of a small flow, and how a reading ends.
-use super::frames::{ACK, FILE_HEADER, FIN, PSH_ACK, SYN, capture_of, frame, to_9000};
 use super::runs::{Given, One, app_line, check_one, faultless, flow_line, pool, steered};
+use sample_captures::{ACK, FILE_HEADER, FIN, PSH_ACK, SYN, capture_of, frame, to_9000};
 use std::alloc::Global;
 use std::test::*;
 use zr_kinds::{AppLine, Fault, FlowEnd, Stopped};

@@ -1,10 +1,10 @@
 //! Runs with given turns, whose numbers were worked out by hand.
-use super::frames::{
-    ACK, FILE_HEADER, FIN, PSH_ACK, SYN, Sent, capture_of, frame, in_sequence, record_of,
-    stream_bytes, to_9000,
-};
 use super::runs::{
     EAGER, Given, One, Setup, USUAL, app_line, check_one, faultless, flow_line, pool, steered,
+};
+use sample_captures::{
+    ACK, FILE_HEADER, FIN, PSH_ACK, SYN, Sent, capture_of, frame, in_sequence, record_of,
+    stream_bytes, to_9000,
 };
 use std::process::Abort;
 use std::random::RandomSource;

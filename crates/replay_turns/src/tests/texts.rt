@@ -1,9 +1,9 @@
 //! One capture under every short text of turns.
-use super::frames::{PSH_ACK, capture_of, stream_bytes, to};
 use super::runs::{
     EAGER, Given, Setup, Stream, USUAL, Wanted, app_line, check, faultless, flow_line, pool,
     steered,
 };
+use sample_captures::{PSH_ACK, capture_of, stream_bytes, to};
 use std::alloc::Global;
 use std::process::Abort;
 use std::random::RandomSource;

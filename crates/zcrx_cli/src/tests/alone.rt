@@ -1,6 +1,6 @@
 //! Commands that need no threads.
-use super::frames::{PSH_ACK, capture_of, to_9000};
 use crate::{Card, SHELVES, zcrx_alone};
+use sample_captures::{PSH_ACK, capture_of, to_9000};
 use std::collections::hash_map::RandomState;
 use std::process::Abort;
 use std::random::RandomSource;

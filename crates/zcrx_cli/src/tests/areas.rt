@@ -1,9 +1,9 @@
 //! Runs over pools of several areas.
-use super::frames::{PSH_ACK, SYN, Sent, capture, frame};
 use super::pools::{Case, bytes_from, check_case};
 use super::runs::{Given, Left, Stream, check_free, check_shelves, faultless, run_behind};
 use super::threads::Delay;
 use replay_threads::{Gate, NoGate};
+use sample_captures::{PSH_ACK, SYN, Sent, capture, frame};
 use std::alloc::Global;
 use std::process::Abort;
 use std::random::RandomSource;

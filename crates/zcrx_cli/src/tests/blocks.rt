@@ -1,7 +1,7 @@
 //! Replays of pcapng captures. Sections in comments are those of draft-ietf-opsawg-pcapng.
-use super::frames::{PSH_ACK, frame, to_9000};
 use super::rows::NOTHING;
 use super::runs::{Given, Row, check, faultless, first};
+use sample_captures::{PSH_ACK, frame, to_9000};
 use std::alloc::Global;
 use std::process::Abort;
 use std::random::RandomSource;

@@ -1,7 +1,7 @@
 //! Flows that are closed by FIN and by RST, each replayed by turns and by threads.
-use super::frames::{ACK, FIN, PSH_ACK, RST, SYN, Sent, capture_of, to_9000};
 use super::pools::bytes_from;
 use super::runs::{Given, Row, Stream, check, faultless, first};
+use sample_captures::{ACK, FIN, PSH_ACK, RST, SYN, Sent, capture_of, to_9000};
 use std::process::Abort;
 use std::random::RandomSource;
 use std::sync::Wait;

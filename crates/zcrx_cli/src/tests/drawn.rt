@@ -1,6 +1,6 @@
 //! Small captures that are drawn, and compared with the plain slow programs.
-use super::frames::{ACK, FIN, PSH_ACK, RST, SYN, Sent, frame, over_ipv6, tagged};
 use super::plain::{WORDS, check_by};
+use sample_captures::{ACK, FIN, PSH_ACK, RST, SYN, Sent, frame, over_ipv6, tagged};
 use std::alloc::Global;
 use std::process::Abort;
 use std::random::RandomSource;

@@ -1,9 +1,9 @@
 //! Pools of as many buffers as a capture needs, and of fewer.
-use super::frames::{PSH_ACK, SYN, capture, frame, to_9000};
 use super::pools::bytes_from;
 use super::runs::{Given, Left, check_free, check_shelves, faultless, first, run_behind};
 use super::threads::Delay;
 use replay_threads::{Gate, NoGate};
+use sample_captures::{PSH_ACK, SYN, capture, frame, to_9000};
 use std::alloc::Global;
 use std::process::Abort;
 use std::random::RandomSource;

@@ -1,7 +1,7 @@
 //! Records of runs: what `--events` writes, and what `check` says of it.
-use super::frames::{PSH_ACK, capture_of, to_9000, to_9001};
 use super::rows::{GREETED, HELLO, greeting};
 use super::runs::{Given, faultless, run};
+use sample_captures::{PSH_ACK, capture_of, to_9000, to_9001};
 use std::process::Abort;
 use std::random::RandomSource;
 use std::sync::Wait;

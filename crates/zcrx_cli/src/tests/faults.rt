@@ -1,6 +1,8 @@
 //! Sources, shelves and sinks whose calls fail.
-use super::frames::{ACK, FIN, PSH_ACK, SYN, Sent, capture, capture_of, frames, to_9000, to_9001};
 use super::runs::{Given, Row, Stream, check, faultless, first};
+use sample_captures::{
+    ACK, FIN, PSH_ACK, SYN, Sent, capture, capture_of, frames, to_9000, to_9001,
+};
 use std::alloc::Global;
 use std::test::Fail;
 

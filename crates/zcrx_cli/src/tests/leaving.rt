@@ -1,7 +1,7 @@
 //! Applications that stop while others go on, over so few buffers that these need what the stopped ones give back.
-use super::frames::{PSH_ACK, capture, frame, to_9000, to_9001};
 use super::pools::bytes_from;
 use super::runs::{Given, Row, Stream, check, faultless, first};
+use sample_captures::{PSH_ACK, capture, frame, to_9000, to_9001};
 use std::alloc::Global;
 use std::process::Abort;
 use std::random::RandomSource;

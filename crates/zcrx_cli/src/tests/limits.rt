@@ -1,8 +1,8 @@
 //! A capture with more flows than a replay numbers.
-use super::frames::{FILE_HEADER, SYN, Sent, frame, record_of, to_9000};
 use super::runs::{check_free, free_buffers};
 use crate::{Card, SHELVES, zcrx};
 use replay_threads::{Gate, NoGate};
+use sample_captures::{FILE_HEADER, SYN, Sent, frame, record_of, to_9000};
 use std::alloc::Global;
 use std::collections::hash_map::RandomState;
 use std::process::Abort;

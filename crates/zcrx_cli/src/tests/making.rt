@@ -1,8 +1,8 @@
 //! What `make` writes, and what a replay of it gives.
-use super::frames::FILE_HEADER;
 use super::runs::{Given, Row, Stream, check, check_shelves, faultless, run};
 use frame_headers::{Seen, Segment, read_frame};
 use pcap_reader::Capture;
+use sample_captures::FILE_HEADER;
 use std::alloc::Global;
 use std::process::Abort;
 use std::random::RandomSource;

@@ -1,10 +1,10 @@
 //! Replays that are compared with the plain slow programs.
 ghost use Rattle.std.specs.Prelude.{◌<◌, ◌^◌, length};
 
-use super::frames::capture;
 use super::runs::{Given, Stream, check_free, check_shelves, faultless, run};
 use flow_table::plain::{PlainFlow, plain_flows, plain_stream};
 use frame_headers::{Seen, read_frame};
+use sample_captures::capture;
 use std::alloc::Global;
 use std::process::Abort;
 use std::random::RandomSource;

@@ -1,10 +1,10 @@
 //! Replays whose applications are polled as streams of loans.
 use super::drawn::check_drawn;
-use super::frames::{PSH_ACK, SYN, capture_of, to_9000};
 use super::making::LONG;
 use super::rows::{GREETED, HELLO, greeting};
 use super::runs::{Given, Row, check, faultless, first};
 use super::threads::{FOUR_FLOWS, RUNS, check_four};
+use sample_captures::{PSH_ACK, SYN, capture_of, to_9000};
 use std::test::Fail;
 
 /// A flow from SYN to FIN has the report that it has by an application's own turns.

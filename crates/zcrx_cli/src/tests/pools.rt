@@ -1,7 +1,7 @@
 //! Runs over few buffers and short rings, and applications that keep, leak, stray and quit.
-use super::frames::{ACK, FIN, PSH_ACK, SYN, Sent, capture, capture_of, frame, to_9000};
 use super::runs::{Given, Row, Stream, check, check_behind, faultless, first};
 use replay_threads::{Gate, NoGate};
+use sample_captures::{ACK, FIN, PSH_ACK, SYN, Sent, capture, capture_of, frame, to_9000};
 use std::alloc::Global;
 use std::process::Abort;
 use std::random::RandomSource;

@@ -1,6 +1,6 @@
 //! Several ports and several flows.
-use super::frames::{ACK, FIN, PSH_ACK, SYN, Sent, capture_of, to_9000};
 use super::runs::{Given, Row, Stream, check, faultless};
+use sample_captures::{ACK, FIN, PSH_ACK, SYN, Sent, capture_of, to_9000};
 use std::test::Fail;
 
 /// A segment of the flow from a port to another.

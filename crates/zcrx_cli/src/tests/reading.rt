@@ -2,12 +2,12 @@
 ghost use Rattle.std.specs.Prelude.{Some};
 
 use super::faults::two_ports;
-use super::frames::{PSH_ACK, SYN, capture, frame, record_of, to_9000, to_9001};
 use super::limits::{check_report_behind, report_of_syns, syns};
 use super::plain::{WORDS, check_whole};
 use super::runs::{Given, Row, Stream, check, faultless, first};
 use super::threads::APART;
 use replay_threads::{Gate, NoGate};
+use sample_captures::{PSH_ACK, SYN, capture, frame, record_of, to_9000, to_9001};
 use std::alloc::Global;
 use std::ops::Range;
 use std::process::Abort;

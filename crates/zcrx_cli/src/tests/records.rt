@@ -1,6 +1,6 @@
 //! A capture with more records than a replay numbers.
-use super::frames::FILE_HEADER;
 use super::limits::check_report;
+use sample_captures::FILE_HEADER;
 use std::io::{self, Read};
 use std::test::Fail;
 use zr_io::StdSource;

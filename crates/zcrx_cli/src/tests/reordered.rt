@@ -1,6 +1,6 @@
 //! Captures with loss, doubling, overlaps and reordering, compared with the plain slow programs.
-use super::frames::{ACK, FIN, PSH_ACK, SYN, Sent, frames, to_9000};
 use super::plain::check_plain;
+use sample_captures::{ACK, FIN, PSH_ACK, SYN, Sent, frames, to_9000};
 use std::test::Fail;
 
 #[test]

@@ -1,9 +1,9 @@
 //! Captures where no call fails.
-use super::frames::{
+use super::runs::{Given, Row, check, faultless, first};
+use sample_captures::{
     ACK, FILE_HEADER, FIN, PSH_ACK, SYN, Sent, capture, capture_of, frame, over_ipv6, record_of,
     tagged, to_9000,
 };
-use super::runs::{Given, Row, check, faultless, first};
 use std::alloc::Global;
 use std::process::Abort;
 use std::random::RandomSource;

@@ -1,13 +1,13 @@
 //! The card waits for buffers that are on their way back, and the loops of the roles go on side by side.
 ghost use Rattle.std.specs.Prelude.{Some};
 
-use super::frames::{PSH_ACK, Sent, capture, frame, to_9000};
 use super::limits::check_report_behind;
 use super::making::{LONG, made_by, make};
 use super::pools::bytes_from;
 use super::runs::{Given, Left, Stream, check_free, check_shelves, faultless, run_behind};
 use super::threads::{APART, TOGETHER};
 use replay_threads::Gate;
+use sample_captures::{PSH_ACK, Sent, capture, frame, to_9000};
 use std::alloc::Global;
 use std::hint::spin_loop;
 use std::process::Abort;

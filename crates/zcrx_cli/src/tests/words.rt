@@ -1,6 +1,6 @@
 //! Command lines.
-use super::frames::{PSH_ACK, capture_of, to_9000};
 use super::runs::{Given, Row, check, faultless, first};
+use sample_captures::{PSH_ACK, capture_of, to_9000};
 use std::test::Fail;
 
 /// Nothing is read or written.
