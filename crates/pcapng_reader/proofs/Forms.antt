@@ -192,8 +192,8 @@ classic-gives order later old new frame (Ok None) same gives =
     (at_end old new gives.0 gives.1, Took-nothing old new _ gives.1 (records_in-none order))
 classic-gives order later old new frame (Err fault) same gives = (classic_comes fault gives.0, gives.1, gives.2, gives.3)
 
-pub order-kept : (result : Result (Option Record) Fault) (old new : classic_capture.Reading)
+pub order-kept : (result : Result (Option Record) Fault) (old new : classic_capture.ClassicReading)
     → MatchResult result (λ _. new ≡ old) (λ fault. new ≡ record old { fault = Some fault })
     → new.order ≡ old.order
-order-kept (Ok found) old new kept = ap (λ (r : classic_capture.Reading). r.order) kept
-order-kept (Err fault) old new kept = ap (λ (r : classic_capture.Reading). r.order) kept
+order-kept (Ok found) old new kept = ap (λ (r : classic_capture.ClassicReading). r.order) kept
+order-kept (Err fault) old new kept = ap (λ (r : classic_capture.ClassicReading). r.order) kept

@@ -1,6 +1,6 @@
 use Rattle.std.proofs.Common.{◌+◌, ◌%◌, ◌^◌}
 use Rattle.word_board.proofs.Stepping.{app-asked}
-use Rattle.word_board.proofs.app_steps.AppSteps.add.Goals as goal
+use Rattle.word_board.proofs.app_steps.AppStepper.add.Goals as goal
 
 pub fetch_add-requires : goal.fetch_add-requires
 fetch_add-requires g c =

@@ -1,6 +1,6 @@
 use Rattle.std.specs.Prelude.{bit_and}
 use Rattle.word_board.proofs.Stepping.{app-asked}
-use Rattle.word_board.proofs.app_steps.AppSteps.and.Goals as goal
+use Rattle.word_board.proofs.app_steps.AppStepper.and.Goals as goal
 
 pub fetch_and-requires : goal.fetch_and-requires
 fetch_and-requires g c =

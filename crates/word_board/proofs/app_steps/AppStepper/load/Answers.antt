@@ -1,5 +1,5 @@
 use Rattle.word_board.proofs.Stepping.{app-asked}
-use Rattle.word_board.proofs.app_steps.AppSteps.load.Goals as goal
+use Rattle.word_board.proofs.app_steps.AppStepper.load.Goals as goal
 
 pub load-requires : goal.load-requires
 load-requires g c =

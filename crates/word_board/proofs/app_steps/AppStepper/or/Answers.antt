@@ -1,6 +1,6 @@
 use Rattle.std.specs.Prelude.{bit_or}
 use Rattle.word_board.proofs.Stepping.{app-asked}
-use Rattle.word_board.proofs.app_steps.AppSteps.or.Goals as goal
+use Rattle.word_board.proofs.app_steps.AppStepper.or.Goals as goal
 
 pub fetch_or-requires : goal.fetch_or-requires
 fetch_or-requires g c =

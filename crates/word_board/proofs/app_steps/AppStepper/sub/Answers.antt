@@ -1,6 +1,6 @@
 use Rattle.std.proofs.Common.{◌+◌, ◌-◌, ◌%◌, ◌^◌}
 use Rattle.word_board.proofs.Stepping.{app-asked}
-use Rattle.word_board.proofs.app_steps.AppSteps.sub.Goals as goal
+use Rattle.word_board.proofs.app_steps.AppStepper.sub.Goals as goal
 
 pub fetch_sub-requires : goal.fetch_sub-requires
 fetch_sub-requires g c =

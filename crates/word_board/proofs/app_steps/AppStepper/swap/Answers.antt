@@ -1,5 +1,5 @@
 use Rattle.word_board.proofs.Stepping.{app-asked}
-use Rattle.word_board.proofs.app_steps.AppSteps.swap.Goals as goal
+use Rattle.word_board.proofs.app_steps.AppStepper.swap.Goals as goal
 
 pub swap-requires : goal.swap-requires
 swap-requires g c =

@@ -1,6 +1,6 @@
 use Rattle.std.proofs.Common.{◌+◌, ◌%◌, ◌^◌}
 use Rattle.word_board.proofs.Stepping.{card-asked}
-use Rattle.word_board.proofs.card_steps.CardSteps.add.Goals as goal
+use Rattle.word_board.proofs.card_steps.CardStepper.add.Goals as goal
 
 pub fetch_add-requires : goal.fetch_add-requires
 fetch_add-requires g c =

@@ -1,5 +1,5 @@
 use Rattle.word_board.proofs.Stepping.{card-asked}
-use Rattle.word_board.proofs.card_steps.CardSteps.load.Goals as goal
+use Rattle.word_board.proofs.card_steps.CardStepper.load.Goals as goal
 
 pub load-requires : goal.load-requires
 load-requires g c =

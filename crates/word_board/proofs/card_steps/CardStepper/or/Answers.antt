@@ -1,6 +1,6 @@
 use Rattle.std.specs.Prelude.{bit_or}
 use Rattle.word_board.proofs.Stepping.{card-asked}
-use Rattle.word_board.proofs.card_steps.CardSteps.or.Goals as goal
+use Rattle.word_board.proofs.card_steps.CardStepper.or.Goals as goal
 
 pub fetch_or-requires : goal.fetch_or-requires
 fetch_or-requires g c =

@@ -1,6 +1,6 @@
 use Rattle.std.proofs.Common.{◌+◌, ◌-◌, ◌%◌, ◌^◌}
 use Rattle.word_board.proofs.Stepping.{card-asked}
-use Rattle.word_board.proofs.card_steps.CardSteps.sub.Goals as goal
+use Rattle.word_board.proofs.card_steps.CardStepper.sub.Goals as goal
 
 pub fetch_sub-requires : goal.fetch_sub-requires
 fetch_sub-requires g c =

@@ -1,5 +1,5 @@
 use Rattle.word_board.proofs.Stepping.{card-asked}
-use Rattle.word_board.proofs.card_steps.CardSteps.swap.Goals as goal
+use Rattle.word_board.proofs.card_steps.CardStepper.swap.Goals as goal
 
 pub swap-requires : goal.swap-requires
 swap-requires g c =
