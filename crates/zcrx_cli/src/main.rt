@@ -59,6 +59,11 @@ fn memory_or(other: Fault, error: &io::Error) -> Fault {
     }
 }
 
+/// Whether the words are those of `replay`.
+fn is_replay(words: &[&str]) -> bool {
+    matches!(words, ["replay", ..])
+}
+
 /// Shelves that together keep no more than `files` open, and count their flows.
 fn make_shelves<'a, R: Files + AllocGlobal>(
     rt: &'a R,
@@ -86,10 +91,11 @@ fn start(rt: &HostRuntime, threads: &(impl Threads + Wait + Sync)) -> Result<u8,
         .map_err(|_| Fault::Memory)?;
     let input = BufReader::with_capacity(rt.alloc(), INPUT_BUFFER, rt.reader());
     let flows = AtomicU64::new(0);
-    let command = words.first().copied();
-    let progress = match command {
-        Some("replay") => Progress::new(rt, &flows),
-        _ => None,
+    let replays = is_replay(&words);
+    let progress = if replays {
+        Progress::new(rt, &flows)
+    } else {
+        None
     };
     let mut source = Front::new(StdSource::new(input.map_err(|_| Fault::Memory)?), progress);
     let mut shelves = make_shelves(rt, spare_files(rt), &flows).map_err(|_| Fault::Memory)?;
@@ -113,7 +119,7 @@ fn start(rt: &HostRuntime, threads: &(impl Threads + Wait + Sync)) -> Result<u8,
         say_usage(rt, &words);
     }
     say_lost(rt, &shelves);
-    say_status(rt, command, status, source.bytes(), source.place());
+    say_status(rt, replays, status, source.bytes(), source.place());
     Ok(status)
 }
 
@@ -134,7 +140,7 @@ fn main(rt: HostRuntime) -> ExitCode {
     let status = match start(&rt, &rt) {
         Ok(status) => status,
         Err(fault) => {
-            say_status(&rt, None, fault.number(), &[], None);
+            say_status(&rt, false, fault.number(), &[], None);
             fault.number()
         }
     };

@@ -69,10 +69,10 @@ fn meaning(fault: Fault, front: &[u8]) -> &'static str {
     }
 }
 
-/// What else to do about a fault of this command.
-fn advice(fault: Fault, command: Option<&str>) -> &'static str {
-    match (fault, command) {
-        (Fault::Memory, Some("replay")) => " (fewer --buffers, or a smaller --size)",
+/// What else to do about a fault of a replay.
+fn advice(fault: Fault) -> &'static str {
+    match fault {
+        Fault::Memory => " (fewer --buffers, or a smaller --size)",
         _ => "",
     }
 }
@@ -106,10 +106,11 @@ fn is_within(fault: Fault) -> bool {
     )
 }
 
-/// Says what a status of the command means, where it isn't 0. The input began with `front`, and its reading ended at `place`.
+/// Says what a status means, of a replay or another command, where it isn't 0. The input began with `front`, and its reading
+/// ended at `place`.
 pub(crate) fn say_status(
     rt: &HostRuntime,
-    command: Option<&str>,
+    replays: bool,
     status: u8,
     front: &[u8],
     place: Option<LastSeen>,
@@ -123,7 +124,7 @@ pub(crate) fn say_status(
             let _ = eprintln!(rt; "zcrx: status {status}: {meaning} (at {place})");
         }
         _ => {
-            let advice = advice(fault, command);
+            let advice = if replays { advice(fault) } else { "" };
             let _ = eprintln!(rt; "zcrx: status {status}: {meaning}{advice}");
         }
     }
