@@ -92,11 +92,7 @@ fn start(rt: &HostRuntime, threads: &(impl Threads + Wait + Sync)) -> Result<u8,
     let input = BufReader::with_capacity(rt.alloc(), INPUT_BUFFER, rt.reader());
     let flows = AtomicU64::new(0);
     let replays = is_replay(&words);
-    let progress = if replays {
-        Progress::new(rt, &flows)
-    } else {
-        None
-    };
+    let progress = Progress::new(rt, &flows, replays);
     let mut source = Front::new(StdSource::new(input.map_err(|_| Fault::Memory)?), progress);
     let mut shelves = make_shelves(rt, spare_files(rt), &flows).map_err(|_| Fault::Memory)?;
     let mut out = StdSink::new(io::writer(rt));

@@ -30,9 +30,13 @@ pub(crate) struct Progress<'a> {
 }
 
 impl<'a> Progress<'a> {
-    /// Begins now, where standard error is a terminal.
-    pub(crate) fn new(rt: &'a HostRuntime, flows: &'a AtomicU64) -> Option<Progress<'a>> {
-        if !rt.stderr().is_terminal() {
+    /// Begins now, of a replay, where standard error is a terminal.
+    pub(crate) fn new(
+        rt: &'a HostRuntime,
+        flows: &'a AtomicU64,
+        replays: bool,
+    ) -> Option<Progress<'a>> {
+        if !replays || !rt.stderr().is_terminal() {
             return None;
         }
         let next = Instant::now(rt)
