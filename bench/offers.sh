@@ -13,8 +13,8 @@ set -u
 runs=${1:-5}
 top=$(cd "$(dirname "$0")/.." && pwd)
 work=$(mktemp -d)
-# page_pool and all that it stands on, with the proofs that earlier checks kept
-crates=(zr_kinds area_layout board_face face_table face_callers board_parts plain_board page_pool)
+# what the program below stands on, with the proofs that earlier checks kept
+crates=(zr_kinds run_records area_layout board_face event_log face_callers board_parts plain_board page_pool)
 trap 'rm -rf "$work"' EXIT
 
 fail() {

@@ -171,7 +171,7 @@ def check_statuses(page):
     manual = {head: numbers_in(text.split("\n.PP", 1)[0]) for head, text in entries(page, "EXIT STATUS")}
     compare("the numbers of status", {"docs/USE.md": use, "docs/zcrx.1": manual})
 
-    theorem = read("crates/zcrx_cli/specs/StreamTheorem.antt")
+    theorem = read("crates/top_call/specs/StreamTheorem.antt")
     listed = re.search(r"IsStatus status = list_any \(λ n\. n == status\) \(([^[]*)\[\]", theorem).group(1)
     usage = next(n for n, name in code.items() if name == "Usage")
     compare("statuses of a replay", {

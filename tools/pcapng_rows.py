@@ -4,9 +4,9 @@
 usage: tools/pcapng_rows.py
 
 The capture is the section header, the interface of Ethernet and the two packets that are cut off and changed in
-crates/pcapng_reader/src/tests.rt. It is read here by draft-ietf-opsawg-pcapng, block by block,
-in another way than the crate does. The first line has the status for each number of bytes that are left of it, the second that for
-each byte whose bits are all turned; 0 is no fault, and a record that was read before it adds 100.
+crates/capture_runs/src/blocks.rt. It is read here by draft-ietf-opsawg-pcapng, block by block, in another way than
+pcapng_reader does. The first line has the status for each number of bytes that are left of it, the second that for each byte
+whose bits are all turned; 0 is no fault, and a record that was read before it adds 100.
 """
 
 import struct

@@ -375,11 +375,6 @@ module _ (byte : ℕ → ℕ → ℕ) where
 
   -- ---- a placing in its two parts
 
-  -- a piece in the making shows no text yet, and what the card is in the middle of holds no text
-  pub CardIsShown-making : (nic : NicSide) (v : NicView) (making : Option Making) → v.pieces ≡ nic.view.pieces → CardIsShown byte nic
-      → CardIsShown byte (making_at nic v making)
-  CardIsShown-making nic v making same shown = record { pieces = rw same shown.pieces }
-
   -- a text that is complete is shown from then on
   pub CardIsShown-text_done : (nic : NicSide) (own : Filling) (bytes : List ℕ) (making : Option Making) → IsShown byte (next_place own (length bytes)) bytes
       → CardIsShown byte nic → CardIsShown byte (making_at nic (text_done nic.view own bytes) making)

@@ -16,6 +16,3 @@ pub use making::Make;
 pub use options::Options;
 pub use reading::{Command, Replay, read_words};
 pub use wrong::{USAGE, Wrong, what_is_wrong};
-
-#[cfg(test)]
-mod tests;

@@ -36,7 +36,7 @@ use Rattle.event_log.proofs.Parts.{app_weight}
 use Rattle.event_log.proofs.Settings.{pool_buffers-same}
 use Rattle.event_log.proofs.Shifts.{app-shift}
 use Rattle.event_log.proofs.Tallying.{Gains, SameLists, gains-none, keeps-app}
-use Rattle.event_log.proofs.Weighing.{one_if}
+use Rattle.run_records.proofs.Weighing.{one_if}
 use Rattle.board_face.proofs.AppLemmas.{SameHoldings}
 use Rattle.std.specs.List.{flat_map}
 use Rattle.event_log.specs.Tallies.{taken_as}

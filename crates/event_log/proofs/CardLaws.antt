@@ -39,7 +39,8 @@ use Rattle.event_log.proofs.Parts.{card_weight}
 use Rattle.event_log.proofs.Settings.{pool_buffers-same}
 use Rattle.event_log.proofs.Shifts.{card-shift}
 use Rattle.event_log.proofs.Tallying.{CardGains, Tallies, TellsNothing, card-stays, count-push, keeps-card, tallies-card}
-use Rattle.event_log.proofs.Weighing.{Moves, all-pass, one_if, weight-append, weight-le}
+use Rattle.run_records.proofs.Weighing.{Moves, one_if, weight-append}
+use Rattle.event_log.proofs.Weighing.{all-pass, weight-le}
 use Rattle.zr_kinds.proofs.Booleans.{if-le}
 
 -- an event that tells of no loan, of a card that dealt with no entry

@@ -22,7 +22,8 @@ use Rattle.event_log.specs.IsLogged.{AreSound, NoneReturns, run_of}
 use Rattle.event_log.specs.Plain.{SameHoldings, plain_holders, weight}
 use Rattle.event_log.proofs.Parts.{card_weight, app_weight, kind_weight, weight-kinds, weight-parts}
 use Rattle.event_log.proofs.Settings.{total-same}
-use Rattle.event_log.proofs.Weighing.{one_if, weight-among, weight-length}
+use Rattle.run_records.proofs.Weighing.{one_if, weight-length}
+use Rattle.event_log.proofs.Weighing.{weight-among}
 
 pub tally-total : {A : Type 0} (test : A → Bool) (xs : List A) → tally test xs ≡ total (λ x. one (test x)) xs
 tally-total test [] = refl

@@ -8,12 +8,8 @@ use Rattle.run_records.specs.declared.event.Event.{Event}
 use Rattle.run_records.specs.Setting.{Setting}
 use Rattle.run_records.specs.Holders.{Holdings, after, all_after}
 use Rattle.run_records.specs.LegalRun.{HasSmallNumbers}
+use Rattle.run_records.proofs.Following.{some_from}
 use Rattle.event_log.specs.Logs.{FirstEventsLaw}
-
-pub some_from : {A B : Type 0} (value : Option A) (f : A → Option B) (result : B) → option_and_then f value ≡ Some result
-    → (a : A) × (value ≡ Some a) × (f a ≡ Some result)
-some_from None f result is = cc
-some_from (Some a) f result is = (a, refl, is)
 
 -- the holders that the first events lead to
 pub front-reached : (s : Setting) (start h : Holdings) (events : List Event) (n : ℕ) → all_after s start events ≡ Some h

@@ -16,27 +16,15 @@ use Rattle.event_log.specs.IsLogged.{IsLogged, KeepsLog, Logs, NoneReturns, run_
 use Rattle.event_log.specs.Logs.{Kept, log_of, logged}
 use Rattle.event_log.specs.Plain.{SameHoldings, plain_holders, weight}
 use Rattle.event_log.specs.Tallies.{AreTallied}
-use Rattle.event_log.proofs.FirstEvents.{first-events, some_from}
+use Rattle.run_records.proofs.Following.{all_after-more, small-more}
+use Rattle.event_log.proofs.FirstEvents.{first-events}
 use Rattle.event_log.proofs.Parts.{here}
 use Rattle.event_log.proofs.Counting.{pool-weight, user-weight}
 use Rattle.event_log.proofs.Tallying.{KeepsTallies, Tallies}
-use Rattle.event_log.proofs.Weighing.{Moves, any-some, one_if, weight-count, weight-length}
+use Rattle.run_records.proofs.Weighing.{Moves, one_if, weight-count, weight-length}
+use Rattle.event_log.proofs.Weighing.{any-some}
 
 -- ---- one event more
-
-all_after-more : (s : Setting) (start h now : Holdings) (events : List Event) (e : Event) → all_after s start events ≡ Some h
-    → after s h e ≡ Some now → all_after s start (events ++ e ∷ []) ≡ Some now
-all_after-more s start h now [] e reached follows =
-    let same : start ≡ h = cc in
-    ap (option_and_then (λ k. Some k)) (ap (λ k. after s k e) same ∙ follows)
-all_after-more s start h now (f ∷ events) e reached follows =
-    let step = some_from (after s start f) (λ k. all_after s k events) h reached in
-    ap (option_and_then (λ k. all_after s k (events ++ e ∷ []))) step.1 ∙ all_after-more s step.0 h now events e step.2 follows
-
-small-more : (events : List Event) (e : Event) → AllByRecursion HasSmallNumbers events → HasSmallNumbers e
-    → AllByRecursion HasSmallNumbers (events ++ e ∷ [])
-small-more [] e small own = (own, tt)
-small-more (f ∷ events) e small own = (small.0, small-more events e small.1 own)
 
 -- what the holders of each buffer weigh
 abbrev pub Weights : Type 0

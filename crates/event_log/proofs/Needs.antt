@@ -21,7 +21,7 @@ use Rattle.event_log.specs.Plain.{weight}
 use Rattle.event_log.proofs.Counting.{buffer-there, ends, held-some, held-within}
 use Rattle.event_log.proofs.Following.{Becomes, Shifts, was-there}
 use Rattle.event_log.proofs.Settings.{size-same}
-use Rattle.event_log.proofs.Weighing.{one_if, some_becomes}
+use Rattle.run_records.proofs.Weighing.{one_if, some_becomes}
 
 -- ---- nothing is under way after the event either
 

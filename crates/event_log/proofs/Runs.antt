@@ -31,7 +31,7 @@ use Rattle.event_log.specs.ToldLaw.{ToldLaw}
 use Rattle.event_log.proofs.FirstEvents.{front-reached, front-small}
 use Rattle.event_log.proofs.Settings.{in-cons, pool_buffers-same, size-same, total-same}
 use Rattle.event_log.proofs.Tallying.{told-of}
-use Rattle.event_log.proofs.Weighing.{weight-length}
+use Rattle.run_records.proofs.Weighing.{weight-length}
 
 -- ---- no holder
 

@@ -31,7 +31,8 @@ use Rattle.event_log.proofs.Runs.{no-holders}
 use Rattle.event_log.proofs.Settings.{total-same}
 use Rattle.event_log.proofs.Shifts.{side-shift}
 use Rattle.event_log.proofs.Tallying.{card-stays, gains-none, keeps-app, tallies-card}
-use Rattle.event_log.proofs.Weighing.{any-some, one_if, weight-count, weight-filter, weight-length}
+use Rattle.run_records.proofs.Weighing.{one_if, weight-count, weight-filter, weight-length}
+use Rattle.event_log.proofs.Weighing.{any-some}
 
 -- the weights without those of what an application owes
 abbrev without_owed : ℕ → (Holding → ℕ) → Holding → ℕ

@@ -2,7 +2,7 @@ ghost use Rattle.std.specs.Prelude.{◌≡◌, ◌↔◌, IsTrue};
 ghost use Rattle.board_face.specs.Texts.{IsSplitNote, IsLinearNote};
 ghost use Rattle.board_face.specs.Opened.{new_nic_view};
 ghost use Rattle.board_face.specs.declared.views.parts.Setting.{Setting};
-ghost use Rattle.face_table.specs.CardHand.{IsCardHand, CardTells};
+ghost use Rattle.face_table.specs.CardHand.{IsCardHand, CardTells, PlaceTells, SendLinearTells};
 
 use crate::{Answer, Text};
 use board_face::{NicFace, Own, Piece};
@@ -71,17 +71,17 @@ pub fn card_call<F: NicFace>(face: &mut F, hand: &mut CardHand, call: CardCall) 
         CardCall::Take => take(face, hand),
         CardCall::Sweep(word) => sweep(face, hand, word),
         CardCall::Entry(app) => entry(face, hand, app),
-        CardCall::Place(text) => place(face, hand, &text),
+        CardCall::Place(text) => place(face, hand, text.bytes()),
         CardCall::Send(app, note) => send(face, hand, app, note),
-        CardCall::SendLinear(app, note, text) => send_linear(face, hand, app, note, &text),
+        CardCall::SendLinear(app, note, text) => send_linear(face, hand, app, note, text.bytes()),
         CardCall::Shut => shut(face, hand),
         CardCall::End => end(face, hand),
         CardCall::Left(app) => left(face, hand, app),
     }
 }
 
-/// Takes a buffer, where none is out.
-fn take<F: NicFace>(face: &mut F, hand: &mut CardHand) -> Answer
+/// Takes a buffer: its number, or `NoBuffer` where none is cached. `Skipped` where one is out, or the card has ended.
+pub fn take<F: NicFace>(face: &mut F, hand: &mut CardHand) -> Answer
     requires { IsCardHand (F.seen face.old) hand.old }
     ensures hand { IsCardHand (F.seen face.new) hand.new }
     ensures tells { CardTells (F.seen face.old) (F.seen face.new) hand.old CardCall.Take result }
@@ -100,8 +100,8 @@ fn take<F: NicFace>(face: &mut F, hand: &mut CardHand) -> Answer
     }
 }
 
-/// Sweeps a word, where there is room for it.
-fn sweep<F: NicFace>(face: &mut F, hand: &CardHand, word: u32) -> Answer
+/// Sweeps a word: how many buffers it had. `Skipped` where 64 are cached, or there is no such word.
+pub fn sweep<F: NicFace>(face: &mut F, hand: &CardHand, word: u32) -> Answer
     requires { IsCardHand (F.seen face.old) hand.now }
     ensures hand { IsCardHand (F.seen face.new) hand.now }
     ensures tells { CardTells (F.seen face.old) (F.seen face.new) hand.now (CardCall.Sweep word) result }
@@ -113,8 +113,8 @@ fn sweep<F: NicFace>(face: &mut F, hand: &CardHand, word: u32) -> Answer
     Answer::Number(face.sweep(word))
 }
 
-/// Deals with an entry.
-fn entry<F: NicFace>(face: &mut F, hand: &CardHand, app: u32) -> Answer
+/// Deals with the next entry of an application. `Skipped` where there is no such application.
+pub fn entry<F: NicFace>(face: &mut F, hand: &CardHand, app: u32) -> Answer
     requires { IsCardHand (F.seen face.old) hand.now }
     ensures hand { IsCardHand (F.seen face.new) hand.now }
     ensures tells { CardTells (F.seen face.old) (F.seen face.new) hand.now (CardCall.Entry app) result }
@@ -126,21 +126,21 @@ fn entry<F: NicFace>(face: &mut F, hand: &CardHand, app: u32) -> Answer
     Answer::Entry(face.entry(app))
 }
 
-/// Places a text in the buffer that is out, where it fits and no piece is out.
-fn place<F: NicFace>(face: &mut F, hand: &mut CardHand, text: &Text) -> Answer
+/// Places bytes in the buffer that is out: where they lie. `Skipped` where there are none or they don't fit, no buffer or a
+/// piece is out, or the card has ended.
+pub fn place<F: NicFace>(face: &mut F, hand: &mut CardHand, bytes: &[u8]) -> Answer
     requires { IsCardHand (F.seen face.old) hand.old }
     ensures hand { IsCardHand (F.seen face.new) hand.new }
-    ensures tells { CardTells (F.seen face.old) (F.seen face.new) hand.old (CardCall.Place text.now) result }
+    ensures tells { PlaceTells (F.seen face.old) (F.seen face.new) hand.old bytes.now result }
     ensures beside { F.beside face.new ≡ F.beside face.old }
 {
-    let bytes = text.bytes();
     if hand.ended || hand.piece.is_some() || bytes.is_empty() {
         return Answer::Skipped;
     }
     let Some(own) = &mut hand.own else {
         return Answer::Skipped;
     };
-    if bytes.len() as u32 > own.size() - own.start() {
+    if bytes.len() > (own.size() - own.start()) as usize {
         return Answer::Skipped;
     }
     let piece = face.place(own, bytes);
@@ -149,8 +149,9 @@ fn place<F: NicFace>(face: &mut F, hand: &mut CardHand, text: &Text) -> Answer
     Answer::At(place)
 }
 
-/// Sends a note of the piece that is out.
-fn send<F: NicFace>(face: &mut F, hand: &mut CardHand, app: u32, note: Note) -> Answer
+/// Sends a note of the piece that is out; where the answer is `Full`, the piece stays out. `Skipped` where the note isn't of that
+/// piece, or may not be sent.
+pub fn send<F: NicFace>(face: &mut F, hand: &mut CardHand, app: u32, note: Note) -> Answer
     requires { IsCardHand (F.seen face.old) hand.old }
     ensures hand { IsCardHand (F.seen face.new) hand.new }
     ensures tells { CardTells (F.seen face.old) (F.seen face.new) hand.old (CardCall.Send app note) result }
@@ -174,20 +175,20 @@ fn send<F: NicFace>(face: &mut F, hand: &mut CardHand, app: u32, note: Note) -> 
     }
 }
 
-/// Sends a note in which its bytes travel.
-fn send_linear<F: NicFace>(
+/// Sends a note in which these bytes travel: whether its slot was free. `Skipped` where the note may not be sent, or tells of
+/// another number of bytes.
+pub fn send_linear<F: NicFace>(
     face: &mut F,
     hand: &CardHand,
     app: u32,
     note: Note,
-    text: &Text,
+    bytes: &[u8],
 ) -> Answer
     requires { IsCardHand (F.seen face.old) hand.now }
     ensures hand { IsCardHand (F.seen face.new) hand.now }
-    ensures tells { CardTells (F.seen face.old) (F.seen face.new) hand.now (CardCall.SendLinear app note text.now) result }
+    ensures tells { SendLinearTells (F.seen face.old) (F.seen face.new) hand.now app note bytes.now result }
     ensures beside { F.beside face.new ≡ F.beside face.old }
 {
-    let bytes = text.bytes();
     if hand.ended || app >= face.apps() {
         return Answer::Skipped;
     }
@@ -197,8 +198,8 @@ fn send_linear<F: NicFace>(
     Answer::Flag(face.send_linear(app, note, bytes))
 }
 
-/// Closes the buffer that is out.
-fn shut<F: NicFace>(face: &mut F, hand: &mut CardHand) -> Answer
+/// Closes the buffer that is out. `Skipped` where none is, or the card has ended.
+pub fn shut<F: NicFace>(face: &mut F, hand: &mut CardHand) -> Answer
     requires { IsCardHand (F.seen face.old) hand.old }
     ensures hand { IsCardHand (F.seen face.new) hand.new }
     ensures tells { CardTells (F.seen face.old) (F.seen face.new) hand.old CardCall.Shut result }
@@ -216,8 +217,8 @@ fn shut<F: NicFace>(face: &mut F, hand: &mut CardHand) -> Answer
     }
 }
 
-/// Ends, where no token is out.
-fn end<F: NicFace>(face: &mut F, hand: &mut CardHand) -> Answer
+/// Ends. `Skipped` where a buffer or a piece is out.
+pub fn end<F: NicFace>(face: &mut F, hand: &mut CardHand) -> Answer
     requires { IsCardHand (F.seen face.old) hand.old }
     ensures hand { IsCardHand (F.seen face.new) hand.new }
     ensures tells { CardTells (F.seen face.old) (F.seen face.new) hand.old CardCall.End result }
@@ -231,8 +232,8 @@ fn end<F: NicFace>(face: &mut F, hand: &mut CardHand) -> Answer
     Answer::Done
 }
 
-/// Asks whether an application has left.
-fn left<F: NicFace>(face: &mut F, hand: &CardHand, app: u32) -> Answer
+/// Asks whether an application has left. `Skipped` where there is no such application.
+pub fn left<F: NicFace>(face: &mut F, hand: &CardHand, app: u32) -> Answer
     requires { IsCardHand (F.seen face.old) hand.now }
     ensures hand { IsCardHand (F.seen face.new) hand.now }
     ensures tells { CardTells (F.seen face.old) (F.seen face.new) hand.now (CardCall.Left app) result }

@@ -63,13 +63,6 @@ pub gives-gone : (old new : AppView) (more : List LentPiece) → new.written ≡
 gives-gone old new more written setting returned gives = subst (Gives new) (sym (front-gone old new more written setting returned gives))
     (gives-same old new old.returned written setting gives)
 
-pub front-same : (old new : AppView) → new.written ≡ old.written → new.setting ≡ old.setting → new.returned ≡ old.returned
-    → Gives old (take (loan_entries old) old.returned) → Gives new (take (loan_entries new) new.returned)
-front-same old new written setting returned gives =
-    let count : loan_entries new ≡ loan_entries old = ap (λ ws. total (λ (w : WrittenEntry). if w.of_loan then 1 else 0) ws) written in
-    subst (Gives new) (ap (take (loan_entries old)) (sym returned) ∙ ap (λ n. take n new.returned) (sym count))
-    (gives-same old new (take (loan_entries old) old.returned) written setting gives)
-
 pub fresh_given : (v : AppView) → v.written ≡ [] → v.returned ≡ [] → Gives v v.returned
 fresh_given v written returned = ap loans_of written ∙ ap (entries_of v.setting.layout) (sym returned)
 

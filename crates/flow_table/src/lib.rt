@@ -14,6 +14,3 @@ mod table;
 pub use close::Close;
 pub use placed::{FlowFault, FlowInfo, Steered};
 pub use table::FlowTable;
-
-#[cfg(test)]
-mod tests;

@@ -1,13 +1,14 @@
 ghost use Rattle.std.specs.Prelude.{◌≡◌, [], IfOk};
 ghost use Rattle.board_face.specs.Ended.{IsEachOnce};
-ghost use Rattle.worker_runs.specs.Card.{IsCard};
+ghost use Rattle.face_table.specs.CardHand.{IsCardHand};
 
 use crate::{Mood, Moody};
 use area_layout::Layout;
+use face_table::CardHand;
 use std::alloc::Global;
 use std::test::*;
 use word_board::{NicSeat, WordBoard};
-use worker_runs::{Card, CardCall, Told, card_call};
+use worker_runs::{CardMove, Told, card_move};
 use zc_forward::{Carrier, Forward, ShelfCarrier};
 use zc_poll::{LoanStream, PollTurn, Poured, Rests, Waits};
 use zr_io::MemShelf;
@@ -51,36 +52,36 @@ fn bytes_of(number: u32) -> [u8; 3] {
 /// The card's hand, and how many payloads it sent.
 #[derive(Drop)]
 struct Hand {
-    card: Card,
+    card: CardHand,
     sent: u32,
 }
 
 /// The card deals with an entry. Where the stream waits for a note, it sends the next payload, or ends behind the last. Where it has no buffer
 /// the payload travels in its note.
 fn feed(nic: &mut NicSeat<'_>, hand: &mut Hand, script: &Script, why: Rests)
-    requires { IsCard nic.old.side.view hand.old.card }
-    ensures card { IsCard nic.new.side.view hand.new.card }
+    requires { IsCardHand nic.old.side.view hand.old.card }
+    ensures card { IsCardHand nic.new.side.view hand.new.card }
     ensures board { nic.new.board ≡ nic.old.board }
 {
-    card_call(nic, &mut hand.card, CardCall::Entry);
-    card_call(nic, &mut hand.card, CardCall::Sweep);
+    card_move(nic, &mut hand.card, CardMove::Entry);
+    card_move(nic, &mut hand.card, CardMove::Sweep);
     if why != Rests::Stream(Waits::NoNote) {
         return;
     }
     if hand.sent == script.payloads {
-        card_call(nic, &mut hand.card, CardCall::End);
+        card_move(nic, &mut hand.card, CardMove::End);
         return;
     }
     let wants = script.short_each == 0 || hand.sent % script.short_each != 0;
-    let split = wants && card_call(nic, &mut hand.card, CardCall::Take) == Told::Done;
+    let split = wants && card_move(nic, &mut hand.card, CardMove::Take) == Told::Done;
     let bytes = bytes_of(hand.sent);
     let note = note(hand.sent, split);
     let call = if split {
-        CardCall::Send(note, &bytes)
+        CardMove::Send(note, &bytes)
     } else {
-        CardCall::SendLinear(note, &bytes)
+        CardMove::SendLinear(note, &bytes)
     };
-    if card_call(nic, &mut hand.card, call) == Told::Done {
+    if card_move(nic, &mut hand.card, call) == Told::Done {
         hand.sent = hand.sent.wrapping_add(1);
     }
 }
@@ -99,7 +100,7 @@ fn forwards<C: Carrier + Drop>(
     let mut nic = board.nic(&mut desk).ok_or("no seat of the card")?;
     let seat = board.app(&mut desk, 0).ok_or("no seat of the application")?;
     let mut hand = Hand {
-        card: Card::new(),
+        card: CardHand::new(),
         sent: 0,
     };
     let mut work = Forward::new(LoanStream::new(alloc, seat, 0), carrier);

@@ -12,6 +12,3 @@ pub use capture::{Capture, Record};
 pub use filling::{fill, fill_whole};
 pub use order::ByteOrder;
 pub use record::read_body;
-
-#[cfg(test)]
-mod tests;

@@ -12,6 +12,3 @@ mod section;
 
 pub use any::AnyCapture;
 pub use pcap_reader::Record;
-
-#[cfg(test)]
-mod tests;

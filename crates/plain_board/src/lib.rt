@@ -28,6 +28,3 @@ pub use board::PlainBoard;
 pub use laws::{boards_end_well, lent_texts_stand, users_are_loans};
 pub use nic::PlainNic;
 pub use others::{Applications, Others};
-
-#[cfg(test)]
-mod tests;

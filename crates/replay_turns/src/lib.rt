@@ -12,6 +12,3 @@ mod stepping;
 pub use laws::{runs_stay_within, stuck_runs_are_over, turns_rise};
 pub use role::Role;
 pub use running::run_turns;
-
-#[cfg(test)]
-mod tests;

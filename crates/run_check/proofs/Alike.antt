@@ -13,7 +13,8 @@ use Rattle.run_records.specs.Setting.{Setting}
 use Rattle.run_records.specs.Holders.{Holdings, after, after_at, becomes, buffer_of, changed, has_counts, is_apart, is_in_range, is_same, is_pool_buffer, is_pool_count, is_reserve_of}
 use Rattle.run_records.specs.Holders.{is_user, is_user_count, only_if, with_holders}
 use Rattle.run_check.specs.Holding.{SameHolders, SameHoldings, can_place}
-use Rattle.run_check.proofs.Weighing.{all-same, any-same, count-same, filter-same, length-same, none_becomes, same-append, some_becomes, weight-length}
+use Rattle.run_records.proofs.Weighing.{some_becomes, weight-length}
+use Rattle.run_check.proofs.Weighing.{all-same, any-same, count-same, filter-same, length-same, none_becomes, same-append}
 
 abbrev pub AreAlike : Option (List Holding) → Option (List Holding) → Type 0
 AreAlike None None = Unit {0}

@@ -22,7 +22,8 @@ use Rattle.run_check.specs.Places.{AreApart, IsNoLoan, all_placed, held_by}
 use Rattle.run_check.specs.Buffer.{IsSoundBuffer, LeavesNoPlace, holders_in, kept_by, owed_from}
 use Rattle.run_check.proofs.Placing.{apart-put, apart-set, apart-take, found_some, free_there, rest_free, weight-put, weight-set, weight-take}
 use Rattle.run_check.proofs.Viewing.{alone_there, any-own, any-owed, any-place, any-spare, card_is, counted, owed_few, owed_fewer, owed_more, spare_is, there_found, users_fewer, users_more, view, weight-view}
-use Rattle.run_check.proofs.Weighing.{Moves, becomes_now, none_becomes, one_if, weight-absent, weight-one_if, weight-append, weight-count, weight-kept, weight-length, weight-replicate, without}
+use Rattle.run_records.proofs.Weighing.{Moves, one_if, weight-append, weight-count, weight-length}
+use Rattle.run_check.proofs.Weighing.{becomes_now, none_becomes, weight-absent, weight-one_if, weight-kept, weight-replicate, without}
 
 -- what a call owes: its counts and places are right, and the holders are what they become
 pub record IsDone (b : Inside) (becoming : Option (List Holding)) : Type 0 where

@@ -1,18 +1,17 @@
 -- How the reading of a record's lines goes on and ends.
 use Rattle.std.proofs.Common.{◌≡◌, ◌∙◌, ℕ, ◌+◌, ◌++◌, ◌≤◌, List, [], ◌∷◌, length, map, All, Bool, true, false, refl, sym, ap, subst, arith, ◌⊎◌, ⊎_elim}
 use Rattle.std.proofs.Common.{Some, None, IsTrue, append_assoc, append-nil, length-append, zero, suc}
-use Rattle.std.specs.Prelude.{option_and_then}
-use Rattle.std.specs.List.{AllByRecursion}
 use Rattle.run_records.specs.declared.event.Event.{Event}
 use Rattle.run_records.specs.Setting.{most_events, IsArea, IsSetting, Setting}
-use Rattle.run_records.specs.Holders.{Holdings, after, all_after, no_holdings}
-use Rattle.run_records.specs.LegalRun.{HasSmallNumbers, IsLegalRun}
+use Rattle.run_records.specs.Holders.{Holdings, after, no_holdings}
+use Rattle.run_records.specs.LegalRun.{IsLegalRun}
 use Rattle.run_records.specs.RunText.{Text, last_line, line_of, run_line, text_of_lines}
+use Rattle.run_records.proofs.Following.{all_after-more, small-more}
 use Rattle.run_check.specs.declared.checking.Checked.TheVariants.{Yes, No}
 use Rattle.run_check.specs.Coming.{HasNoLine, IsOneLine}
 use Rattle.run_check.specs.Judged.{BeginARun, Judges}
 use Rattle.run_check.specs.Reading.{event_of}
-use Rattle.run_check.proofs.Going.{IsLegalSoFar, MayFollow, not_last, some_from}
+use Rattle.run_check.proofs.Going.{IsLegalSoFar, MayFollow, not_last}
 use Rattle.run_check.proofs.Judging.{bad_line, more_behind, no_run, same_line, whole_run}
 use Rattle.run_check.proofs.LineText.{event_of-line_of, line_of-event_of}
 use Rattle.run_check.proofs.Short.{last_line-short, line_of-short}
@@ -43,19 +42,6 @@ come_first s start sound = record {
   text = refl;
 }
 
-all_after_more : (s : Setting) (start h now : Holdings) (events : List Event) (e : Event) → all_after s start events ≡ Some h → after s h e ≡ Some now
-    → all_after s start (events ++ e ∷ []) ≡ Some now
-all_after_more s start h now [] e reached follows =
-    let same : start ≡ h = cc in
-    ap (option_and_then (λ k. Some k)) (ap (λ k. after s k e) same ∙ follows)
-all_after_more s start h now (f ∷ events) e reached follows =
-    let step = some_from (after s start f) (λ k. all_after s k events) h reached in
-    ap (option_and_then (λ k. all_after s k (events ++ e ∷ []))) step.1 ∙ all_after_more s step.0 h now events e step.2 follows
-
-small_more : (events : List Event) (e : Event) → AllByRecursion HasSmallNumbers events → HasSmallNumbers e → AllByRecursion HasSmallNumbers (events ++ e ∷ [])
-small_more [] e small own = (own, tt)
-small_more (f ∷ events) e small own = (small.0, small_more events e small.1 own)
-
 text_more : (events : List Event) (e : Event) (rest : List ℕ)
     → text_of_lines (map line_of events) ++ ((line_of e ++ 10 ∷ []) ++ rest) ≡ text_of_lines (map line_of (events ++ e ∷ [])) ++ rest
 text_more [] e rest = ap (λ t. t ++ rest) (sym (append-nil (line_of e ++ 10 ∷ [])))
@@ -74,8 +60,8 @@ come_more s start rest later h now count line e come room took read follows =
       far = record {
         sound = come.far.sound;
         most = omega (arith, length-append come.events (e ∷ []), come.number);
-        small = small_more come.events e come.far.small own.1;
-        reached = all_after_more s no_holdings h now come.events e come.far.reached follows;
+        small = small-more come.events e come.far.small own.1;
+        reached = all_after-more s no_holdings h now come.events e come.far.reached follows;
       };
       text = come.text ∙ ap (λ r. text_of_lines (map line_of come.events) ++ r) (took ∙ ap (λ l. (l ++ 10 ∷ []) ++ later) own.0) ∙ text_more come.events e later;
     }

@@ -1,13 +1,13 @@
 -- What may follow the lines of a run that is legal so far.
 use Rattle.std.proofs.Common.{◌≡◌, ◌∙◌, ◌+◌, ◌++◌, ◌≤◌, List, [], ◌∷◌, length, map, Bool, false, refl, sym, ap, subst, arith, ◌⊎◌, inl, inr, ⊎_elim}
-use Rattle.std.proofs.Common.{Option, Some, None, append_assoc, length-append}
-use Rattle.std.specs.Prelude.{option_and_then}
+use Rattle.std.proofs.Common.{Some, None, append_assoc, length-append}
 use Rattle.std.specs.List.{AllByRecursion}
 use Rattle.run_records.specs.declared.event.Event.{Event}
 use Rattle.run_records.specs.Setting.{most_events, IsSetting, Setting}
 use Rattle.run_records.specs.Holders.{Holdings, after, all_after, no_holdings}
 use Rattle.run_records.specs.LegalRun.{HasSmallNumbers, IsLegalRun}
 use Rattle.run_records.specs.RunText.{Text, last_line, line_of, lines_of, run_line}
+use Rattle.run_records.proofs.Following.{some_from}
 use Rattle.run_check.specs.Judged.{BeginARun}
 use Rattle.run_check.specs.Reading.{event_of, setting_of}
 use Rattle.run_check.proofs.LineText.{event_of-line_of, last_line-no_event}
@@ -86,11 +86,6 @@ compared (e ∷ events) (f ∷ others) line behind whole small others_small same
     (compared events others line behind whole small.1 others_small.1 rest)
 
 -- ---- the event that is next in a legal run
-
-pub some_from : {A B : Type 0} (value : Option A) (f : A → Option B) (result : B) → option_and_then f value ≡ Some result
-    → (a : A) × (value ≡ Some a) × (f a ≡ Some result)
-some_from None f result is = cc
-some_from (Some a) f result is = (a, refl, is)
 
 next_after : (s : Setting) (start h end : Holdings) (events : List Event) (e : Event) (more : List Event) → all_after s start events ≡ Some h
     → all_after s start (events ++ e ∷ more) ≡ Some end → (then : Holdings) × (after s h e ≡ Some then)

@@ -18,7 +18,8 @@ use Rattle.run_check.specs.Holding.{weight}
 use Rattle.run_check.specs.Places.{AreApart, all_placed, held_by, is_same_hand}
 use Rattle.run_check.specs.Buffer.{AreCounted, LeavesNoPlace, kept_by, owed_from}
 use Rattle.run_check.proofs.Placing.{none_there, one_there, place_is}
-use Rattle.run_check.proofs.Weighing.{Moves, any-append, any-replicate, one_if, weight-append, weight-count, weight-length, weight-replicate}
+use Rattle.run_records.proofs.Weighing.{Moves, one_if, weight-append, weight-count, weight-length}
+use Rattle.run_check.proofs.Weighing.{any-append, any-replicate, weight-replicate}
 
 abbrev pub view : Keeper → List (ℕ × OwnedPlace) → List ℕ → List Holding
 view keeper entries owed = kept_by keeper ++ (all_placed entries ++ owed_from 0 owed)

@@ -46,9 +46,9 @@ Judges bytes (Yes lines) = IsRunText bytes lines
 Judges bytes (No line) = IsFirstBad bytes line × ((lines : ℕ) → IsRunText bytes lines → ⊥)
 
 -- with `Yes` the source was read to its end
-abbrev pub IsReadToEnd : Option (List ℕ) → Checked → Type 0
-IsReadToEnd left (Yes lines) = IsAtEnd left
-IsReadToEnd left (No line) = Unit {0}
+abbrev pub YesAtEnd : Option (List ℕ) → Checked → Type 0
+YesAtEnd left (Yes lines) = IsAtEnd left
+YesAtEnd left (No line) = Unit {0}
 
 -- the faults of a check: memory, which is free, and a failed read, at which the source's count rose
 abbrev pub HasCheckCause : {T : Type 0} → ℕ → ℕ → Result T Fault → Type 0

@@ -4,7 +4,7 @@ ghost use Rattle.run_records.specs.Setting.{total_buffers};
 ghost use Rattle.run_records.specs.RunText.{run_line, text_of_lines};
 ghost use Rattle.run_check.specs.Coming.{ahead};
 ghost use Rattle.run_check.specs.Holding.{EndsRecord, LineChanges, holdings_of};
-ghost use Rattle.run_check.specs.Judged.{HasCheckCause, IsReadToEnd, Judges};
+ghost use Rattle.run_check.specs.Judged.{HasCheckCause, Judges, YesAtEnd};
 
 use crate::holders::Holders;
 use crate::lines::Lines;
@@ -30,7 +30,7 @@ pub enum Checked {
 /// Of a source without end no more than 1,000,002 lines of at most 129 bytes and a buffer are read.
 pub fn check<S: Source>(alloc: Global, source: &mut S) -> Result<Checked, Fault>
     ensures judges { IfSome (S.left source.old) (λ bytes. IfOk result (Judges bytes)) }
-    ensures end { IfOk result (IsReadToEnd (S.left source.new)) }
+    ensures end { IfOk result (YesAtEnd (S.left source.new)) }
     ensures cause { HasCheckCause (S.faults source.old) (S.faults source.new) result }
 {
     let Ok(mut lines) = Lines::new(alloc) else {
@@ -55,7 +55,7 @@ fn check_events<S: Source>(
 ) -> Result<Checked, Fault>
     ensures judges { IfSome (ahead lines.old.bytes (S.left source.old))
         (λ rest. IfOk result (Judges (text_of_lines (run_line setting.now ∷ []) ++ rest))) }
-    ensures end { IfOk result (IsReadToEnd (S.left source.new)) }
+    ensures end { IfOk result (YesAtEnd (S.left source.new)) }
     ensures cause { HasCheckCause (S.faults source.old) (S.faults source.new) result }
 {
     let Ok(mut holders) = Holders::new(alloc, setting.total_buffers()) else {
@@ -111,7 +111,7 @@ fn change(
 fn check_end<S: Source>(line: u32, lines: &mut Lines, source: &mut S) -> Result<Checked, Fault>
     requires { line + 1 < 2 ^ 32 }
     ensures ends { IfOk result (EndsRecord (ahead lines.old.bytes (S.left source.old)) line) }
-    ensures end { IfOk result (IsReadToEnd (S.left source.new)) }
+    ensures end { IfOk result (YesAtEnd (S.left source.new)) }
     ensures cause { HasCheckCause (S.faults source.old) (S.faults source.new) result }
 {
     if lines.is_over(source)? {

@@ -9,8 +9,6 @@ mod holders;
 mod lines;
 mod places;
 mod setting;
-#[cfg(test)]
-mod tests;
 mod words;
 
 pub use checking::{Checked, check};

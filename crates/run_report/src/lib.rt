@@ -4,8 +4,6 @@
 mod lines;
 mod record;
 mod report;
-#[cfg(test)]
-mod tests;
 
 pub use record::write_record;
 pub use report::{Report, Unreported, answer, write_report};

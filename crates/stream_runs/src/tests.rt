@@ -10,6 +10,7 @@ mod pouring;
 use crate::{begin, gather, send};
 use area_layout::Layout;
 use board_face::NicFace;
+use face_table::CardHand;
 use futures::executor::block_on;
 use futures::task::{Context, Poll};
 use futures::{Future, Stream};
@@ -17,12 +18,12 @@ use plain_board::{PlainApp, PlainBoard};
 use std::alloc::Global;
 use std::process::Abort;
 use std::test::*;
-use worker_runs::{Card, CardCall, Told};
+use worker_runs::{CardMove, Told};
 use zc_poll::{LoanStream, Step, Waits};
 use zr_kinds::{Note, Place};
 
 /// A board for one application, with rings of so many places, and its card.
-fn open(alloc: Global, places: u32) -> Result<(PlainBoard, Card), Fail>
+fn open(alloc: Global, places: u32) -> Result<(PlainBoard, CardHand), Fail>
     ensures { IfOk result (λ begun. IsWaiting begun.0 begun.1) }
 {
     if places == 0 || places > 256 {
@@ -30,7 +31,7 @@ fn open(alloc: Global, places: u32) -> Result<(PlainBoard, Card), Fail>
     }
     let layout = Layout::new(4, 1, 4096).ok_or("no layout")?;
     let board = PlainBoard::open(alloc, layout, 1, places)?;
-    let card = Card::new();
+    let card = CardHand::new();
     Ok((board, card))
 }
 
@@ -75,31 +76,31 @@ enum Wanted {
 fn play(
     rt: &impl Abort,
     board: PlainBoard,
-    card: &mut Card,
+    card: &mut CardHand,
     sent: &[Sent],
     ends: bool,
 ) -> PlainBoard
     requires { IsWaiting board card.old }
     ensures { IsWaiting result card.new }
 {
-    let (board, _) = send(board, card, CardCall::Sweep);
-    let (mut board, told) = send(board, card, CardCall::Take);
+    let (board, _) = send(board, card, CardMove::Sweep);
+    let (mut board, told) = send(board, card, CardMove::Take);
     assert_eq!(rt; told, Told::Done);
     let mut frame = 0u32;
     for one in sent {
         frame = frame.wrapping_add(1);
         let note = note(frame, one.flow, one.seq, one.bytes, one.split);
         let call = if one.split {
-            CardCall::Send(note, one.bytes)
+            CardMove::Send(note, one.bytes)
         } else {
-            CardCall::SendLinear(note, one.bytes)
+            CardMove::SendLinear(note, one.bytes)
         };
         let (next, told) = send(board, card, call);
         assert_eq!(rt; told, Told::Done, "{frame}");
         board = next;
     }
     if ends {
-        let (next, told) = send(board, card, CardCall::End);
+        let (next, told) = send(board, card, CardMove::End);
         assert_eq!(rt; told, Told::Done);
         return next;
     }

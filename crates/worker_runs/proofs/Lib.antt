@@ -1,4 +1,3 @@
 mod Placing
 mod Framing
-mod Tokens
 mod Opening

@@ -1,14 +1,14 @@
 -- The card and one application between two steps.
 use Rattle.std.specs.Prelude.{◌≡◌, Bool, false, true}
 use Rattle.board_face.specs.AppCalls.{IsHere}
+use Rattle.face_table.specs.declared.card.CardHand.{CardHand}
+use Rattle.face_table.specs.CardHand.{IsCardHand}
 use Rattle.plain_board.specs.Board.{Board, side_of}
 use Rattle.app_worker.specs.State.{State, AppStands}
-use Rattle.worker_runs.specs.declared.card.Card.{Card as TheCard}
-use Rattle.worker_runs.specs.Card.{IsCard}
 
 -- The hand fits the card's side and the state the application's, which is there until it has left.
-pub record IsPlaying (board : Board) (hand : TheCard) (st : State) (left : Bool) : Type 0 where
-  pub card : IsCard board.nic.view hand
+pub record IsPlaying (board : Board) (hand : CardHand) (st : State) (left : Bool) : Type 0 where
+  pub card : IsCardHand board.nic.view hand
   pub stands : AppStands st (side_of board 0).view
   pub here : left ≡ false → IsHere (side_of board 0).view
   pub gone : left ≡ true → (side_of board 0).view.left ≡ true

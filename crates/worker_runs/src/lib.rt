@@ -7,5 +7,5 @@ mod scene;
 #[cfg(test)]
 mod tests;
 
-pub use card::{Card, CardCall, Told, card_call};
+pub use card::{CardMove, Told, card_move};
 pub use scene::{Scene, card_step, turn_step};

@@ -1,10 +1,11 @@
 ghost use Rattle.std.specs.Prelude.{IfOk};
 ghost use Rattle.worker_runs.specs.Scene.{IsPlaying};
 
-use crate::{Card, Scene};
+use crate::Scene;
 use app_worker::AppState;
 use area_layout::Layout;
 use board_face::NicFace;
+use face_table::CardHand;
 use plain_board::PlainBoard;
 use std::alloc::Global;
 use std::test::*;
@@ -39,7 +40,7 @@ fn open(alloc: Global, setup: Setup, fails: Vec<(u64, usize)>) -> Result<(PlainB
     let st = AppState::new(alloc, 0, setup.places, setup.how)?;
     let shelf = MemShelf::new(alloc, 4, 4096, fails)?;
     let board = PlainBoard::open(alloc, layout, 1, setup.places)?;
-    let card = Card::new();
+    let card = CardHand::new();
     let scene = Scene {
         card,
         st,

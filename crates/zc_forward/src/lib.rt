@@ -12,8 +12,6 @@ mod laws;
 mod outbox;
 mod sent;
 mod shelf_carrier;
-#[cfg(test)]
-mod tests;
 
 pub use carrier::Carrier;
 pub use forward::Forward;

@@ -5,21 +5,14 @@
 #![tactic(auto)]
 
 ghost use Rattle.std.specs.Prelude.{◌≡◌, IfOk, vec_len};
-ghost use Rattle.zcrx_cli.specs.Cards.{IsClosed};
+ghost use Rattle.top_call.specs.Cards.{IsClosed};
 
-mod card;
-mod checking;
 mod descriptors;
 mod front;
 mod messages;
 mod progress;
 mod records;
-mod status;
-#[cfg(test)]
-mod tests;
-mod top;
 
-pub use card::Card;
 use descriptors::{hold_closed_streams, spare_files};
 use file_shelf::FileShelf;
 use front::Front;
@@ -35,12 +28,9 @@ use std::sync::Wait;
 use std::sync::atomic::AtomicU64;
 use std::thread::Threads;
 use std::{env, io};
-pub use top::{zcrx, zcrx_alone};
+use top_call::{Card, SHELVES, zcrx};
 use zr_io::{StdSink, StdSource};
 use zr_kinds::Fault;
-
-/// How many shelves there are, one for each application.
-const SHELVES: usize = 8;
 
 /// How many bytes of standard input are read at a time.
 const INPUT_BUFFER: usize = 65_536;

@@ -1,12 +1,13 @@
 //! A stream is poured as a future, beside a card with a thread of its own.
 ghost use Rattle.std.specs.Prelude.{◌≡◌, ℕ, List, Option, Some, IfSome};
-ghost use Rattle.worker_runs.specs.Card.{IsCard};
+ghost use Rattle.face_table.specs.CardHand.{IsCardHand};
 ghost use Rattle.zc_poll.specs.Pouring.{PourStands};
 ghost use Rattle.zr_io.specs.Memory.{kept_of};
 
 use super::pouring::send_all;
 use super::{Sent, piece, short};
 use area_layout::Layout;
+use face_table::CardHand;
 use futures::Future;
 use futures::executor::block_on;
 use futures::task::{Context, Poll};
@@ -19,7 +20,7 @@ use std::sync::atomic::{AtomicBool, Ordering};
 use std::test::*;
 use std::thread::{Threads, join};
 use word_board::{AppSeat, NicSeat, WordBoard};
-use worker_runs::{Card, CardCall, card_call};
+use worker_runs::{CardMove, card_move};
 use zc_poll::{LoanStream, Poured, ToShelf};
 use zr_io::MemShelf;
 use zr_kinds::Stopped;
@@ -57,17 +58,17 @@ impl Future for Shelved<'_> {
 fn serve<R: Abort + Wait>(
     rt: &R,
     nic: &mut NicSeat<'_>,
-    card: &mut Card,
+    card: &mut CardHand,
     sent: &[Sent],
     done: &AtomicBool,
 )
-    requires { IsCard nic.old.side.view card.old }
-    ensures { IsCard nic.new.side.view card.new }
+    requires { IsCardHand nic.old.side.view card.old }
+    ensures { IsCardHand nic.new.side.view card.new }
 {
     send_all(rt, nic, card, sent);
-    card_call(nic, card, CardCall::End);
+    card_move(nic, card, CardMove::End);
     for _ in rt.forever() {
-        card_call(nic, card, CardCall::Entry);
+        card_move(nic, card, CardMove::Entry);
         if done.load(Ordering::SeqCst) {
             return;
         }
@@ -92,13 +93,13 @@ fn join_both<R: Threads + Wait + Abort + RandomSource + AllocGlobal + Sync, F: F
     rt: &R,
     work: F,
     nic: &mut NicSeat<'_>,
-    card: &mut Card,
+    card: &mut CardHand,
     sent: &[Sent],
 ) -> io::Result<F::Output>
 where
     F::Output: Send,
     requires can { F.can_poll work }
-    requires card { IsCard nic.old.side.view card.old }
+    requires card { IsCardHand nic.old.side.view card.old }
 {
     let done = AtomicBool::new(false);
     let (poured, ()) = join(
@@ -119,7 +120,7 @@ fn pours_beside<R: Threads + Wait + Abort + RandomSource + AllocGlobal + Sync>(
     let (board, mut desk) = WordBoard::open(rt.alloc(), layout, 1, 16)?;
     let mut nic = board.nic(&mut desk).ok_or("no seat of the card")?;
     let seat = board.app(&mut desk, 0).ok_or("no seat of the application")?;
-    let mut card = Card::new();
+    let mut card = CardHand::new();
     let work = ToShelf::new(LoanStream::new(rt.alloc(), seat, 0), shelf);
     let work = Shelved { work: Some(work) };
     Ok(join_both(rt, work, &mut nic, &mut card, sent)?)

@@ -1,37 +1,38 @@
 //! What is poured into a shelf, over the board on words by one thread.
 ghost use Rattle.std.specs.Prelude.{◌≡◌, ◌≤◌};
-ghost use Rattle.worker_runs.specs.Card.{IsCard};
+ghost use Rattle.face_table.specs.CardHand.{IsCardHand};
 
 use super::{Sent, gather, note, piece, short};
 use area_layout::Layout;
+use face_table::CardHand;
 use futures::executor::block_on;
 use std::alloc::Global;
 use std::process::Abort;
 use std::test::*;
 use word_board::{NicSeat, WordBoard};
-use worker_runs::{Card, CardCall, Told, card_call};
+use worker_runs::{CardMove, Told, card_move};
 use zc_poll::{LoanStream, PollTurn, Poured, Step, ToShelf, Waits};
 use zr_io::MemShelf;
 use zr_kinds::Stopped;
 
 /// The card sends all of these.
-pub(super) fn send_all(rt: &impl Abort, nic: &mut NicSeat<'_>, card: &mut Card, sent: &[Sent])
-    requires { IsCard nic.old.side.view card.old }
-    ensures { IsCard nic.new.side.view card.new }
+pub(super) fn send_all(rt: &impl Abort, nic: &mut NicSeat<'_>, card: &mut CardHand, sent: &[Sent])
+    requires { IsCardHand nic.old.side.view card.old }
+    ensures { IsCardHand nic.new.side.view card.new }
 {
-    card_call(nic, card, CardCall::Sweep);
-    let told = card_call(nic, card, CardCall::Take);
+    card_move(nic, card, CardMove::Sweep);
+    let told = card_move(nic, card, CardMove::Take);
     assert_eq!(rt; told, Told::Done);
     let mut frame = 0u32;
     for one in sent {
         frame = frame.wrapping_add(1);
         let note = note(frame, one.flow, one.seq, one.bytes, one.split);
         let call = if one.split {
-            CardCall::Send(note, one.bytes)
+            CardMove::Send(note, one.bytes)
         } else {
-            CardCall::SendLinear(note, one.bytes)
+            CardMove::SendLinear(note, one.bytes)
         };
-        let told = card_call(nic, card, call);
+        let told = card_move(nic, card, call);
         assert_eq!(rt; told, Told::Done, "{frame}");
     }
 }
@@ -47,15 +48,15 @@ fn pours(
     let (board, mut desk) = WordBoard::open(alloc, layout, 1, 16)?;
     let mut nic = board.nic(&mut desk).ok_or("no seat of the card")?;
     let seat = board.app(&mut desk, 0).ok_or("no seat of the application")?;
-    let mut card = Card::new();
+    let mut card = CardHand::new();
     send_all(rt, &mut nic, &mut card, sent);
     let mut work = ToShelf::new(LoanStream::new(alloc, seat, 0), shelf);
     for _turn in 0..64u32 {
         match work.turn() {
             PollTurn::Did => {}
             PollTurn::Idle(_) => {
-                card_call(&mut nic, &mut card, CardCall::Entry);
-                card_call(&mut nic, &mut card, CardCall::End);
+                card_move(&mut nic, &mut card, CardMove::Entry);
+                card_move(&mut nic, &mut card, CardMove::End);
             }
             PollTurn::Ended(poured) => {
                 let (_seat, shelf) = work.parts();
@@ -118,9 +119,9 @@ fn pouring_is_a_future(rt: HostRuntime) -> Result<(), Fail> {
     let (board, mut desk) = WordBoard::open(rt.alloc(), layout, 1, 16)?;
     let mut nic = board.nic(&mut desk).ok_or("no seat of the card")?;
     let seat = board.app(&mut desk, 0).ok_or("no seat of the application")?;
-    let mut card = Card::new();
+    let mut card = CardHand::new();
     send_all(&rt, &mut nic, &mut card, &sent);
-    card_call(&mut nic, &mut card, CardCall::End);
+    card_move(&mut nic, &mut card, CardMove::End);
     let work = ToShelf::new(LoanStream::new(rt.alloc(), seat, 0), shelf);
     // No loan is given back by an entry, so it needs no card.
     let poured = block_on(&rt, work)?;
@@ -136,7 +137,7 @@ fn a_stopped_stream_takes_what_comes(rt: HostRuntime) -> Result<(), Fail> {
     let (board, mut desk) = WordBoard::open(rt.alloc(), layout, 1, 16)?;
     let mut nic = board.nic(&mut desk).ok_or("no seat of the card")?;
     let seat = board.app(&mut desk, 0).ok_or("no seat of the application")?;
-    let mut card = Card::new();
+    let mut card = CardHand::new();
     let sent = [piece(0, 1000, b"ab"), piece(0, 1004, b"behind a gap")];
     send_all(&rt, &mut nic, &mut card, &sent);
     let mut stream = LoanStream::new(rt.alloc(), seat, 0);
@@ -147,11 +148,11 @@ fn a_stopped_stream_takes_what_comes(rt: HostRuntime) -> Result<(), Fail> {
     let got = gather(rt.alloc(), &mut stream, lent)?;
     assert_eq!(&rt; &got.bytes[..], b"ab".as_slice());
     let filling = note(3, 0, 1002, b"cd", true);
-    let told = card_call(&mut nic, &mut card, CardCall::Send(filling, b"cd"));
+    let told = card_move(&mut nic, &mut card, CardMove::Send(filling, b"cd"));
     assert_eq!(&rt; told, Told::Done);
     let waits = matches!(&stream.step(), Step::Waiting(Waits::NoNote));
     assert!(&rt; waits);
-    card_call(&mut nic, &mut card, CardCall::End);
+    card_move(&mut nic, &mut card, CardMove::End);
     let ended = matches!(&stream.step(), Step::Ended);
     assert!(&rt; ended);
     Ok(())

@@ -4,7 +4,7 @@ ghost use Rattle.app_worker.specs.State.{AppStands};
 ghost use Rattle.worker_runs.specs.Scene.{IsPlaying};
 
 use super::{Setup, all_free, counted_bytes, open};
-use crate::{CardCall, Scene, Told, card_step, turn_step};
+use crate::{CardMove, Scene, Told, card_step, turn_step};
 use app_worker::{AppState, Turn, Why};
 use board_face::Entry;
 use plain_board::PlainBoard;
@@ -165,33 +165,33 @@ fn call_of<'a>(
     base: u32,
     frame: u32,
     counted: &'a [u8],
-) -> Option<(CardCall<'a>, Told)> {
+) -> Option<(CardMove<'a>, Told)> {
     let call = match step {
-        Step::Sweep => CardCall::Sweep,
-        Step::Next => CardCall::Take,
+        Step::Sweep => CardMove::Sweep,
+        Step::Next => CardMove::Take,
         Step::Send(flow, seq, text) => {
             let note = piece(frame, flow, base, seq, 0, length_of(text));
-            CardCall::Send(note, text)
+            CardMove::Send(note, text)
         }
         Step::Short(flow, seq, text) => {
             let note = short(frame, flow, base, seq, length_of(text));
-            CardCall::SendLinear(note, text)
+            CardMove::SendLinear(note, text)
         }
         Step::Long(from, len) => {
             let note = piece(frame, 0, base, base.wrapping_add(from), 0, len);
-            CardCall::Send(note, part(counted, from, len))
+            CardMove::Send(note, part(counted, from, len))
         }
         Step::ShortLong(from, len) => {
             let note = short(frame, 0, base, base.wrapping_add(from), len);
-            CardCall::SendLinear(note, part(counted, from, len))
+            CardMove::SendLinear(note, part(counted, from, len))
         }
         Step::Piece(from, total, at, len) => {
             let note = piece(1, 0, base, base.wrapping_add(from), at, total);
-            CardCall::Send(note, part(counted, from.saturating_add(at), len))
+            CardMove::Send(note, part(counted, from.saturating_add(at), len))
         }
-        Step::Dealt(entry) => return Some((CardCall::Entry, Told::Entry(entry))),
-        Step::Shut => CardCall::Shut,
-        Step::End => CardCall::End,
+        Step::Dealt(entry) => return Some((CardMove::Entry, Told::Entry(entry))),
+        Step::Shut => CardMove::Shut,
+        Step::End => CardMove::End,
         Step::Takes(_) => return None,
     };
     Some((call, Told::Done))
@@ -202,7 +202,7 @@ fn step_once(
     rt: &impl Abort,
     alloc: Global,
     step: Step,
-    call: Option<(CardCall<'_>, Told)>,
+    call: Option<(CardMove<'_>, Told)>,
     name: &str,
     board: PlainBoard,
     scene: &mut Scene,

@@ -5,7 +5,7 @@ ghost use Rattle.worker_runs.specs.Scene.{IsPlaying};
 use super::cases::{Line, PLAIN, line_of, piece, short};
 use super::{Setup, all_free, open};
 use crate::plain::plain_marks;
-use crate::{CardCall, Scene, Told, card_step, turn_step};
+use crate::{CardMove, Scene, Told, card_step, turn_step};
 use app_worker::{Turn, Why};
 use board_face::{Entry, TakenNote};
 use plain_board::PlainBoard;
@@ -72,7 +72,7 @@ fn drawn_bytes(alloc: Global, draws: &mut Draws, len: u32) -> Result<Vec<u8>, Fa
 }
 
 /// The card makes a call, after it has taken another buffer if that is what it wants.
-fn sends(rt: &impl Abort, board: PlainBoard, scene: &mut Scene, call: CardCall<'_>) -> PlainBoard
+fn sends(rt: &impl Abort, board: PlainBoard, scene: &mut Scene, call: CardMove<'_>) -> PlainBoard
     requires { IsPlaying board scene.old.card scene.old.st scene.old.left }
     ensures { IsPlaying result scene.new.card scene.new.st scene.new.left }
 {
@@ -80,7 +80,7 @@ fn sends(rt: &impl Abort, board: PlainBoard, scene: &mut Scene, call: CardCall<'
     if told == Told::Done {
         return board;
     }
-    let (board, _) = card_step(board, scene, CardCall::Take);
+    let (board, _) = card_step(board, scene, CardMove::Take);
     let (board, told) = card_step(board, scene, call);
     assert_eq!(rt; told, Told::Done);
     board
@@ -113,7 +113,7 @@ fn send_pieces(
         };
         let text = drawn_bytes(alloc, draws, len.min(left))?;
         let mut note = Note { at, ..whole };
-        board = sends(rt, board, scene, CardCall::Send(note, &text));
+        board = sends(rt, board, scene, CardMove::Send(note, &text));
         note.place.len = len.min(left);
         at += len.min(left);
         sent.add(alloc, note, text)?;
@@ -148,7 +148,7 @@ fn send_frame(
     }
     let note = short(number, flow, base.wrapping_add(flow), seq, total);
     let text = drawn_bytes(alloc, draws, total)?;
-    let board = sends(rt, board, scene, CardCall::SendLinear(note, &text));
+    let board = sends(rt, board, scene, CardMove::SendLinear(note, &text));
     sent.add(alloc, note, text)?;
     Ok(board)
 }
@@ -160,7 +160,7 @@ fn turn_and_deal(alloc: Global, board: PlainBoard, scene: &mut Scene) -> (PlainB
 {
     let (mut board, turn) = turn_step(alloc, board, scene);
     for _ in 0..256 {
-        let (then, told) = card_step(board, scene, CardCall::Entry);
+        let (then, told) = card_step(board, scene, CardMove::Entry);
         board = then;
         if told == Told::Entry(Entry::Empty) {
             break;
@@ -216,7 +216,7 @@ fn send_all(
     requires { IsPlaying board scene.old.card scene.old.st scene.old.left }
     ensures { IfOk result (λ then. IsPlaying then scene.new.card scene.new.st scene.new.left) }
 {
-    let (mut board, _) = card_step(board, scene, CardCall::Sweep);
+    let (mut board, _) = card_step(board, scene, CardMove::Sweep);
     // The sequence numbers of half of the lists wrap.
     let base = if draws.below(2) == 0 {
         4_294_967_280
@@ -249,7 +249,7 @@ fn drawn_list(rt: &impl Abort, alloc: Global, draws: &mut Draws) -> Result<Line,
     };
     let board = send_all(rt, alloc, draws, board, &mut scene, &mut sent)?;
     let board = turns_until(rt, alloc, Turn::Idle(Why::NoNote), board, &mut scene);
-    let (board, told) = card_step(board, &mut scene, CardCall::End);
+    let (board, told) = card_step(board, &mut scene, CardMove::End);
     assert_eq!(rt; told, Told::Done);
     let board = turns_until(rt, alloc, Turn::Finished, board, &mut scene);
     for flow in 0..3 {

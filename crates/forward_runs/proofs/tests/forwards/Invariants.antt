@@ -1,13 +1,13 @@
 -- The desk is as it was, the seats are at its board, the hand is that of the card's seat, and forwarding stands between two turns.
 use Rattle.std.specs.Prelude.{◌≡◌, ℕ, List, Option}
-use Rattle.worker_runs.specs.Card.{IsCard}
+use Rattle.face_table.specs.CardHand.{IsCardHand}
 use Rattle.zc_forward.specs.Forwarding.{ForwardStands}
 use Rattle.forward_runs.proofs.tests.forwards.Given as goal
 
 abbrev pub invariant-loop-turn : goal.invariant-loop-turn
 invariant-loop-turn g l = record {
   desk : l.desk ≡ l.initial.desk;
-  card : IsCard l.nic.side.view l.hand.card;
+  card : IsCardHand l.nic.side.view l.hand.card;
   at : l.nic.board ≡ l.desk.board;
   beside : l.work.face.board ≡ l.desk.board;
   number : l.work.face.side.view.app ≡ 0;

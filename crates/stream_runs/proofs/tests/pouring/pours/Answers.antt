@@ -16,7 +16,7 @@ loop-turn-preserved g c =
     record {
       card = elim c.match-turn.branch [
         | in-Did w ↦ rw (w.nic-is, w.card-is) c.loop-turn.invariant.card
-        | in-Idle w ↦ rw (w.nic-is, w.card-is) w.card_call-in-Idle.ensures.card
+        | in-Idle w ↦ rw (w.nic-is, w.card-is) w.card_move-in-Idle.ensures.card
       ];
       stands = elim c.match-turn.branch [
         | in-Did w ↦ (stands.0, stands.1, w.in-Did.ensures.gives stands.0 stands.1 stands.2)

@@ -1,0 +1,11 @@
+-- Each hand is that of its role's side.
+use Rattle.face_table.specs.CardHand.{IsCardHand}
+use Rattle.face_table.specs.AppHand.{IsAppHand}
+use Rattle.plain_board.specs.Board.{side_of}
+use Rattle.plain_runs.proofs.events.scrub_takes_what_is_owed.Given as goal
+
+abbrev pub invariant-loop-count : goal.invariant-loop-count
+invariant-loop-count g l = record {
+  card : IsCardHand l.board.nic.view l.card;
+  app : IsAppHand (side_of l.board 0).view l.app;
+}

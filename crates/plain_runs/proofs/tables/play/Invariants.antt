@@ -1,0 +1,11 @@
+-- Each hand is that of its role's side.
+use Rattle.face_table.specs.CardHand.{IsCardHand}
+use Rattle.face_table.specs.AppHand.{IsAppHand}
+use Rattle.plain_board.specs.Board.{side_of}
+use Rattle.plain_runs.proofs.tables.play.Given as goal
+
+abbrev pub invariant-loop-row : goal.invariant-loop-row
+invariant-loop-row g l = record {
+  card : IsCardHand l.board.nic.view l.card;
+  app : IsAppHand (side_of l.board 0).view l.app;
+}

@@ -1,0 +1,486 @@
+-- What the status of a replay says of how it went.
+use Rattle.std.proofs.Common.{◌≡◌, ◌≢◌, nat_eq, ℕ, suc, List, [], ◌∷◌, length, ◌<◌, Bool, true, false, ◌||◌, Option, None, Some}
+use Rattle.std.proofs.Common.{refl, sym, ap, subst, ◌∙◌, ◌⊎◌, ⊎_elim, inl, inr, arith}
+use Rattle.std.proofs.Common.{get_or, ◌≤◌, option_map}
+use Rattle.std.proofs.lemmas.List.Folds.{list_any_at}
+use Rattle.std.proofs.lemmas.Option.{get_or_from_slice_get}
+use Rattle.std.specs.Prelude.{IfSome, OnOk, Result, Ok, Err, ◌==◌, if◌then◌else◌, is_some}
+use Rattle.std.specs.List.{slice_get}
+use Rattle.std.proofs.lemmas.Bool.{cases_eq}
+use Rattle.std.proofs.lemmas.Bool.{cases_lt}
+use Rattle.std.proofs.lemmas.Bool.Decides.{nat_tests}
+use Rattle.zr_kinds.specs.declared.fault.Fault.{Fault}
+use Rattle.zr_kinds.specs.declared.fault.Fault.TheVariants.{Memory, Usage, NotPcap, Version, LinkType, Cut, LongRecord, Read, Write, TooManyFlows}
+use Rattle.zr_kinds.specs.declared.fault.Fault.TheVariants.{TooManyFrames, BadBlock, BadRun}
+use Rattle.zr_kinds.specs.declared.behaviour.Stopped.{Stopped}
+use Rattle.zr_kinds.specs.declared.behaviour.Stopped.TheVariants as stop
+use Rattle.zr_kinds.specs.declared.outcome.AppLine.{AppLine}
+use Rattle.zr_io.specs.Moved.{Rose, Took}
+use Rattle.zr_io.proofs.Moved.{Took-then, Took-weaker}
+use Rattle.frames_read.specs.Ending.{Ending, ended_of, steered_in}
+use Rattle.frames_read.specs.Reading.{ShowsEnding, BreaksOff, TakenEnds, IsEnding, IsReadToEnd}
+use Rattle.frames_read.proofs.Endings.{some-weaker}
+use Rattle.board_face.specs.declared.views.nic.NicSide.{NicSide}
+use Rattle.board_face.specs.declared.views.app.AppSide.{AppSide}
+use Rattle.card_feed.specs.Need.{buffers_of, need_in}
+use Rattle.card_feed.specs.Offered.{offers_of, WantsRoom}
+use Rattle.card_feed.specs.declared.plan.Plan.{Plan}
+use Rattle.card_feed.specs.Plan.{how_of, plain_behaviour}
+use Rattle.run_account.specs.Running.{losses_in, losses_or}
+use Rattle.run_account.specs.Ran.{HasReadOn, HaveWholeStreams, Ran, Told}
+use Rattle.run_account.proofs.WholeStreams.{whole-streams}
+use Rattle.command_words.specs.Options.{AreInRange}
+use Rattle.command_words.specs.Words.{ReplayShown}
+use Rattle.top_call.specs.Planned.{IsPlanOf}
+use Rattle.top_call.specs.Records.{HasRecord, record_in}
+use Rattle.top_call.specs.declared.card.Card.{Card}
+use Rattle.top_call.proofs.Behind.{ended_of-behind}
+use Rattle.run_account.proofs.AppLines.{found-there, there}
+use Rattle.run_account.proofs.Places.{get-within}
+use Rattle.top_call.proofs.Found.{get-same_rest}
+use Rattle.run_report.specs.Report.{Reports, answer_of}
+use Rattle.run_report.specs.declared.report.Unreported.{Unreported}
+use Rattle.run_report.specs.declared.report.Unreported.TheVariants as unreported
+use Rattle.top_call.specs.Status.{is_memory, is_write, any_stopped, end_number, status_from, status_of}
+use Rattle.top_call.specs.StreamTheorem.{HasLost, IsStatusOf, IsStatus, IsBrokenOff, RanWith, Replays, Tells}
+
+-- ---- the ways in which a reading ends
+
+ending_cases : (P : Option Fault → Type 0) → P None → P (Some Memory) → P (Some NotPcap) → P (Some Version) → P (Some LinkType) → P (Some Cut)
+    → P (Some LongRecord) → P (Some Read) → P (Some TooManyFlows) → P (Some TooManyFrames) → P (Some BadBlock)
+    → (end : Option Fault) → IsEnding end → P end
+ending_cases P none memory not_pcap version link_type cut long_record read flows frames bad_block None is = none
+ending_cases P none memory not_pcap version link_type cut long_record read flows frames bad_block (Some Memory) is = memory
+ending_cases P none memory not_pcap version link_type cut long_record read flows frames bad_block (Some NotPcap) is = not_pcap
+ending_cases P none memory not_pcap version link_type cut long_record read flows frames bad_block (Some Version) is = version
+ending_cases P none memory not_pcap version link_type cut long_record read flows frames bad_block (Some LinkType) is = link_type
+ending_cases P none memory not_pcap version link_type cut long_record read flows frames bad_block (Some Cut) is = cut
+ending_cases P none memory not_pcap version link_type cut long_record read flows frames bad_block (Some LongRecord) is = long_record
+ending_cases P none memory not_pcap version link_type cut long_record read flows frames bad_block (Some Read) is = read
+ending_cases P none memory not_pcap version link_type cut long_record read flows frames bad_block (Some TooManyFlows) is = flows
+ending_cases P none memory not_pcap version link_type cut long_record read flows frames bad_block (Some TooManyFrames) is = frames
+ending_cases P none memory not_pcap version link_type cut long_record read flows frames bad_block (Some Usage) is = absurd is
+ending_cases P none memory not_pcap version link_type cut long_record read flows frames bad_block (Some Write) is = absurd is
+ending_cases P none memory not_pcap version link_type cut long_record read flows frames bad_block (Some BadBlock) is = bad_block
+ending_cases P none memory not_pcap version link_type cut long_record read flows frames bad_block (Some BadRun) is = absurd is
+
+-- and what stopped applications
+all_cases : (P : Bool → Bool → Option Fault → Type 0) → ((lost : Bool) (end : Option Fault) → IsEnding end → P true lost end)
+    → ((end : Option Fault) → IsEnding end → P false true end) → ((end : Option Fault) → IsEnding end → P false false end)
+    → (wanting lost : Bool) (end : Option Fault) → IsEnding end → P wanting lost end
+all_cases P if_wanting if_lost else_ true lost end is = if_wanting lost end is
+all_cases P if_wanting if_lost else_ false true end is = if_lost end is
+all_cases P if_wanting if_lost else_ false false end is = else_ end is
+
+-- by the status itself
+Says : Bool → Bool → Option Fault → Type 0
+Says wanting lost end = (status_from wanting lost end ≡ 1)
+    ⊎ (((status_from wanting lost end ≡ 9) × (lost ≡ true)) ⊎ (status_from wanting lost end ≡ end_number end))
+
+says : (wanting lost : Bool) (end : Option Fault) → IsEnding end → Says wanting lost end
+unfolding Says
+says = all_cases Says (λ lost end is. inl refl)
+    (ending_cases (Says false true) (inr (inl (refl, refl))) (inl refl) (inr (inl (refl, refl))) (inr (inl (refl, refl))) (inr (inl (refl, refl)))
+    (inr (inl (refl, refl))) (inr (inl (refl, refl))) (inr (inl (refl, refl))) (inr (inl (refl, refl))) (inr (inl (refl, refl)))
+    (inr (inl (refl, refl))))
+    (ending_cases (Says false false) (inr (inr refl)) (inl refl) (inr (inr refl)) (inr (inr refl)) (inr (inr refl)) (inr (inr refl)) (inr (inr refl))
+    (inr (inr refl)) (inr (inr refl)) (inr (inr refl)) (inr (inr refl)))
+
+-- each way of ending by its number
+IsNumbered : Option Fault → Type 0
+IsNumbered end = IsStatus (end_number end) × (end_number end ≢ 9) × (end_number end ≡ 8 → end ≡ Some Read) × (end_number end ≡ 0 → end ≡ None)
+
+numbered : (end : Option Fault) → IsEnding end → IsNumbered end
+unfolding IsNumbered
+numbered = ending_cases IsNumbered
+    (refl, (λ e. omega arith), (λ e. absurd (omega arith)), (λ e. refl))
+    (refl, (λ e. omega arith), (λ e. absurd (omega arith)), (λ e. absurd (omega arith)))
+    (refl, (λ e. omega arith), (λ e. absurd (omega arith)), (λ e. absurd (omega arith)))
+    (refl, (λ e. omega arith), (λ e. absurd (omega arith)), (λ e. absurd (omega arith)))
+    (refl, (λ e. omega arith), (λ e. absurd (omega arith)), (λ e. absurd (omega arith)))
+    (refl, (λ e. omega arith), (λ e. absurd (omega arith)), (λ e. absurd (omega arith)))
+    (refl, (λ e. omega arith), (λ e. absurd (omega arith)), (λ e. absurd (omega arith)))
+    (refl, (λ e. omega arith), (λ e. refl), (λ e. absurd (omega arith)))
+    (refl, (λ e. omega arith), (λ e. absurd (omega arith)), (λ e. absurd (omega arith)))
+    (refl, (λ e. omega arith), (λ e. absurd (omega arith)), (λ e. absurd (omega arith)))
+    (refl, (λ e. omega arith), (λ e. absurd (omega arith)), (λ e. absurd (omega arith)))
+
+-- ---- what the bytes show
+
+-- what ended the reading, where the bytes show it
+shown-number : (end : Option Fault) → IsEnding end → (ended : Ending) (before : List (List ℕ)) → ShowsEnding ended before end
+    → (end_number end ≡ end_number ended.fault) ⊎ ((end_number end ≡ 1) ⊎ (end_number end ≡ 8))
+shown-number = ending_cases (λ end. (ended : Ending) (before : List (List ℕ)) → ShowsEnding ended before end
+    → (end_number end ≡ end_number ended.fault) ⊎ ((end_number end ≡ 1) ⊎ (end_number end ≡ 8)))
+    (λ ended before shows. inl (ap (λ e. end_number e.fault) (sym shows))) (λ ended before shows. inr (inl refl))
+    (λ ended before shows. inl (ap (λ e. end_number e.fault) (sym shows))) (λ ended before shows. inl (ap (λ e. end_number e.fault) (sym shows)))
+    (λ ended before shows. inl (ap (λ e. end_number e.fault) (sym shows))) (λ ended before shows. inl (ap (λ e. end_number e.fault) (sym shows)))
+    (λ ended before shows. inl (ap (λ e. end_number e.fault) (sym shows))) (λ ended before shows. inr (inr refl))
+    (λ ended before shows. inl (ap (λ e. end_number e.fault) (sym shows))) (λ ended before shows. inl (ap (λ e. end_number e.fault) (sym shows)))
+    (λ ended before shows. inl (ap (λ e. end_number e.fault) (sym shows)))
+
+-- what was taken ends as all bytes do, unless memory ran out or a read failed
+same-ending : (Wants : List (List ℕ) → List ℕ → Type 0) (end : Option Fault) → IsEnding end
+    → ((ports taken : List ℕ) (all : Ending) (before : List (List ℕ)) → TakenEnds Wants ports taken before end → ShowsEnding all before end
+    → ended_of ports taken ≡ all)
+    ⊎ ((end ≡ Some Memory) ⊎ (end ≡ Some Read))
+same-ending Wants = ending_cases (λ end. ((ports taken : List ℕ) (all : Ending) (before : List (List ℕ)) → TakenEnds Wants ports taken before end
+    → ShowsEnding all before end → ended_of ports taken ≡ all) ⊎ ((end ≡ Some Memory) ⊎ (end ≡ Some Read)))
+    (inl (λ ports taken all before ends shows. ends ∙ sym shows)) (inr (inl refl)) (inl (λ ports taken all before ends shows. ends ∙ sym shows))
+    (inl (λ ports taken all before ends shows. ends ∙ sym shows)) (inl (λ ports taken all before ends shows. ends ∙ sym shows))
+    (inl (λ ports taken all before ends shows. ends ∙ sym shows)) (inl (λ ports taken all before ends shows. ends ∙ sym shows)) (inr (inr refl))
+    (inl (λ ports taken all before ends shows. ends ∙ sym shows)) (inl (λ ports taken all before ends shows. ends ∙ sym shows))
+    (inl (λ ports taken all before ends shows. ends ∙ sym shows))
+
+-- by which endings something may have been read on behind them
+pub record IsApart (end : Option Fault) : Type 0 where
+  pub memory : end ≢ Some Memory
+  pub flows : end ≢ Some TooManyFlows
+
+apart : (end : Option Fault) → IsEnding end → IsApart end ⊎ ((end ≡ Some Memory) ⊎ (end ≡ Some TooManyFlows))
+apart = ending_cases (λ end. IsApart end ⊎ ((end ≡ Some Memory) ⊎ (end ≡ Some TooManyFlows)))
+    (inl (record { memory = λ e. cc; flows = λ e. cc })) (inr (inl refl)) (inl (record { memory = λ e. cc; flows = λ e. cc }))
+    (inl (record { memory = λ e. cc; flows = λ e. cc })) (inl (record { memory = λ e. cc; flows = λ e. cc }))
+    (inl (record { memory = λ e. cc; flows = λ e. cc })) (inl (record { memory = λ e. cc; flows = λ e. cc }))
+    (inl (record { memory = λ e. cc; flows = λ e. cc })) (inr (inr refl)) (inl (record { memory = λ e. cc; flows = λ e. cc }))
+    (inl (record { memory = λ e. cc; flows = λ e. cc }))
+
+broken_off : (ended : Ending) (before : List (List ℕ)) → BreaksOff ended before → IsBrokenOff ended.fault
+broken_off ended before broke = ⊎_elim (λ none. inl (ap (λ e. e.fault) none)) (λ cut. inr (ap (λ e. e.fault) cut)) broke
+
+-- ---- a shelf that failed
+
+is_it : (stopped : Stopped) → is_write stopped ≡ true → stopped ≡ stop.Write
+is_it stop.Write is = refl
+is_it stop.No is = cc
+is_it stop.Quit is = cc
+is_it stop.Memory is = cc
+
+record Stands (apps : List AppLine) : Type 0 where
+  number : ℕ
+  app : AppLine
+  at : slice_get apps number ≡ Some app
+  why : app.stopped ≡ stop.Write
+
+any-write : (apps : List AppLine) → any_stopped is_write apps ≡ true → Stands apps
+any-write [] is = absurd (cc)
+any-write (app ∷ apps) is = by_first (is_write app.stopped) refl is (λ others. any-write apps others)
+  where
+    by_first : (b : Bool) → is_write app.stopped ≡ b → (b || any_stopped is_write apps) ≡ true → (any_stopped is_write apps ≡ true → Stands apps)
+        → Stands (app ∷ apps)
+    by_first true first all others = record { number = 0; app = app; at = refl; why = is_it app.stopped first }
+    by_first false first all others = let rest = others all in record { number = suc rest.number; app = rest.app; at = rest.at; why = rest.why }
+
+stopped-any : (test : Stopped → Bool) (apps : List AppLine) (number : ℕ) (app : AppLine) → slice_get apps number ≡ Some app
+    → test app.stopped ≡ true → any_stopped test apps ≡ true
+stopped-any test apps number app is holds =
+    let at : get_or apps number app ≡ app = get_or_from_slice_get apps number app app is in
+    list_any_at (λ (a : AppLine). test a.stopped) apps number app (get-within apps number app is)
+    (ap (λ (a : AppLine). test a.stopped) at ∙ holds)
+
+-- where a shelf failed
+lost-status : (wanting : Bool) (end : Option Fault) → (status_from wanting true end ≡ 1) ⊎ (status_from wanting true end ≡ 9)
+lost-status true end = inl refl
+lost-status false None = inr refl
+lost-status false (Some Memory) = inl refl
+lost-status false (Some fault) = inr refl
+
+-- ---- from the status to the answer
+
+unequal : (a b : ℕ) → a ≢ b → nat_eq a b ≡ false
+unequal a b ne = grind (arith, nat_tests)
+
+-- the answer is the status, or memory ran out, or the sink failed
+pub record IsAnswer (said answer refusals refusals_now : ℕ) : Type 0 where
+  pub cases : (answer ≡ said) ⊎ ((answer ≡ 1) ⊎ ((answer ≡ 9) × Rose refusals refusals_now × (said ≢ 1)))
+
+chosen : (said answer : ℕ) → answer ≡ (if said == 1 then 1 else 9) → (answer ≡ 1) ⊎ ((answer ≡ 9) × (said ≢ 1))
+chosen said answer is = ⊎_elim (λ (one : said ≡ 1). inl (is ∙ rw one refl)) (λ (other : said ≢ 1). inr (is ∙ rw (unequal said 1 other) refl, other))
+    (cases_eq said 1)
+
+is_answer : (sent now : Option (List ℕ)) (refusals refusals_now said answer : ℕ) (text : List ℕ) (reported : Result (Unit {0}) Unreported)
+    → Reports sent now refusals refusals_now text reported → answer ≡ answer_of said reported → IsAnswer said answer refusals refusals_now
+is_answer sent now refusals refusals_now said answer text (Ok done) report is = record { cases = inl is }
+is_answer sent now refusals refusals_now said answer text (Err unreported.Memory) report is = record { cases = inr (inl is) }
+is_answer sent now refusals refusals_now said answer text (Err unreported.Write) report is = record {
+  cases = ⊎_elim (λ one. inr (inl one)) (λ nine. inr (inr (nine.0, report.1, nine.1))) (chosen said answer is);
+}
+
+-- the answer by its causes
+pub record HasCauses (lost : Bool) (end : Option Fault) (answer refusals refusals_now : ℕ) : Type 0 where
+  pub cases : (answer ≡ 1) ⊎ (((answer ≡ 9) × ((lost ≡ true) ⊎ Rose refusals refusals_now)) ⊎ (answer ≡ end_number end))
+
+memory-status : (wanting lost : Bool) → status_from wanting lost (Some Memory) ≡ 1
+memory-status true lost = refl
+memory-status false lost = refl
+
+module _ (wanting lost : Bool) (end : Option Fault) {answer refusals refusals_now : ℕ}
+    (is : IsAnswer (status_from wanting lost end) answer refusals refusals_now) (kind : IsEnding end) where
+  has_causes : HasCauses lost end answer refusals refusals_now
+  unfolding Says
+  has_causes = record {
+    cases = ⊎_elim
+        (λ (same : answer ≡ status_from wanting lost end). ⊎_elim (λ one. inl (same ∙ one))
+        (λ others. ⊎_elim (λ (nine, shelf). inr (inl (same ∙ nine, inl shelf))) (λ number. inr (inr (same ∙ number))) others)
+        (says wanting lost end kind))
+        (λ others. ⊎_elim (λ one. inl one) (λ (nine, rose, other). inr (inl (nine, inr rose))) others) is.cases;
+  }
+
+  -- the reading ended by want of memory
+  at-memory : end ≡ Some Memory → answer ≡ 1
+  at-memory memory =
+      let said : status_from wanting lost end ≡ 1 = ap (status_from wanting lost) memory ∙ memory-status wanting lost in
+      ⊎_elim (λ same. same ∙ said) (λ others. ⊎_elim (λ one. one) (λ (nine, rose, other). absurd (other said)) others) is.cases
+
+-- ---- the parts of what a replay leaves
+
+module _ {S T : Type 0} {left : S → Option (List ℕ)} {failed : S → ℕ} {kept : T → ℕ → Option (List ℕ)} {losses : T → ℕ}
+    {source at source_now : S} {shelves shelves_now : List T} {plan : Plan} {outcome : Told} {nic : NicSide} {apps : List AppSide}
+    {answer refusals refusals_now : ℕ}
+    (replayed : Ran left failed kept losses source at shelves shelves_now plan outcome nic apps)
+    (ahead : HasReadOn left failed at source_now outcome.end)
+    (is : IsAnswer (status_of outcome) answer refusals refusals_now) where
+  abbrev pub lost : Bool
+  lost = any_stopped is_write outcome.apps
+
+  causes : HasCauses lost outcome.end answer refusals refusals_now
+  causes = has_causes (any_stopped is_memory outcome.apps) lost outcome.end is replayed.ended.kind
+
+  kind-of : IsStatus answer
+  unfolding IsNumbered
+  kind-of = ⊎_elim (λ one. subst IsStatus (sym one) refl)
+      (λ others. ⊎_elim (λ (nine, why). subst IsStatus (sym nine) refl)
+      (λ number. subst IsStatus (sym number) (numbered outcome.end replayed.ended.kind).0) others) causes.cases
+
+  ending-of : (all : List ℕ) → ShowsEnding (ended_of plan.ports.items all) replayed.before outcome.end → IsStatusOf answer
+      (ended_of plan.ports.items all).fault
+  ending-of all shows = ⊎_elim (λ one. inr (inl one)) (λ others. ⊎_elim (λ (nine, why). inr (inr (inr nine)))
+      (λ number. ⊎_elim (λ same. inl (number ∙ same)) (λ hidden. ⊎_elim (λ one. inr (inl (number ∙ one)))
+      (λ eight. inr (inr (inl (number ∙ eight)))) hidden)
+      (shown-number outcome.end replayed.ended.kind (ended_of plan.ports.items all) replayed.before shows)) others) causes.cases
+
+  -- what was taken until the ending, and what was taken until now
+  ends-at : IfSome (left source) (λ all. Took (left source) (left at) (λ taken. ended_of plan.ports.items taken ≡ ended_of plan.ports.items all))
+      ⊎ ((outcome.end ≡ Some Memory) ⊎ (outcome.end ≡ Some Read))
+  ends-at = ⊎_elim
+      (λ same. inl (some-weaker (left source) _ _ replayed.ended.shown (λ all shows.
+      Took-weaker (left source) (left at)
+      (λ taken. TakenEnds (WantsRoom plan.split plan.ports.items) plan.ports.items taken replayed.before outcome.end)
+      (λ taken. ended_of plan.ports.items taken ≡ ended_of plan.ports.items all)
+      (λ taken ends. same plan.ports.items taken (ended_of plan.ports.items all) replayed.before ends shows) replayed.ended.taken)))
+      (λ hidden. inr hidden)
+      (same-ending (WantsRoom plan.split plan.ports.items) outcome.end replayed.ended.kind)
+
+  still-at : IsApart outcome.end → at ≡ source_now
+  still-at none = ahead.same none.memory none.flows
+
+  -- what was read on behind a flow too many changes nothing of how the reading ended
+  ends-now : outcome.end ≡ Some TooManyFlows
+      → IfSome (left source) (λ all. Took (left source) (left source_now) (λ taken. ended_of plan.ports.items taken ≡ ended_of plan.ports.items all))
+  ends-now flows =
+      let wants = WantsRoom plan.split plan.ports.items in
+      let ended : Ending = record { before = replayed.before; fault = Some TooManyFlows } in
+      some-weaker (left source) _ _ replayed.ended.shown (λ all shows.
+      let all_ends : ended_of plan.ports.items all ≡ ended =
+      subst (λ e. ShowsEnding (ended_of plan.ports.items all) replayed.before e) flows shows in
+      Took-then (left source) (left at) (left source_now)
+      (λ taken. TakenEnds wants plan.ports.items taken replayed.before outcome.end) (λ more. Unit {0})
+      (λ taken. ended_of plan.ports.items taken ≡ ended_of plan.ports.items all)
+      (λ taken more ends any. ended_of-behind plan.ports.items taken more ended refl
+      (subst (λ e. TakenEnds wants plan.ports.items taken replayed.before e) flows ends) ∙ sym all_ends)
+      replayed.ended.taken ahead.taken)
+
+  reached-of : IfSome (left source) (λ all. Took (left source) (left source_now) (λ taken. ended_of plan.ports.items taken ≡ ended_of plan.ports.items all))
+      ⊎ ((answer ≡ 1) ⊎ (((answer ≡ 8) ⊎ (answer ≡ 9)) × Rose (failed source) (failed source_now)))
+  reached-of = ⊎_elim
+      (λ (none : IsApart outcome.end). ⊎_elim
+      (λ ends. inl (subst (λ s. IfSome (left source) (λ all. Took (left source) (left s) (λ taken.
+      ended_of plan.ports.items taken ≡ ended_of plan.ports.items all))) (still-at none) ends))
+      (λ hidden. inr (⊎_elim (λ memory. absurd (none.memory memory))
+      (λ failed_read. ⊎_elim (λ one. inl one) (λ others. inr (
+        ⊎_elim (λ (nine, why). inr nine) (λ number. inl (number ∙ ap end_number failed_read)) others,
+        subst (λ s. Rose (failed source) (failed s)) (still-at none) (replayed.ended.cause failed_read),
+      )) causes.cases) hidden)) ends-at)
+      (λ others. ⊎_elim
+      (λ memory. inr (inl (at-memory (any_stopped is_memory outcome.apps) lost outcome.end is replayed.ended.kind memory)))
+      (λ flows. inl (ends-now flows)) others)
+      (apart outcome.end replayed.ended.kind)
+
+  whole-of : answer ≡ 0 → IsReadToEnd (left source) (left source_now)
+  unfolding IsNumbered
+  whole-of zero = ⊎_elim (λ one. absurd (omega arith)) (λ others. ⊎_elim (λ (nine, why). absurd (omega arith))
+      (λ number.
+      let at_end : outcome.end ≡ None = (numbered outcome.end replayed.ended.kind).3 (sym number ∙ zero) in
+      subst (λ s. IsReadToEnd (left source) (left s)) (ahead.same (λ e. cc) (λ e. cc)) (replayed.ended.at_end at_end)) others) causes.cases
+
+  read-of : answer ≡ 8 → Rose (failed source) (failed source_now)
+      × Took (left source) (left source_now) (λ taken. IsBrokenOff (ended_of plan.ports.items taken).fault)
+  unfolding IsNumbered
+  read-of eight = ⊎_elim (λ one. absurd (omega arith)) (λ others. ⊎_elim (λ (nine, why). absurd (omega arith))
+      (λ number.
+      let by_read : outcome.end ≡ Some Read = (numbered outcome.end replayed.ended.kind).2 (sym number ∙ eight) in
+      subst (λ s. Rose (failed source) (failed s) × Took (left source) (left s) (λ taken. IsBrokenOff (ended_of plan.ports.items taken).fault))
+      (ahead.same (λ e. cc) (λ e. cc)) (
+        replayed.ended.cause by_read,
+        Took-weaker (left source) (left at)
+            (λ taken. TakenEnds (WantsRoom plan.split plan.ports.items) plan.ports.items taken replayed.before outcome.end)
+            (λ taken. IsBrokenOff (ended_of plan.ports.items taken).fault)
+            (λ taken ends. broken_off (ended_of plan.ports.items taken) replayed.before
+            (subst (λ e. TakenEnds (WantsRoom plan.split plan.ports.items) plan.ports.items taken replayed.before e) by_read ends)) replayed.ended.taken,
+      )) others) causes.cases
+
+  shelf-failed : lost ≡ true → HasLost losses shelves shelves_now (length plan.ports.items)
+  shelf-failed some =
+      let stands : Stands outcome.apps = any-write outcome.apps some in
+      let within : stands.number < length outcome.apps = get-within outcome.apps stands.number stands.app stands.at in
+      let many = replayed.many_apps in
+      let own : stands.number < length plan.ports.items = omega (arith, within, many) in
+      let (port, port_is) = there plan.ports.items stands.number own in
+      let (app, app_is, line) = found-there (slice_get outcome.apps stands.number) _ (replayed.app stands.number port port_is) in
+      let same : app ≡ stands.app = (let at = stands.at in cc) in
+      (stands.number, own, line.cause (ap (λ a. a.stopped) same ∙ stands.why))
+
+  lost-of : answer ≡ 9 → HasLost losses shelves shelves_now (length plan.ports.items) ⊎ Rose refusals refusals_now
+  unfolding IsNumbered
+  lost-of nine = ⊎_elim (λ one. absurd (omega arith)) (λ others. ⊎_elim
+      (λ (at_nine, why). ⊎_elim (λ shelf. inl (shelf-failed shelf)) (λ sink. inr sink) why)
+      (λ number. absurd ((numbered outcome.end replayed.ended.kind).1 (sym number ∙ nine))) others) causes.cases
+
+  -- ---- what an answer shows by none of its faults
+
+  settled-of : answer ≢ 1 → answer ≢ 9 → answer ≢ 10 → at ≡ source_now
+  settled-of not_1 not_9 not_10 = ahead.same
+      (λ memory. not_1 (at-memory (any_stopped is_memory outcome.apps) lost outcome.end is replayed.ended.kind memory))
+      (λ flows. ⊎_elim not_1 (λ others. ⊎_elim (λ (nine, why). not_9 nine) (λ number. not_10 (number ∙ ap end_number flows)) others) causes.cases)
+
+  read_well : answer ≢ 1 → answer ≢ 8 → answer ≢ 9 → failed at ≡ failed source
+  read_well not_1 not_8 not_9 = replayed.ended.still (λ by_read. ⊎_elim (λ one. not_1 one) (λ others. ⊎_elim (λ (nine, why). not_9 nine)
+      (λ number. not_8 (number ∙ ap end_number by_read)) others) causes.cases)
+
+  -- ---- what stopped applications
+
+  wanting-of : (number : ℕ) (app : AppLine) → slice_get outcome.apps number ≡ Some app → app.stopped ≡ stop.Memory → answer ≡ 1
+  wanting-of number app at memory =
+      let some : any_stopped is_memory outcome.apps ≡ true = stopped-any is_memory outcome.apps number app at (ap is_memory memory) in
+      let said : status_of outcome ≡ 1 = ap (λ w. status_from w lost outcome.end) some in
+      ⊎_elim (λ same. same ∙ said) (λ others. ⊎_elim (λ one. one) (λ (nine, rose, other). absurd (other said)) others) is.cases
+
+  failing-of : (number : ℕ) (app : AppLine) → slice_get outcome.apps number ≡ Some app → app.stopped ≡ stop.Write
+      → (answer ≡ 1) ⊎ (answer ≡ 9)
+  failing-of number app at write =
+      let wanting = any_stopped is_memory outcome.apps in
+      let some : lost ≡ true = stopped-any is_write outcome.apps number app at (ap is_write write) in
+      let said : (status_of outcome ≡ 1) ⊎ (status_of outcome ≡ 9) =
+      subst (λ l. (status_from wanting l outcome.end ≡ 1) ⊎ (status_from wanting l outcome.end ≡ 9)) (sym some) (lost-status wanting outcome.end) in
+      ⊎_elim (λ same. ⊎_elim (λ one. inl (same ∙ one)) (λ nine. inr (same ∙ nine)) said)
+      (λ others. ⊎_elim (λ one. inl one) (λ (nine, rose, other). inr nine) others) is.cases
+
+  kept_well : answer ≢ 1 → answer ≢ 9 → (app : ℕ) → losses_in losses shelves_now app ≡ losses_in losses shelves app
+  kept_well not_1 not_9 app = ⊎_elim
+      (λ (within : app < length plan.ports.items).
+      let (port, port_is) = there plan.ports.items app within in
+      let (line, line_is, was) = found-there (slice_get outcome.apps app) _ (replayed.app app port port_is) in
+      was.still (λ write. ⊎_elim not_1 not_9 (failing-of app line line_is write)))
+      (λ (past : length plan.ports.items ≤ app). ap (λ s. losses_or (option_map losses s))
+      (get-same_rest (length plan.ports.items) shelves shelves_now app replayed.beyond past))
+      (cases_lt app (length plan.ports.items))
+
+  -- ---- completeness
+
+  complete-of : (all : List ℕ) → left source ≡ Some all → (ended_of plan.ports.items all).fault ≡ None → ¬ Rose (failed source) (failed source_now)
+      → ¬ HasLost losses shelves shelves_now (length plan.ports.items) → ¬ Rose refusals refusals_now → (answer ≡ 0) ⊎ (answer ≡ 1)
+  complete-of all told_all none reads kept_all sink =
+      let shows : ShowsEnding (ended_of plan.ports.items all) replayed.before outcome.end = rw told_all at replayed.ended.shown in
+      let said : IsStatusOf answer None = subst (IsStatusOf answer) none (ending-of all shows) in
+      ⊎_elim (λ zero. inl zero) (λ others. ⊎_elim (λ one. inr one) (λ more. ⊎_elim
+      (λ eight. absurd (reads (read-of eight).0))
+      (λ nine. absurd (⊎_elim kept_all sink (lost-of nine))) more) others) said
+
+  all_read-of : answer ≡ 0 → (all : List ℕ) → left source ≡ Some all
+      → ended_of plan.ports.items all ≡ record { before = replayed.before; fault = None }
+  unfolding IsNumbered
+  all_read-of zero all told_all = ⊎_elim (λ one. absurd (omega arith)) (λ others. ⊎_elim (λ (nine, why). absurd (omega arith))
+      (λ number.
+      let at_end : outcome.end ≡ None = (numbered outcome.end replayed.ended.kind).3 (sym number ∙ zero) in
+      let shows : ShowsEnding (ended_of plan.ports.items all) replayed.before outcome.end = rw told_all at replayed.ended.shown in
+      subst (λ e. ShowsEnding (ended_of plan.ports.items all) replayed.before e) at_end shows) others) causes.cases
+
+  going-of : answer ≡ 0 → (number : ℕ) (app : AppLine) → slice_get outcome.apps number ≡ Some app → (app.stopped ≡ stop.No) ⊎ (app.stopped ≡ stop.Quit)
+  going-of zero number app at = by_cause app.stopped refl
+    where
+      by_cause : (stopped : Stopped) → app.stopped ≡ stopped → (app.stopped ≡ stop.No) ⊎ (app.stopped ≡ stop.Quit)
+      by_cause stop.No is = inl is
+      by_cause stop.Quit is = inr is
+      by_cause stop.Write is = ⊎_elim (λ one. absurd (omega (arith, one, zero))) (λ nine. absurd (omega (arith, nine, zero))) (failing-of number app at is)
+      by_cause stop.Memory is = let one = wanting-of number app at is in absurd (omega (arith, one, zero))
+
+  enough-of : answer ≡ 0 → (all : List ℕ) → left source ≡ Some all
+      → need_in plan (offers_of (steered_in plan.ports.items (ended_of plan.ports.items all).before)) ≤ buffers_of plan → outcome.refused ≡ []
+  enough-of zero all told_all fits = replayed.need.enough
+      (subst (λ (e : Ending). need_in plan (offers_of (steered_in plan.ports.items e.before)) ≤ buffers_of plan) (all_read-of zero all told_all) fits)
+
+  streams-of : answer ≡ 0 → (all : List ℕ) → left source ≡ Some all
+      → HaveWholeStreams kept shelves shelves_now plan.ports.items (how_of plan).quit (ended_of plan.ports.items all).before outcome
+  streams-of zero all told_all =
+      subst (λ (e : Ending). HaveWholeStreams kept shelves shelves_now plan.ports.items (how_of plan).quit e.before outcome)
+      (sym (all_read-of zero all told_all))
+      (whole-streams left failed kept losses source at shelves shelves_now plan outcome nic apps replayed (going-of zero))
+
+-- each application behaves as the options say
+how-said : (told : ReplayShown) (plan : Plan) → AreInRange told.options → IsPlanOf told plan → how_of plan ≡ told.options.how
+how-said told plan in_range planned = rw (planned.polled, planned.forward, planned.how) (go (told.options.polled || is_some told.options.forward) refl)
+  where
+    go : (b : Bool) → (told.options.polled || is_some told.options.forward) ≡ b
+        → (if told.options.polled || is_some told.options.forward then plain_behaviour else told.options.how) ≡ told.options.how
+    go true other = rw other (sym (in_range.plain other))
+    go false other = rw other refl
+
+-- the report went out whole
+told_well : (refusals refusals_now said answer : ℕ) (reported : Result (Unit {0}) Unreported) → OnOk reported (refusals_now ≡ refusals)
+    → answer ≡ answer_of said reported → answer ≢ 1 → answer ≢ 9 → refusals_now ≡ refusals
+told_well refusals refusals_now said answer (Ok done) still is not_1 not_9 = still
+told_well refusals refusals_now said answer (Err unreported.Memory) still is not_1 not_9 = absurd (not_1 is)
+told_well refusals refusals_now said answer (Err unreported.Write) still is not_1 not_9 =
+    ⊎_elim (λ one. absurd (not_1 one)) (λ nine. absurd (not_9 nine.0)) (chosen said answer is)
+
+module _ {S T O : Type 0} {left : S → Option (List ℕ)} {failed : S → ℕ} {kept : T → ℕ → Option (List ℕ)} {losses : T → ℕ}
+    (sent : O → Option (List ℕ)) (refusals : O → ℕ) {source source_now : S} {shelves shelves_now : List T} (out out_now : O)
+    {plan : Plan} {outcome : Told} {answer : ℕ} where
+  pub replays : (told : ReplayShown) (card_now : Card) → AreInRange told.options → IsPlanOf told plan
+      → RanWith left failed kept losses source source_now shelves shelves_now card_now told.turns plan outcome
+      → HasRecord plan outcome card_now
+      → Tells (sent out) (sent out_now) (refusals out) (refusals out_now) outcome (record_in plan card_now) answer
+      → Replays left failed kept losses sent refusals source source_now shelves shelves_now out out_now card_now told answer
+  replays told card_now in_range planned with recorded tells =
+      let ran = with.ran in
+      let ahead = with.ahead in
+      let is : IsAnswer (status_of outcome) answer (refusals out) (refusals out_now) = is_answer (sent out) (sent out_now) (refusals out)
+      (refusals out_now) (status_of outcome) answer _ tells.reported tells.report tells.answered in
+      let same : plan.ports.items ≡ told.ports = planned.ports_are in
+      record {
+        plan = plan;
+        planned = planned;
+        outcome = outcome;
+        ran = with;
+        reported = tells.reported;
+        report = tells.report;
+        recorded = recorded;
+        answered = tells.answered;
+        reached = rw (← same) (reached-of ran ahead is);
+        ending = rw (← same) (some-weaker (left source) _ _ ran.ended.shown (λ all shows. ending-of ran ahead is all shows));
+        kind = kind-of ran ahead is;
+        whole = whole-of ran ahead is;
+        read = rw (← same) (read-of ran ahead is);
+        lost = rw (← same) (lost-of ran ahead is);
+        wanting = wanting-of ran ahead is;
+        failing = failing-of ran ahead is;
+        complete = rw (← same) (complete-of ran ahead is);
+        all_read = rw (← same) (all_read-of ran ahead is);
+        going = going-of ran ahead is;
+        enough = rw (← same) (enough-of ran ahead is);
+        streams = rw (← same, ← how-said told plan in_range planned) (streams-of ran ahead is);
+        settled = settled-of ran ahead is;
+        sound_reads = read_well ran ahead is;
+        sound_shelves = kept_well ran ahead is;
+        sound_sink = told_well (refusals out) (refusals out_now) (status_of outcome) answer tells.reported tells.still tells.answered;
+      }

@@ -1,0 +1,24 @@
+-- The outcome is told, and the board is in the card; or there was no memory for a board or an outcome.
+use Rattle.std.proofs.Common.{inl, inr, refl, ◌∙◌, None}
+use Rattle.top_call.specs.StreamTheorem.{asked_by}
+use Rattle.top_call.proofs.Statuses.{replays}
+use Rattle.top_call.proofs.top.replay.Goals as goal
+
+pub returns-in-Ok : goal.returns-in-Ok
+returns-in-Ok g c = record {
+  replays = inl (replays g.O.Sink.sent g.O.Sink.faults c.args.out.now c.tell.new.out
+      (asked_by c.args.command.ports.items c.args.command.areas.items c.args.command.options None) _ c.requires.options
+      (c.plan_of-plan.ensures.told _) c.in-Ok.ensures.ran c.in-Ok.ensures.recorded c.tell.ensures);
+}
+
+pub returns : goal.returns
+returns g c = record {
+  replays = inr (record {
+    answer_is = c.number.ensures;
+    card_is = c.in-Err.ensures.lacks.1 ∙ c.requires.blank;
+    out_is = refl;
+    plan = c.plan_of-plan.result;
+    planned = c.plan_of-plan.ensures.told _;
+    lacks = c.in-Err.ensures.lacks.0;
+  });
+}

@@ -1,0 +1,369 @@
+//! The top call: a command's words, a source, eight shelves and a sink.
+
+ghost use Rattle.std.specs.Prelude.{◌≡◌, ℕ, ◌≤◌, ◌<◌, ◌⊎◌, List, Option, None, Some, IfSome, IfOk, IfErr, OnErr, OnOk, Ok, ◌++◌, map, length, take, vec_len};
+ghost use Rattle.std.specs.Io.KnownBytes.{Appends};
+ghost use Rattle.zr_io.specs.Moved.{AddsPiece, HasCause, Rose};
+ghost use Rattle.area_layout.specs.Layout.{MakeLayout};
+ghost use Rattle.cap_make.specs.GeneratedCapture.{generated_capture};
+ghost use Rattle.command_words.specs.Options.{AreInRange, GoesByTurns};
+ghost use Rattle.command_words.specs.Words.{IsPortList, reading_of, replay};
+ghost use Rattle.card_feed.specs.Plan.{IsPlan, TakesTurns};
+ghost use Rattle.run_account.specs.Ran.{told_of};
+ghost use Rattle.run_report.specs.Report.{Reports, report_of};
+ghost use Rattle.replay_turns.specs.Schedule.{AreTurns};
+ghost use Rattle.top_call.specs.Cards.{IsClosed};
+ghost use Rattle.top_call.specs.Planned.{IsPlanOf};
+ghost use Rattle.top_call.specs.Records.{HasRecord, record_in};
+ghost use Rattle.top_call.specs.StreamTheorem.{Answers, Commands, IsThreaded, IsUntouched, LacksMemoryBy, RanWith, RepliesTo, Tells, asked_by};
+
+use crate::card::Card;
+use crate::checking::check_record;
+use crate::status::status_of;
+use cap_make::make;
+use card_feed::{Outcome, Plan};
+use command_words::{Command, Options, Replay, read_words};
+use replay_threads::{Gate, run_threads};
+use replay_turns::run_turns;
+use run_report::{Report, Unreported, answer, write_record, write_report};
+use std::alloc::{AllocError, Global};
+use std::collections::hash_map::RandomState;
+use std::sync::Wait;
+use std::thread::Threads;
+use zr_io::{Failed, Shelf, Sink, Source};
+use zr_kinds::Fault;
+
+/// Writes the record of the run, where it is asked for.
+fn write_events<O: Sink>(plan: &Plan, card: &Card, out: &mut O) -> Result<(), Failed>
+    requires plan { IsPlan plan.now }
+    ensures bytes { AddsPiece (O.sent out.old) (O.sent out.new) result (record_in plan.now card.now) }
+    ensures cause { HasCause (O.faults out.old) (O.faults out.new) result }
+{
+    match card {
+        Card::Plain(board) if plan.events => {
+            write_record(&plan.areas, plan.ports.len() as u32, board.log(), out)
+        }
+        _ => Ok(()),
+    }
+}
+
+/// Writes the report of a replay, and behind it the record of the run where it is asked for.
+fn write_told<O: Sink>(
+    alloc: Global,
+    report: &Report<'_>,
+    plan: &Plan,
+    card: &Card,
+    out: &mut O,
+) -> Result<(), Unreported>
+    requires plan { IsPlan plan.now }
+    ensures gained { let r = report.now in
+        let text = report_of r.tally.now r.apps.now r.flows.now r.refused.now r.pool.now r.status in
+        Reports (O.sent out.old) (O.sent out.new) (O.faults out.old) (O.faults out.new) (text ++ record_in plan.now card.now) result }
+    ensures still { OnOk result (O.faults out.new ≡ O.faults out.old) }
+{
+    write_report(alloc, report, out)?;
+    match write_events(plan, card, out) {
+        Ok(()) => Ok(()),
+        Err(Failed) => Err(Unreported::Write),
+    }
+}
+
+/// Writes what a replay tells: the answer.
+fn tell<O: Sink>(alloc: Global, outcome: &Outcome, plan: &Plan, card: &Card, out: &mut O) -> u8
+    requires plan { IsPlan plan.now }
+    ensures { Tells (O.sent out.old) (O.sent out.new) (O.faults out.old) (O.faults out.new) (told_of outcome.now)
+        (record_in plan.now card.now) result }
+{
+    let status = status_of(outcome);
+    let report = Report {
+        tally: &outcome.tally,
+        apps: &outcome.apps,
+        flows: &outcome.flows,
+        refused: &outcome.refused,
+        pool: &outcome.pool,
+        status,
+    };
+    answer(status, write_told(alloc, &report, plan, card, out))
+}
+
+fn plan_of(command: Asked) -> Plan
+    requires ports { IsPortList command.ports.items }
+    requires areas { MakeLayout command.areas.items (length command.ports.items) }
+    requires options { AreInRange command.options }
+    ensures plan { IsPlan result }
+    ensures told { (turns : Option (List ℕ)) → IsPlanOf (asked_by command.ports.items command.areas.items command.options turns) result }
+{
+    let Asked {
+        ports,
+        areas,
+        options: Options {
+            ring,
+            split,
+            how,
+            polled,
+            forward,
+            events,
+        },
+    } = command;
+    Plan {
+        ports,
+        areas,
+        ring,
+        split,
+        how,
+        polled,
+        forward,
+        events,
+    }
+}
+
+/// Runs the plan by the text of turns, on this thread, over the board for one. The board is left in the card.
+fn play_turns<S: Source, T: Shelf>(
+    alloc: Global,
+    random: RandomState,
+    source: &mut S,
+    shelves: &mut Vec<T>,
+    plan: &Plan,
+    turns: &str,
+    card: &mut Card,
+) -> Result<Outcome, AllocError>
+    requires plan { IsPlan plan.now }
+    requires turns_only { TakesTurns plan.now }
+    requires shelves { length plan.now.ports.items ≤ vec_len shelves.old }
+    requires turns { AreTurns (length plan.now.ports.items) turns.now }
+    ensures many { vec_len shelves.new ≡ vec_len shelves.old }
+    ensures ran { IfOk result (λ outcome. RanWith S.left S.faults T.kept T.faults source.old source.new shelves.old.items shelves.new.items card.new
+        (Some turns.now) plan.now (told_of outcome)) }
+    ensures recorded { IfOk result (λ outcome. HasRecord plan.now (told_of outcome) card.new) }
+    ensures lacks { OnErr result (LacksMemoryBy S.left S.faults T.kept T.faults source.old source.new shelves.old.items shelves.new.items
+        (Some turns.now) plan.now × (card.new ≡ card.old)) }
+{
+    let (outcome, board) = run_turns(alloc, random, source, shelves, plan, turns)?;
+    *card = Card::Plain(board);
+    Ok(outcome)
+}
+
+/// Runs the plan by threads over the board on words. The board is left in the card.
+fn play_beside<S: Source + Send, T: Shelf + Send, G: Gate + Sync, R: Threads + Wait + Sync>(
+    rt: &R,
+    alloc: Global,
+    random: RandomState,
+    source: &mut S,
+    shelves: &mut Vec<T>,
+    plan: &Plan,
+    gate: &G,
+    card: &mut Card,
+) -> Result<Outcome, AllocError>
+    requires plan { IsPlan plan.now }
+    requires shelves { length plan.now.ports.items ≤ vec_len shelves.old }
+    ensures many { vec_len shelves.new ≡ vec_len shelves.old }
+    ensures ran { IfOk result (λ outcome. RanWith S.left S.faults T.kept T.faults source.old source.new shelves.old.items shelves.new.items card.new
+        None plan.now (told_of outcome)) }
+    ensures recorded { IfOk result (λ outcome. HasRecord plan.now (told_of outcome) card.new) }
+    ensures lacks { OnErr result (LacksMemoryBy S.left S.faults T.kept T.faults source.old source.new shelves.old.items shelves.new.items
+        None plan.now × (card.new ≡ card.old)) }
+{
+    let (outcome, board, desk) = run_threads(rt, alloc, random, source, shelves, plan, gate)?;
+    *card = Card::Words(board, desk);
+    Ok(outcome)
+}
+
+/// What a replay is asked for, but its turns.
+#[derive(Drop)]
+struct Asked {
+    ports: Vec<u16>,
+    areas: Vec<(u32, u32)>,
+    options: Options,
+}
+
+/// Replays a capture by a text of turns, and writes the report, and the record where it is asked for.
+fn replay_alone<S: Source, T: Shelf, O: Sink>(
+    alloc: Global,
+    random: RandomState,
+    command: Asked,
+    turns: &str,
+    source: &mut S,
+    shelves: &mut Vec<T>,
+    out: &mut O,
+    card: &mut Card,
+) -> u8
+    requires ports { IsPortList command.ports.items }
+    requires areas { MakeLayout command.areas.items (length command.ports.items) }
+    requires options { AreInRange command.options }
+    requires own { GoesByTurns command.options }
+    requires turns { AreTurns (length command.ports.items) turns.now }
+    requires shelves { vec_len shelves.old ≡ 8 }
+    requires blank { card.old ≡ Card.Blank }
+    ensures replays { RepliesTo S.left S.faults T.kept T.faults O.sent O.faults source.old source.new shelves.old.items shelves.new.items out.old out.new
+        card.new (asked_by command.ports.items command.areas.items command.options (Some turns.now)) result }
+{
+    let plan = plan_of(command);
+    match play_turns(alloc, random, source, shelves, &plan, turns, card) {
+        Ok(outcome) => tell(alloc, &outcome, &plan, card, out),
+        Err(_) => Fault::Memory.number(),
+    }
+}
+
+/// Replays a capture by threads, and writes the report.
+fn replay<S: Source + Send, T: Shelf + Send, O: Sink, G: Gate + Sync, R: Threads + Wait + Sync>(
+    rt: &R,
+    alloc: Global,
+    random: RandomState,
+    command: Asked,
+    source: &mut S,
+    shelves: &mut Vec<T>,
+    out: &mut O,
+    gate: &G,
+    card: &mut Card,
+) -> u8
+    requires ports { IsPortList command.ports.items }
+    requires areas { MakeLayout command.areas.items (length command.ports.items) }
+    requires options { AreInRange command.options }
+    requires shelves { vec_len shelves.old ≡ 8 }
+    requires blank { card.old ≡ Card.Blank }
+    ensures replays { RepliesTo S.left S.faults T.kept T.faults O.sent O.faults source.old source.new shelves.old.items shelves.new.items out.old out.new
+        card.new (asked_by command.ports.items command.areas.items command.options None) result }
+{
+    let plan = plan_of(command);
+    match play_beside(rt, alloc, random, source, shelves, &plan, gate, card) {
+        Ok(outcome) => tell(alloc, &outcome, &plan, card, out),
+        Err(_) => Fault::Memory.number(),
+    }
+}
+
+/// Writes the capture of a seed and a number of frames: the answer.
+fn write_capture<O: Sink>(seed: u32, frames: u32, out: &mut O) -> u8
+    ensures kind { (result ≡ 0) ⊎ (result ≡ 9) }
+    ensures whole { result ≡ 0 → Appends (O.sent out.old) (O.sent out.new) (generated_capture seed frames) × (O.faults out.new ≡ O.faults out.old) }
+    ensures lost { result ≡ 9 → ((n : ℕ) × Appends (O.sent out.old) (O.sent out.new) (take n (generated_capture seed frames)))
+        × Rose (O.faults out.old) (O.faults out.new) }
+{
+    match make(seed, frames, out) {
+        Ok(()) => 0,
+        Err(Failed) => Fault::Write.number(),
+    }
+}
+
+/// A replay by threads, and the keys of its table of flows.
+#[derive(Drop)]
+struct Threaded {
+    random: RandomState,
+    command: Asked,
+}
+
+/// Runs the command of the words on this thread: the answer. A replay by threads is handed back, and nothing was done.
+fn run_alone<S: Source, T: Shelf, O: Sink>(
+    alloc: Global,
+    random: RandomState,
+    words: &[&str],
+    source: &mut S,
+    shelves: &mut Vec<T>,
+    out: &mut O,
+    card: &mut Card,
+) -> Result<u8, Threaded>
+    requires shelves { vec_len shelves.old ≡ 8 }
+    requires blank { card.old ≡ Card.Blank }
+    ensures answers { IfOk result (Answers S.left S.faults T.kept T.faults O.sent O.faults source.old source.new shelves.old.items shelves.new.items
+        out.old out.new card.new (reading_of (map (λ w. w.now) words.now))) }
+    ensures alone { IfOk result (λ answer. IsThreaded (reading_of (map (λ w. w.now) words.now)) → answer ≡ 1) }
+    ensures asks { IfErr result (λ t. reading_of (map (λ w. w.now) words.now) ≡ Some (replay (asked_by t.command.ports.items t.command.areas.items t.command.options None))) }
+    ensures untouched { OnErr result (IsUntouched source.old source.new shelves.old.items shelves.new.items out.old out.new × (card.new ≡ Card.Blank)) }
+    ensures asked { IfErr result (λ t. IsPortList t.command.ports.items × MakeLayout t.command.areas.items (length t.command.ports.items)
+        × AreInRange t.command.options) }
+    ensures shelves { OnErr result (vec_len shelves.new ≡ 8) }
+{
+    match read_words(alloc, words) {
+        Ok(
+            Some(
+                Command::Replay(
+                    Replay {
+                        ports,
+                        areas,
+                        options,
+                        turns,
+                    },
+                ),
+            ),
+        ) => {
+            let command = Asked {
+                ports,
+                areas,
+                options,
+            };
+            match turns {
+                Some(text) => Ok(replay_alone(
+                    alloc, random, command, text, source, shelves, out, card,
+                )),
+                None => Err(Threaded { random, command }),
+            }
+        }
+        Ok(Some(Command::Make(command))) => Ok(write_capture(command.seed, command.frames, out)),
+        Ok(Some(Command::Check)) => Ok(check_record(alloc, source, out)),
+        Ok(None) => Ok(Fault::Usage.number()),
+        Err(_) => Ok(Fault::Memory.number()),
+    }
+}
+
+/// As `zcrx`, where the command needs no threads: to make a capture, to check a record, to replay a capture by a text of turns, and
+/// where the words have no reading. It waits for nobody and returns. `None` is a replay without a text of turns, and then nothing was done.
+pub fn zcrx_alone<S: Source, T: Shelf, O: Sink>(
+    alloc: Global,
+    random: RandomState,
+    words: &[&str],
+    source: &mut S,
+    shelves: &mut Vec<T>,
+    out: &mut O,
+    card: &mut Card,
+) -> Option<u8>
+    requires shelves { vec_len shelves.old ≡ 8 }
+    requires blank { card.old ≡ Card.Blank }
+    ensures answers { IfSome result (Answers S.left S.faults T.kept T.faults O.sent O.faults source.old source.new shelves.old.items shelves.new.items
+        out.old out.new card.new (reading_of (map (λ w. w.now) words.now))) }
+    // It is `None` only for a replay by threads; such a one is answered by `None`, or by 1 where there was no memory to read the words.
+    ensures none { result ≡ None → IsThreaded (reading_of (map (λ w. w.now) words.now)) }
+    ensures threaded { IsThreaded (reading_of (map (λ w. w.now) words.now)) → (result ≡ None) ⊎ (result ≡ Some 1) }
+    ensures untouched { result ≡ None → IsUntouched source.old source.new shelves.old.items shelves.new.items out.old out.new × (card.new ≡ Card.Blank) }
+{
+    run_alone(alloc, random, words, source, shelves, out, card).ok()
+}
+
+/// Runs the command that `words`, the words after the program's name, ask for. To replay a capture shelf `a` takes the
+/// flows to the port of place `a` among the ports, and `random` keys the table of flows; to make one neither source nor
+/// shelves are needed, and to check the record of a run no shelves. With a text of turns a replay goes by these on one thread.
+/// Without one the reading, the card and each application have a thread of their own, and `gate` is asked before each turn of
+/// the card and of an application. The board of a run is left in `card`. Answers the status: 0, or the number of the fault that
+/// comes first.
+pub fn zcrx<S: Source + Send, T: Shelf + Send, O: Sink, G: Gate + Sync, R: Threads + Wait + Sync>(
+    rt: &R,
+    alloc: Global,
+    random: RandomState,
+    words: &[&str],
+    source: &mut S,
+    shelves: &mut Vec<T>,
+    out: &mut O,
+    gate: &G,
+    card: &mut Card,
+) -> u8
+    requires shelves { vec_len shelves.old ≡ 8 }
+    requires blank { card.old ≡ Card.Blank }
+
+    // Words without a reading are answered by 2, or by 1 where there was no memory to read them; and no other words by 2.
+    ensures usage { result ≡ 2 → reading_of (map (λ w. w.now) words.now) ≡ None }
+    ensures unread { reading_of (map (λ w. w.now) words.now) ≡ None → (result ≡ 2) ⊎ (result ≡ 1) }
+    // Then nothing is read or written.
+    ensures untouched { reading_of (map (λ w. w.now) words.now) ≡ None
+        → IsUntouched source.old source.new shelves.old.items shelves.new.items out.old out.new × (card.new ≡ Card.Blank) }
+
+    // To replay: the stream theorem, what the status and the report say, and the board. To make: the capture. To check: what was found.
+    ensures replays { IfSome (reading_of (map (λ w. w.now) words.now))
+        (Commands S.left S.faults T.kept T.faults O.sent O.faults source.old source.new shelves.old.items shelves.new.items out.old out.new
+        card.new result) }
+    // A board that is left may be finished.
+    ensures closed { IsClosed card.new }
+{
+    match run_alone(alloc, random, words, source, shelves, out, card) {
+        Ok(answer) => answer,
+        Err(Threaded { random, command }) => {
+            replay(rt, alloc, random, command, source, shelves, out, gate, card)
+        }
+    }
+}

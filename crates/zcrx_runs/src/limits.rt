@@ -1,0 +1,100 @@
+//! A capture with more flows than a replay numbers.
+use super::runs::{check_free, free_buffers};
+use replay_threads::{Gate, NoGate};
+use sample_captures::{FILE_HEADER, SYN, Sent, frame, record_of, to_9000};
+use std::alloc::Global;
+use std::collections::hash_map::RandomState;
+use std::process::Abort;
+use std::random::RandomSource;
+use std::sync::Wait;
+use std::test::Fail;
+use std::thread::Threads;
+use top_call::{Card, SHELVES, zcrx};
+use zr_io::{MemShelf, MemSink, MemSource, Source};
+
+/// How many bytes the report of 65,535 flows has at most.
+const ROOM: usize = 4_000_000;
+
+/// A replay of port 9000 whose report has to be this. The gate is asked before each turn.
+pub fn check_report_behind<S: Source + Send, G: Gate + Sync>(
+    rt: &(impl Abort + AllocGlobal + RandomSource + Threads + Wait + Sync),
+    source: &mut S,
+    status: u8,
+    report: &str,
+    gate: &G,
+) -> Result<(), Fail> {
+    let alloc = rt.alloc();
+    let mut shelves = Vec::with_capacity(alloc, SHELVES)?;
+    for _ in 0..SHELVES {
+        shelves.push(MemShelf::new(alloc, 0, 0, Vec::new(alloc))?)?;
+    }
+    assert_eq!(rt; shelves.len(), SHELVES);
+    let mut out = MemSink::new(alloc, ROOM, Vec::new(alloc))?;
+    let random = RandomState::new(rt)?;
+    let words = ["replay", "9000"];
+    let mut card = Card::Blank;
+    let answer = zcrx(
+        rt,
+        alloc,
+        random,
+        &words,
+        source,
+        &mut shelves,
+        &mut out,
+        gate,
+        &mut card,
+    );
+    assert!(rt; out.bytes() == report.as_bytes(), "another report");
+    assert_eq!(rt; answer, status);
+    check_free(rt, "a long capture", free_buffers(card), 64)
+}
+
+/// A replay of port 9000 whose report has to be this.
+pub fn check_report<S: Source + Send>(
+    rt: &(impl Abort + AllocGlobal + RandomSource + Threads + Wait + Sync),
+    source: &mut S,
+    status: u8,
+    report: &str,
+) -> Result<(), Fail> {
+    check_report_behind(rt, source, status, report, &NoGate)
+}
+
+/// A SYN from each port there is, with the port as its sequence number.
+pub fn syns(alloc: Global) -> Result<Vec<u8>, Fail> {
+    let mut bytes = FILE_HEADER.to_vec(alloc)?;
+    for sport in 0..=u16::MAX {
+        let sent = Sent {
+            sport,
+            ..to_9000(u32::from(sport), SYN, b"")
+        };
+        bytes.extend_from_slice(&record_of(alloc, &frame(alloc, &sent)?)?)?;
+    }
+    Ok(bytes)
+}
+
+/// The report of these: the last would begin a flow too many.
+pub fn report_of_syns(alloc: Global) -> Result<String, Fail> {
+    let mut report = format!(in alloc;
+        "\
+capture records 65535 tcp 65535 steered 65535 other 0 fragment 0 cut 0 bad 0
+app 0 port 9000 written 0 loans 0 copied 0 stopped no
+"
+    )?;
+    for flow in 0..65_535u32 {
+        let base = flow + 1;
+        let line = format!(in alloc;
+            "flow {flow} port 9000 base {base} bytes 0 fin no end open\n"
+        )?;
+        report.push_str(&line)?;
+    }
+    report.push_str("pool fast 0 refill 0 slow 0 empty 0 strays 0\nstatus 10\n")?;
+    Ok(report)
+}
+
+#[test]
+fn flows_come_to_an_end(rt: HostRuntime) -> Result<(), Fail> {
+    let alloc = rt.alloc();
+    let report = report_of_syns(alloc)?;
+    let mut source = MemSource::new(syns(alloc)?, 65_536, Vec::new(alloc));
+    check_report(&rt, &mut source, 10, &report)
+}
