@@ -1,13 +1,10 @@
 -- How many bytes of a flow were appended.
-use Rattle.std.proofs.Common.{◌≡◌, ◌≢◌, ℕ, zero, suc, ◌<◌, ◌≤◌, List, [], ◌∷◌, length, get_or, refl, arith, eq-eqb, Option, ap, subst, ◌∙◌, ⊎_elim}
+use Rattle.std.proofs.Common.{◌≡◌, ◌≢◌, ℕ, zero, suc, ◌<◌, ◌≤◌, List, [], ◌∷◌, length, get_or, refl, arith, eq-eqb, Option, subst, ◌∙◌, ⊎_elim}
 use Rattle.std.proofs.lemmas.Bool.{cases_eq}
 use Rattle.std.specs.Io.KnownBytes.{Keeps}
 use Rattle.zr_io.specs.Moved.{Gained}
 use Rattle.zr_io.proofs.Moved.{Gained-weaker}
 use Rattle.zr_kinds.specs.CopyingReceiver.{values_from}
-use Rattle.board_face.specs.declared.views.app.Reading.{Reading}
-use Rattle.board_face.specs.declared.views.app.TakenNote.{TakenNote}
-use Rattle.flow_queues.specs.Marks.{Mark}
 use Rattle.flow_queues.specs.Shelves.{IsShelved, AreShelved, FlowEnds}
 use Rattle.app_worker.specs.Streams.{HasCounted}
 use Rattle.flow_queues.proofs.Placing.{values-length}
@@ -22,6 +19,7 @@ use Rattle.app_worker.specs.State.{State, AppStands, Bare, Working}
 use Rattle.flow_queues.specs.Totals.{bytes_of}
 use Rattle.app_worker.specs.Kept.{flow_bytes}
 use Rattle.flow_queues.proofs.Standing.{number-is, number-not}
+use Rattle.flow_queues.proofs.ReadLemmas.{are-many}
 use Rattle.app_worker.proofs.StreamLemmas.{by-mode}
 
 -- a flow that is there is counted
@@ -70,19 +68,12 @@ bytes-sum number (f ∷ fs) one = ⊎_elim
 
 -- ---- what the shelf has
 
-read-length : (taken : List TakenNote) (reads : List Reading) (marks : List Mark) (bytes : List ℕ) → AreReadAt taken reads marks bytes
-    → length bytes ≡ length marks
-read-length taken reads [] [] are = refl
-read-length taken reads (m ∷ ms) (b ∷ bs) are = ap suc (read-length taken reads ms bs are.1)
-read-length taken reads [] (b ∷ bs) are = absurd are
-read-length taken reads (m ∷ ms) [] are = absurd are
-
 -- of one flow there are as many bytes as are counted
 shelved-count : (first kept : ℕ → Option (List ℕ)) (v : AppView) (f : FlowQueue) → FlowEnds v.taken f → IsShelved first kept v.taken v.reads f
     → Gained (first f.number) (kept f.number) (λ bytes. length bytes ≡ f.bytes)
 shelved-count first kept v f ends shelved = Gained-weaker (first f.number) (kept f.number)
     (λ bytes. AreReadAt v.taken v.reads (values_from (placed_of f v.taken).at f.bytes 0) bytes) (λ bytes. length bytes ≡ f.bytes)
-    (λ bytes are. read-length v.taken v.reads (values_from (placed_of f v.taken).at f.bytes 0) bytes are
+    (λ bytes are. are-many v.taken v.reads (values_from (placed_of f v.taken).at f.bytes 0) bytes are
     ∙ values-length (placed_of f v.taken).at f.bytes 0 (λ q from until. ends.below q (omega (arith, until)))) shelved.gained
 
 counts-of : (first kept : ℕ → Option (List ℕ)) (v : AppView) (number : ℕ) (flows : List FlowQueue) → Each (FlowEnds v.taken) flows

@@ -1,7 +1,7 @@
 //! The stages of a turn: lending what is in order, and reading what is more than it keeps unread.
-ghost use Rattle.std.specs.Prelude.{◌≡◌, ◌≢◌, false, true, ℕ, ◌+◌, ◌≤◌, [], ◌++◌, List, Option, None, length};
+ghost use Rattle.std.specs.Prelude.{◌≡◌, ◌≢◌, false, true, ◌+◌, ◌≤◌, [], ◌++◌, None, length};
 ghost use Rattle.completion_ring.specs.Ring.{ring};
-ghost use Rattle.board_face.specs.AppCalls.{IsHere, CanLeave};
+ghost use Rattle.board_face.specs.AppCalls.{IsHere};
 ghost use Rattle.board_face.specs.AppEvents.{app_gist};
 ghost use Rattle.board_face.specs.declared.views.app.AppLook.TheVariants.{RawOnItsWay, NoSpare, NotQuiet};
 ghost use Rattle.app_worker.specs.State.{Working, Common};

@@ -1,5 +1,5 @@
 //! One turn of an application.
-ghost use Rattle.std.specs.Prelude.{◌≡◌, ◌≢◌, false, true, ℕ, ◌+◌, ◌≤◌, [], List, Option, Some, None, MatchOption, length, if◌then◌else◌};
+ghost use Rattle.std.specs.Prelude.{◌≡◌, ◌≢◌, false, true, ℕ, ◌≤◌, [], List, Option, Some, None, MatchOption, length, if◌then◌else◌};
 ghost use Rattle.board_face.specs.AppCalls.{IsHere, ToldEnd};
 ghost use Rattle.board_face.specs.AppEvents.{app_gist};
 ghost use Rattle.app_worker.specs.declared.turn.Why.{Why};

@@ -154,23 +154,10 @@ upto-later size areas i left d there ge =
 pub upto-behind : (size : ℕ) (areas : List Area) (i left : ℕ) → length areas ≤ i → bytes_upto size (drop i areas) left ≡ left * size
 upto-behind size areas i left behind = ap (λ (xs : List Area). bytes_upto size xs left) (drop_all i areas behind)
 
-pub before-found : (areas : List Area) (i left : ℕ) (d : Area) → i < length areas → left < (get_or areas i d).buffers
-    → areas_before (drop i areas) left ≡ 0
-before-found areas i left d there lt =
-    ap (λ (xs : List Area). areas_before xs left) (next-area areas i d there) ∙ before-here (get_or areas i d) (drop (suc i) areas) left lt
-
-pub before-passed : (areas : List Area) (i left : ℕ) (d : Area) → i < length areas → (get_or areas i d).buffers ≤ left
-    → areas_before (drop i areas) left ≡ suc (areas_before (drop (suc i) areas) (left - (get_or areas i d).buffers))
-before-passed areas i left d there ge =
-    ap (λ (xs : List Area). areas_before xs left) (next-area areas i d there) ∙ before-later (get_or areas i d) (drop (suc i) areas) left ge
-
 -- ---- the least size
 
 abbrev pub or_less : ℕ → Area → ℕ
 or_less least a = if a.buffers == 0 then least else min a.size least
-
-pub least-cons : (most : ℕ) (a : Area) (areas : List Area) → least_among most (a ∷ areas) ≡ or_less (least_among most areas) a
-least-cons most a areas = refl
 
 or_less-le : (least : ℕ) (a : Area) → or_less least a ≤ least
 or_less-le least a =

@@ -65,10 +65,6 @@ refill_back xs len small =
     (pad ∙ sym (drop-drop 4 8 xs)) in
     field_back 8 xs (little_bytes 4 (little_number 4 (drop 8 xs)) ++ (little_bytes 4 (little_number 4 (drop 12 xs)) ++ [])) (omega arith) small lent
 
--- eight bytes of 0 are the number 0, and no others
-pub pad_number : (xs : List ℕ) → xs ≡ replicate 8 0 → little_number 8 xs ≡ 0
-pad_number xs same = ap (little_number 8) same
-
 pub pad_zeros : (xs : List ℕ) → length xs ≡ 8 → ((i : ℕ) → slice_index xs i < 256) → little_number 8 xs ≡ 0 → xs ≡ replicate 8 0
 pad_zeros xs len small none =
     sym (take_all 8 xs (omega arith)) ∙ sym (little_bytes-number 8 xs (omega arith) small) ∙ ap (little_bytes 8) none

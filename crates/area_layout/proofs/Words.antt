@@ -38,13 +38,6 @@ some-in shape buffer l =
       | inr ge ↦ rw (area-reserve shape buffer ge) l.first
     ]
 
-pub within-four : (shape : Shape) (buffer : ℕ) → IsLayout shape → area_of_buffer shape buffer < 4
-within-four shape buffer l =
-    elim (cases_lt buffer (pool_buffers shape)) [
-      | inl lt ↦ let there = (found-in shape buffer lt).there in let four = l.four in omega arith
-      | inr ge ↦ rw (area-reserve shape buffer ge) (omega arith)
-    ]
-
 pub size-fits : (shape : Shape) (buffer : ℕ) → IsLayout shape → IsBufferSize (size_of shape buffer)
 size-fits shape buffer l = l.sizes (area_of_buffer shape buffer) (some-in shape buffer l)
 

@@ -8,7 +8,7 @@ use Rattle.board_face.specs.declared.views.app.AppLook.{AppLook}
 use Rattle.board_face.specs.declared.views.app.AppLook.TheVariants.{NoNote, CardEnded, RefillInUse, RawOnItsWay, NoneListed, NoSpare, NotQuiet}
 use Rattle.board_face.specs.declared.views.nic.NicView.{NicView}
 use Rattle.board_face.specs.declared.views.app.AppView.{AppView}
-use Rattle.board_face.specs.Looks.{same_nic_look, same_app_look, times, NicRose, AppRose, NicLooksStay, AppLooksStay, NicTold, AppTold}
+use Rattle.board_face.specs.Looks.{same_nic_look, same_app_look, times, NicRose, AppRose, NicLooksStay, NicTold, AppTold}
 use Rattle.board_face.specs.NicEvents.{nic_saw}
 use Rattle.board_face.specs.AppEvents.{app_saw}
 use Rattle.board_face.proofs.ListLemmas.{eqb_same}
@@ -63,9 +63,6 @@ NicRose-later u v w look stay rose = record { rose = omega (arith, stay.later lo
 -- and so did one that rose in an earlier call
 pub NicRose-before : (u v w : NicView) (look : NicLook) → NicRose look u v → NicLooksStay v w → NicRose look u w
 NicRose-before u v w look rose stay = record { rose = omega (arith, stay.later look, rose.rose) }
-
-pub AppRose-later : (u v w : AppView) (look : AppLook) → AppLooksStay u v → AppRose look v w → AppRose look u w
-AppRose-later u v w look stay rose = record { rose = omega (arith, stay.later look, rose.rose) }
 
 -- ---- what is told of a look that rose
 

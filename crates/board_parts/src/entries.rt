@@ -1,4 +1,4 @@
-ghost use Rattle.std.specs.Prelude.{◌≡◌, ℕ, ◌*◌, ◌<◌, length, slice_index, Some, IfSome, MatchOption};
+ghost use Rattle.std.specs.Prelude.{◌≡◌, ◌*◌, ◌<◌, length, slice_index, Some, IfSome, MatchOption};
 ghost use Rattle.area_layout.specs.Layout.{total, judged};
 ghost use Rattle.board_parts.specs.Counts.{user_at};
 

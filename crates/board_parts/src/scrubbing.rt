@@ -1,4 +1,4 @@
-ghost use Rattle.std.specs.Prelude.{◌≡◌, ℕ, ◌*◌, ◌<◌, ◌≤◌, length};
+ghost use Rattle.std.specs.Prelude.{◌≡◌, ◌*◌, ◌<◌, length};
 ghost use Rattle.area_layout.specs.Layout.{pool_buffers, total};
 ghost use Rattle.board_parts.specs.Counts.{HasFewUsers, TakesBack};
 

@@ -1,6 +1,6 @@
 -- Lists of lanes, and the applications that are back.
-use Rattle.std.proofs.Common.{◌≡◌, ℕ, suc, true, take, drop, ◌<◌, List, [], ◌∷◌, ◌++◌, length, map, refl, sym, ◌∙◌, arith, subst, ⊎_elim}
-use Rattle.std.specs.Prelude.{Contains, IsTrue}
+use Rattle.std.proofs.Common.{◌≡◌, ℕ, suc, take, drop, ◌<◌, List, [], ◌∷◌, ◌++◌, length, map, refl, sym, ◌∙◌, arith, subst, ⊎_elim}
+use Rattle.std.specs.Prelude.{Contains}
 use Rattle.std.proofs.lemmas.List.{get_or_append_left, get_or_push, length_push, map-append, append-nil, take_all, drop_all}
 use Rattle.std.proofs.lemmas.List.Elements.{Contains-append_left, Contains-push}
 use Rattle.std.proofs.lemmas.Bool.{cases_lt}
@@ -30,9 +30,6 @@ AreAt-last b xs x at = rw (get_or_push xs x x (length xs) refl) at (at (length x
 
 pub SayLeft-front : (xs : List Lane) (x : Lane) → SayLeft (xs ++ x ∷ []) → SayLeft xs
 SayLeft-front xs x say i d less = rw (get_or_append_left xs (x ∷ []) d i less) at (say i d (omega (arith, less, length_push xs x)))
-
-pub SayLeft-last : (xs : List Lane) (x : Lane) → SayLeft (xs ++ x ∷ []) → IsTrue x.left → x.seat.side.view.left ≡ true
-SayLeft-last xs x say = rw (get_or_push xs x x (length xs) refl) at (say (length xs) x (omega (arith, length_push xs x)))
 
 -- lanes that have run are where they were, and those that say so have left
 pub AreAt-run : (b : TheBoard) (old new : List Lane) → AreAt b old → HaveRun old new → AreAt b new

@@ -1,5 +1,5 @@
 //! The stream over the board for one thread: the two halves have it in turn.
-ghost use Rattle.std.specs.Prelude.{◌≡◌, ◌<◌, ◌≤◌, length, true, None, IsTrue, IfOk};
+ghost use Rattle.std.specs.Prelude.{◌≡◌, ◌<◌, ◌≤◌, length, true, None, IsTrue};
 ghost use Rattle.zr_kinds.specs.Limits.{longest_payload};
 ghost use Rattle.note_stream.specs.Halves.{IsSender, IsReceiver};
 ghost use Rattle.plain_board.specs.Board.{side_of};

@@ -1,6 +1,6 @@
 //! A frame as bytes, and its record.
-ghost use Rattle.std.specs.Prelude.{◌≡◌, ℕ, ◌+◌, ◌*◌, ◌^◌, ◌<◌, ◌≤◌, [], ◌++◌, length};
-ghost use Rattle.cap_make.specs.GeneratedCapture.{ethernet_header, ipv4_header, tcp_header, record_header, bytes_from, payload_of, frame_of};
+ghost use Rattle.std.specs.Prelude.{◌≡◌, ◌+◌, ◌*◌, ◌^◌, ◌<◌, ◌≤◌, [], ◌++◌, length};
+ghost use Rattle.cap_make.specs.GeneratedCapture.{ipv4_header, tcp_header, record_header, payload_of, frame_of};
 
 use crate::piece::Piece;
 use arrayvec::ArrayVec;

@@ -1,7 +1,6 @@
 //! The capture, frame by frame.
-ghost use Rattle.std.specs.Prelude.{◌≡◌};
 ghost use Rattle.zr_io.specs.Moved.{AddsPiece, HasCause};
-ghost use Rattle.cap_make.specs.GeneratedCapture.{file_header, generated_capture, record_of};
+ghost use Rattle.cap_make.specs.GeneratedCapture.{generated_capture, record_of};
 
 use crate::frame::{Block, put_record};
 use crate::piece::{draw, piece_at};

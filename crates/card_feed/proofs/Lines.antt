@@ -31,12 +31,12 @@ told_of (Some flow) info is = (flow, refl, same is)
     same : {a b : FlowInfo} → Some a ≡ Some b → a ≡ b
     same e = cc
 
-get-before : {A : Type 0} (xs : List A) (x : A) (i : ℕ) → i < length xs → slice_get (xs ++ x ∷ []) i ≡ slice_get xs i
+pub get-before : {A : Type 0} (xs : List A) (x : A) (i : ℕ) → i < length xs → slice_get (xs ++ x ∷ []) i ≡ slice_get xs i
 get-before [] x i within = absurd (omega arith)
 get-before (y ∷ xs) x zero within = refl
 get-before (y ∷ xs) x (suc i) within = get-before xs x i (omega arith)
 
-get-last : {A : Type 0} (xs : List A) (x : A) (i : ℕ) → i ≡ length xs → slice_get (xs ++ x ∷ []) i ≡ Some x
+pub get-last : {A : Type 0} (xs : List A) (x : A) (i : ℕ) → i ≡ length xs → slice_get (xs ++ x ∷ []) i ≡ Some x
 get-last [] x i is = rw is refl
 get-last (y ∷ xs) x zero is = absurd (omega (arith, is))
 get-last (y ∷ xs) x (suc i) is = get-last xs x i (omega (arith, is))

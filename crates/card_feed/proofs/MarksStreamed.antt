@@ -17,6 +17,7 @@ use Rattle.board_face.specs.declared.views.app.AppView.{AppView}
 use Rattle.app_worker.specs.Marks.{Mark, Frame, received_frame, received_frames, base_of, marks_of}
 use Rattle.app_worker.specs.Core.{IsReadAt, IsIn, IsByteAt, AreReadAt}
 use Rattle.flow_queues.specs.Streams.{IsFront}
+use Rattle.flow_queues.proofs.ReadLemmas.{are-many}
 use Rattle.page_pool.specs.Frames.{Offered, ShowFrames}
 use Rattle.zr_kinds.proofs.LeastMissing.{IsBounded-nothing}
 use Rattle.zr_kinds.proofs.Mapped.{MapsPlaced, received-map, front_of-map}
@@ -145,12 +146,6 @@ read_bytes notes v (m ∷ ms) (b ∷ bs) taken reads are = let one = read_byte n
     (ap (λ others. byte_at notes m ∷ others) (read_bytes notes v ms bs taken reads are.1))
 read_bytes notes v [] (b ∷ bs) taken reads are = absurd are
 read_bytes notes v (m ∷ ms) [] taken reads are = absurd are
-
-are-many : (taken : List TakenNote) (reads : List Reading) (ms : List Mark) (bs : List ℕ) → AreReadAt taken reads ms bs → length bs ≡ length ms
-are-many taken reads [] [] are = refl
-are-many taken reads (m ∷ ms) (b ∷ bs) are = ap suc (are-many taken reads ms bs are.1)
-are-many taken reads [] (b ∷ bs) are = absurd are
-are-many taken reads (m ∷ ms) [] are = absurd are
 
 no_rest : (f : Mark → ℕ) (read rest all : List Mark) → all ≡ read ++ rest → length read ≡ length all → map f rest ≡ []
 no_rest f read [] all parts whole = refl

@@ -44,11 +44,6 @@ part-length found segment len is =
     length-take-le (counted_len (close_of found) segment) segment.payload (counted-most (close_of found) segment)
     ∙ counted-there found segment len is
 
--- no more count than there are
-pub placed-most : (flows : List Flow) (flow : ℕ) (segment : TcpSegment) (len : ℕ) → counted_at flows flow segment ≡ Some len → len ≤ length segment.payload
-placed-most flows flow segment len is =
-    omega (arith, counted-there (slice_get flows flow) segment len is, counted-most (close_of (slice_get flows flow)) segment)
-
 -- ---- where it goes
 
 module _ (old : KnownFlows) (segment : TcpSegment) (number : ℕ) where

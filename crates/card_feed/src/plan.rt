@@ -1,7 +1,6 @@
 //! What a replay is asked to do.
 
-ghost use Rattle.std.specs.Prelude.{◌≡◌};
-ghost use Rattle.card_feed.specs.Plan.{layout_of, IsLaidOut};
+ghost use Rattle.card_feed.specs.Plan.{IsLaidOut};
 
 use area_layout::Layout;
 use zr_kinds::Behaviour;

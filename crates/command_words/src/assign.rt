@@ -1,6 +1,6 @@
 //! Words assigned by `clap`.
 
-ghost use Rattle.std.specs.Prelude.{◌≡◌, ◌++◌, IfOk, [], ◌∷◌, drop, map, option_map};
+ghost use Rattle.std.specs.Prelude.{◌≡◌, ◌++◌, IfOk, [], drop, map, option_map};
 ghost use Rattle.std.specs.Str.{IsUtf8};
 ghost use Rattle.std.specs.List.{All};
 ghost use Rattle.clap.specs.Words.{app_of, found_of, matched_of, raw_values, with_rule};

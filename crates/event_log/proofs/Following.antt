@@ -1,7 +1,7 @@
 -- A log goes on to tell of a board where its buffers' holders and its tallies changed as the event says.
 use Rattle.std.proofs.Common.{◌≡◌, ◌∙◌, ℕ, ◌+◌, ◌≤◌, true, false, List, [], ◌∷◌, ◌++◌, length, eqb, Some}
 use Rattle.std.proofs.Common.{refl, sym, ap, subst, arith, ⊎_elim}
-use Rattle.std.specs.Prelude.{count_by, option_and_then}
+use Rattle.std.specs.Prelude.{count_by}
 use Rattle.std.specs.List.{AllByRecursion, list_any}
 use Rattle.std.proofs.lemmas.Bool.{eq-eqb}
 use Rattle.std.proofs.lemmas.Bool.Decides.{eqb_tells}

@@ -1,7 +1,6 @@
 -- More of a loan was read, and one more note was served.
 use Rattle.std.proofs.Common.{◌≡◌, ℕ, ◌+◌, List, [], ◌∷◌, ◌++◌, length, refl, ap, sym, ◌∙◌, arith, append_assoc, length-append}
 use Rattle.std.proofs.Common.{add-zero, sum_by, true, false}
-use Rattle.std.proofs.lemmas.List.{append-nil}
 use Rattle.std.proofs.lemmas.List.Sums.{sum_by-append}
 use Rattle.board_face.proofs.ListLemmas.{same_place-refl}
 use Rattle.board_face.specs.AppCalls.{TookNote, AppOnlySaw}
@@ -25,9 +24,6 @@ pub GoesOn-push : (origin : Origin) (from : ℕ) (rs : List Reading) (middle : �
     → GoesOn origin from (rs ++ record { origin = further origin middle; bytes = bytes } ∷ []) (middle + length bytes)
 GoesOn-push origin from [] middle bytes on = (ap (further origin) (sym on), rw on refl)
 GoesOn-push origin from (r ∷ rs) middle bytes on = (on.0, GoesOn-push origin (from + length r.bytes) rs middle bytes on.1)
-
-pub ReadsOf-none : (v : AppView) (loan : Place) → ReadsOf v v loan 0
-ReadsOf-none v loan = record { readings = []; event = rw append-nil refl; in_order = refl }
 
 pub ReadsOf-more : (old v : AppView) (loan : Place) (count : ℕ) (bytes : List ℕ) → ReadsOf old v loan count
     → ReadsOf old (has_read v loan count bytes) loan (count + length bytes)

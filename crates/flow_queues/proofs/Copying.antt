@@ -13,9 +13,8 @@ use Rattle.zr_kinds.specs.declared.place.Note.{Note}
 use Rattle.area_layout.specs.Layout.{pool_buffers}
 use Rattle.tcp_reorder.specs.declared.places.Span.{Span}
 use Rattle.tcp_reorder.specs.Queue.{Kept, Queue, front_of, AreApart as ApartFrom, next_of}
-use Rattle.tcp_reorder.specs.Gaps.{LosesFirst, kept_at}
+use Rattle.tcp_reorder.specs.Gaps.{LosesFirst}
 use Rattle.tcp_reorder.specs.Values.{AreSized}
-use Rattle.tcp_reorder.proofs.Sound.{front_of-in_order}
 use Rattle.board_face.specs.Texts.{unsplit_bytes}
 use Rattle.board_face.specs.Tokens.{filled_by, same_filling}
 use Rattle.board_face.specs.Looks.{AppLooksStay}
@@ -48,15 +47,6 @@ use Rattle.flow_queues.proofs.Entering.{marks-length}
 use Rattle.flow_queues.proofs.Looks.{looks-same, looks-more}
 
 -- ---- what is next
-
--- what is handed over is of the kind that was next
-pub first-kind : (short : Bool) (old new : Queue Waiting) (piece : Waiting) (span : Span) → IsNext short old → LosesFirst old new piece span
-    → span.position ≡ old.popped → is_short piece ≡ short
-first-kind short old new piece span next loses begins =
-    let front : front_of old ≡ Some (kept_at span piece) = front_of-in_order old (kept_at span piece) new.kept loses.first begins in
-    let both : Some next.first ≡ Some (kept_at span piece) = sym next.is ∙ front in
-    let same : next.first ≡ kept_at span piece = cc in
-    ap (λ (k : Kept Waiting). is_short k.piece) (sym same) ∙ next.kind
 
 -- the first of a queue is at its front
 front-first : (queue : Queue Waiting) (kept : List (Kept Waiting)) (first : Kept Waiting) → queue.kept ≡ kept → front_of queue ≡ Some first

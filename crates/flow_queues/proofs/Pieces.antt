@@ -1,5 +1,5 @@
 -- Pieces that are cut, and given up in part.
-use Rattle.std.proofs.Common.{◌≡◌, ℕ, ◌+◌, ◌-◌, ◌<◌, false, Some, None, refl, sym, ap, ◌∙◌, arith}
+use Rattle.std.proofs.Common.{◌≡◌, ℕ, ◌-◌, ◌<◌, false, Some, refl, arith}
 use Rattle.std.proofs.lemmas.Bool.Decides.{nat_tests}
 use Rattle.zr_kinds.specs.declared.place.Place.{Place}
 use Rattle.board_face.specs.Lists.{same_place}
@@ -16,20 +16,6 @@ use Rattle.flow_queues.proofs.Tokens.{Cut, is-cut, Released, is-released}
 pub other-place : (p : Place) (n : ℕ) → 0 < n → same_place (front_place p n) (rest_place p n) ≡ false
 other-place p n some = grind (arith, nat_tests)
 
-zero-rest : (piece : NotePiece) → piece ≡ rest_of_piece piece 0
-zero-rest piece = (
-    let at : piece.at + 0 ≡ piece.at = omega arith in
-    let offset : piece.held.offset + 0 ≡ piece.held.offset = omega arith in
-    let len : piece.held.len - 0 ≡ piece.held.len = omega arith in
-    rw (at, offset, len) refl)
-
-pub nothing-skipped : (v : AppView) → LieApart v → (piece : NotePiece) (n : ℕ) → n ≡ 0 → IsIn (held_piece piece) v.helds → GaveFront v v piece n piece
-nothing-skipped v lie piece n none is = record {
-  only = record { view = refl; apart = lie; moved = λ f. refl };
-  rest = zero-rest piece ∙ ap (rest_of_piece piece) (sym none);
-  out = is;
-}
-
 pub skipped : (v : AppView) → LieApart v → (piece : NotePiece) (n : ℕ) → IsIn (held_piece piece) v.helds → 0 < n → n < piece.held.len
     → GaveFront v (released (cut v piece.held n) (front_place piece.held n)) piece n (rest_of_piece piece n)
 skipped v lie piece n is some below =
@@ -43,15 +29,6 @@ skipped v lie piece n is some below =
       rest = refl;
       out = then.others (held_piece (rest_of_piece piece n)) first.rest_out (other-place piece.held n some);
     }
-
-pub taken-whole : (v : AppView) → LieApart v → (piece : NotePiece) (n : ℕ) → n ≡ piece.held.len → IsIn (held_piece piece) v.helds
-    → CutFirst v v piece n piece None
-taken-whole v lie piece n whole is = record {
-  only = record { view = refl; apart = lie; moved = λ f. omega arith };
-  front = rw whole refl;
-  out = is;
-  rest = whole;
-}
 
 pub taken-off : (v : AppView) → LieApart v → (piece : NotePiece) (n : ℕ) → IsIn (held_piece piece) v.helds → 0 < n → n < piece.held.len
     → CutFirst v (cut v piece.held n) piece n (front_of_piece piece n) (Some (rest_of_piece piece n))

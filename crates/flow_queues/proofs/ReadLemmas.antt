@@ -23,6 +23,14 @@ use Rattle.flow_queues.proofs.Tokens.{in-left}
 use Rattle.flow_queues.proofs.NotesStay.{taken-still}
 use Rattle.flow_queues.proofs.Reading.{read-there}
 
+-- a byte is read at each mark
+pub are-many : (taken : List TakenNote) (reads : List Reading) (marks : List Mark) (bytes : List ℕ) → AreReadAt taken reads marks bytes
+    → length bytes ≡ length marks
+are-many taken reads [] [] are = refl
+are-many taken reads (m ∷ ms) (b ∷ bs) are = ap suc (are-many taken reads ms bs are.1)
+are-many taken reads [] (b ∷ bs) are = absurd are
+are-many taken reads (m ∷ ms) [] are = absurd are
+
 read-grows : (reads more : List Reading) (mark : Mark) (byte : ℕ) → IsReadAt reads mark byte → IsReadAt (reads ++ more) mark byte
 read-grows reads more mark byte at = record {
   reading = at.reading;

@@ -6,7 +6,7 @@ use Rattle.std.proofs.lemmas.Bool.{cond-false, ne_eqb}
 use Rattle.std.proofs.lemmas.Bool.Decides.{nat_tests}
 use Rattle.flow_table.specs.Steered.{SteeredTcp}
 use Rattle.flow_table.specs.CountedPart.{FlowClose, not_closed, closed_by}
-use Rattle.flow_table.specs.Flows.{Flow, number_of_flow, with_segment, flows_with, flows_after, flows_of, of_flow_after, of_flow}
+use Rattle.flow_table.specs.Flows.{Flow, number_of_flow, with_segment, flows_with, flows_after, of_flow_after}
 use Rattle.flow_table.proofs.FlowLaws.{number_of_flow-within}
 use Rattle.flow_table.proofs.Laws.{closed_after}
 
@@ -58,7 +58,3 @@ flows_after-close flows (s ∷ xs) n =
     flows_after-close (flows_with flows s) xs n
     ∙ ap (λ close. closed_after close (of_flow_after n (flows_with flows s) xs)) (flows_with-close flows s n)
     ∙ own_or_not (number_of_flow flows s == n) (close_at flows n) s (of_flow_after n (flows_with flows s) xs)
-
-pub flows_of-close : (xs : List SteeredTcp) (n : ℕ) (flow : Flow) → slice_get (flows_of xs) n ≡ Some flow
-    → flow.close ≡ closed_after not_closed (of_flow n xs)
-flows_of-close xs n flow at = sym (ap close_or at) ∙ flows_after-close [] xs n

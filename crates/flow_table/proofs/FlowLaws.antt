@@ -9,9 +9,8 @@ use Rattle.frame_headers.specs.FrameClass.{TcpSegment}
 use Rattle.flow_table.specs.Steered.{SteeredTcp, app_of, steer, steered_from, steered_of}
 use Rattle.flow_table.specs.Flows.{Flow, FlowKey, Numbered, same_addr, same_key, key_of, later_or, newest_from, newest, begins_anew, number_among}
 use Rattle.flow_table.specs.Flows.{number_of_flow, new_flow, seen_by, with_segment, flows_with, flows_of, of_flow}
-use Rattle.flow_table.specs.Placing.{steered_to}
 use Rattle.flow_table.proofs.Laws.{steered_from-append, flows_after-append, of_flow_after-append}
-use Rattle.flow_table.proofs.Listing.{newest-stands, number_among-within, with_segment-seen, with_segment-begun, with_segment-last, length-with_segment-seen}
+use Rattle.flow_table.proofs.Listing.{newest-stands, number_among-within, with_segment-last, length-with_segment-seen}
 
 -- ---- one more segment
 
@@ -20,14 +19,6 @@ pub steered_of-push : (ports : List ℕ) (xs : List (Option TcpSegment)) (x : Op
 unfolding steered_of
 steered_of-push ports xs x = steered_from-append ports 1 xs (x ∷ [])
     ∙ ap (λ more. steered_from ports 1 xs ++ more) (append-nil (option_to_list (steer ports (1 + length xs) x)))
-
-pub steer-some : (ports : List ℕ) (segment : TcpSegment) (app record_number : ℕ) → app_of ports segment.dport ≡ Some app
-    → steer ports record_number (Some segment) ≡ Some (steered_to app segment record_number)
-steer-some ports segment app record_number place = rw place refl
-
-pub steer-none : (ports : List ℕ) (segment : TcpSegment) (record_number : ℕ) → app_of ports segment.dport ≡ None
-    → steer ports record_number (Some segment) ≡ None
-steer-none ports segment record_number place = rw place refl
 
 pub flows_of-push : (xs : List SteeredTcp) (x : SteeredTcp) → flows_of (xs ++ x ∷ []) ≡ flows_with (flows_of xs) x
 flows_of-push xs x = flows_after-append [] xs (x ∷ [])
@@ -42,16 +33,6 @@ of_flow-push n xs x = of_flow_after-append n [] xs (x ∷ [])
 pub number_of_flow-within : (flows : List Flow) (steered : SteeredTcp) → number_of_flow flows steered ≤ length flows
 unfolding number_of_flow
 number_of_flow-within flows steered = number_among-within flows steered.segment
-
--- one more exactly where the segment begins it
-pub length-flows_with : (flows : List Flow) (steered : SteeredTcp)
-    → length (flows_with flows steered) ≡ length flows + (if number_of_flow flows steered == length flows then 1 else 0)
-unfolding flows_with
-length-flows_with flows steered = by (number_of_flow flows steered) (number_of_flow-within flows steered)
-  where
-    by : (n : ℕ) → n ≤ length flows → length (with_segment flows n steered) ≡ length flows + (if n == length flows then 1 else 0)
-    by n within = ⊎_elim (λ (below : n < length flows). (with_segment-seen flows n steered below).1)
-        (λ (past : length flows ≤ n). (with_segment-begun flows n steered (omega arith)).1) (cases_lt n (length flows))
 
 -- ---- the flow of the segment, and the others
 

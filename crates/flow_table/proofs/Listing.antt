@@ -1,7 +1,7 @@
 -- What a list of flows says of its newest flows, and what becomes of that when a flow of it sees a segment or one more
 -- begins.
 use Rattle.std.proofs.Common.{◌≡◌, ℕ, zero, suc, ◌+◌, ◌<◌, ◌≤◌, List, [], ◌∷◌, ◌++◌, length, Option, Some, None, Bool, true}
-use Rattle.std.proofs.Common.{false, refl, sym, ap, ◌∙◌, arith, if◌then◌else◌, option_map, length-append, ◌==◌, Result, Ok, Err, IfOk, OnOk}
+use Rattle.std.proofs.Common.{false, refl, sym, ap, ◌∙◌, arith, if◌then◌else◌, option_map, ◌==◌, Result, Ok, Err, IfOk, OnOk}
 use Rattle.std.proofs.lemmas.Bool.Decides.{nat_tests}
 use Rattle.std.specs.List.{slice_get}
 use Rattle.std.proofs.lemmas.Option.{slice_get_within}
@@ -126,13 +126,6 @@ pub with_segment-seen : (flows : List Flow) (n : ℕ) (steered : SteeredTcp) →
 with_segment-seen flows n steered below =
     let same : length (with_segment flows n steered) ≡ length flows = length-with_segment-seen flows n steered below in
     (omega (arith, same), same ∙ grind (arith, nat_tests))
-
-pub with_segment-begun : (flows : List Flow) (n : ℕ) (steered : SteeredTcp) → n ≡ length flows → (n < length (with_segment flows n steered))
-    × (length (with_segment flows n steered) ≡ length flows + (if n == length flows then 1 else 0))
-with_segment-begun flows n steered last =
-    let count : length (with_segment flows n steered) ≡ length flows + 1 = ap length (with_segment-last flows n steered last)
-    ∙ length-append flows (new_flow steered ∷ []) in
-    (omega (arith, count), count ∙ grind (arith, nat_tests))
 
 -- a flow that begins is the last
 pub begun-with_segment : {E : Type 0} (r : Result ℕ E) (old new : List Flow) (begun : Flow) (steered : ℕ → SteeredTcp) → IfOk r (λ n. n ≡ length old)

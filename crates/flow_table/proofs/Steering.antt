@@ -1,8 +1,5 @@
 -- What a table of flows says of a segment, whichever record it comes in.
-use Rattle.std.proofs.Common.{◌≡◌, ℕ, ◌≢◌, ◌+◌, ◌↔◌, List, length, Some, Bool, true, false, not, sym, ap, subst, ◌∙◌, option_map, Option, refl}
-use Rattle.std.specs.Prelude.{IsTrue}
-use Rattle.std.proofs.lemmas.Bool.{true≢false}
-use Rattle.std.proofs.Math.Bool.{not-not}
+use Rattle.std.proofs.Common.{◌≡◌, ℕ, ◌≢◌, ◌+◌, ◌↔◌, List, length, Some, Bool, sym, ap, subst, ◌∙◌, option_map, Option, refl}
 use Rattle.std.proofs.Common.{if◌then◌else◌, ◌==◌, Result, Ok, Err}
 use Rattle.std.specs.List.{slice_get}
 use Rattle.frame_headers.specs.FrameClass.{TcpSegment}
@@ -93,12 +90,6 @@ module _ (known : KnownFlows) (ports : List ℕ) (flows : List Flow) (segment : 
       rw (sym place) (counted record_number _ refl))
 
 -- ---- an answer that is turned round
-
-pub not_told : (b : Bool) → IsTrue (not b) → IsTrue b → ⊥
-not_told b turned told = absurd (let is : b ≡ true = told in true≢false (sym turned ∙ ap not is))
-
-pub told_not : (b : Bool) → not b ≡ false → IsTrue b
-told_not b turned = sym (not-not b) ∙ ap not turned
 
 -- ---- a fault that is handed on
 

@@ -1,10 +1,8 @@
 //! A carrier that tells of its tags as it likes.
-ghost use Rattle.std.specs.Prelude.{◌≡◌, ◌≢◌, ◌<◌, ◌≤◌, ℕ, List, [], ◌∷◌, ◌++◌, length, nat_eq, is_ok, if◌then◌else◌, true, false};
-ghost use Rattle.std.specs.Prelude.{IfNone, IfSome, IsSome, None, Some};
+ghost use Rattle.std.specs.Prelude.{◌≡◌, ◌<◌, ◌≤◌, [], nat_eq, true, false};
+ghost use Rattle.std.specs.Prelude.{None, Some};
 ghost use Rattle.std.specs.Map.{lookup};
-ghost use Rattle.std.specs.Io.KnownBytes.{Keeps as KeepsBytes};
-ghost use Rattle.zr_io.specs.Moved.{AddsPiece, HasCause, Rose};
-ghost use Rattle.zc_forward.specs.Tags.{FlowsKeep, TakesTag};
+ghost use Rattle.zr_io.specs.Moved.{Rose};
 
 use arrayvec::ArrayVec;
 use futures::task::{Context, Poll};

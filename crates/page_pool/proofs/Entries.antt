@@ -10,14 +10,14 @@ use Rattle.area_layout.specs.Layout.{pool_buffers, judged}
 use Rattle.zr_kinds.specs.declared.outcome.PoolStats.{PoolStats}
 use Rattle.zr_kinds.specs.declared.ring.Rqe.{Rqe}
 use Rattle.board_face.specs.Looks.{NicLooksStay, same_nic_look}
-use Rattle.board_face.specs.NicEvents.{gave_up, honoured, passed_over, cache_room, holder_look, looks_by_stray, nic_saw}
+use Rattle.board_face.specs.NicEvents.{gave_up, honoured, passed_over, cache_room, holder_look, looks_by_stray}
 use Rattle.board_face.specs.declared.views.nic.Dealt.{Dealt}
 use Rattle.board_face.specs.declared.views.nic.Fate.TheVariants.{Honoured, Stray}
 use Rattle.board_face.specs.declared.views.nic.NicLook.{NicLook}
 use Rattle.board_face.specs.declared.views.nic.NicLook.TheVariants.{Owed, NotOwed, LastHolder}
 use Rattle.std.specs.Prelude.{count_by}
 use Rattle.board_face.specs.declared.views.nic.NicView.{NicView}
-use Rattle.board_face.proofs.LookLemmas.{NicLooksStay-same, NicLooksStay-trans, NicLooksStay-nic_saw, times-more}
+use Rattle.board_face.proofs.LookLemmas.{NicLooksStay-same, NicLooksStay-trans, times-more}
 use Rattle.page_pool.specs.Dealing.{DealsWith, CachesFreed, is_freed, freed_in, CountsStrays, strays_in, IsRaised}
 use Rattle.page_pool.specs.Gathering.{DealsRing}
 
@@ -34,11 +34,6 @@ CachesFreed-trans m n old v w first second = record {
   seen = omega (arith, first.seen, second.seen);
   cached = omega (arith, first.cached, second.cached);
 }
-
--- nothing more was seen to come to be free, and the cache is as it was
-pub CachesFreed-more : (count : ℕ) (old v w : NicView) → CachesFreed count old v → freed_in w ≡ freed_in v → length w.cache ≡ length v.cache
-    → CachesFreed count old w
-CachesFreed-more count old v w first seen cached = record { seen = omega (arith, first.seen, seen); cached = omega (arith, first.cached, cached) }
 
 pub DealsWith-none : (v : NicView) → DealsWith [] v v
 DealsWith-none v = record {
@@ -200,19 +195,3 @@ DealsRing-stray was now next old v w app count entry event raised deals =
     DealsRing-one was now next old v w app count d [] 0 deals
     (CachesFreed-none v w (stray_unseen (judged v.setting.layout entry) app v w (rw event refl) (rw event refl)) (rw event refl)) (rw (event, append-nil) refl)
     (stray_looks (judged v.setting.layout entry) app v w (rw event refl)) refl (CountsStrays-stray was now next d refl raised)
-
-pub DealsRing-saw : (was now : PoolStats) (old v : NicView) (app count : ℕ) (look : NicLook) → freed_in (nic_saw v look) ≡ freed_in v
-    → DealsRing was now old v app count → DealsRing was now old (nic_saw v look) app count
-DealsRing-saw was now old v app count look unseen deals = record {
-  more = deals.more;
-  deals = record {
-    freed = deals.deals.freed;
-    count = deals.deals.count;
-    caches = CachesFreed-more deals.deals.count old v (nic_saw v look) deals.deals.caches unseen refl;
-    view = rw deals.deals.view refl;
-    looks = NicLooksStay-trans old v (nic_saw v look) deals.deals.looks (NicLooksStay-nic_saw v look);
-  };
-  of_app = deals.of_app;
-  many = deals.many;
-  strays = deals.strays;
-}

@@ -100,16 +100,6 @@ RefillsFirst-ring was now next old v w most app n first ring =
       few = ring.few;
     }
 
-pub SweepsFirst-none : (v : NicView) (most : ℕ) → SweepsFirst v v most 0
-SweepsFirst-none v most = record {
-  count = 0;
-  gathers = Gathers-none v;
-  none_freed = refl;
-  until = inl refl;
-  some = inr refl;
-  lost = λ some. absurd (omega (arith, some));
-}
-
 -- a word was passed over, since enough are cached
 pub SweepsFirst-passed : (old v : NicView) (most word : ℕ) → SweepsFirst old v most word → most ≤ length v.cache → SweepsFirst old v most (word + 1)
 SweepsFirst-passed old v most word first cached = record {

@@ -123,25 +123,3 @@ PoolStands-short pool v app note bytes stands = record {
   short = tt;
   few = omega (arith, stands.few);
 }
-
--- a look changes nothing of it
-pub PoolStands-saw : (pool : PoolState) (v : NicView) (look : NicLook) → PoolStands pool v → PoolStands pool (nic_saw v look)
-PoolStands-saw pool v look stands = record {
-  owns = stands.owns;
-  pieces = stands.pieces;
-  apps = stands.apps;
-  fields = stands.fields;
-  places = stands.places;
-  short = stands.short;
-  few = stands.few;
-}
-
-pub OnlySends-saw : (was pool : PoolState) (old v : NicView) (look : NicLook) → OnlySends was pool old v → OnlySends was pool old (nic_saw v look)
-OnlySends-saw was pool old v look sends = record {
-  gone = sends.gone;
-  still = λ none. let still = sends.still none in (still.0, rw still.1 refl);
-  view = rw sends.view refl;
-  pool = sends.pool;
-  notes = sends.notes;
-  looks = NicLooksStay-trans old v (nic_saw v look) sends.looks (NicLooksStay-nic_saw v look);
-}

@@ -1,10 +1,9 @@
-ghost use Rattle.std.specs.Prelude.{◌≡◌, ℕ, ◌+◌, ◌<◌, ◌≤◌, ◌⊎◌, List, length, All};
+ghost use Rattle.std.specs.Prelude.{◌≡◌, ℕ, ◌+◌, ◌<◌};
 ghost use Rattle.zr_kinds.specs.declared.outcome.PoolStats.{PoolStats};
 ghost use Rattle.board_face.specs.Looks.{NicRose};
 ghost use Rattle.board_face.specs.NicCalls.{apps_of, NicOnlySaw};
 ghost use Rattle.board_face.specs.NicEvents.{nic_gist};
 ghost use Rattle.board_face.specs.declared.views.nic.NicLook.TheVariants.{RingEmpty};
-ghost use Rattle.board_face.specs.declared.views.nic.Dealt.{Dealt};
 ghost use Rattle.page_pool.specs.Pool.{PoolStands};
 ghost use Rattle.page_pool.specs.Dealing.{DrainsRings};
 ghost use Rattle.page_pool.specs.Gathering.{DrainsRing};

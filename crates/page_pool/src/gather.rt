@@ -1,4 +1,4 @@
-ghost use Rattle.std.specs.Prelude.{◌≡◌, ℕ, ◌<◌, ◌≤◌, length, MatchBool};
+ghost use Rattle.std.specs.Prelude.{◌≡◌, ◌<◌, ◌≤◌, length, MatchBool};
 ghost use Rattle.page_pool.specs.Pool.{PoolStands};
 ghost use Rattle.page_pool.specs.Searching.{LooksAhead};
 

@@ -1,4 +1,4 @@
-ghost use Rattle.std.specs.Prelude.{◌≡◌, ℕ, ◌+◌, ◌*◌, ◌<◌, ◌≤◌, [], ◌∷◌, ◌++◌, length, take, drop, List, option_to_list};
+ghost use Rattle.std.specs.Prelude.{◌≡◌, ◌+◌, ◌<◌, ◌≤◌, [], ◌∷◌, ◌++◌, length, take, drop, option_to_list};
 ghost use Rattle.zr_kinds.specs.Limits.{longest_payload};
 ghost use Rattle.area_layout.specs.Layout.{IsLayout, least_size};
 ghost use Rattle.board_face.specs.NicCalls.{apps_of, IsOpen};

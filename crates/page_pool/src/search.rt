@@ -1,4 +1,4 @@
-ghost use Rattle.std.specs.Prelude.{◌≡◌, ◌≢◌, ℕ, ◌<◌, ◌≤◌, length, MatchBool};
+ghost use Rattle.std.specs.Prelude.{◌≡◌, ◌≢◌, ◌<◌, ◌≤◌, length, MatchBool};
 ghost use Rattle.board_face.specs.NicCalls.{apps_of, free_words_of};
 ghost use Rattle.page_pool.specs.Gathering.{RefillsFirst, SweepsFirst};
 ghost use Rattle.page_pool.specs.Searching.{SearchEnd, empty, Searches};

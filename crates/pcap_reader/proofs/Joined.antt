@@ -211,16 +211,6 @@ taken_by taken Cut is shows = records_of-fault taken Cut shows
 taken_by taken Read is shows = inr (records_of-fault taken Cut shows)
 taken_by taken _ is shows = absurd is
 
--- a fault of the file header ends the capture before its first record
-pub Stops-opening : (a b : Option (List ℕ)) (fault : Fault) → HeaderStops header_fault a b fault → Stops IsOpeningFault records_of a b fault
-Stops-opening a b fault stops = (
-  stops.0,
-  all_weaker a _ _ (λ all shows. shown_by all fault stops.0 shows) stops.1,
-  Took-weaker a b _ _ (λ taken shows. taken_by taken fault stops.0 shows) stops.2,
-  λ is. Took-weaker a b (OfFronts (λ front. header_fault front ≡ Some Cut)) (OfFronts (λ front. BrokeOff (records_of front)))
-      (λ taken fronts. fronts-weaker _ _ taken (λ front cut. inr (records_of-fault front Cut cut)) fronts) (stops.3 is),
-)
-
 -- ---- records
 
 headless : (order : ByteOrder) (bytes : List ℕ) → length bytes < 16 → BrokeOff (records_in order bytes)

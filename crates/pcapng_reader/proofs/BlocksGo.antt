@@ -9,7 +9,7 @@ use Rattle.zr_kinds.specs.declared.fault.Fault.{Fault}
 use Rattle.zr_kinds.specs.declared.fault.Fault.TheVariants.{LinkType, Cut, LongRecord, BadBlock, TooManyFlows}
 use Rattle.pcap_reader.specs.declared.order.ByteOrder.{ByteOrder}
 use Rattle.pcap_reader.specs.Records as classic_form
-use Rattle.pcap_reader.specs.Records.{number, Records, no_record, with_record}
+use Rattle.pcap_reader.specs.Records.{number, Records, with_record}
 use Rattle.pcapng_reader.specs.declared.kind.Kind.TheVariants.{SectionHeader, InterfaceDescription, EnhancedPacket, SimplePacket, Other}
 use Rattle.pcapng_reader.specs.Blocks.{Section, Kind, Interface, is_section_header, kind_of, begin_len, fixed_len, is_packet, order_told, total_len}
 use Rattle.pcapng_reader.specs.Blocks.{is_too_many, misfits, padded, packet_fault, interface_of, captured_len, original_len, fixed_fault, end_fault, or_else}

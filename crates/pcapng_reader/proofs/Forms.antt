@@ -13,7 +13,7 @@ use Rattle.pcap_reader.specs.declared.order.ByteOrder.{ByteOrder}
 use Rattle.pcap_reader.specs.declared.capture.Record.{Record}
 use Rattle.pcap_reader.specs.Records as classic_form
 use Rattle.pcap_reader.specs.Capture as classic_capture
-use Rattle.pcap_reader.specs.Records.{no_record, with_record}
+use Rattle.pcap_reader.specs.Records.{with_record}
 use Rattle.pcap_reader.specs.Capture.{HeaderShows, TakenHeaderShows, IsOutOfForm, OfFronts}
 use Rattle.pcap_reader.proofs.HeaderLaws.{header_fault-cut}
 use Rattle.pcap_reader.proofs.RecordLaws.{records_in-none}

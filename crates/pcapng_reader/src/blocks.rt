@@ -5,7 +5,7 @@ ghost use Rattle.zr_kinds.specs.declared.fault.Fault.TheVariants.{Memory};
 ghost use Rattle.pcap_reader.specs.Capture.{HasReadCause};
 ghost use Rattle.pcapng_reader.specs.Blocks.{is_packet, is_section_header};
 ghost use Rattle.pcapng_reader.specs.Records.{blocks};
-ghost use Rattle.pcapng_reader.specs.Capture.{Gives, WantsMemory, WantsHere, IsRecordFault};
+ghost use Rattle.pcapng_reader.specs.Capture.{Gives, WantsMemory, WantsHere};
 ghost use Rattle.pcapng_reader.specs.Steps.{told, head_bytes, IsHead, IsHeaderFault, IsInterfaceFault, PassesBlock, TakesPacket, TakesBlock, TakesStart, OpensBlocks};
 ghost use Rattle.pcapng_reader.specs.declared.kind.Kind.TheVariants.{SectionHeader, InterfaceDescription, Other};
 

@@ -1,6 +1,6 @@
-ghost use Rattle.std.specs.Prelude.{◌≡◌, ◌≤◌, IsTrue, option_copied};
-ghost use Rattle.pcapng_reader.specs.Blocks.{is_packet, interface_of, captured_len, original_len};
-ghost use Rattle.pcapng_reader.specs.Steps.{told, head_bytes, IsHead, IsPacket, Judges, IsPacketOf};
+ghost use Rattle.std.specs.Prelude.{◌≡◌, IsTrue, option_copied};
+ghost use Rattle.pcapng_reader.specs.Blocks.{is_packet};
+ghost use Rattle.pcapng_reader.specs.Steps.{told, IsHead, IsPacket, Judges, IsPacketOf};
 ghost use Rattle.pcapng_reader.specs.declared.kind.Kind.TheVariants.{EnhancedPacket, SimplePacket};
 
 use crate::head::Head;

@@ -1,4 +1,4 @@
-ghost use Rattle.std.specs.Prelude.{◌≡◌, ℕ, ◌/◌, ◌<◌, ◌≤◌, [], ◌∷◌, ◌++◌, false, length, slice_index, ◌==◌, MatchOption};
+ghost use Rattle.std.specs.Prelude.{◌≡◌, ℕ, ◌/◌, ◌<◌, ◌≤◌, [], false, length, slice_index, ◌==◌, MatchOption};
 ghost use Rattle.std.specs.Prelude.{MatchBool, IfOk, IfSome};
 ghost use Rattle.board_face.specs.Counts.{pool_count};
 ghost use Rattle.board_face.specs.NicCalls.{apps_of, IsOpen, HasOwn, HasNoToken, TookBuffer, SweptWord, free_words_of, lost_of, sent_unsplit_bytes};

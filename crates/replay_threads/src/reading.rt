@@ -1,5 +1,5 @@
 //! The turns of the reading, and the loop of its thread: what it reads is sent to the card, or held where the ring is full.
-ghost use Rattle.std.specs.Prelude.{◌≡◌, ℕ, ◌+◌, ◌≤◌, false, List, [], ◌∷◌, ◌++◌, length, None, option_to_list, IfOk, IfSome};
+ghost use Rattle.std.specs.Prelude.{◌≡◌, ◌+◌, ◌≤◌, false, List, [], ◌∷◌, ◌++◌, length, None, option_to_list, IfOk, IfSome};
 ghost use Rattle.zr_kinds.specs.Limits.{most_records};
 ghost use Rattle.rtrb.specs.Ring.{sent, SameProducer};
 ghost use Rattle.card_feed.specs.Coming.{is_over};

@@ -1,5 +1,5 @@
 //! A whole run.
-ghost use Rattle.std.specs.Prelude.{◌≡◌, ◌+◌, ◌-◌, ◌<◌, ◌≤◌, ℕ, [], length, map, vec_len, vec_capacity, IfOk, OnErr};
+ghost use Rattle.std.specs.Prelude.{◌≡◌, ◌+◌, ◌-◌, ◌<◌, ◌≤◌, [], length, map, vec_len, vec_capacity, IfOk, OnErr};
 ghost use Rattle.board_face.specs.NicCalls.{apps_of, IsOpen, HasNoToken};
 ghost use Rattle.board_face.specs.declared.views.nic.NicView.{NicView};
 ghost use Rattle.card_feed.specs.Feed.{IsReady, new_feed};

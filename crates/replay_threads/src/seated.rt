@@ -1,5 +1,5 @@
 //! What sits in the lane of an application and takes its turns there.
-ghost use Rattle.std.specs.Prelude.{◌≡◌, ℕ, List, true, false, Option, None};
+ghost use Rattle.std.specs.Prelude.{◌≡◌, true, false, Option, None};
 ghost use Rattle.board_face.specs.Opened.{new_app};
 ghost use Rattle.card_feed.specs.Plan.{how_of};
 ghost use Rattle.card_feed.specs.declared.plan.Plan.{Plan};

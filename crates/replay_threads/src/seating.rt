@@ -1,5 +1,5 @@
 //! How the roles come to their seats, and back from there.
-ghost use Rattle.std.specs.Prelude.{◌≡◌, ◌+◌, ◌<◌, ◌≤◌, ℕ, [], ◌++◌, length, map, reverse, true, false, All, vec_len, vec_capacity};
+ghost use Rattle.std.specs.Prelude.{◌≡◌, ◌+◌, ◌<◌, ◌≤◌, ℕ, [], map, reverse, true, false, All, vec_len, vec_capacity};
 ghost use Rattle.board_face.specs.NicCalls.{apps_of};
 ghost use Rattle.card_feed.specs.Plan.{how_of};
 ghost use Rattle.card_feed.specs.declared.plan.Plan.{Plan};

@@ -20,9 +20,9 @@ use Rattle.replay_turns.specs.Running.{RunFits}
 use Rattle.replay_turns.specs.Stuck.{IsCardStuck, IsKeptBack, StuckRunsAreOver}
 use Rattle.run_account.specs.declared.run.Run.{Run}
 use Rattle.run_account.specs.declared.run.Worker.{Worker}
-use Rattle.run_account.proofs.AppLines.{there}
 use Rattle.replay_turns.proofs.BoardOver.{side-is}
 use Rattle.replay_turns.proofs.Reserve.{not-held}
+use Rattle.card_feed.proofs.OfFlow.{there}
 
 -- It is kept back by nothing but that no note has come.
 pub record WaitsForNote (board : Board) (a : ℕ) (w : Worker) : Type 0 where

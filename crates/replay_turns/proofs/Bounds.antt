@@ -5,6 +5,7 @@ use Rattle.std.specs.Prelude.{All, filter, MatchBool, if◌then◌else◌}
 use Rattle.std.specs.List.{slice_get}
 use Rattle.std.proofs.lemmas.Option.{slice_get_within}
 use Rattle.card_feed.specs.Coming.{is_over}
+use Rattle.card_feed.proofs.OfFlow.{there}
 use Rattle.std.proofs.Math.Nat.{mul-le-mul_left}
 use Rattle.std.proofs.lemmas.List.{length-map}
 use Rattle.zr_kinds.specs.Limits.{most_records}
@@ -26,7 +27,6 @@ use Rattle.replay_turns.specs.Steps.{worker_steps, steps_from, run_steps, most_b
 use Rattle.replay_turns.specs.Steps.{RunsStayWithin}
 use Rattle.run_account.specs.declared.run.Run.{Run}
 use Rattle.run_account.specs.declared.run.Worker.{Worker}
-use Rattle.run_account.proofs.AppLines.{there}
 use Rattle.run_account.proofs.Shares.{shares, over-most}
 use Rattle.run_account.proofs.NoteSums.{note_len, AreFew}
 use Rattle.run_account.proofs.SentFew.{notes-few, own-few, taken-sum}

@@ -29,9 +29,10 @@ use Rattle.card_feed.specs.declared.plan.Plan.{Plan}
 use Rattle.card_feed.proofs.Sharing.{closed_show}
 use Rattle.card_feed.proofs.SentNotes.{notes-whole, notes-own}
 use Rattle.card_feed.proofs.OwnFlows.{own-marks}
+use Rattle.card_feed.proofs.OfFlow.{there}
 use Rattle.run_account.specs.Ran.{line_of, lines_of}
 use Rattle.run_account.specs.Running.{HasRun, losses_in}
-use Rattle.run_account.proofs.AppLines.{there, one-value, line-at, many-lines}
+use Rattle.run_account.proofs.AppLines.{one-value, line-at, many-lines}
 use Rattle.run_account.proofs.Gone.{side-at, many-sides}
 use Rattle.run_account.proofs.OwnReads.{flow-read, no-flow-read}
 

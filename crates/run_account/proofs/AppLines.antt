@@ -1,15 +1,9 @@
 -- The lines of the applications, by their places.
-use Rattle.std.proofs.Common.{◌≡◌, ℕ, zero, suc, ◌<◌, List, [], ◌∷◌, length, map, Option, None, Some, refl, sym, ap, subst, ◌∙◌, arith}
+use Rattle.std.proofs.Common.{◌≡◌, ℕ, zero, suc, List, [], ◌∷◌, length, map, Option, None, Some, refl, sym, ap, subst, ◌∙◌, arith}
 use Rattle.std.specs.List.{slice_get}
 use Rattle.zr_kinds.specs.declared.outcome.AppLine.{AppLine}
 use Rattle.flow_queues.specs.Ends.{AppEnd}
 use Rattle.run_account.specs.Ran.{There, line_of, lines_of}
-
--- what stands at a place
-pub there : {A : Type 0} (xs : List A) (i : ℕ) → i < length xs → (x : A) × (slice_get xs i ≡ Some x)
-there [] i within = absurd (omega arith)
-there (y ∷ xs) zero within = (y, refl)
-there (y ∷ xs) (suc i) within = there xs i (omega arith)
 
 pub one-value : {A : Type 0} {x y : A} → Some x ≡ Some y → x ≡ y
 one-value e = cc

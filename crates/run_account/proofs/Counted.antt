@@ -1,6 +1,6 @@
 -- How many bytes of a flow are counted, and how many its shelf gained.
-use Rattle.std.proofs.Common.{◌≡◌, ◌≢◌, ℕ, suc, List, [], ◌∷◌, length, true, false, ◌==◌, Option, Some, None}
-use Rattle.std.proofs.Common.{refl, sym, ap, subst, ◌∙◌, arith, ⊎_elim, ◌⊎◌, inl, inr}
+use Rattle.std.proofs.Common.{◌≡◌, ◌≢◌, ℕ, List, [], ◌∷◌, length, true, false, ◌==◌, Option, Some, None}
+use Rattle.std.proofs.Common.{refl, sym, subst, ◌∙◌, arith, ⊎_elim, ◌⊎◌, inl, inr}
 use Rattle.std.specs.Io.KnownBytes.{Keeps}
 use Rattle.std.proofs.lemmas.Bool.{eq-eqb, ne_eqb, cases_eq}
 use Rattle.std.proofs.lemmas.List.{append_cancel_left}
@@ -10,35 +10,19 @@ use Rattle.zr_kinds.specs.CopyingReceiver.{values_from}
 use Rattle.zr_kinds.proofs.ValuesFrom.{length-values_from}
 use Rattle.zr_io.specs.Moved.{Gained}
 use Rattle.zr_io.proofs.Moved.{Gained-weaker, Gained-nothing}
-use Rattle.board_face.specs.declared.views.app.Reading.{Reading}
-use Rattle.board_face.specs.declared.views.app.TakenNote.{TakenNote}
 use Rattle.board_face.specs.declared.views.app.AppView.{AppView}
 use Rattle.flow_queues.specs.declared.queues.FlowQueue.{FlowQueue}
-use Rattle.app_worker.specs.Marks.{Mark}
 use Rattle.app_worker.specs.Core.{Each, many, AreReadAt, placed_of}
 use Rattle.flow_queues.specs.Ends.{IsCounted}
 use Rattle.app_worker.specs.Kept.{flow_bytes}
 use Rattle.flow_queues.specs.Shelves.{FlowEnds, kept_loans, IsShelved, AreShelved, ReadsFront, IsFrontShelved, AreFronts}
-
-pub is-no : (s : Stopped) → (s ≡ stop.No) ⊎ (s ≢ stop.No)
-is-no stop.No = inl refl
-is-no stop.Quit = inr (λ e. absurd (cc))
-is-no stop.Write = inr (λ e. absurd (cc))
-is-no stop.Memory = inr (λ e. absurd (cc))
+use Rattle.flow_queues.proofs.ReadLemmas.{are-many}
 
 pub is-write : (s : Stopped) → (s ≡ stop.Write) ⊎ (s ≢ stop.Write)
 is-write stop.Write = inl refl
 is-write stop.No = inr (λ e. absurd (cc))
 is-write stop.Quit = inr (λ e. absurd (cc))
 is-write stop.Memory = inr (λ e. absurd (cc))
-
--- a byte stands at each mark
-pub read-length : (taken : List TakenNote) (reads : List Reading) (marks : List Mark) (bytes : List ℕ) → AreReadAt taken reads marks bytes
-    → length marks ≡ length bytes
-read-length taken reads [] [] are = refl
-read-length taken reads (m ∷ ms) (b ∷ bs) are = ap suc (read-length taken reads ms bs are.1)
-read-length taken reads [] (b ∷ bs) are = absurd are
-read-length taken reads (m ∷ ms) [] are = absurd are
 
 -- two facts of what was gained
 pub gained-both : (a b : Option (List ℕ)) (P Q R : List ℕ → Type 0) → ((bytes : List ℕ) → P bytes → Q bytes → R bytes)
@@ -81,7 +65,7 @@ shelved-long first kept v f ends shelved =
     let size : length (values_from (placed_of f v.taken).at f.bytes 0) ≡ f.bytes =
     length-values_from (placed_of f v.taken).at f.bytes 0 (record { there = λ q from until. ends.below q (omega (arith, until)) }) in
     Gained-weaker (first f.number) (kept f.number) (λ bytes. AreReadAt v.taken v.reads (values_from (placed_of f v.taken).at f.bytes 0) bytes)
-    (λ bytes. f.bytes ≡ length bytes) (λ bytes are. sym size ∙ read-length v.taken v.reads _ bytes are) shelved.gained
+    (λ bytes. f.bytes ≡ length bytes) (λ bytes are. sym size ∙ sym (are-many v.taken v.reads _ bytes are)) shelved.gained
 
 module _ (first kept : ℕ → Option (List ℕ)) (v : AppView) (own : List FlowQueue) (number : ℕ) (stopped : Stopped)
     (ends : Each (FlowEnds v.taken) own) where
@@ -113,7 +97,7 @@ module _ (first kept : ℕ → Option (List ℕ)) (v : AppView) (own : List Flow
       (λ bytes front.
       let size : length (values_from (placed_of f v.taken).at front.count 0) ≡ front.count =
       length-values_from (placed_of f v.taken).at front.count 0 (record { there = λ q from until. front.below q (omega (arith, until)) }) in
-      let long : length (values_from (placed_of f v.taken).at front.count 0) ≡ length bytes = read-length v.taken v.reads _ bytes front.are in
+      let long : length (values_from (placed_of f v.taken).at front.count 0) ≡ length bytes = sym (are-many v.taken v.reads _ bytes front.are) in
       record { counted = λ goes. absurd (goes failed); at_least = omega (arith, there.bytes_is, front.at_least, size, long) })
       there.holds.gained))
       (find (IsFrontShelved first kept v.taken v.reads (kept_loans v)) own number fronts.flows)

@@ -13,18 +13,15 @@ use Rattle.page_pool.specs.declared.offer.Verdict.TheVariants.{Accepted, NoRoom,
 use Rattle.page_pool.specs.Dealing.{DrainsRings}
 use Rattle.page_pool.specs.Offer.{ClosesCurrent, LooksFor, not_needed, searched}
 use Rattle.page_pool.specs.Searching.{SearchEnd, LooksAhead}
-use Rattle.page_pool.specs.Pool.{PoolState, Closes}
+use Rattle.page_pool.specs.Pool.{PoolState}
 use Rattle.card_feed.specs.Feed.{FeedState}
 use Rattle.card_feed.specs.Turns.{FeedPlays, drains, offers, finishes, rests, Settles, KeepsUp}
 use Rattle.card_feed.proofs.PlayLemmas.{closed-dealt}
+use Rattle.card_feed.proofs.Counting.{closes-dealt}
 
 closed-setting : (current : Option Filling) (old new : NicView) → ClosesCurrent current old new → new.setting ≡ old.setting
 closed-setting None old new same = ap (λ (v : NicView). v.setting) same
 closed-setting (Some own) old new closed = ap (λ (v : NicView). v.setting) closed.event
-
-closes-dealt : (current : Option Filling) (old new : NicView) → Closes current old new → new.dealt ≡ old.dealt
-closes-dealt None old new same = ap (λ (v : NicView). v.dealt) same
-closes-dealt (Some own) old new (closed, shut, same) = ap (λ (v : NicView). v.dealt) same ∙ ap (λ (v : NicView). v.dealt) shut.event
 
 module _ (n : ℕ) where
   abbrev IsOne : Dealt → Type 0

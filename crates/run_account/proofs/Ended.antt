@@ -39,9 +39,10 @@ use Rattle.run_account.specs.Laws.{RunsAreTold, RunsEndWell}
 use Rattle.card_feed.specs.Counts.{AreCounted, begins_fresh, found_in, is_long, long_in, searches_in}
 use Rattle.card_feed.specs.Need.{AreNeeded, RefusesByNeed}
 use Rattle.card_feed.proofs.Needing.{refuses-by-need}
+use Rattle.card_feed.proofs.OfFlow.{there}
 use Rattle.run_account.specs.Ran.{There, IsLineOf, IsStreamed, HasFailed, IsAppLine, all_loans, line_of, lines_of, AreCounts, Ran, Told, told_of}
 use Rattle.run_account.specs.Running.{HasRun, losses_in}
-use Rattle.run_account.proofs.AppLines.{there, one-value, is-there, line-at, many-lines, ports-of-lines}
+use Rattle.run_account.proofs.AppLines.{one-value, is-there, line-at, many-lines, ports-of-lines}
 use Rattle.run_account.proofs.Accounting.{IsTold, told, line-known, side-is, accounts}
 use Rattle.run_account.proofs.Counted.{gained-both}
 use Rattle.run_account.proofs.Ports.{flows-have-apps}
@@ -60,7 +61,7 @@ comes-over Wants left faults first now ports stage.Unopened frames over comes = 
 comes-over Wants left faults first now ports (stage.Open capture) frames over comes = absurd (true≢false (sym over))
 comes-over Wants left faults first now ports (stage.Over end) frames over comes = comes
 
-slice-drop : {A : Type 0} (n : ℕ) (xs : List A) (i : ℕ) → slice_get (drop n xs) i ≡ slice_get xs (n + i)
+pub slice-drop : {A : Type 0} (n : ℕ) (xs : List A) (i : ℕ) → slice_get (drop n xs) i ≡ slice_get xs (n + i)
 slice-drop zero xs i = let same : i ≡ 0 + i = omega arith in ap (slice_get xs) same
 slice-drop (suc n) [] i = refl
 slice-drop (suc n) (x ∷ xs) i = let same : suc (n + i) ≡ suc n + i = omega arith in slice-drop n xs i ∙ ap (slice_get (x ∷ xs)) same

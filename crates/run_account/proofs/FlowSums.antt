@@ -7,6 +7,7 @@ use Rattle.std.proofs.lemmas.Bool.{eq-eqb, ne_eqb, cases_eq}
 use Rattle.std.proofs.lemmas.List.Sums.{sum_by-cons}
 use Rattle.app_worker.specs.Core.{total, Each}
 use Rattle.flow_queues.specs.Ends.{bytes_in, times}
+use Rattle.zc_poll.proofs.Shown.{none-there}
 
 -- ---- sums over so many numbers from one on
 
@@ -64,25 +65,13 @@ over-one number bytes from (suc k) above below = ⊎_elim
 
 -- ---- flows
 
-no-bytes : (number : ℕ) (flows : List (ℕ × ℕ)) → times number flows ≡ 0 → bytes_in number flows ≡ 0
-no-bytes number [] none = refl
-no-bytes number (f ∷ fs) none = ⊎_elim
-    (λ (same : f.0 ≡ number).
-    let test : (f.0 == number) ≡ true = eq-eqb f.0 number same in
-    let one : times number (f ∷ fs) ≡ 1 + times number fs = rw test refl in
-    absurd (omega (arith, none, one)))
-    (λ (other : f.0 ≢ number).
-    let test : (f.0 == number) ≡ false = ne_eqb f.0 number other in
-    rw test (no-bytes number fs (omega (arith, none))))
-    (cases_eq f.0 number)
-
 first-bytes : (f : ℕ × ℕ) (fs : List (ℕ × ℕ)) (n : ℕ) → times f.0 (f ∷ fs) ≤ 1 → bytes_in n (f ∷ fs) ≡ only f.0 f.1 n + bytes_in n fs
 first-bytes f fs n one = ⊎_elim
     (λ (same : f.0 ≡ n).
     let test : (f.0 == n) ≡ true = eq-eqb f.0 n same in
     let own : (f.0 == f.0) ≡ true = eq-eqb f.0 f.0 refl in
     let counted : times f.0 (f ∷ fs) ≡ 1 + times f.0 fs = rw own refl in
-    let none : bytes_in n fs ≡ 0 = no-bytes n fs (subst (λ k. times k fs ≡ 0) same (omega (arith, one, counted))) in
+    let none : bytes_in n fs ≡ 0 = none-there n fs (subst (λ k. times k fs ≡ 0) same (omega (arith, one, counted))) in
     rw (test, none) (omega arith))
     (λ (other : f.0 ≢ n).
     let test : (f.0 == n) ≡ false = ne_eqb f.0 n other in

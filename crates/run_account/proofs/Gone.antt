@@ -12,10 +12,10 @@ use Rattle.board_face.specs.declared.views.nic.NicSide.{NicSide}
 use Rattle.board_face.specs.declared.views.app.AppSide.{AppSide}
 use Rattle.card_feed.specs.Plan.{layout_of}
 use Rattle.card_feed.specs.declared.plan.Plan.{Plan}
+use Rattle.card_feed.proofs.OfFlow.{there}
 use Rattle.run_account.specs.Running.{RolesFit, AreOver}
 use Rattle.run_account.specs.declared.run.Run.{Run}
 use Rattle.run_account.specs.declared.run.Worker.{Worker}
-use Rattle.run_account.proofs.AppLines.{there}
 
 -- it holds of each, so of that at a place
 pub all-at : {A : Type 0} (P : A → Type 0) (xs : List A) (i : ℕ) (x : A) → All P xs → slice_get xs i ≡ Some x → P x

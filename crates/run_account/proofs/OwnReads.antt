@@ -13,8 +13,9 @@ use Rattle.app_worker.specs.Marks.{FramesStandTogether, Mark, marks_of}
 use Rattle.app_worker.specs.Core.{AreReadAt}
 use Rattle.flow_queues.specs.Ends.{AppEnd, HasLeft}
 use Rattle.flow_queues.specs.Streams.{IsFront}
+use Rattle.flow_queues.proofs.ReadLemmas.{are-many}
 use Rattle.card_feed.specs.Account.{IsFlowRead}
-use Rattle.run_account.proofs.Counted.{is-no, read-length}
+use Rattle.zc_poll.proofs.Pours.{is-no}
 
 -- no mark, so no byte
 no-byte : (taken : List TakenNote) (reads : List Reading) (read rest : List Mark) (bytes : List ℕ) → [] ≡ read ++ rest
@@ -39,7 +40,7 @@ module _ (first kept : ℕ → Option (List ℕ)) (losses losses_now : ℕ) (how
       Gained-weaker (first number) (kept number) (AreReadAt app.view.taken app.view.reads marks) (IsFlowRead app end.stopped number)
       (λ bytes are. record {
         front = record { read = marks; rest = []; parts = sym (append-nil marks); are = are };
-        whole = λ goes. sym (read-length app.view.taken app.view.reads marks bytes are);
+        whole = λ goes. are-many app.view.taken app.view.reads marks bytes are;
       })
       (has.whole no whole number))
       (λ (other : end.stopped ≢ stop.No).

@@ -1,7 +1,7 @@
 -- Lines and counts, one after another.
 use Rattle.std.proofs.Common.{◌≡◌, ℕ, zero, suc, ◌+◌, ◌<◌, ◌≤◌, List, [], ◌∷◌, ◌++◌, length, map, take}
 use Rattle.std.proofs.Common.{Option, Some, None, option_map}
-use Rattle.std.proofs.Common.{refl, sym, ap, ◌∙◌, length-append, arith, ⊎_elim}
+use Rattle.std.proofs.Common.{sym, ap, ◌∙◌, length-append, arith, ⊎_elim}
 use Rattle.std.specs.List.{slice_get}
 use Rattle.std.proofs.lemmas.Bool.{cases_lt}
 use Rattle.std.proofs.lemmas.Option.{slice_get-map, slice_get_within}
@@ -9,6 +9,7 @@ use Rattle.flow_table.specs.Flows.{Flow}
 use Rattle.flow_queues.specs.Ends.{AppEnd, bytes_in}
 use Rattle.run_account.specs.Ran.{line_of, lines_of, AreCounts}
 use Rattle.run_account.proofs.AppLines.{one-value}
+use Rattle.card_feed.proofs.Lines.{get-before, get-last}
 
 -- ---- lines
 
@@ -38,16 +39,6 @@ pub record AreCountsBelow (n : ℕ) (flows : List Flow) (ends : List AppEnd) (co
   pub many : length counts ≡ n
   pub each : (number : ℕ) (flow : Flow) (end : AppEnd) → number < n → slice_get flows number ≡ Some flow → slice_get ends flow.app ≡ Some end
       → slice_get counts number ≡ Some (bytes_in number end.flows)
-
-get-before : {A : Type 0} (xs : List A) (x : A) (i : ℕ) → i < length xs → slice_get (xs ++ x ∷ []) i ≡ slice_get xs i
-get-before [] x i within = absurd (omega arith)
-get-before (y ∷ xs) x zero within = refl
-get-before (y ∷ xs) x (suc i) within = get-before xs x i (omega arith)
-
-get-last : {A : Type 0} (xs : List A) (x : A) (i : ℕ) → i ≡ length xs → slice_get (xs ++ x ∷ []) i ≡ Some x
-get-last [] x i is = rw is refl
-get-last (y ∷ xs) x zero is = absurd (omega (arith, is))
-get-last (y ∷ xs) x (suc i) is = get-last xs x i (omega (arith, is))
 
 app-of : (found : Option Flow) (app : ℕ) (flow : Flow) → option_map (λ (f : Flow). f.app) found ≡ Some app → found ≡ Some flow → flow.app ≡ app
 app-of None app flow is at = absurd (cc)

@@ -20,7 +20,8 @@ use Rattle.flow_queues.specs.Totals.{loan_entries}
 use Rattle.flow_queues.specs.Streams.{IsFront, HasFronts}
 use Rattle.flow_queues.proofs.InParts.{AreSame}
 use Rattle.flow_queues.proofs.WholeFrames.{StandWhole, whole-own, placed-same}
-use Rattle.run_account.proofs.Counted.{IsThere, find, both, gained-both, read-length, shelved-long}
+use Rattle.flow_queues.proofs.ReadLemmas.{are-many}
+use Rattle.run_account.proofs.Counted.{IsThere, find, both, gained-both, shelved-long}
 
 -- ---- marks
 
@@ -76,7 +77,7 @@ marks-between flow taken from to begun whole below ordered within =
 
 front-within : (v : AppView) (marks : List Mark) (bytes : List ℕ) → IsFront v.taken v.reads marks bytes → length bytes ≤ length marks
 front-within v marks bytes front =
-    omega (arith, ap length front.parts, length-append front.read front.rest, read-length v.taken v.reads front.read bytes front.are)
+    omega (arith, ap length front.parts, length-append front.read front.rest, are-many v.taken v.reads front.read bytes front.are)
 
 module _ (first kept : ℕ → Option (List ℕ)) (v : AppView) (own : List FlowQueue) (ends : Each (FlowEnds v.taken) own)
     (whole : FramesStandTogether v.taken) (none_out : v.loans ≡ []) (fronts : AreFronts first kept own v) (has : HasFronts first kept v) where
@@ -98,7 +99,7 @@ module _ (first kept : ℕ → Option (List ℕ)) (v : AppView) (own : List Flow
   torn-bytes f bytes end here front shown =
       let size : length (values_from (placed_of f v.taken).at front.count 0) ≡ front.count =
       length-values_from (placed_of f v.taken).at front.count 0 (record { there = λ q from until. front.below q (omega (arith, until)) }) in
-      let long : front.count ≡ length bytes = sym size ∙ read-length v.taken v.reads _ bytes front.are in
+      let long : front.count ≡ length bytes = sym size ∙ sym (are-many v.taken v.reads _ bytes front.are) in
       let within : front.count ≤ length (marks_of f.number v.taken) = omega (arith, long, front-within v _ bytes shown) in
       record {
         exact = λ away. absurd (away here);

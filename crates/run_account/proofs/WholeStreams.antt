@@ -11,8 +11,9 @@ use Rattle.flow_queues.specs.Totals.{Quits}
 use Rattle.card_feed.specs.Account.{kept_in}
 use Rattle.card_feed.specs.Plan.{how_of}
 use Rattle.card_feed.specs.declared.plan.Plan.{Plan}
+use Rattle.card_feed.proofs.OfFlow.{there}
 use Rattle.run_account.specs.Ran.{HaveWholeStreams, Ran, Told}
-use Rattle.run_account.proofs.AppLines.{there, one-value, is-there, found-there}
+use Rattle.run_account.proofs.AppLines.{one-value, is-there, found-there}
 use Rattle.run_account.proofs.Places.{get-within}
 
 -- one that hasn't written as many bytes as it was to didn't quit

@@ -20,8 +20,9 @@ use Rattle.flow_queues.specs.Ends.{AppEnd, bytes_in, times}
 use Rattle.flow_queues.specs.Totals.{capped}
 use Rattle.card_feed.specs.Outcomes.{AreLinesOf, line_of as flow_line_of}
 use Rattle.card_feed.specs.Sent.{IsOfOwnFlow}
+use Rattle.card_feed.proofs.OfFlow.{there}
 use Rattle.run_account.specs.Ran.{AreCounts, written_to}
-use Rattle.run_account.proofs.AppLines.{there, one-value}
+use Rattle.run_account.proofs.AppLines.{one-value}
 use Rattle.run_account.proofs.FlowSums.{sum-by-place, bytes-by-number}
 use Rattle.run_account.proofs.Ports.{is-to-port}
 

@@ -1,5 +1,5 @@
 -- What the code keeps of the holders, and how it changes them.
-use Rattle.std.specs.Prelude.{◌≡◌, ℕ, Bool, true, false, List, [], ◌∷◌, Option, Some, None, slice_index_or, nat_lt, ◌&&◌, ◌==◌, ◌%◌}
+use Rattle.std.specs.Prelude.{◌≡◌, ℕ, Bool, true, false, List, [], Option, Some, None, slice_index_or, nat_lt, ◌&&◌, ◌==◌, ◌%◌}
 use Rattle.std.specs.List.{list_any, list_all}
 use Rattle.run_records.specs.declared.event.Event.{Event}
 use Rattle.run_records.specs.declared.event.Event.TheVariants as event

@@ -1,5 +1,5 @@
 //! A source line by line.
-ghost use Rattle.std.specs.Prelude.{◌≡◌, [], IfOk, IsTrue, ◌↔◌};
+ghost use Rattle.std.specs.Prelude.{◌≡◌, [], IfOk, IsTrue};
 ghost use Rattle.std.specs.Io.KnownBytes.{IsAtEnd};
 ghost use Rattle.run_check.specs.Judged.{HasCheckCause};
 ghost use Rattle.run_check.specs.Coming.{ReadsLine, ahead, IsOver};

@@ -11,19 +11,6 @@ use Rattle.run_records.specs.Setting.{Setting}
 use Rattle.run_records.specs.RunText.{last_line, line_of, run_line, text_of, text_of_lines}
 use Rattle.run_report.specs.Gathered.{Waits}
 
--- nothing went out, and nothing was put
-pub waits-still : (sent : Option (List ℕ)) (block : List ℕ) → Waits sent sent (block ++ []) block
-waits-still sent block = ([], sym (append-nil block), Appends-nil sent)
-
--- all went out
-pub waits-none : (sent now : Option (List ℕ)) (block : List ℕ) → Appends sent now block → Waits sent now (block ++ []) []
-waits-none sent now block out = (block, refl, out)
-
--- what is put behind what waits
-pub waits-more : (sent now : Option (List ℕ)) (text waiting more : List ℕ) → Waits sent now text waiting → Waits sent now (text ++ more) (waiting ++ more)
-waits-more sent now text waiting more (gone, is, out) =
-    (gone, sym (append_assoc gone waiting more) ∙ ap (λ l. l ++ more) is, out)
-
 -- what waits, put on its way by a step more
 pub waits-then : (sent between now : Option (List ℕ)) (text waiting more waiting_now : List ℕ) → Waits sent between text waiting
     → Waits between now (waiting ++ more) waiting_now → Waits sent now (text ++ more) waiting_now

@@ -1,4 +1,4 @@
-ghost use Rattle.std.specs.Prelude.{◌≡◌, ◌+◌, length};
+ghost use Rattle.std.specs.Prelude.{◌≡◌};
 ghost use Rattle.board_face.specs.AppCalls.{HasLoan};
 ghost use Rattle.zc_poll.specs.Standing.{StreamStands};
 

@@ -26,6 +26,7 @@ use Rattle.card_feed.specs.Need.{buffers_of, need_in}
 use Rattle.card_feed.specs.Offered.{offers_of, WantsRoom}
 use Rattle.card_feed.specs.declared.plan.Plan.{Plan}
 use Rattle.card_feed.specs.Plan.{how_of, plain_behaviour}
+use Rattle.card_feed.proofs.OfFlow.{there}
 use Rattle.run_account.specs.Running.{losses_in, losses_or}
 use Rattle.run_account.specs.Ran.{HasReadOn, HaveWholeStreams, Ran, Told}
 use Rattle.run_account.proofs.WholeStreams.{whole-streams}
@@ -35,7 +36,7 @@ use Rattle.top_call.specs.Planned.{IsPlanOf}
 use Rattle.top_call.specs.Records.{HasRecord, record_in}
 use Rattle.top_call.specs.declared.card.Card.{Card}
 use Rattle.top_call.proofs.Behind.{ended_of-behind}
-use Rattle.run_account.proofs.AppLines.{found-there, there}
+use Rattle.run_account.proofs.AppLines.{found-there}
 use Rattle.run_account.proofs.Places.{get-within}
 use Rattle.top_call.proofs.Found.{get-same_rest}
 use Rattle.run_report.specs.Report.{Reports, answer_of}

@@ -6,10 +6,9 @@ use Rattle.board_face.specs.Lists.{without}
 use Rattle.board_face.specs.declared.views.parts.Setting.{Setting}
 use Rattle.board_face.specs.declared.views.app.AppView.{AppView}
 use Rattle.board_face.proofs.ListLemmas.{eqb_same}
-use Rattle.board_face.specs.NicCalls.{free_words_of}
 use Rattle.board_face.specs.declared.views.app.AppSide.{AppSide}
 use Rattle.ref_words.specs.FreeSteps.{side_word_without}
-use Rattle.word_board.specs.Spares.{seen_without, FoundNone}
+use Rattle.word_board.specs.Spares.{seen_without}
 use Rattle.word_board.specs.Told.{SawWithout}
 use Rattle.word_board.proofs.Quieting.{sees-more}
 
@@ -22,16 +21,6 @@ pub IsSearching-more : (first now next : AppSide) (k : ℕ) → IsSearching firs
 IsSearching-more first now next k h is = record {
   event = is ∙ (ap (λ x. side_word_without x k) h.event ∙ ap (seen_without first) (sym (ap (λ x. x.inside.words_without) is)));
   seen = λ j small. subst (λ xs. Contains xs j) (sym (ap (λ x. x.inside.words_without) is)) (sees-more now.inside.words_without k h.seen j small);
-}
-
--- behind the last word
-pub IsSearching-all : (first now : AppSide) (k : ℕ) → IsSearching first now k → k ≡ free_words_of first.view.setting → FoundNone first now
-IsSearching-all first now k h all = record {
-  without = now.inside.words_without;
-  event = h.event;
-  searched = record {
-    words = λ j small. h.seen j (subst (λ n. j < n) (sym all) (subst (λ x. j < free_words_of x.view.setting) h.event small));
-  };
 }
 
 -- one word more was seen to have none

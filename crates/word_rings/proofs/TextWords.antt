@@ -1,12 +1,10 @@
 -- The words of a text, one by one, and its bytes in them.
-use Rattle.std.proofs.Common.{◌≡◌, ⊎_elim, ℕ, zero, suc, ◌+◌, ◌*◌, ◌/◌, ◌%◌}
-use Rattle.std.proofs.Common.{◌<◌, ◌≤◌, List, ◌++◌, length, take, drop, min}
+use Rattle.std.proofs.Common.{◌≡◌, ℕ, zero, suc, ◌+◌, ◌*◌, ◌/◌, ◌%◌}
+use Rattle.std.proofs.Common.{◌<◌, ◌≤◌, List, ◌++◌, length, drop}
 use Rattle.std.proofs.Common.{slice_index, replicate, refl, sym, ap, ◌∙◌, arith, length-append}
-use Rattle.std.proofs.lemmas.List.{append-nil, length-replicate, get_or-drop, get_or-take, drop-drop}
-use Rattle.std.proofs.lemmas.Bool.{cases_lt}
-use Rattle.std.proofs.Math.Seq.{take-length}
+use Rattle.std.proofs.lemmas.List.{length-replicate, get_or-drop, get_or-take, drop-drop}
 use Rattle.byteorder.specs.Endian.{little_number}
-use Rattle.byteorder.specs.Numbers.{little_from-take, length-bytes_low_first}
+use Rattle.byteorder.specs.Numbers.{length-bytes_low_first}
 use Rattle.area_layout.proofs.Bytes.{little_bytes-number}
 use Rattle.word_rings.specs.Slots.{words_of}
 use Rattle.word_rings.specs.Texts.{text_count, text_words, word_bytes}

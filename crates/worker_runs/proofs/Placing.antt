@@ -1,13 +1,13 @@
 -- A list of marks at positions against the values placed by the definition.
-use Rattle.std.proofs.Common.{◌≡◌, ℕ, zero, suc, ◌+◌, ◌-◌, ◌^◌, ◌<◌, ◌≤◌, List, [], ◌∷◌, ◌++◌, length, take, map}
+use Rattle.std.proofs.Common.{◌≡◌, ℕ, suc, ◌+◌, ◌-◌, ◌^◌, ◌<◌, ◌≤◌, List, [], ◌∷◌, ◌++◌, length, take, map}
 use Rattle.std.proofs.Common.{get_or}
 use Rattle.std.proofs.Common.{Option, Some, None, Bool, true, false, is_some, find, option_map, if◌then◌else◌, ◌==◌, refl, sym, ap, ◌∙◌}
-use Rattle.std.proofs.Common.{⊎_elim, arith, length-take-le, append_assoc}
-use Rattle.std.proofs.lemmas.Bool.{cases_lt, cond-false, le-ltb, lt-ltb, ne_eqb}
-use Rattle.std.proofs.lemmas.Bool.Decides.{nat_tests}
+use Rattle.std.proofs.Common.{arith, length-take-le, append_assoc}
+use Rattle.std.proofs.lemmas.Bool.{cond-false, ne_eqb}
 use Rattle.std.proofs.lemmas.List.{take_more}
-use Rattle.zr_kinds.specs.CopyingReceiver.{Placed, missing_within, values_from, value_at, brought, first_of, front_of}
+use Rattle.zr_kinds.specs.CopyingReceiver.{Placed, missing_within, values_from, brought, first_of, front_of}
 use Rattle.zr_kinds.proofs.InOrder.{front_of-steps, first_of-nothing}
+use Rattle.zr_kinds.proofs.Pushed.{brought-push, same_position}
 use Rattle.app_worker.specs.Marks.{Mark}
 use Rattle.worker_runs.specs.declared.plain.frames.PlainMark.{PlainMark}
 use Rattle.worker_runs.specs.declared.plain.placed.PlacedMark.{PlacedMark}
@@ -87,28 +87,6 @@ mark_in-push (x ∷ marks) m p =
     in_front (x.position == p) x (find (λ m. m.position == p) marks) (find (λ m. m.position == p) (marks ++ m ∷ [])) (mark_in (m ∷ []) p)
     (mark_in-push marks m p)
 
-eqb-suc : (a b : ℕ) → (suc a == suc b) ≡ (a == b)
-eqb-suc a b = grind (arith, nat_tests)
-
--- a value more at the end of the list
-value_at-push : (xs : List Mark) (x : Mark) (q : ℕ) → value_at (xs ++ x ∷ []) q ≡ first_of (value_at xs q) (if q == length xs then Some x else None)
-value_at-push [] x zero = refl
-value_at-push [] x (suc q) = sym (cond-false (suc q == 0) (Some x) None (ne_eqb (suc q) 0 (λ e. omega arith)))
-value_at-push (y ∷ xs) x zero = refl
-value_at-push (y ∷ xs) x (suc q) = value_at-push xs x q ∙ ap (λ b. first_of (value_at xs q) (if b then Some x else None)) (sym (eqb-suc q (length xs)))
-
-same_place : (from p n : ℕ) → from ≤ p + 2 ^ 31 → (p + 2 ^ 31 - from == n) ≡ (p + 2 ^ 31 == from + n)
-same_place from p n below = grind (arith, nat_tests)
-
-brought-push : (xs : List Mark) (x : Mark) (from p : ℕ)
-    → brought (xs ++ x ∷ []) from p ≡ first_of (brought xs from p) (if p + 2 ^ 31 == from + length xs then Some x else None)
-brought-push xs x from p = ⊎_elim
-    (λ (before : p + 2 ^ 31 < from). rw (lt-ltb (p + 2 ^ 31) from before)
-    (sym (cond-false (p + 2 ^ 31 == from + length xs) (Some x) None (ne_eqb (p + 2 ^ 31) (from + length xs) (λ e. omega arith)))))
-    (λ (within : from ≤ p + 2 ^ 31). rw (le-ltb (p + 2 ^ 31) from within) (value_at-push xs x (p + 2 ^ 31 - from)
-    ∙ ap (λ b. first_of (value_at xs (p + 2 ^ 31 - from)) (if b then Some x else None)) (same_place from p (length xs) within)))
-    (cases_lt (p + 2 ^ 31) from)
-
 -- the marks as far as they come
 abbrev first_marks : ℕ → List PlainMark → List Mark
 first_marks i marks = map mark_shown (take i marks)
@@ -125,9 +103,6 @@ brought-take_more marks i d from p below =
     ∙ brought-push (first_marks i marks) (mark_shown (get_or marks i d)) from p
     ∙ ap (λ n. first_of (brought (first_marks i marks) from p) (if p + 2 ^ 31 == from + n then Some (mark_shown (get_or marks i d)) else None))
     (length-map (take i marks) ∙ length-take-le i marks (omega arith))
-
-same_position : (from i p : ℕ) → 2 ^ 31 ≤ from + i → (from + i - 2 ^ 31 == p) ≡ (p + 2 ^ 31 == from + i)
-same_position from i p below = grind (arith, nat_tests)
 
 one_mark : (b : Bool) (x : PlacedMark) → option_map (λ m. mark_shown m.mark) (if b then Some x else None) ≡ (if b then Some (mark_shown x.mark) else None)
 one_mark true x = refl

@@ -1,5 +1,5 @@
 -- The loans that are kept are out, and go.
-use Rattle.std.proofs.Common.{◌≡◌, ℕ, zero, suc, ◌+◌, ◌<◌, ◌≤◌, true, false, if◌then◌else◌, List, [], ◌∷◌, ◌++◌, length, map, refl, sym, ap, subst, ◌∙◌, arith, ⊎_elim, ◌⊎◌, inl, inr, length-append, append_assoc, append-nil}
+use Rattle.std.proofs.Common.{◌≡◌, ℕ, zero, suc, ◌+◌, ◌<◌, ◌≤◌, true, false, if◌then◌else◌, List, [], ◌∷◌, ◌++◌, length, map, refl, sym, ap, subst, ◌∙◌, arith, ⊎_elim, ◌⊎◌, inl, inr, length-append, append_assoc}
 use Rattle.std.specs.Prelude.{Contains}
 use Rattle.std.proofs.lemmas.Bool.{cases_Bool}
 use Rattle.zr_kinds.specs.declared.place.Place.{Place}
@@ -104,15 +104,6 @@ module _ (v : AppView) (apart : LieApart v) (loan : Place) (out : IsOut loan v.l
       (cases_Bool (same_place loan l.place))
 
 -- ---- loans are given up
-
-pub none-given-up : (v : AppView) → GaveUp v v
-none-given-up v = record {
-  view = refl;
-  gone = [];
-  returned = sym (append-nil v.returned);
-  sums = λ f. omega arith;
-  each = λ l there. in-left l v.loans [] there;
-}
 
 in-parts : {A : Type 0} (x : A) (xs ys : List A) → IsIn x (xs ++ ys) → IsIn x xs ⊎ IsIn x ys
 in-parts x [] ys there = inr there

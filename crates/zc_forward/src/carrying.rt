@@ -1,5 +1,5 @@
 //! A loan is handed to a carrier, and loans are given up.
-ghost use Rattle.std.specs.Prelude.{◌≡◌, ◌≢◌, ◌<◌, ◌≤◌, ℕ, List, [], ◌∷◌, ◌++◌, length, nat_eq, Option, None, Some, true, vec_capacity};
+ghost use Rattle.std.specs.Prelude.{◌≡◌, ◌≢◌, ◌<◌, ◌≤◌, ℕ, List, [], ◌∷◌, ◌++◌, length, nat_eq, None, Some, true};
 ghost use Rattle.std.specs.Map.{lookup};
 ghost use Rattle.std.specs.Io.KnownBytes.{Keeps};
 ghost use Rattle.zr_kinds.specs.declared.place.Place.{Place};
@@ -10,7 +10,7 @@ ghost use Rattle.board_face.specs.declared.views.app.LentPiece.{LentPiece};
 ghost use Rattle.board_face.specs.declared.views.app.AppView.{AppView};
 ghost use Rattle.flow_queues.specs.declared.queues.Lending.{Lending};
 ghost use Rattle.flow_queues.specs.Core.{total, IsIn, lent_piece, OnlyReads, IsReadOf};
-ghost use Rattle.zc_poll.specs.Standing.{Desk, StreamStands};
+ghost use Rattle.zc_poll.specs.Standing.{StreamStands};
 ghost use Rattle.zc_poll.specs.Items.{Given, HasGiven};
 ghost use Rattle.zc_forward.specs.Sending.{of_sent};
 ghost use Rattle.zc_forward.specs.Tags.{FlowsKeep};

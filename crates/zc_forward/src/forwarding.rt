@@ -1,5 +1,5 @@
 //! The parts of a turn of forwarding.
-ghost use Rattle.std.specs.Prelude.{◌≡◌, ◌≢◌, ◌+◌, ◌<◌, ◌≤◌, ℕ, List, [], length, Option, Some, None, true, false, nat_eq, vec_capacity, IfSome};
+ghost use Rattle.std.specs.Prelude.{◌≡◌, ◌≢◌, ◌+◌, ◌<◌, ◌≤◌, ℕ, List, [], length, Option, Some, None, true, false, vec_capacity, IfSome};
 ghost use Rattle.zr_io.specs.Moved.{Rose};
 ghost use Rattle.board_face.specs.AppCalls.{HasLoan};
 ghost use Rattle.board_face.specs.AppEvents.{app_gist};

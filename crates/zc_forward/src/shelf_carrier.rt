@@ -1,12 +1,11 @@
-ghost use Rattle.std.specs.Prelude.{◌≡◌, ◌≢◌, ◌<◌, ◌≤◌, ℕ, List, [], ◌∷◌, ◌++◌, length, nat_eq, is_none, drop, Ok, slice_get, option_map};
+ghost use Rattle.std.specs.Prelude.{◌≡◌, ◌≢◌, ◌<◌, ◌≤◌, ℕ, [], ◌∷◌, ◌++◌, length, nat_eq, is_none, Ok};
 ghost use Rattle.std.specs.Prelude.{IfNone, IfSome, IsSome, None, Some};
 ghost use Rattle.std.specs.Map.{lookup};
 ghost use Rattle.std.specs.Io.KnownBytes.{Keeps as KeepsBytes};
 ghost use Rattle.futures.specs.Poll.{IfReady, OnPending};
 ghost use Rattle.futures.specs.Task.{Covers, Keeps};
 ghost use Rattle.zr_io.specs.Moved.{AddsPiece, HasCause, Rose};
-ghost use Rattle.zr_io.specs.Memory.{raised};
-ghost use Rattle.zc_forward.specs.Tags.{FlowsKeep, TakesTag};
+ghost use Rattle.zc_forward.specs.Tags.{TakesTag};
 ghost use Rattle.zc_forward.specs.Carriage.{TellsOldest, is_pending, is_waiting};
 
 use crate::carrier::Carrier;

@@ -10,23 +10,12 @@ use Rattle.flow_queues.specs.Core.{total}
 use Rattle.zc_poll.specs.Standing.{Desk, StreamStands, NoneInOrder}
 use Rattle.zc_poll.specs.Items.{HasGiven}
 use Rattle.zc_poll.specs.Steps.{OnlySteps, Unlent, IsItem, Passed, Stepped, IsShort}
-use Rattle.zc_poll.proofs.Views.{only-none, only-then, only-saw, rose-then}
+use Rattle.zc_poll.proofs.Views.{only-then, only-saw, rose-then}
 use Rattle.zc_poll.proofs.Keeping.{saw-stands}
 use Rattle.zc_poll.proofs.Released.{unlent-then}
 
 pub unlent-none : (st : Desk) (old new : AppView) → new.loans ≡ old.loans → new.spares ≡ old.spares → new.taken ≡ old.taken → Unlent st st old new
 unlent-none st old new loans spares taken = record { loans = loans; spares = spares; items = λ items given. subst (HasGiven items st.flows) (sym taken) given }
-
--- no note yet
-pub passed-none : (was : Desk) (v : AppView) → StreamStands was v → was.ended ≡ false → Passed 0 was was v v
-passed-none was v stands more = record {
-  stands = stands;
-  only = only-none v;
-  unlent = unlent-none was v v refl refl refl;
-  longer = omega arith;
-  stopped = refl;
-  more = more;
-}
 
 -- and more of them
 pub passed-then : (m n k : ℕ) (was mid now : Desk) (u v w : AppView) → k ≡ m + n → Passed m was mid u v → Passed n mid now v w → Passed k was now u w
@@ -120,12 +109,3 @@ none-stepped was now old new stands rest more same saw = subst (λ (d : Desk). S
     more,
   );
 })
-
--- enough were taken
-pub enough-stepped : (was now : Desk) (old new : AppView) (n : ℕ) → n ≡ old.setting.places → Passed n was now old new → NoneInOrder now
-    → Stepped was now old new (Waiting Enough)
-enough-stepped was now old new n places passed rest = record {
-  stands = passed.stands;
-  only = passed.only;
-  steps = (passed.unlent, (omega (arith, passed.longer, places), rest), passed.stopped, passed.more);
-}

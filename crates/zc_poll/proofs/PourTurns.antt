@@ -1,5 +1,4 @@
 -- What was poured stays so over a turn that writes nothing.
-use Rattle.std.specs.Prelude.{map, Contains}
 use Rattle.std.proofs.Common.{◌≡◌, ◌≢◌, ℕ, ◌+◌, true, false, List, [], ◌∷◌, ◌++◌, length, Option, Some, None, refl, sym, ap, subst, ◌∙◌, arith, ⊎_elim, ◌⊎◌, inl, inr, append-nil}
 use Rattle.zr_kinds.specs.declared.place.Place.{Place}
 use Rattle.zr_kinds.specs.declared.behaviour.Stopped.TheVariants as stop
@@ -184,9 +183,6 @@ only-reads-none v = record { view = refl; more = []; are = sym (append-nil v.rea
 -- what is due is out
 pub due-out : (v : AppView) (loan : Place) → OnlyDue (Some loan) v.loans → HasLoan v loan
 due-out v loan (piece, one, place) = rw one (0, omega arith, place)
-
-pub read-out : (v z : AppView) (loan : Place) → OnlyReads v z → HasLoan v loan → HasLoan z loan
-read-out v z loan only there = subst (λ (ls : List LentPiece). Contains (map (λ (l : LentPiece). l.place) ls) loan) (sym (ap (λ (k : AppView). k.loans) only.view)) there
 
 by-turn : (st now : Desk) (y z : AppView) (loan : Place) (ran : PollTurn) → TurnDoes (Some loan) st now y z ran → (z ≡ gave y loan) ⊎ AppOnlySaw RefillInUse y z
 by-turn st now y z loan Did does = inl does

@@ -1,5 +1,5 @@
 -- What was poured stays so as notes come, bytes are read, and loans go.
-use Rattle.std.proofs.Common.{◌≡◌, ℕ, suc, ◌+◌, ◌≤◌, List, [], ◌∷◌, ◌++◌, length, take, drop, refl, sym, ap, subst, arith}
+use Rattle.std.proofs.Common.{◌≡◌, ℕ, ◌+◌, ◌≤◌, List, [], ◌∷◌, ◌++◌, length, take, drop, sym, subst, arith}
 use Rattle.std.proofs.Common.{append_assoc, append-nil, length-append, length-take}
 use Rattle.board_face.specs.declared.views.app.LentPiece.{LentPiece}
 use Rattle.board_face.specs.declared.views.app.Reading.{Reading}
@@ -9,7 +9,7 @@ use Rattle.flow_queues.specs.Marks.{Mark}
 use Rattle.flow_queues.specs.Core.{IsIn, AreReadAt}
 use Rattle.flow_queues.specs.Shelves.{AreOfOneLoan, kept_loans}
 use Rattle.flow_queues.proofs.NotesStay.{lent-still}
-use Rattle.flow_queues.proofs.ReadLemmas.{all-grow, all-noted}
+use Rattle.flow_queues.proofs.ReadLemmas.{all-grow, all-noted, are-many}
 use Rattle.zc_poll.specs.Pouring.{IsPoured}
 
 -- ---- as notes come
@@ -55,13 +55,6 @@ read-on v w on marks bytes are =
 
 pub one-on : (v w : AppView) → SeesOn v w → (lent : List LentPiece) (marks : List Mark) → AreOfOneLoan v.taken lent marks → AreOfOneLoan w.taken lent marks
 one-on v w on lent marks one = subst (λ (ts : List TakenNote). AreOfOneLoan ts lent marks) (sym on.taken) (one-noted-more v.taken on.notes lent marks one)
-
-are-many : (taken : List TakenNote) (reads : List Reading) (marks : List Mark) (bytes : List ℕ) → AreReadAt taken reads marks bytes
-    → length bytes ≡ length marks
-are-many taken reads [] [] are = refl
-are-many taken reads (m ∷ ms) (b ∷ bs) are = ap suc (are-many taken reads ms bs are.1)
-are-many taken reads [] (b ∷ bs) are = absurd are
-are-many taken reads (m ∷ ms) [] are = absurd are
 
 -- there are no more bytes than marks
 pub poured-within : (P : Type 0) (v : AppView) (marks : List Mark) (count : ℕ) (bytes : List ℕ) → IsPoured P v marks count bytes

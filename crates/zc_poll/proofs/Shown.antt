@@ -28,7 +28,7 @@ shown-times n [] = omega arith
 shown-times n ((m, zero) ∷ es) = (let rest = shown-times n es in omega (arith, rest))
 shown-times n ((m, suc k) ∷ es) = rw (some-pass k) (let rest = shown-times n es in omega (arith, rest))
 
-none-there : (n : ℕ) (es : List (ℕ × ℕ)) → times n es ≡ 0 → bytes_in n es ≡ 0
+pub none-there : (n : ℕ) (es : List (ℕ × ℕ)) → times n es ≡ 0 → bytes_in n es ≡ 0
 none-there n [] none = refl
 none-there n (e ∷ es) none = ⊎_elim
     (λ (here : e.0 ≡ n). (let test : (e.0 == n) ≡ true = eq-eqb e.0 n here in absurd (omega (arith, rw test at none))))

@@ -1,4 +1,4 @@
-ghost use Rattle.std.specs.Prelude.{◌≡◌, ◌+◌, ◌<◌, ◌≤◌, [], ℕ, List, length, Ok, Err, Some, None, true, false, IfErr, MatchBool, MatchResult, OnSome};
+ghost use Rattle.std.specs.Prelude.{◌≡◌, ◌+◌, ◌<◌, ◌≤◌, [], List, length, Ok, Err, Some, None, true, false, IfErr, MatchBool, MatchResult, OnSome};
 ghost use Rattle.futures.specs.Poll.{IfReady, OnPending};
 ghost use Rattle.futures.specs.Task.{Covers, Keeps};
 ghost use Rattle.futures.specs.declared.task.Poll.TheVariants.{Ready};
@@ -7,7 +7,6 @@ ghost use Rattle.board_face.specs.NotNow.{HasWritten, HasWrittenRingful};
 ghost use Rattle.board_face.specs.AppCalls.{HasLoan, AppOnlySaw, ShowsCopy};
 ghost use Rattle.board_face.specs.AppEvents.{app_gist, has_read, loan_origin, gave, abandoned};
 ghost use Rattle.board_face.specs.declared.views.app.AppLook.TheVariants.{NoNote as no_note, NoSpare as no_spare, RefillInUse, NotQuiet};
-ghost use Rattle.board_face.specs.declared.views.app.AppView.{AppView};
 ghost use Rattle.flow_queues.specs.declared.queues.Lending.{Lending};
 ghost use Rattle.flow_queues.specs.Marks.{marks_from};
 ghost use Rattle.flow_queues.specs.Core.{IsIn, lent_piece, AreReadAt};

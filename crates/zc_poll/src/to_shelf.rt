@@ -1,5 +1,5 @@
 //! The items of a stream are written to a shelf, one turn after another.
-ghost use Rattle.std.specs.Prelude.{◌≡◌, ◌<◌, ◌≤◌, ℕ, List, [], length, Option, Some, None, true, false, vec_capacity, MatchBool, ◌↔◌};
+ghost use Rattle.std.specs.Prelude.{◌≡◌, ◌<◌, ◌≤◌, ℕ, List, [], length, Option, Some, None, true, false, vec_capacity};
 ghost use Rattle.board_face.specs.AppCalls.{HasLoan};
 ghost use Rattle.board_face.specs.AppEvents.{app_gist};
 ghost use Rattle.board_face.specs.declared.views.app.AppView.{AppView};

@@ -57,10 +57,6 @@ Gained-weaker None b P Q weaken gained = tt
 Gained-weaker (Some xs) None P Q weaken gained = gained
 Gained-weaker (Some xs) (Some ys) P Q weaken (bs, e, p) = (bs, e, weaken bs p)
 
--- a count that rose stays risen while it never falls
-pub Rose-later : (a b c : ℕ) → Rose a b → b ≤ c → Rose a c
-Rose-later a b c rose later = omega arith
-
 -- a count that rose from a later value rose from an earlier one
 pub Rose-earlier : (a b c : ℕ) → a ≤ b → Rose b c → Rose a c
 Rose-earlier a b c earlier rose = omega arith

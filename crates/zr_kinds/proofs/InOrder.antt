@@ -1,11 +1,11 @@
 -- The copying receiver where everything comes in order: the placed values are then a list, and what comes at its end
 -- is appended. And what holds in any order: the values at its front never change.
-use Rattle.std.proofs.Common.{◌≡◌, ℕ, zero, suc, ◌+◌, ◌-◌, ◌%◌, ◌^◌, ◌<◌, ◌≤◌, List, [], ◌∷◌, ◌++◌, length, nat_lt}
+use Rattle.std.proofs.Common.{◌≡◌, ℕ, zero, suc, ◌+◌, ◌-◌, ◌^◌, ◌≤◌, List, [], ◌∷◌, ◌++◌, length, nat_lt}
 use Rattle.std.proofs.Common.{if◌then◌else◌, Bool, true, false, Option, Some, None, refl, sym, ap, ◌∙◌, ◌⊎◌, ⊎_elim, inl, inr, arith}
-use Rattle.std.proofs.Common.{length-append, append-nil, add-zero}
-use Rattle.std.proofs.lemmas.Bool.{le-leb, le-ltb, and_from, cond_both}
+use Rattle.std.proofs.Common.{add-zero}
+use Rattle.std.proofs.lemmas.Bool.{le-ltb, cond_both}
 use Rattle.std.proofs.lemmas.Bool.Decides.{nat_tests}
-use Rattle.zr_kinds.specs.CopyingReceiver.{Placed, nothing_placed, missing_within, next_missing, lead, accepts, value_at, brought, first_of, filled, received}
+use Rattle.zr_kinds.specs.CopyingReceiver.{Placed, missing_within, next_missing, lead, accepts, value_at, brought, first_of, filled, received}
 use Rattle.zr_kinds.specs.CopyingReceiver.{values_from, front_of}
 
 -- the placed values are those of the list, and no other
@@ -34,9 +34,6 @@ values_from-list at p (x ∷ xs) same =
     let here : at p ≡ Some x = ap at (sym (add-zero p)) ∙ same 0 in
     rw here (ap (λ others. x ∷ others) (values_from-list at (suc p) xs (λ q. ap at (omega arith) ∙ same (suc q))))
 
-pub IsInOrder-nothing : {A : Type 0} → IsInOrder {A = A} nothing_placed []
-IsInOrder-nothing = record { at = λ p. refl; top = omega arith }
-
 module _ {A : Type 0} {placed : Placed A} {out : List A} (in_order : IsInOrder placed out) where
   pub next_missing-in_order : next_missing placed ≡ length out
   unfolding next_missing
@@ -47,15 +44,6 @@ module _ {A : Type 0} {placed : Placed A} {out : List A} (in_order : IsInOrder p
   front_of-in_order = rw next_missing-in_order (values_from-list placed.at 0 out (λ q. ap placed.at (omega arith) ∙ in_order.at q))
 
 -- ---- what is received
-
--- at 2^31 the distance is 0: the sequence number is that of the next value
-pub lead-next : (base n s : ℕ) → s < 2 ^ 32 → (base + n) % 2 ^ 32 ≡ s → lead base n s ≡ 2 ^ 31
-unfolding lead
-lead-next base n s below here = rw here (omega arith)
-
-pub next_from_lead : (base n s : ℕ) → lead base n s ≡ 2 ^ 31 → s < 2 ^ 32 → (base + n) % 2 ^ 32 ≡ s
-unfolding lead
-next_from_lead base n s here below = omega arith
 
 nat_lt-suc : (a b : ℕ) → nat_lt (suc a) (suc b) ≡ nat_lt a b
 nat_lt-suc a b = grind (arith, nat_tests)
@@ -69,14 +57,6 @@ value_at-append [] ys p = let test : nat_lt p 0 ≡ false = le-ltb p 0 (omega ar
 value_at-append (x ∷ xs) ys zero = refl
 value_at-append (x ∷ xs) ys (suc p) = rw (nat_lt-suc p (length xs), sub-suc p (length xs)) (value_at-append xs ys p)
 
-brought-next : {A : Type 0} (values : List A) (n p : ℕ) → brought values (n + 2 ^ 31) p ≡ (if nat_lt p n then None else value_at values (p - n))
-brought-next values n p =
-    let place : p + 2 ^ 31 - (n + 2 ^ 31) ≡ p - n = omega arith in
-    rw place (ap (λ b. if b then None else value_at values (p - n)) (same_test p n))
-  where
-    same_test : (p n : ℕ) → nat_lt (p + 2 ^ 31) (n + 2 ^ 31) ≡ nat_lt p n
-    same_test p n = grind (arith, nat_tests)
-
 brought-nothing : {A : Type 0} (from p : ℕ) → brought {A = A} [] from p ≡ None
 brought-nothing from p = by_test (nat_lt (p + 2 ^ 31) from)
   where
@@ -87,24 +67,6 @@ brought-nothing from p = by_test (nat_lt (p + 2 ^ 31) from)
 pub first_of-nothing : {A : Type 0} (value : Option A) → first_of value None ≡ value
 first_of-nothing None = refl
 first_of-nothing (Some value) = refl
-
-accepts-next : (base n s len : ℕ) → lead base n s ≡ 2 ^ 31 → len ≤ 2 ^ 30 → n + len ≤ 2 ^ 62 → accepts base n s len ≡ true
-accepts-next base n s len here small below =
-    rw here (and_from _ _ (le-leb (2 ^ 31 + len) (2 ^ 30 + 2 ^ 31) (omega arith)) (le-leb (n + 2 ^ 31 + len) (2 ^ 62 + 2 ^ 31) (omega arith)))
-
-filled-next : {A : Type 0} {placed : Placed A} {out : List A} (values : List A) → IsInOrder placed out
-    → IsInOrder (filled placed (length out + 2 ^ 31) values) (out ++ values)
-filled-next {placed = placed} {out = out} values in_order = record {
-  at = λ p. rw (in_order.at p, brought-next values (length out) p) (sym (value_at-append out values p));
-  top = (let top : length out ≤ placed.top = in_order.top in omega (arith, length-append out values));
-}
-
-pub received-next : {A : Type 0} {placed : Placed A} {out : List A} (base s : ℕ) (values : List A) → IsInOrder placed out
-    → lead base (length out) s ≡ 2 ^ 31 → length values ≤ 2 ^ 30 → length out + length values ≤ 2 ^ 62
-    → IsInOrder (received base placed s values) (out ++ values)
-unfolding received
-received-next {out = out} base s values in_order here small below =
-    rw (next_missing-in_order in_order, accepts-next base (length out) s (length values) here small below, here) (filled-next values in_order)
 
 filled-nothing : {A : Type 0} {placed : Placed A} {out : List A} (from : ℕ) → IsInOrder placed out → IsInOrder (filled placed from []) out
 filled-nothing {placed = placed} {out = out} from in_order = record {
@@ -170,24 +132,3 @@ values_from-more {at = at} {later = later} keeps (suc steps) more p =
 pub front_of-steps : {A : Type 0} (placed : Placed A) → front_of placed ≡ values_from placed.at placed.top 0
 unfolding front_of next_missing
 front_of-steps placed = ap (λ n. values_from placed.at n 0) (omega arith) ∙ values_from-missing placed.at placed.top 0
-
-front_of-later : {A : Type 0} (placed later : Placed A) → KeepsPlaced placed.at later.at → placed.top ≤ later.top
-    → (rest : List A) × (front_of later ≡ front_of placed ++ rest)
-front_of-later placed later keeps top =
-    let more = values_from-more keeps placed.top (later.top - placed.top) 0 in
-    let steps : later.top ≡ placed.top + (later.top - placed.top) = omega arith in
-    (more.0, front_of-steps later ∙ ap (λ n. values_from later.at n 0) steps ∙ more.1 ∙ ap (λ front. front ++ more.0) (sym (front_of-steps placed)))
-
-Keeps-filled : {A : Type 0} (placed : Placed A) (from : ℕ) (values : List A) → KeepsPlaced placed.at (filled placed from values).at
-Keeps-filled placed from values = record { still = λ p value there. rw there refl }
-
--- the values at the front stay there
-pub front_of-received : {A : Type 0} (base : ℕ) (placed : Placed A) (s : ℕ) (values : List A)
-    → (rest : List A) × (front_of (received base placed s values) ≡ front_of placed ++ rest)
-unfolding received
-front_of-received {A = A} base placed s values =
-    let from : ℕ = next_missing placed + lead base (next_missing placed) s in
-    cond_both (accepts base (next_missing placed) s (length values)) (filled placed from values) placed
-    (λ later. (rest : List A) × (front_of later ≡ front_of placed ++ rest))
-    (λ _. front_of-later placed (filled placed from values) (Keeps-filled placed from values) (omega arith))
-    (λ _. ([], sym (append-nil (front_of placed))))

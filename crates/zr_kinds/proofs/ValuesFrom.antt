@@ -1,8 +1,7 @@
 -- The values from a position on: in two parts, how many they are, and that they stay where the same stands.
-use Rattle.std.proofs.Common.{◌≡◌, ℕ, zero, suc, ◌+◌, ◌<◌, ◌≤◌, List, ◌∷◌, ◌++◌, length, Option, Some, None, IsSome, refl, ap}
+use Rattle.std.proofs.Common.{◌≡◌, ℕ, zero, suc, ◌+◌, ◌<◌, ◌≤◌, ◌∷◌, ◌++◌, length, Option, Some, None, IsSome, refl, ap}
 use Rattle.std.proofs.Common.{◌∙◌, ⊎_elim, arith}
-use Rattle.std.proofs.lemmas.Bool.{cond_both}
-use Rattle.zr_kinds.specs.CopyingReceiver.{Placed, next_missing, lead, accepts, brought, first_of, filled, received, values_from}
+use Rattle.zr_kinds.specs.CopyingReceiver.{first_of, values_from}
 use Rattle.zr_kinds.proofs.InOrder.{cases_Option}
 
 pub some_of : {A : Type 0} (found : Option A) → IsSome found → (value : A) × (found ≡ Some value)
@@ -56,18 +55,3 @@ values_from-same at later (suc k) p are =
 pub first_of-some : {A : Type 0} (value later : Option A) → IsSome value → first_of value later ≡ value
 first_of-some None later is = absurd (cc)
 first_of-some (Some value) later is = refl
-
--- what stood at a position stands there after more was received
-pub received-keeps : {A : Type 0} (base : ℕ) (placed : Placed A) (s : ℕ) (values : List A) (q : ℕ) → IsSome (placed.at q)
-    → (received base placed s values).at q ≡ placed.at q
-unfolding received
-received-keeps base placed s values q is =
-    let from : ℕ = next_missing placed + lead base (next_missing placed) s in
-    cond_both (accepts base (next_missing placed) s (length values)) (filled placed from values) placed
-    (λ later. later.at q ≡ placed.at q) (λ _. first_of-some (placed.at q) (brought values from q) is) (λ _. refl)
-
-pub values_from-received : {A : Type 0} (base : ℕ) (placed : Placed A) (s : ℕ) (values : List A) (k p : ℕ) → AreThere placed.at k p
-    → values_from (received base placed s values).at k p ≡ values_from placed.at k p
-values_from-received base placed s values k p are =
-    values_from-same placed.at (received base placed s values).at k p
-    (record { same = λ q from until. received-keeps base placed s values q (are.there q from until) })

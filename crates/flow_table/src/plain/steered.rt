@@ -1,5 +1,5 @@
 ghost use Rattle.std.specs.Prelude.{◌≡◌, ◌<◌, ◌^◌, length, map, option_map, IfOk};
-ghost use Rattle.frame_headers.specs.Seen.{segment_seen, shown};
+ghost use Rattle.frame_headers.specs.Seen.{segment_seen};
 ghost use Rattle.flow_table.specs.Steered.{steer, steered_of};
 ghost use Rattle.flow_table.specs.Plain.{steered_shown};
 

@@ -1,4 +1,4 @@
-ghost use Rattle.std.specs.Prelude.{◌≡◌, ℕ, ◌<◌, ◌≤◌, [], ◌∷◌, false, IsTrue, MatchBool, IfOk};
+ghost use Rattle.std.specs.Prelude.{◌≡◌, ℕ, ◌<◌, ◌≤◌, [], ◌∷◌, false, IsTrue};
 ghost use Rattle.board_face.specs.AppCalls.{IsHere};
 ghost use Rattle.board_face.specs.NicCalls.{IsOpen, HasNoToken, apps_of};
 ghost use Rattle.face_callers.specs.Reader.{HasNothing};

@@ -1,5 +1,5 @@
 //! A stream is poured as a future, beside a card with a thread of its own.
-ghost use Rattle.std.specs.Prelude.{◌≡◌, ℕ, List, Option, Some, IfSome};
+ghost use Rattle.std.specs.Prelude.{ℕ, List, Option, Some, IfSome};
 ghost use Rattle.face_table.specs.CardHand.{IsCardHand};
 ghost use Rattle.zc_poll.specs.Pouring.{PourStands};
 ghost use Rattle.zr_io.specs.Memory.{kept_of};

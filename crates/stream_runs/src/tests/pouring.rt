@@ -1,5 +1,4 @@
 //! What is poured into a shelf, over the board on words by one thread.
-ghost use Rattle.std.specs.Prelude.{◌≡◌, ◌≤◌};
 ghost use Rattle.face_table.specs.CardHand.{IsCardHand};
 
 use super::{Sent, gather, note, piece, short};

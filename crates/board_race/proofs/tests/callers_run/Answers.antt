@@ -1,5 +1,4 @@
 -- The buffer that was taken is the last that the card owns.
-use Rattle.std.proofs.Common.{◌∷◌, ◌++◌}
 use Rattle.std.proofs.lemmas.List.Elements.{Contains-push}
 use Rattle.board_race.proofs.tests.callers_run.Goals as goal
 

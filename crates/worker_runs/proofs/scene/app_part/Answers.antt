@@ -1,6 +1,5 @@
 -- It has left where it says so.
-use Rattle.std.proofs.Common.{rules, ◌≡◌, true}
-use Rattle.plain_board.specs.Board.{side_of}
+use Rattle.std.proofs.Common.{rules}
 use Rattle.worker_runs.proofs.scene.app_part.Goals as goal
 
 pub returns-clause-gone : goal.returns-clause-gone

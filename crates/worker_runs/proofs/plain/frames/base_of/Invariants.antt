@@ -1,4 +1,4 @@
-use Rattle.std.proofs.Common.{◌≡◌, ◌≤◌, drop, length}
+use Rattle.std.proofs.Common.{◌≡◌, drop}
 use Rattle.app_worker.specs.Marks.{numbered, of_flow, base_of}
 use Rattle.worker_runs.proofs.plain.frames.base_of.Given as goal
 
