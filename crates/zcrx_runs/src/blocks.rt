@@ -1,9 +1,8 @@
 //! Replays of pcapng captures. Sections in comments are those of draft-ietf-opsawg-pcapng.
 use super::rows::NOTHING;
-use super::runs::{Given, Row, check, faultless, first};
+use run_driver::{Given, Row, check, faultless, first};
 use sample_captures::{PSH_ACK, frame, to_9000};
 use std::alloc::Global;
-use std::process::Abort;
 use std::random::RandomSource;
 use std::sync::Wait;
 use std::test::Fail;
@@ -140,7 +139,7 @@ status {status}
 
 /// Replays by turns and by threads, and compares what is left.
 fn check_both(
-    rt: &(impl Abort + AllocGlobal + RandomSource + Threads + Wait + Sync),
+    rt: &(impl AllocGlobal + RandomSource + Threads + Wait + Sync),
     row: &Row<'_>,
 ) -> Result<(), Fail> {
     for words in WAYS {
@@ -155,7 +154,7 @@ fn check_both(
 
 /// These bytes end by this status before the first record.
 fn check_nothing(
-    rt: &(impl Abort + AllocGlobal + RandomSource + Threads + Wait + Sync),
+    rt: &(impl AllocGlobal + RandomSource + Threads + Wait + Sync),
     name: &str,
     bytes: &[u8],
     status: u8,
@@ -173,7 +172,7 @@ fn check_nothing(
 
 /// These bytes end by this status behind so many segments, whose stream has to be this.
 fn check_stream(
-    rt: &(impl Abort + AllocGlobal + RandomSource + Threads + Wait + Sync),
+    rt: &(impl AllocGlobal + RandomSource + Threads + Wait + Sync),
     bytes: &[u8],
     status: u8,
     records: u32,

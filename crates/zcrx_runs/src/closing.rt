@@ -1,8 +1,6 @@
 //! Flows that are closed by FIN and by RST, each replayed by turns and by threads.
-use super::pools::bytes_from;
-use super::runs::{Given, Row, Stream, check, faultless, first};
+use run_driver::{Given, Row, Stream, bytes_from, check, faultless, first};
 use sample_captures::{ACK, FIN, PSH_ACK, RST, SYN, Sent, capture_of, to_9000};
-use std::process::Abort;
 use std::random::RandomSource;
 use std::sync::Wait;
 use std::test::Fail;
@@ -29,7 +27,7 @@ struct Case<'a> {
 }
 
 fn check_case(
-    rt: &(impl Abort + AllocGlobal + RandomSource + Threads + Wait + Sync),
+    rt: &(impl AllocGlobal + RandomSource + Threads + Wait + Sync),
     case: &Case<'_>,
 ) -> Result<(), Fail> {
     let alloc = rt.alloc();

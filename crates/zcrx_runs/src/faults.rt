@@ -1,5 +1,5 @@
 //! Sources, shelves and sinks whose calls fail.
-use super::runs::{Given, Row, Stream, check, faultless, first};
+use run_driver::{Given, Row, Stream, check, faultless, first};
 use sample_captures::{
     ACK, FIN, PSH_ACK, SYN, Sent, capture, capture_of, frames, to_9000, to_9001,
 };

@@ -1,9 +1,7 @@
 //! Applications that stop while others go on, over so few buffers that these need what the stopped ones give back.
-use super::pools::bytes_from;
-use super::runs::{Given, Row, Stream, check, faultless, first};
+use run_driver::{Given, Row, Stream, bytes_from, check, faultless, first};
 use sample_captures::{PSH_ACK, capture, frame, to_9000, to_9001};
 use std::alloc::Global;
-use std::process::Abort;
 use std::random::RandomSource;
 use std::sync::Wait;
 use std::test::Fail;
@@ -46,7 +44,7 @@ fn capture_for(alloc: Global, payloads: &[usize]) -> Result<Vec<u8>, Fail> {
 }
 
 fn check_case(
-    rt: &(impl Abort + AllocGlobal + RandomSource + Threads + Wait + Sync),
+    rt: &(impl AllocGlobal + RandomSource + Threads + Wait + Sync),
     case: &Case<'_>,
 ) -> Result<(), Fail> {
     let alloc = rt.alloc();

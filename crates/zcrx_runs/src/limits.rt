@@ -1,63 +1,9 @@
 //! A capture with more flows than a replay numbers.
-use super::runs::{check_free, free_buffers};
-use replay_threads::{Gate, NoGate};
+use run_driver::check_report;
 use sample_captures::{FILE_HEADER, SYN, Sent, frame, record_of, to_9000};
 use std::alloc::Global;
-use std::collections::hash_map::RandomState;
-use std::process::Abort;
-use std::random::RandomSource;
-use std::sync::Wait;
 use std::test::Fail;
-use std::thread::Threads;
-use top_call::{Card, SHELVES, zcrx};
-use zr_io::{MemShelf, MemSink, MemSource, Source};
-
-/// How many bytes the report of 65,535 flows has at most.
-const ROOM: usize = 4_000_000;
-
-/// A replay of port 9000 whose report has to be this. The gate is asked before each turn.
-pub fn check_report_behind<S: Source + Send, G: Gate + Sync>(
-    rt: &(impl Abort + AllocGlobal + RandomSource + Threads + Wait + Sync),
-    source: &mut S,
-    status: u8,
-    report: &str,
-    gate: &G,
-) -> Result<(), Fail> {
-    let alloc = rt.alloc();
-    let mut shelves = Vec::with_capacity(alloc, SHELVES)?;
-    for _ in 0..SHELVES {
-        shelves.push(MemShelf::new(alloc, 0, 0, Vec::new(alloc))?)?;
-    }
-    assert_eq!(rt; shelves.len(), SHELVES);
-    let mut out = MemSink::new(alloc, ROOM, Vec::new(alloc))?;
-    let random = RandomState::new(rt)?;
-    let words = ["replay", "9000"];
-    let mut card = Card::Blank;
-    let answer = zcrx(
-        rt,
-        alloc,
-        random,
-        &words,
-        source,
-        &mut shelves,
-        &mut out,
-        gate,
-        &mut card,
-    );
-    assert!(rt; out.bytes() == report.as_bytes(), "another report");
-    assert_eq!(rt; answer, status);
-    check_free(rt, "a long capture", free_buffers(card), 64)
-}
-
-/// A replay of port 9000 whose report has to be this.
-pub fn check_report<S: Source + Send>(
-    rt: &(impl Abort + AllocGlobal + RandomSource + Threads + Wait + Sync),
-    source: &mut S,
-    status: u8,
-    report: &str,
-) -> Result<(), Fail> {
-    check_report_behind(rt, source, status, report, &NoGate)
-}
+use zr_io::MemSource;
 
 /// A SYN from each port there is, with the port as its sequence number.
 pub fn syns(alloc: Global) -> Result<Vec<u8>, Fail> {

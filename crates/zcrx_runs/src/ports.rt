@@ -1,5 +1,5 @@
 //! Several ports and several flows.
-use super::runs::{Given, Row, Stream, check, faultless};
+use run_driver::{Given, Row, Stream, check, faultless};
 use sample_captures::{ACK, FIN, PSH_ACK, SYN, Sent, capture_of, to_9000};
 use std::test::Fail;
 

@@ -2,11 +2,11 @@
 ghost use Rattle.std.specs.Prelude.{Some};
 
 use super::faults::two_ports;
-use super::limits::{check_report_behind, report_of_syns, syns};
-use super::plain::{WORDS, check_whole};
-use super::runs::{Given, Row, Stream, check, faultless, first};
-use super::threads::APART;
+use super::limits::{report_of_syns, syns};
 use replay_threads::{Gate, NoGate};
+use run_driver::{
+    APART, Given, Row, Stream, WORDS, check, check_report_behind, check_whole, faultless, first,
+};
 use sample_captures::{PSH_ACK, SYN, capture, frame, record_of, to_9000, to_9001};
 use std::alloc::Global;
 use std::ops::Range;

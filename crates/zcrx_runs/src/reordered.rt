@@ -1,7 +1,6 @@
 //! Captures with loss, doubling, overlaps and reordering, compared with the plain slow programs.
-use super::plain::check_plain;
+use run_driver::check_plain;
 use sample_captures::{ACK, FIN, PSH_ACK, SYN, Sent, frames, to_9000};
-use std::process::Abort;
 use std::random::RandomSource;
 use std::sync::Wait;
 use std::test::Fail;
@@ -9,7 +8,7 @@ use std::thread::Threads;
 
 /// Each capture of these segments, by its name.
 fn check_all(
-    rt: &(impl Abort + AllocGlobal + RandomSource + Threads + Wait + Sync),
+    rt: &(impl AllocGlobal + RandomSource + Threads + Wait + Sync),
     rows: &[(&str, &[Sent<'_>])],
 ) -> Result<(), Fail> {
     for (name, sent) in rows {

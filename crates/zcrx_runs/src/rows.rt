@@ -1,23 +1,13 @@
 //! Captures where no call fails.
-use super::runs::{Given, Row, check, faultless, first};
+use run_driver::{GREETED, Given, HELLO, Row, check, faultless, first, greeting};
 use sample_captures::{
     ACK, FILE_HEADER, FIN, PSH_ACK, SYN, Sent, capture, capture_of, frame, over_ipv6, record_of,
     tagged, to_9000,
 };
-use std::alloc::Global;
-use std::process::Abort;
 use std::random::RandomSource;
 use std::sync::Wait;
 use std::test::Fail;
 use std::thread::Threads;
-
-/// One segment from port 40000 to port 9000 with the bytes `hello`, at sequence number 1001.
-pub const HELLO: [u8; 99] = [
-    0xd4, 0xc3, 0xb2, 0xa1, 2, 0, 4, 0, 0, 0, 0, 0, 0, 0, 0, 0, 0, 0, 4, 0, 1, 0, 0, 0, 0, 0, 0, 0,
-    0, 0, 0, 0, 0x3b, 0, 0, 0, 0x3b, 0, 0, 0, 2, 0, 0, 0, 0, 2, 2, 0, 0, 0, 0, 1, 8, 0, 0x45, 0, 0,
-    0x2d, 0, 0, 0x40, 0, 0x40, 6, 0, 0, 10, 0, 0, 1, 10, 0, 0, 2, 0x9c, 0x40, 0x23, 0x28, 0, 0, 3,
-    0xe9, 0, 0, 0, 0, 0x50, 0x18, 0xff, 0xff, 0, 0, 0, 0, b'h', b'e', b'l', b'l', b'o',
-];
 
 /// A big-endian file header with nanoseconds, and the header of a record of 60 bytes.
 const BIG_NANOSECONDS: [u8; 40] = [
@@ -39,24 +29,6 @@ const UDP_OVER_IPV6: [u8; 62] = [
 ];
 
 const REQUEST: &[u8] = b"GET / HTTP/1.1\r\n\r\n";
-
-/// A flow from SYN to FIN.
-pub fn greeting(alloc: Global) -> Result<Vec<u8>, Fail> {
-    let sent = [
-        to_9000(1000, SYN, b""),
-        to_9000(1001, PSH_ACK, b"hello"),
-        to_9000(1006, ACK | FIN, b""),
-    ];
-    capture_of(alloc, &sent)
-}
-
-/// The report of that flow up to its status.
-pub const GREETED: &str = "\
-capture records 3 tcp 3 steered 3 other 0 fragment 0 cut 0 bad 0
-app 0 port 9000 written 5 loans 1 copied 0 stopped no
-flow 0 port 9000 base 1001 bytes 5 fin yes end whole
-pool fast 0 refill 0 slow 1 empty 0 strays 0
-";
 
 /// The report up to its status where nothing was read.
 pub const NOTHING: &str = "\
@@ -202,7 +174,7 @@ status 0
 
 /// Three records of one flow, whose stream has to be this, lent in so many pieces.
 fn check_order(
-    rt: &(impl Abort + AllocGlobal + RandomSource + Threads + Wait + Sync),
+    rt: &(impl AllocGlobal + RandomSource + Threads + Wait + Sync),
     name: &str,
     sent: &[Sent<'_>],
     base: u32,
@@ -271,7 +243,7 @@ fn a_stream_ends_at_a_gap(rt: HostRuntime) -> Result<(), Fail> {
 
 /// A capture, the report up to its status, the status and the stream.
 fn check_reading(
-    rt: &(impl Abort + AllocGlobal + RandomSource + Threads + Wait + Sync),
+    rt: &(impl AllocGlobal + RandomSource + Threads + Wait + Sync),
     name: &str,
     bytes: &[u8],
     lines: &str,

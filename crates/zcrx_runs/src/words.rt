@@ -1,5 +1,5 @@
 //! Command lines.
-use super::runs::{Given, Row, check, faultless, first};
+use run_driver::{Given, Row, check, faultless, first};
 use sample_captures::{PSH_ACK, capture_of, to_9000};
 use std::test::Fail;
 

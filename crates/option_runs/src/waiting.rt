@@ -1,12 +1,12 @@
 //! The card waits for buffers that are on their way back, and the loops of the roles go on side by side.
 ghost use Rattle.std.specs.Prelude.{Some};
 
-use super::limits::check_report_behind;
 use super::making::{LONG, made_by, make};
-use super::pools::bytes_from;
-use super::runs::{Given, Left, Stream, check_free, check_shelves, faultless, run_behind};
-use super::threads::{APART, TOGETHER};
 use replay_threads::Gate;
+use run_driver::{
+    APART, Given, Left, Stream, TOGETHER, bytes_from, check_free, check_report_behind,
+    check_shelves, faultless, run_behind,
+};
 use sample_captures::{PSH_ACK, Sent, capture, frame, to_9000};
 use std::alloc::Global;
 use std::hint::spin_loop;
@@ -233,7 +233,7 @@ fn check_case<G: Gate + Sync>(
         str::from_utf8(&sent)?.contains(" empty 0 strays 0\n"),
         "{text}"
     );
-    check_shelves(rt, &text, &streams, &shelves);
+    check_shelves(&text, &streams, &shelves)?;
     check_free(rt, &text, free, case.buffers)
 }
 

@@ -1,8 +1,9 @@
 //! Pools of as many buffers as a capture needs, and of fewer.
-use super::pools::bytes_from;
-use super::runs::{Given, Left, check_free, check_shelves, faultless, first, run_behind};
 use super::threads::Delay;
 use replay_threads::{Gate, NoGate};
+use run_driver::{
+    Given, Left, bytes_from, check_free, check_shelves, faultless, first, run_behind,
+};
 use sample_captures::{PSH_ACK, SYN, capture, frame, to_9000};
 use std::alloc::Global;
 use std::process::Abort;
@@ -149,7 +150,7 @@ fn check_case<G: Gate + Sync>(
     assert_eq!(rt; told.as_str(), refused, "{name}");
     assert_eq!(rt; left.status, 0, "{name}");
     let Left { free, shelves, .. } = left;
-    check_shelves(rt, name, &[first(&stream)], &shelves);
+    check_shelves(name, &[first(&stream)], &shelves)?;
     check_free(rt, name, free, buffers)
 }
 

@@ -1,7 +1,7 @@
 //! What `make` writes, and what a replay of it gives.
-use super::runs::{Given, Row, Stream, check, check_shelves, faultless, run};
 use frame_headers::{Seen, Segment, read_frame};
 use pcap_reader::Capture;
+use run_driver::{Given, Row, Stream, check, check_shelves, faultless, run};
 use sample_captures::FILE_HEADER;
 use std::alloc::Global;
 use std::process::Abort;
@@ -41,7 +41,7 @@ pub fn make(
     let left = run(rt, given)?;
     assert_eq!(rt; left.status, status);
     assert_eq!(rt; left.next.as_slice(), given.bytes);
-    check_shelves(rt, "make", &[], &left.shelves);
+    check_shelves("make", &[], &left.shelves)?;
     assert!(rt; left.free.is_none(), "a board");
     Ok(left.sent)
 }

@@ -1,8 +1,6 @@
 //! Records of runs: what `--events` writes, and what `check` says of it.
-use super::rows::{GREETED, HELLO, greeting};
-use super::runs::{Given, faultless, run};
+use run_driver::{GREETED, Given, HELLO, faultless, greeting, run};
 use sample_captures::{PSH_ACK, capture_of, to_9000, to_9001};
-use std::process::Abort;
 use std::random::RandomSource;
 use std::sync::Wait;
 use std::test::Fail;
@@ -35,7 +33,7 @@ fn record_of(sent: &[u8]) -> Result<&str, Fail> {
 
 /// What `check` says of a record.
 fn checked(
-    rt: &(impl Abort + AllocGlobal + RandomSource + Threads + Wait + Sync),
+    rt: &(impl AllocGlobal + RandomSource + Threads + Wait + Sync),
     record: &str,
 ) -> Result<u8, Fail> {
     let given = Given {

@@ -1,9 +1,7 @@
 //! Replays whose applications are polled as streams of loans.
-use super::drawn::check_drawn;
 use super::making::LONG;
-use super::rows::{GREETED, HELLO, greeting};
-use super::runs::{Given, Row, check, faultless, first};
 use super::threads::{FOUR_FLOWS, RUNS, check_four};
+use run_driver::{GREETED, Given, HELLO, Row, check, check_drawn, faultless, first, greeting};
 use sample_captures::{PSH_ACK, SYN, capture_of, to_9000};
 use std::test::Fail;
 

@@ -1,12 +1,11 @@
 //! Replays that are compared with the plain slow programs.
 ghost use Rattle.std.specs.Prelude.{◌<◌, ◌^◌, length};
 
-use super::runs::{Given, Stream, check_free, check_shelves, faultless, run};
+use crate::runs::{Given, Stream, check_free, check_shelves, faultless, run};
 use flow_table::plain::{PlainFlow, plain_flows, plain_stream};
 use frame_headers::{Seen, read_frame};
 use sample_captures::capture;
 use std::alloc::Global;
-use std::process::Abort;
 use std::random::RandomSource;
 use std::sync::Wait;
 use std::test::Fail;
@@ -149,7 +148,7 @@ fn plain_streams(alloc: Global, seen: &[Seen<'_>], count: usize) -> Result<Vec<V
 /// Replays the two ports of a capture that ends by this status behind these frames: streams, and the report but for loans and the pool's line,
 /// have to be what the plain programs say of the frames.
 pub fn check_whole(
-    rt: &(impl Abort + AllocGlobal + RandomSource + Threads + Wait + Sync),
+    rt: &(impl AllocGlobal + RandomSource + Threads + Wait + Sync),
     name: &str,
     frames: &[Vec<u8>],
     given: &Given<'_>,
@@ -157,7 +156,9 @@ pub fn check_whole(
 ) -> Result<(), Fail> {
     let alloc = rt.alloc();
     let seen: Vec<Seen<'_>> = frames.iter().map(|frame| read_frame(frame)).collect(alloc)?;
-    assert!(rt; seen.len() < 100);
+    if seen.len() >= 100 {
+        return Err(Fail::new(format_args!("{name}: too many frames")));
+    }
     let flows = plain_flows(alloc, &PORTS, &seen)?;
     let bytes = plain_streams(alloc, &seen, flows.len())?;
     let mut streams = Vec::new(alloc);
@@ -172,16 +173,20 @@ pub fn check_whole(
     let report = report(alloc, &seen, &flows, &streams, status)?;
     let left = run(rt, given)?;
     let told = without_loans(alloc, str::from_utf8(&left.sent)?)?;
-    assert_eq!(rt; told, report, "{name}");
-    assert_eq!(rt; left.status, status, "{name}");
-    check_shelves(rt, name, &streams, &left.shelves);
+    if told.as_str() != report.as_str() {
+        return Err(Fail::new(format_args!("{name}: {told}")));
+    }
+    if left.status != status {
+        return Err(Fail::new(format_args!("{name}: status {}", left.status)));
+    }
+    check_shelves(name, &streams, &left.shelves)?;
     check_free(rt, name, left.free, given.buffers)
 }
 
 /// Replays the two ports of these frames by these words: streams, and the report but for loans and the pool's line, have to be
 /// what the plain programs say.
 pub fn check_by(
-    rt: &(impl Abort + AllocGlobal + RandomSource + Threads + Wait + Sync),
+    rt: &(impl AllocGlobal + RandomSource + Threads + Wait + Sync),
     words: &[&str],
     name: &str,
     frames: &[Vec<u8>],
@@ -196,7 +201,7 @@ pub fn check_by(
 
 /// The same, where nothing else is said.
 pub fn check_plain(
-    rt: &(impl Abort + AllocGlobal + RandomSource + Threads + Wait + Sync),
+    rt: &(impl AllocGlobal + RandomSource + Threads + Wait + Sync),
     name: &str,
     frames: &[Vec<u8>],
 ) -> Result<(), Fail> {

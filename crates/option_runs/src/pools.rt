@@ -1,71 +1,13 @@
 //! Runs over few buffers and short rings, and applications that keep, leak, stray and quit.
-use super::runs::{Given, Row, Stream, check, check_behind, faultless, first};
 use replay_threads::{Gate, NoGate};
-use sample_captures::{ACK, FIN, PSH_ACK, SYN, Sent, capture, capture_of, frame, to_9000};
-use std::alloc::Global;
-use std::process::Abort;
+use run_driver::{
+    Case, Given, Row, Stream, bytes_from, check, check_behind, check_case, faultless, first,
+};
+use sample_captures::{ACK, FIN, PSH_ACK, SYN, Sent, capture_of, to_9000};
 use std::random::RandomSource;
 use std::sync::Wait;
 use std::test::Fail;
 use std::thread::Threads;
-
-/// Room for the longest payload of a frame.
-const LONG: usize = 65_536;
-
-/// So many bytes of a stream, from a position on: byte `i` of the stream is `i` modulo 251.
-pub fn bytes_from(alloc: Global, position: usize, count: usize) -> Result<Vec<u8>, Fail> {
-    let mut bytes = Vec::with_capacity(alloc, count)?;
-    for place in 0..count {
-        bytes.push(u8::try_from(position.saturating_add(place) % 251)?)?;
-    }
-    Ok(bytes)
-}
-
-/// A flow to port 9000, and what its replay has to leave.
-#[derive(Clone, Copy)]
-pub struct Case<'a> {
-    pub words: &'a [&'a str],
-    pub buffers: u32,
-    /// How many bytes each frame has, in sequence from 1000.
-    pub payloads: &'a [usize],
-    /// How many bytes of the stream come out.
-    pub written: usize,
-    pub report: &'a str,
-}
-
-/// Replays a case, and compares what is left.
-pub fn check_case(
-    rt: &(impl Abort + AllocGlobal + RandomSource + Threads + Wait + Sync),
-    case: &Case<'_>,
-) -> Result<(), Fail> {
-    let alloc = rt.alloc();
-    let mut frames = Vec::new(alloc);
-    let mut position = 0usize;
-    for count in case.payloads {
-        let text = bytes_from(alloc, position, *count)?;
-        let seq = u32::try_from(position.saturating_add(1000))?;
-        frames.push(frame(alloc, &to_9000(seq, PSH_ACK, &text))?)?;
-        position = position.saturating_add(*count);
-    }
-    let capture = capture(alloc, &frames)?;
-    let stream = bytes_from(alloc, 0, case.written)?;
-    let name = format!(in alloc; "{:?}", case.words)?;
-    let row = Row {
-        name: &name,
-        given: Given {
-            words: case.words,
-            buffers: case.buffers,
-            most: LONG,
-            stream_room: LONG,
-            ..faultless(&capture)
-        },
-        status: 0,
-        streams: &[first(&stream)],
-        report: case.report,
-    };
-    check(rt, &row)?;
-    Ok(())
-}
 
 /// The only buffer holds the first payload, which is kept unread.
 #[test]
@@ -310,7 +252,7 @@ status 0
 /// Two applications that keep their first two loans and stop at 100 bytes, each with two pieces of 80. The gate is asked
 /// before each turn.
 pub fn check_leak_and_quit<G: Gate + Sync>(
-    rt: &(impl Abort + AllocGlobal + RandomSource + Threads + Wait + Sync),
+    rt: &(impl AllocGlobal + RandomSource + Threads + Wait + Sync),
     gate: &G,
 ) -> Result<(), Fail> {
     let alloc = rt.alloc();

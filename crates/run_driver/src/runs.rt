@@ -4,7 +4,6 @@ ghost use Rattle.top_call.specs.Cards.{IsClosed};
 use replay_threads::{Gate, NoGate};
 use std::alloc::Global;
 use std::collections::hash_map::RandomState;
-use std::process::Abort;
 use std::random::RandomSource;
 use std::sync::Wait;
 use std::test::Fail;
@@ -123,16 +122,15 @@ fn wanted<'a>(streams: &[Stream<'a>], app: usize, flow: u32) -> &'a [u8] {
 }
 
 /// Every shelf has the streams of its application, and nothing else.
-pub fn check_shelves(rt: &impl Abort, name: &str, streams: &[Stream<'_>], shelves: &[MemShelf]) {
+pub fn check_shelves(name: &str, streams: &[Stream<'_>], shelves: &[MemShelf]) -> Result<(), Fail> {
     for (app, shelf) in shelves.iter().enumerate() {
         for flow in 0..FLOWS {
-            let stream = wanted(streams, app, flow);
-            assert!(rt;
-                shelf.flow(flow) == stream,
-                "{name}: flow {flow} of shelf {app}"
-            );
+            if shelf.flow(flow) != wanted(streams, app, flow) {
+                return Err(Fail::new(format_args!("{name}: flow {flow} of shelf {app}")));
+            }
         }
     }
+    Ok(())
 }
 
 /// What the source's next call gives.
@@ -154,7 +152,7 @@ pub fn free_buffers(card: Card) -> Option<Vec<u32>>
 
 /// Each of the pool's buffers is free once.
 pub fn check_free(
-    rt: &(impl Abort + AllocGlobal),
+    rt: &impl AllocGlobal,
     name: &str,
     free: Option<Vec<u32>>,
     buffers: u32,
@@ -162,22 +160,28 @@ pub fn check_free(
     let mut free = free.ok_or("no board")?;
     free.sort()?;
     let all: Vec<u32> = (0..buffers).collect(rt.alloc())?;
-    assert_eq!(rt; free.as_slice(), all.as_slice(), "{name}");
+    if free.as_slice() != all.as_slice() {
+        return Err(Fail::new(format_args!("{name}: free {free:?}")));
+    }
     Ok(())
 }
 
 /// Runs the command. The gate is asked before each turn on threads.
 pub fn run_behind<G: Gate + Sync>(
-    rt: &(impl Abort + AllocGlobal + RandomSource + Threads + Wait + Sync),
+    rt: &(impl AllocGlobal + RandomSource + Threads + Wait + Sync),
     given: &Given<'_>,
     gate: &G,
 ) -> Result<Left, Fail> {
     let alloc = rt.alloc();
-    assert!(rt; given.most >= 1);
+    if given.most < 1 {
+        return Err(Fail::new("no byte a call"));
+    }
     let bytes = given.bytes.to_vec(alloc)?;
     let mut source = MemSource::new(bytes, given.most, given.source_fails.to_vec(alloc)?);
     let mut shelves = shelves(alloc, given.stream_room, given.shelf_fails)?;
-    assert_eq!(rt; shelves.len(), SHELVES);
+    if shelves.len() != SHELVES {
+        return Err(Fail::new("another number of shelves"));
+    }
     let mut out = MemSink::new(alloc, given.sink_room, given.sink_fails.to_vec(alloc)?)?;
     let random = RandomState::new(rt)?;
     let mut card = Card::Blank;
@@ -203,20 +207,18 @@ pub fn run_behind<G: Gate + Sync>(
 
 /// Runs the command.
 pub fn run(
-    rt: &(impl Abort + AllocGlobal + RandomSource + Threads + Wait + Sync),
+    rt: &(impl AllocGlobal + RandomSource + Threads + Wait + Sync),
     given: &Given<'_>,
 ) -> Result<Left, Fail> {
     run_behind(rt, given, &NoGate)
 }
 
 /// With status 2 there is no board, and with any other each buffer of the pool is free.
-fn check_board(
-    rt: &(impl Abort + AllocGlobal),
-    row: &Row<'_>,
-    free: Option<Vec<u32>>,
-) -> Result<(), Fail> {
+fn check_board(rt: &impl AllocGlobal, row: &Row<'_>, free: Option<Vec<u32>>) -> Result<(), Fail> {
     if row.status == 2 {
-        assert!(rt; free.is_none());
+        if free.is_some() {
+            return Err(Fail::new(format_args!("{}: a board", row.name)));
+        }
         return Ok(());
     }
     check_free(rt, row.name, free, row.given.buffers)
@@ -224,7 +226,7 @@ fn check_board(
 
 /// Replays, compares what is left, and gives what the source's next call gives. The gate is asked before each turn on threads.
 pub fn check_behind<G: Gate + Sync>(
-    rt: &(impl Abort + AllocGlobal + RandomSource + Threads + Wait + Sync),
+    rt: &(impl AllocGlobal + RandomSource + Threads + Wait + Sync),
     row: &Row<'_>,
     gate: &G,
 ) -> Result<Vec<u8>, Fail> {
@@ -235,16 +237,21 @@ pub fn check_behind<G: Gate + Sync>(
         shelves,
         next,
     } = run_behind(rt, &row.given, gate)?;
-    assert_eq!(rt; str::from_utf8(&sent)?, row.report, "{}", row.name);
-    assert_eq!(rt; status, row.status, "{}", row.name);
-    check_shelves(rt, row.name, row.streams, &shelves);
+    let told = str::from_utf8(&sent)?;
+    if told != row.report {
+        return Err(Fail::new(format_args!("{}: {told}", row.name)));
+    }
+    if status != row.status {
+        return Err(Fail::new(format_args!("{}: status {status}", row.name)));
+    }
+    check_shelves(row.name, row.streams, &shelves)?;
     check_board(rt, row, free)?;
     Ok(next)
 }
 
 /// Replays, compares what is left, and gives what the source's next call gives.
 pub fn check(
-    rt: &(impl Abort + AllocGlobal + RandomSource + Threads + Wait + Sync),
+    rt: &(impl AllocGlobal + RandomSource + Threads + Wait + Sync),
     row: &Row<'_>,
 ) -> Result<Vec<u8>, Fail> {
     check_behind(rt, row, &NoGate)

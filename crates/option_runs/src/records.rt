@@ -1,5 +1,5 @@
 //! A capture with more records than a replay numbers.
-use super::limits::check_report;
+use run_driver::check_report;
 use sample_captures::FILE_HEADER;
 use std::io::{self, Read};
 use std::test::Fail;

@@ -1,5 +1,5 @@
 //! What `check` answers and writes.
-use super::runs::{Given, check_shelves, faultless, run};
+use run_driver::{Given, check_shelves, faultless, run};
 use std::process::Abort;
 use std::random::RandomSource;
 use std::sync::Wait;
@@ -51,7 +51,7 @@ fn expect(
     let left = run(rt, given)?;
     assert_eq!(rt; left.status, status);
     assert_eq!(rt; left.sent.as_slice(), text);
-    check_shelves(rt, "check", &[], &left.shelves);
+    check_shelves("check", &[], &left.shelves)?;
     assert!(rt; left.free.is_none(), "a board");
     Ok(())
 }

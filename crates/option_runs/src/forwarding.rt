@@ -1,10 +1,9 @@
 //! Replays whose applications forward their loans.
-use super::drawn::check_drawn;
 use super::making::LONG;
-use super::pools::{Case, check_case};
-use super::rows::{GREETED, greeting};
-use super::runs::{Given, Row, check, faultless, first};
 use super::threads::{FOUR_FLOWS, RUNS, check_four};
+use run_driver::{
+    Case, GREETED, Given, Row, check, check_case, check_drawn, faultless, first, greeting,
+};
 use std::test::Fail;
 
 /// A flow from SYN to FIN has the report that it has by an application's own turns, however far the notices stay behind.

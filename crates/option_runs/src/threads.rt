@@ -1,8 +1,10 @@
 //! Replays by threads, whose turns a gate holds up.
 use super::making::{LONG, bytes_of, made_by, make};
 use super::pools::check_leak_and_quit;
-use super::runs::{Given, Left, Stream, check_free, check_shelves, faultless, run_behind};
 use replay_threads::Gate;
+use run_driver::{
+    APART, Given, Left, Stream, TOGETHER, check_free, check_shelves, faultless, run_behind,
+};
 use std::alloc::Global;
 use std::hint::spin_loop;
 use std::process::Abort;
@@ -17,12 +19,6 @@ const LOOKS: u32 = 100_000_000;
 
 /// How often a run is held up in another way.
 pub const RUNS: u32 = 200;
-
-/// As many processors as each role has a thread of its own for.
-pub const APART: Option<usize> = Some(10);
-
-/// One, for which all go round in one thread.
-pub const TOGETHER: Option<usize> = Some(1);
 
 /// Holds each of two applications at its first turn until the other has come there too.
 #[derive(Drop)]
@@ -172,7 +168,7 @@ pub fn check_four(
         let told = without_searches(alloc, str::from_utf8(&left.sent)?)?;
         assert_eq!(rt; told.as_str(), report, "run {number}");
         let Left { free, shelves, .. } = left;
-        check_shelves(rt, "four flows", &streams, &shelves);
+        check_shelves("four flows", &streams, &shelves)?;
         check_free(rt, "four flows", free, given.buffers)?;
     }
     Ok(())

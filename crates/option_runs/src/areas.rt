@@ -1,8 +1,9 @@
 //! Runs over pools of several areas.
-use super::pools::{Case, bytes_from, check_case};
-use super::runs::{Given, Left, Stream, check_free, check_shelves, faultless, run_behind};
 use super::threads::Delay;
 use replay_threads::{Gate, NoGate};
+use run_driver::{
+    Case, Given, Stream, bytes_from, check_case, check_free, check_shelves, faultless, run_behind,
+};
 use sample_captures::{PSH_ACK, SYN, Sent, capture, frame};
 use std::alloc::Global;
 use std::process::Abort;
@@ -315,7 +316,7 @@ fn front_of(taken: &[(usize, usize)]) -> usize {
 
 /// Each stream has to be the front of its flow that the taken pieces have.
 fn check_streams(
-    rt: &(impl Abort + AllocGlobal),
+    rt: &impl AllocGlobal,
     drawn: &Drawn,
     refused: &[usize],
     shelves: &[MemShelf],
@@ -332,8 +333,7 @@ fn check_streams(
         let flow = u32::try_from(flow)?;
         streams.push(Stream { app, flow, bytes })?;
     }
-    check_shelves(rt, &drawn.words, &streams, shelves);
-    Ok(())
+    check_shelves(&drawn.words, &streams, shelves)
 }
 
 /// Replays a drawn capture: streams have to be those of plain copying without the refused frames, none may be refused where
