@@ -1,8 +1,7 @@
 -- A hand with nothing, and an application that has taken no note, are those of a board that was just opened.
 use Rattle.std.proofs.Common.{rules, ◌≡◌, sym}
-use Rattle.stream_runs.proofs.Opening.{untouched}
+use Rattle.stream_runs.proofs.Opening.{begun, untouched}
 use Rattle.stream_runs.proofs.tests.open.Goals as goal
-use Rattle.worker_runs.proofs.Opening.{begun}
 
 pub returns : goal.returns
 returns c =
