@@ -1,6 +1,6 @@
 #!/usr/bin/env bash
 # Tries the edits that the gate leaves out, in a copy of what is committed: those of more-edits/NAME for each name given, or all.
-# Each must be refused.
+# Each must be refused. What an earlier run proved of these crates and those below isn't proved again.
 set -eu
 cd "$(dirname "$0")/.."
 names=${*:-$(ls more-edits)}
@@ -12,4 +12,4 @@ for name in $names; do
 done
 cd "$copy/zcrx"
 # shellcheck disable=SC2086
-rt must-fail $names
+rt ci $names
